@@ -1,3 +1,9 @@
 pub mod Counts
+pub mod Journals
+pub mod Link
+pub mod MemOutside
+pub mod MemSink
 pub mod Outside
 pub mod Sink
+pub mod Stream
+pub mod Unread

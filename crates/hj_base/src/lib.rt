@@ -2,11 +2,21 @@
 #![tactic(auto)]
 
 mod gate;
+mod mem_outside;
+mod mem_sink;
 mod numbers;
 mod outside;
+mod share;
 mod sink;
+mod stream;
 
 pub use gate::{Gate, OpenGate};
-pub use numbers::{CoreNo, EventNo, Memory, Side};
+pub use mem_outside::MemOutside;
+pub use mem_sink::MemSink;
+pub use numbers::{CoreNo, EventNo, Memory, Side, Window};
 pub use outside::{Got, Opened, Outside, Role};
+pub use share::Share;
 pub use sink::{Put, Sink};
+
+#[cfg(test)]
+mod tests;

@@ -16,6 +16,15 @@ pub enum Side {
     Right,
 }
 
+/// How long a row of one stream lives.
+#[derive(Clone, Copy, Debug, PartialEq, Eq)]
+pub enum Window {
+    /// Until this many later rows of its stream have arrived, at least 1.
+    Rows(u32),
+    /// Until the streams' time has grown by this much, in the streams' own units, at least 1.
+    Time(u64),
+}
+
 /// Memory ran out.
 #[derive(Clone, Copy, Debug, PartialEq, Eq, Error)]
 #[error("out of memory")]

@@ -1,0 +1,145 @@
+ghost use Rattle.std.specs.Prelude.{◌≡◌, ◌≢◌, ◌≤◌, ◌<◌, ℕ, List, [], length, OnOk, OnErr, IfOk, IsSomeAnd, Some, option_copied, position, bytes_eq};
+ghost use Rattle.hj_base.specs.Outside.{unbegun, IsOpen, Starts, Reads, ChangesOnly};
+ghost use Rattle.hj_base.specs.MemOutside.{lookup, told_under, role_of, with_role, new_role, FailsAtMissing, after_start, read_answer, after_read, filled};
+
+use crate::stream::Stream;
+use crate::{Got, Memory, Opened, Outside, Role};
+use std::alloc::Global;
+use std::marker::Model;
+
+/// What stands under a name.
+#[derive(Debug, Drop)]
+struct Content {
+    name: String,
+    bytes: Vec<u8>,
+}
+
+impl Model for Content {
+    ghost use Rattle.std.specs.Prelude.{ℕ, List, string_bytes};
+
+    ghost Value = { List ℕ × List ℕ };
+
+    ghost view = { λ c. (string_bytes c.name, c.bytes.items) };
+}
+
+impl Content {
+    fn new(alloc: Global, name: &str, bytes: &[u8]) -> Result<Content, Memory>
+        ensures { IfOk result (λ content. content ≡ (name.now, bytes.now)) }
+    {
+        Ok(Content {
+            name: String::from_str(alloc, name)?,
+            bytes: Vec::from_slice(alloc, bytes)?,
+        })
+    }
+}
+
+/// Streams whose bytes stand in memory, each under a name. Only the start of a name that is missing fails.
+#[derive(Debug, Drop)]
+pub struct MemOutside {
+    alloc: Global,
+    chunk: usize,
+    contents: Vec<Content>,
+    query: Stream,
+    left: Stream,
+    right: Stream,
+}
+
+impl Model for MemOutside {
+    ghost use Rattle.std.specs.Prelude.{◌≤◌};
+    ghost use Rattle.hj_base.specs.MemOutside.{OutsideState};
+
+    ghost Value = { OutsideState };
+
+    ghost view = { λ o. record { chunk = o.chunk; contents = o.contents.items; query = o.query; left = o.left; right = o.right } };
+
+    ghost invariant = { λ o. 1 ≤ o.chunk };
+}
+
+impl MemOutside {
+    /// An object with no name, of which one read gives at most `chunk` bytes.
+    pub fn new(alloc: Global, chunk: usize) -> MemOutside
+        requires { 1 ≤ chunk }
+        ensures { result ≡ record { chunk = chunk; contents = []; query = new_role; left = new_role; right = new_role } }
+    {
+        MemOutside {
+            alloc,
+            chunk,
+            contents: Vec::new(alloc),
+            query: Stream::new(),
+            left: Stream::new(),
+            right: Stream::new(),
+        }
+    }
+
+    /// Puts bytes under a name, in place of what stood there. A stream that began keeps the bytes that it began with.
+    #[tactic(auto, using(crate::proofs::Lookups::lookup_set_same, crate::proofs::Lookups::lookup_set_other, crate::proofs::Lookups::lookup_push_same, crate::proofs::Lookups::lookup_push_other))]
+    pub fn add(&mut self, name: &str, bytes: &[u8]) -> Result<(), Memory>
+        ensures added { OnOk result (lookup self.new.contents name.now ≡ Some bytes.now) }
+        ensures others { (other : List ℕ) → other ≢ name.now → lookup self.new.contents other ≡ lookup self.old.contents other }
+        ensures streams { self.new ≡ record self.old { contents = self.new.contents } }
+        ensures refused { OnErr result (self.new ≡ self.old) }
+    {
+        let content = Content::new(self.alloc, name, bytes)?;
+        match position(&self.contents, name) {
+            Some(index) => self.contents[index] = content,
+            None => self.contents.push(content)?,
+        }
+        Ok(())
+    }
+}
+
+impl Outside for MemOutside {
+    ghost state = { role_of };
+
+    ghost under = { told_under };
+
+    fn start(&mut self, role: Role, name: &str) -> Opened
+        requires { (role_of self.old role).phase ≡ unbegun }
+        ensures starts { Starts result name.now (told_under self.old name.now) (role_of self.old role) (role_of self.new role) }
+        ensures others { ChangesOnly role (role_of self.old) (role_of self.new) }
+        ensures names { (other : List ℕ) → told_under self.new other ≡ told_under self.old other }
+        ensures answer { FailsAtMissing result (lookup self.old.contents name.now) }
+        ensures after { self.new ≡ with_role self.old role (after_start result name.now (lookup self.old.contents name.now) (role_of self.old role)) }
+    {
+        let found = find(&self.contents, name);
+        match role {
+            Role::Query => self.query.start(self.alloc, name, found),
+            Role::Left => self.left.start(self.alloc, name, found),
+            Role::Right => self.right.start(self.alloc, name, found),
+        }
+    }
+
+    fn read(&mut self, role: Role, buf: &mut [u8]) -> Got
+        requires open { IsOpen (role_of self.old role).phase }
+        requires room { 0 < length buf.old }
+        ensures reads { Reads result buf.new (role_of self.old role) (role_of self.new role) }
+        ensures others { ChangesOnly role (role_of self.old) (role_of self.new) }
+        ensures names { (other : List ℕ) → told_under self.new other ≡ told_under self.old other }
+        ensures answer { IsSomeAnd (role_of self.old role).left (λ bytes. result ≡ read_answer self.old.chunk (length buf.old) bytes) }
+        ensures after { self.new ≡ with_role self.old role (after_read result (role_of self.old role)) }
+        ensures filled { IsSomeAnd (role_of self.old role).left (λ bytes. buf.new ≡ filled result bytes buf.old) }
+    {
+        match role {
+            Role::Query => self.query.read(self.chunk, buf),
+            Role::Left => self.left.read(self.chunk, buf),
+            Role::Right => self.right.read(self.chunk, buf),
+        }
+    }
+}
+
+fn find<'a>(contents: &'a [Content], name: &str) -> Option<&'a [u8]>
+    ensures { option_copied result ≡ lookup contents.now name.now }
+{
+    contents
+        .iter()
+        .find(|content| content.name.as_str() == name)
+        .map(|content| content.bytes.as_slice())
+}
+
+fn position(contents: &[Content], name: &str) -> Option<usize>
+    ensures { result ≡ position (λ content. bytes_eq content.0 name.now) contents.now }
+{
+    contents
+        .iter()
+        .position(|content| content.name.as_str() == name)
+}

@@ -1,0 +1,54 @@
+use super::*;
+use std::test::Fail;
+
+#[test]
+fn writes_until_a_listed_call(rt: HostRuntime) -> Result<(), Fail> {
+    let mut sink = MemSink::new(rt.alloc(), 2);
+    sink.fail_write(2)?;
+    let pieces = [
+        ("abc", Put::Wrote(2)),
+        ("c", Put::Failed),
+        ("c", Put::Wrote(1)),
+    ];
+    for (piece, want) in pieces {
+        assert!(rt; !piece.is_empty());
+        assert_eq!(rt; sink.write(piece.as_bytes()), want, "at {piece}");
+    }
+    assert_eq!(rt; sink.bytes(), b"abc".as_slice());
+    Ok(())
+}
+
+#[test]
+fn reads_each_byte_to_the_end(rt: HostRuntime) -> Result<(), Fail> {
+    let mut outside = MemOutside::new(rt.alloc(), 1);
+    outside.add("ab.csv", b"ab")?;
+    assert_eq!(rt; outside.start(Role::Left, "ab.csv"), Opened::Ready);
+    let mut buf = [0; 4];
+    assert_eq!(rt; outside.read(Role::Left, &mut buf), Got::Bytes(1));
+    assert_eq!(rt; buf[0], b'a');
+    assert_eq!(rt; outside.read(Role::Left, &mut buf), Got::Bytes(1));
+    assert_eq!(rt; buf[0], b'b');
+    assert_eq!(rt; outside.read(Role::Left, &mut buf), Got::End);
+    assert_eq!(rt; outside.read(Role::Left, &mut buf), Got::End);
+    Ok(())
+}
+
+#[test]
+fn starts_with_what_stands(rt: HostRuntime) -> Result<(), Fail> {
+    let mut outside = MemOutside::new(rt.alloc(), 9);
+    outside.add("l", b"old")?;
+    assert_eq!(rt; outside.start(Role::Left, "l"), Opened::Ready);
+    outside.add("l", b"newer")?;
+    assert_eq!(rt; outside.start(Role::Right, "l"), Opened::Ready);
+    assert_eq!(rt; outside.start(Role::Query, "q"), Opened::Failed);
+    let mut buf = [0; 9];
+    assert_eq!(rt; outside.read(Role::Left, &mut buf), Got::Bytes(3));
+    assert_eq!(rt; outside.read(Role::Right, &mut buf), Got::Bytes(5));
+    assert_eq!(rt; &buf[..5], b"newer".as_slice());
+    Ok(())
+}
+
+#[test]
+fn opens_the_gate(_rt: HostRuntime) {
+    OpenGate.pass(CoreNo(1), 2);
+}
