@@ -1,0 +1,9 @@
+-- Rows as lists of fields.
+use Rattle.std.specs.Prelude.{ℤ, pos, List, [], ◌∷◌}
+use Rattle.hj_value.specs.declared.field.Field.{Field}
+use Rattle.hj_value.specs.declared.field.Field.TheVariants.{Int}
+
+-- a row's time: its first field
+abbrev pub time_of : List Field → ℤ
+time_of [] = pos 0
+time_of (Int time ∷ fields) = time

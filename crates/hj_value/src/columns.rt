@@ -1,0 +1,56 @@
+ghost use Rattle.std.specs.Prelude.{◌≡◌, ◌++◌, [], ◌∷◌, length, slice_get, OnOk, OnErr};
+ghost use Rattle.std.specs.Option.{option_copied};
+
+use crate::Column;
+use hj_base::Memory;
+use std::alloc::Global;
+use std::marker::Model;
+
+/// Columns, seen as the list of them.
+#[derive(Debug, Drop)]
+pub struct Columns {
+    columns: Vec<Column>,
+}
+
+impl Model for Columns {
+    ghost use Rattle.std.specs.Prelude.{List};
+    ghost use Rattle.hj_value.specs.declared.column.Column.{Column};
+
+    ghost Value = { List Column };
+
+    ghost view = { λ c. c.columns.items };
+}
+
+impl Columns {
+    /// No columns.
+    pub fn new(alloc: Global) -> Self
+        ensures { result ≡ [] }
+    {
+        Columns {
+            columns: Vec::new(alloc),
+        }
+    }
+
+    /// How many columns there are.
+    pub fn len(&self) -> usize
+        ensures { result ≡ length self.now }
+    {
+        self.columns.len()
+    }
+
+    /// The column at a place, counted from 0; None exactly at or past the length.
+    pub fn get(&self, at: usize) -> Option<&Column>
+        ensures { option_copied result ≡ slice_get self.now at }
+    {
+        self.columns.get(at)
+    }
+
+    /// Adds a column at the end. After a refusal nothing changed.
+    pub fn push(&mut self, column: Column) -> Result<(), Memory>
+        ensures ok { OnOk result (self.new ≡ self.old ++ column ∷ []) }
+        ensures err { OnErr result (self.new ≡ self.old) }
+    {
+        self.columns.push(column)?;
+        Ok(())
+    }
+}
