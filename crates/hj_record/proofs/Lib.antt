@@ -1,0 +1,7 @@
+pub mod RecordLemmas
+pub mod Splits
+pub mod Streams
+pub mod Cuttings
+pub mod FieldLemmas
+pub mod Leads
+pub mod Takes

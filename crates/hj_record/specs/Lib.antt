@@ -1,0 +1,6 @@
+pub mod Cutter
+pub mod CutterFields
+pub mod Fields
+pub mod LineEnd
+pub mod Pieces
+pub mod Records

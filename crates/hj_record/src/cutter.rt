@@ -1,0 +1,203 @@
+ghost use Rattle.std.specs.Prelude.{◌≡◌, ◌≤◌, ◌-◌, ◌%◌, ◌++◌, ◌==◌, false, length, min, OnOk, OnErr};
+ghost use Rattle.hj_record.specs.Cutter.{fresh, cleared, Feeds, Ends, Leads, LeadsAtEnd, Takes, Fits};
+ghost use Rattle.hj_record.specs.LineEnd.{Finds};
+ghost use Rattle.hj_record.specs.Pieces.{IsUnended, quotes, most_in_piece};
+
+use crate::PieceFault;
+use std::alloc::{AllocError, Global};
+use std::marker::Model;
+
+const LINE_FEED: u8 = b'\n';
+
+const QUOTE: u8 = b'"';
+
+const MOST_IN_PIECE: u64 = 65_536;
+
+/// The answer to a portion of bytes, or to the end of the stream.
+#[derive(Clone, Copy, Debug, PartialEq, Eq)]
+pub enum Fed {
+    /// All bytes were taken, and the piece goes on. At the end of the stream: nothing is left.
+    More,
+    /// The piece has its end; so many bytes of the portion were taken.
+    Piece(usize),
+    /// The stream is refused here, and at every later call.
+    Bad(PieceFault),
+}
+
+/// Cuts a stream into pieces, in whatever portions its bytes come.
+#[derive(Drop)]
+pub struct Cutter {
+    /// How many bytes the stream may have from the first of this piece on.
+    room: u64,
+    /// The bytes of this piece so far.
+    piece: Vec<u8>,
+    /// Whether they end inside quotes.
+    inside: bool,
+    /// Whether the piece has its end.
+    whole: bool,
+    fault: Option<PieceFault>,
+}
+
+/// The first line feed outside quotes in some bytes.
+#[derive(Clone, Copy)]
+enum LineEnd {
+    /// It stands at this place.
+    At(usize),
+    /// None stands there, and the bytes end inside quotes or outside.
+    Beyond { inside: bool },
+}
+
+impl Model for Cutter {
+    ghost use Rattle.hj_record.specs.Cutter.{Cutting};
+    ghost use Rattle.hj_record.specs.CutterFields.{IsSound};
+
+    ghost Value = { Cutting };
+
+    ghost view = { λ c. record { room = c.room; piece = c.piece.items; whole = c.whole; fault = c.fault } };
+
+    ghost invariant = { λ c. IsSound c.room c.piece.items c.inside c.whole };
+}
+
+impl Cutter {
+    /// A cutter of a stream that may have `limit` bytes.
+    pub fn new(alloc: Global, limit: u64) -> Self
+        ensures { result ≡ fresh limit }
+    {
+        Cutter {
+            room: limit,
+            piece: Vec::new(alloc),
+            inside: false,
+            whole: false,
+            fault: None,
+        }
+    }
+
+    /// The bytes of the current piece so far, all of them after an answer `Piece`.
+    pub fn piece(&self) -> &[u8]
+        ensures piece { result.now ≡ self.now.piece }
+        ensures short { length result.now ≤ most_in_piece }
+    {
+        &self.piece
+    }
+
+    /// Makes ready for the next piece. After an answer `Bad` every later answer stays the same.
+    pub fn clear(&mut self)
+        ensures { self.new ≡ cleared self.old }
+    {
+        self.room -= self.piece.len() as u64;
+        self.piece.clear();
+        self.inside = false;
+        self.whole = false;
+    }
+
+    /// Takes the next bytes of the stream, up to the end of a piece. After an answer `Piece`, call `clear`, and feed
+    /// the bytes that weren't taken.
+    pub fn feed(&mut self, bytes: &[u8]) -> Fed
+        requires { self.old.whole ≡ false }
+        ensures takes { Feeds result bytes.now self.old self.new }
+        ensures leads { self.old.fault ≡ None → Leads result bytes.now self.old self.new }
+    {
+        if let Some(fault) = self.fault {
+            return Fed::Bad(fault);
+        }
+        self.take(bytes)
+    }
+
+    /// Comes to the end of the stream: the rest is a piece, or there is none, or it ends inside quotes.
+    pub fn end(&mut self) -> Fed
+        requires { self.old.whole ≡ false }
+        ensures ends { Ends result self.old self.new }
+        ensures leads { self.old.fault ≡ None → LeadsAtEnd result self.old self.new }
+    {
+        if let Some(fault) = self.fault {
+            return Fed::Bad(fault);
+        }
+        if self.piece.is_empty() {
+            return Fed::More;
+        }
+        if self.inside {
+            return self.fail(PieceFault::OpenQuote);
+        }
+        self.whole = true;
+        Fed::Piece(0)
+    }
+
+    /// Takes the next bytes of a stream without a fault.
+    fn take(&mut self, bytes: &[u8]) -> Fed
+        requires going { self.old.whole ≡ false }
+        requires sound { self.old.fault ≡ None }
+        ensures { Takes result bytes.now self.old self.new }
+    {
+        let within = &bytes[..self.spare().min(bytes.len())];
+        match find_line_end(within, self.inside) {
+            LineEnd::At(at) => {
+                let taken = at + 1;
+                match self.append(&within[..taken], false, true) {
+                    Ok(()) => Fed::Piece(taken),
+                    Err(_) => self.fail(PieceFault::Memory),
+                }
+            }
+            LineEnd::Beyond { inside } if within.len() == bytes.len() => {
+                match self.append(within, inside, false) {
+                    Ok(()) => Fed::More,
+                    Err(_) => self.fail(PieceFault::Memory),
+                }
+            }
+            LineEnd::Beyond { .. } if self.room <= MOST_IN_PIECE => {
+                self.fail(PieceFault::StreamLong)
+            }
+            LineEnd::Beyond { .. } => self.fail(PieceFault::TooLong),
+        }
+    }
+
+    /// How many bytes the piece may still take.
+    fn spare(&self) -> usize
+        ensures { result ≡ min self.now.room most_in_piece - length self.now.piece }
+    {
+        self.room.min(MOST_IN_PIECE) as usize - self.piece.len()
+    }
+
+    /// Adds bytes to the piece, which then ends inside quotes or outside, and may have its end. After a refusal nothing
+    /// changed.
+    fn append(&mut self, bytes: &[u8], inside: bool, whole: bool) -> Result<(), AllocError>
+        requires fits { Fits (record self.old { piece = self.old.piece ++ bytes.now }) }
+        requires parity { inside ≡ (quotes (self.old.piece ++ bytes.now) % 2 == 1) }
+        requires unended { whole ≡ false → IsUnended (self.old.piece ++ bytes.now) }
+        ensures ok { OnOk result
+            (self.new ≡ record self.old { piece = self.old.piece ++ bytes.now; whole = whole }) }
+        ensures err { OnErr result (self.new ≡ self.old) }
+    {
+        self.piece.extend_from_slice(bytes)?;
+        self.inside = inside;
+        self.whole = whole;
+        Ok(())
+    }
+
+    /// Refuses the stream from here on.
+    fn fail(&mut self, fault: PieceFault) -> Fed
+        requires { self.old.fault ≡ None }
+        ensures answer { result ≡ Fed.Bad fault }
+        ensures fault { self.new ≡ record self.old { fault = Some fault } }
+    {
+        self.fault = Some(fault);
+        Fed::Bad(fault)
+    }
+}
+
+/// Looks for the first line feed outside quotes in bytes that begin inside quotes, or outside.
+fn find_line_end(bytes: &[u8], mut inside: bool) -> LineEnd
+    ensures { Finds result inside bytes.now }
+{
+    for (at, &byte) in bytes.iter().enumerate() {
+        if byte == LINE_FEED && !inside {
+            return LineEnd::At(at);
+        }
+        if byte == QUOTE {
+            inside = !inside;
+        }
+    }
+    LineEnd::Beyond { inside }
+}
+
+#[cfg(test)]
+mod tests;

@@ -1,0 +1,117 @@
+ghost use Rattle.std.specs.Prelude.{◌≡◌, ◌<◌, ◌++◌, [], ◌∷◌, length, slice_get, IfOk, OnOk, OnErr};
+ghost use Rattle.std.specs.Option.{option_copied};
+ghost use Rattle.hj_record.specs.Fields.{fields_in, start_at, AreEnds};
+
+use hj_base::Memory;
+use std::alloc::Global;
+use std::marker::Model;
+
+/// The fields of a record, in order, seen as a list of byte lists. They lie in one buffer.
+#[derive(Drop)]
+pub struct Fields {
+    bytes: Vec<u8>,
+    ends: Vec<usize>,
+}
+
+impl Model for Fields {
+    ghost use Rattle.std.specs.Prelude.{List, ℕ, length};
+    ghost use Rattle.hj_record.specs.Fields.{fields_in, AreEnds};
+
+    ghost Value = { List (List ℕ) };
+
+    ghost view = { λ f. fields_in f.bytes.items f.ends.items };
+
+    ghost invariant = { λ f. AreEnds f.ends.items (length f.bytes.items) };
+}
+
+impl Fields {
+    /// No fields.
+    pub fn new(alloc: Global) -> Self
+        ensures { result ≡ [] }
+    {
+        Fields {
+            bytes: Vec::new(alloc),
+            ends: Vec::new(alloc),
+        }
+    }
+
+    /// No fields, with room for so many and for the bytes of all of them.
+    pub fn with_capacity(alloc: Global, count: usize, bytes: usize) -> Result<Self, Memory>
+        ensures { IfOk result (λ fields. fields ≡ []) }
+    {
+        Ok(Fields {
+            bytes: Vec::with_capacity(alloc, bytes)?,
+            ends: Vec::with_capacity(alloc, count)?,
+        })
+    }
+
+    /// How many fields there are.
+    pub fn len(&self) -> usize
+        ensures { result ≡ length self.now }
+    {
+        self.ends.len()
+    }
+
+    /// The bytes of the field at a place, counted from 0; None exactly at or past the length.
+    pub fn get(&self, at: usize) -> Option<&[u8]>
+        ensures { option_copied result ≡ slice_get self.now at }
+    {
+        field_at(&self.bytes, &self.ends, at)
+    }
+
+    /// Adds a field at the end. After a refusal nothing changed.
+    pub fn push(&mut self, field: &[u8]) -> Result<(), Memory>
+        ensures ok { OnOk result (self.new ≡ self.old ++ field.now ∷ []) }
+        ensures err { OnErr result (self.new ≡ self.old) }
+    {
+        self.ends.reserve(1)?;
+        self.bytes.extend_from_slice(field)?;
+        let end = self.bytes.len();
+        self.ends.push(end)?;
+        Ok(())
+    }
+}
+
+/// The field at a place among those in a buffer, by their ends.
+fn field_at<'a>(bytes: &'a [u8], ends: &[usize], at: usize) -> Option<&'a [u8]>
+    requires { AreEnds ends.now (length bytes.now) }
+    ensures { option_copied result ≡ slice_get (fields_in bytes.now ends.now) at }
+{
+    if at >= ends.len() {
+        return None;
+    }
+    let start = start_of(ends, at);
+    Some(&bytes[start..ends[at]])
+}
+
+/// Where the field at a place begins: at the end of the one before it.
+fn start_of(ends: &[usize], at: usize) -> usize
+    requires { at < length ends.now }
+    ensures { result ≡ start_at ends.now at }
+{
+    if at == 0 { 0 } else { ends[at - 1] }
+}
+
+#[cfg(test)]
+mod tests {
+    use super::*;
+    use std::test::Fail;
+
+    #[test]
+    fn keeps_each_field(rt: HostRuntime) -> Result<(), Fail> {
+        let mut fields = Fields::new(rt.alloc());
+        for field in ["a", "", "bc"] {
+            assert!(rt; fields.push(field.as_bytes()).is_ok());
+        }
+        assert_eq!(rt; fields.len(), 3);
+        let rows = [(0, Some("a")), (1, Some("")), (2, Some("bc")), (3, None)];
+        for (at, field) in rows {
+            assert_eq!(rt;
+                fields.get(at),
+                field.map(|text| text.as_bytes()),
+                "at {at}"
+            );
+        }
+        Ok(())
+    }
+}

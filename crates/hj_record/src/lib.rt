@@ -1,0 +1,14 @@
+//! CSV streams: cut into pieces, in whatever portions the bytes come, and each piece read as a record.
+#![tactic(auto)]
+
+mod cutter;
+mod fault;
+mod fields;
+mod laws;
+mod piece;
+
+pub use cutter::{Cutter, Fed};
+pub use fault::PieceFault;
+pub use fields::Fields;
+pub use laws::cuts_at_line_ends;
+pub use piece::read_piece;
