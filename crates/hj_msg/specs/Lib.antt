@@ -1,0 +1,17 @@
+pub mod Core
+pub mod Crossing
+pub mod Drain
+pub mod Driver
+pub mod Emission
+pub mod Event
+pub mod Examples
+pub mod Feed
+pub mod Kang
+pub mod Messages
+pub mod Met
+pub mod Order
+pub mod Punctuation
+pub mod Run
+pub mod Store
+pub mod Turns
+pub mod Valid

@@ -1,0 +1,28 @@
+ghost use Rattle.hj_msg.specs.Feed.{FeedState, Answers};
+
+use crate::Event;
+
+/// The answer of a feed.
+#[derive(Debug, Drop)]
+pub enum Given<P> {
+    /// The next event.
+    Event(Event<P>),
+    /// No event comes any more.
+    Stop,
+}
+
+/// Where the events of a chain come from, in the order of their numbers.
+pub trait Feed<P> {
+    ghost use Rattle.hj_msg.specs.declared.feed.Given.{Given};
+
+    /// From a feed, an answer may come and leave it as another one.
+    ghost gives: { Self → Given P → Self → Type 0 };
+
+    /// What stands of the feed.
+    ghost state: { Self → FeedState };
+
+    /// The next event, or Stop where there is none, and again at every later call.
+    fn next(&mut self) -> Given<P>
+        ensures gives { gives self.old result self.new }
+        ensures answers { Answers result (state self.old) (state self.new) };
+}

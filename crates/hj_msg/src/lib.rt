@@ -1,0 +1,28 @@
+//! The chain in definitions: events, messages and reports, the sequential join that defines what is written, one core's
+//! step, runs of the whole chain, and their laws.
+#![tactic(auto)]
+
+mod crossing;
+mod drain;
+mod event;
+mod examples;
+mod feed;
+mod join;
+mod laws;
+mod message;
+mod partner;
+mod store;
+
+pub use crossing::{journals_tell_what_was_handled, rows_cross_in_one_order};
+pub use drain::{Drain, Drained};
+pub use event::{Event, Pair};
+pub use examples::{no_runs, small_logs, small_run, small_steps};
+pub use feed::{Feed, Given};
+pub use join::Join;
+pub use laws::{join_lists_each_match_once, join_of_prefix_is_prefix, prefix_is_well_formed};
+pub use message::{Msg, Report};
+pub use partner::{Partner, Partners};
+pub use store::Store;
+
+#[cfg(test)]
+mod tests;
