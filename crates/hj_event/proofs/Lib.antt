@@ -1,0 +1,10 @@
+pub mod CallerLemmas
+pub mod CutPieces
+pub mod CutRows
+pub mod LiveRows
+pub mod MergerLemmas
+pub mod Moments
+pub mod PieceLemmas
+pub mod RowLemmas
+pub mod Turns
+pub mod Whole

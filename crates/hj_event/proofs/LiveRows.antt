@@ -1,0 +1,196 @@
+-- The live rows of a side: what an event does to them, and what stands of each in the events.
+use Rattle.std.proofs.Common.{◌≡◌, ℕ, zero, suc, ◌⊎◌, inl, inr, Bool, true, false, not, cond, ◌&&◌, ◌||◌, ◌==◌, List, [], ◌∷◌, ◌++◌, filter, filter_map, Option, append-nil, Contains, Some, None, arith, refl, sym, ap, subst, ◌∙◌}
+use Rattle.std.specs.List.{list_any, cons_option}
+use Rattle.std.proofs.lemmas.Bool.{eq-eqb, eqb-true, ne_eqb, or_cases, false≢true, not-true, cases_Bool}
+use Rattle.std.proofs.lemmas.List.Elements.{filter_map-append, filter-append, filter_agree}
+use Rattle.std.proofs.lemmas.List.Folds.{list_any-append, list_any_at}
+use Rattle.hj_base.specs.declared.numbers.EventNo.{EventNo}
+use Rattle.hj_base.specs.declared.numbers.Side.{Side}
+use Rattle.hj_base.specs.declared.numbers.Side.TheVariants.{Left, Right}
+use Rattle.hj_msg.specs.declared.event.Event.{Event}
+use Rattle.hj_msg.specs.declared.event.Event.TheVariants.{Arrive, Expire}
+use Rattle.hj_msg.specs.Event.{Arrives, Expires}
+use Rattle.hj_event.specs.Windows.{arrival_no, is_expiry_of, live_rows}
+
+pub Contains-nil : {X : Type 0} (x : X) → Contains [] x → ⊥
+Contains-nil x h = omega (arith, h.1)
+
+pub Contains-head : {X : Type 0} (x : X) (xs : List X) → Contains (x ∷ xs) x
+Contains-head x xs = (zero, omega arith, refl)
+
+pub Contains-cons : {X : Type 0} (x y : X) (xs : List X) → Contains xs y → Contains (x ∷ xs) y
+Contains-cons x y xs h = (suc h.0, omega (arith, h.1), h.2)
+
+pub Contains-cons_cases : {X : Type 0} (x y : X) (xs : List X) → Contains (x ∷ xs) y → (x ≡ y) ⊎ Contains xs y
+Contains-cons_cases x y xs (zero, l, e) = inl e
+Contains-cons_cases x y xs (suc k, l, e) = inr (k, omega arith, e)
+
+-- two sides are one, or differ
+pub cases_side : (one other : Side) → (one ≡ other) ⊎ (one ≡ other → ⊥)
+cases_side Left Left = inl refl
+cases_side Left Right = inr (λ e. cc)
+cases_side Right Left = inr (λ e. cc)
+cases_side Right Right = inl refl
+
+filter_none_out : {X : Type 0} (test : X → Bool) (xs : List X) → ((x : X) → Contains xs x → test x ≡ true) → filter test xs ≡ xs
+filter_none_out test [] h = refl
+filter_none_out test (x ∷ xs) h = rw (h x (Contains-head x xs)) (ap (λ ys. x ∷ ys) (filter_none_out test xs (λ y k. h y (Contains-cons x y xs k))))
+
+filter_both-head : {X : Type 0} (other : X → Bool) (x : X) (one : Bool) (kept both : List X) → both ≡ filter other kept → cond (one && other x) (x ∷ both) both ≡ filter other (cond one (x ∷ kept) kept)
+filter_both-head other x true kept both e = ap (λ ys. cond (other x) (x ∷ ys) ys) e
+filter_both-head other x false kept both e = e
+
+filter_both : {X : Type 0} (one other both : X → Bool) → ((x : X) → both x ≡ (one x && other x)) → (xs : List X) → filter both xs ≡ filter other (filter one xs)
+filter_both one other both is [] = refl
+filter_both one other both is (x ∷ xs) = rw (is x) (filter_both-head other x (one x) (filter one xs) (filter both xs) (filter_both one other both is xs))
+
+filter_out : {X : Type 0} (test : X → Bool) (x : X) (xs : List X) → test x ≡ false → ((y : X) → Contains xs y → test y ≡ true) → filter test (x ∷ xs) ≡ xs
+filter_out test x xs e h = rw e (filter_none_out test xs h)
+
+kept_cases : {X : Type 0} (keep : Bool) (x y : X) (xs : List X) → Contains (cond keep (x ∷ xs) xs) y → (keep ≡ true) × (x ≡ y) ⊎ Contains xs y
+kept_cases true x y xs h = elim (Contains-cons_cases x y xs h) [ inl e ↦ inl (refl, e) | inr k ↦ inr k ]
+kept_cases false x y xs h = inr h
+
+Contains-from_filter : {X : Type 0} (test : X → Bool) (xs : List X) (x : X) → Contains (filter test xs) x → Contains xs x × (test x ≡ true)
+Contains-from_filter test [] x h = absurd (Contains-nil x h)
+Contains-from_filter test (y ∷ ys) x h = elim (kept_cases (test y) y x (filter test ys) h) [
+  | inl t ↦ subst (λ z. Contains (y ∷ ys) z × (test z ≡ true)) t.1 (Contains-head y ys, t.0)
+  | inr k ↦ (Contains-cons y x ys (Contains-from_filter test ys x k).0, (Contains-from_filter test ys x k).1)
+]
+
+kept_behind : {X : Type 0} (keep : Bool) (x y : X) (xs : List X) → Contains xs y → Contains (cond keep (x ∷ xs) xs) y
+kept_behind true x y xs h = Contains-cons x y xs h
+kept_behind false x y xs h = h
+
+Contains-filter : {X : Type 0} (test : X → Bool) (xs : List X) (x : X) → Contains xs x → test x ≡ true → Contains (filter test xs) x
+Contains-filter test [] x h t = h
+Contains-filter test (y ∷ ys) x h t = elim (Contains-cons_cases y x ys h) [
+  | inl e ↦ subst (λ z. Contains (cond (test z) (z ∷ filter test ys) (filter test ys)) x) (sym e) (rw t (Contains-head x (filter test ys)))
+  | inr k ↦ kept_behind (test y) y x (filter test ys) (Contains-filter test ys x k t)
+]
+
+-- one of these events is the expiry of this number's row
+abbrev pub has_expired : {P : Type 0} → List (Event P) → ℕ → Bool
+has_expired events number = list_any (is_expiry_of number) events
+
+-- the numbers under which rows of this side arrive
+abbrev pub arrived : {P : Type 0} → Side → List (Event P) → List ℕ
+arrived side events = filter_map (arrival_no side) events
+
+arrival_no-same : {P : Type 0} (side : Side) (at : EventNo) (row : P) → arrival_no side (Arrive at side row) ≡ Some at.0
+arrival_no-same Left at row = refl
+arrival_no-same Right at row = refl
+
+arrival_no-other : {P : Type 0} (side other : Side) (at : EventNo) (row : P) → (other ≡ side → ⊥) → arrival_no other (Arrive at side row) ≡ None
+arrival_no-other Left Left at row h = absurd (h refl)
+arrival_no-other Left Right at row h = refl
+arrival_no-other Right Left at row h = refl
+arrival_no-other Right Right at row h = absurd (h refl)
+
+arrival_no-expiry : (P : Type 0) (side other : Side) (at of : EventNo) → arrival_no {P = P} other (Expire at side of) ≡ None
+arrival_no-expiry P side Left at of = refl
+arrival_no-expiry P side Right at of = refl
+
+arrived-none : {P : Type 0} (side : Side) (before : List (Event P)) (event : Event P) → arrival_no side event ≡ None → arrived side (before ++ event ∷ []) ≡ arrived side before
+arrived-none side before event e = filter_map-append (arrival_no side) before (event ∷ []) ∙ rw e (append-nil (arrived side before))
+
+or-last : (one other : Bool) → (one || (other || false)) ≡ (one || other)
+or-last one true = refl
+or-last one false = refl
+
+has_expired-push : {P : Type 0} (before : List (Event P)) (event : Event P) (number : ℕ) → has_expired (before ++ event ∷ []) number ≡ (has_expired before number || is_expiry_of number event)
+has_expired-push before event number = list_any-append (is_expiry_of number) before (event ∷ []) ∙ or-last (has_expired before number) (is_expiry_of number event)
+
+or-false : (test : Bool) → (test || false) ≡ test
+or-false true = refl
+or-false false = refl
+
+-- an arrival is the expiry of no row
+pub has_expired-arrival : {P : Type 0} (before : List (Event P)) (at : EventNo) (side : Side) (row : P) (number : ℕ) → has_expired (before ++ Arrive at side row ∷ []) number ≡ has_expired before number
+has_expired-arrival before at side row number = has_expired-push before (Arrive at side row) number ∙ or-false (has_expired before number)
+
+-- a row that arrives comes last, where no earlier expiry has its number
+pub live_rows-arrival : {P : Type 0} (before : List (Event P)) (at : EventNo) (side : Side) (row : P) → has_expired before at.0 ≡ false → live_rows side (before ++ Arrive at side row ∷ []) ≡ live_rows side before ++ at.0 ∷ []
+live_rows-arrival before at side row fresh =
+    filter_agree _ (λ number. not (has_expired before number)) (λ number. ap not (has_expired-arrival before at side row number)) (arrived side (before ++ Arrive at side row ∷ []))
+    ∙ (ap (λ numbers. filter (λ number. not (has_expired before number)) numbers) (filter_map-append (arrival_no side) before (Arrive at side row ∷ []) ∙ rw (arrival_no-same side at row) refl)
+    ∙ (filter-append (λ number. not (has_expired before number)) (arrived side before) (at.0 ∷ []) ∙ rw fresh refl))
+
+pub live_rows-other_arrival : {P : Type 0} (before : List (Event P)) (at : EventNo) (side other : Side) (row : P) → (other ≡ side → ⊥) → live_rows other (before ++ Arrive at side row ∷ []) ≡ live_rows other before
+live_rows-other_arrival before at side other row differs =
+    filter_agree _ (λ number. not (has_expired before number)) (λ number. ap not (has_expired-arrival before at side row number)) (arrived other (before ++ Arrive at side row ∷ []))
+    ∙ ap (λ numbers. filter (λ number. not (has_expired before number)) numbers) (arrived-none other before (Arrive at side row) (arrival_no-other side other at row differs))
+
+not-or : (one other : Bool) → not (one || other) ≡ (not one && not other)
+not-or true other = refl
+not-or false other = refl
+
+-- an expiry takes out the number that it names
+live_rows-expiry : {P : Type 0} (before : List (Event P)) (at of : EventNo) (side other : Side) → live_rows other (before ++ Expire at side of ∷ []) ≡ filter (λ number. not (of.0 == number)) (live_rows other before)
+live_rows-expiry {P} before at of side other =
+    ap (λ numbers. filter (λ number. not (has_expired (before ++ Expire at side of ∷ []) number)) numbers) (arrived-none other before (Expire at side of) (arrival_no-expiry P side other at of))
+    ∙ filter_both (λ number. not (has_expired before number)) (λ number. not (of.0 == number)) _
+    (λ number. ap not (has_expired-push before (Expire at side of) number) ∙ not-or (has_expired before number) (of.0 == number)) (arrived other before)
+
+-- the row that expires was the first
+pub live_rows-first : {P : Type 0} (before : List (Event P)) (at of : EventNo) (side other : Side) (others : List ℕ) → live_rows other before ≡ of.0 ∷ others → ((number : ℕ) → Contains others number → of.0 ≡ number → ⊥) → live_rows other (before ++ Expire at side of ∷ []) ≡ others
+live_rows-first before at of side other others e apart = live_rows-expiry before at of side other ∙ (ap (λ numbers. filter (λ number. not (of.0 == number)) numbers) e
+    ∙ filter_out (λ number. not (of.0 == number)) of.0 others (ap not (eq-eqb of.0 of.0 refl)) (λ number k. ap not (ne_eqb of.0 number (apart number k))))
+
+-- the row that expires wasn't among them
+pub live_rows-absent : {P : Type 0} (before : List (Event P)) (at of : EventNo) (side other : Side) → ((number : ℕ) → Contains (live_rows other before) number → of.0 ≡ number → ⊥) → live_rows other (before ++ Expire at side of ∷ []) ≡ live_rows other before
+live_rows-absent before at of side other apart = live_rows-expiry before at of side other
+    ∙ filter_none_out (λ number. not (of.0 == number)) (live_rows other before) (λ number k. ap not (ne_eqb of.0 number (apart number k)))
+
+-- what is told to have expired after one expiry more
+pub has_expired-cases : {P : Type 0} (before : List (Event P)) (at of : EventNo) (side : Side) (number : ℕ) → has_expired (before ++ Expire at side of ∷ []) number ≡ true → (has_expired before number ≡ true) ⊎ (of.0 ≡ number)
+has_expired-cases before at of side number h = elim (or_cases (has_expired before number) (of.0 == number) (sym (has_expired-push before (Expire at side of) number) ∙ h)) [ inl e ↦ inl e | inr e ↦ inr (eqb-true of.0 number e) ]
+
+-- an arrived number is that of an arrival
+arrived-arrives : {P : Type 0} (side : Side) (events : List (Event P)) (number : ℕ) → Contains (arrived side events) number → (row : P) × Arrives events side number row
+arrived-arrives side [] number h = absurd (Contains-nil number h)
+arrived-arrives Left (Arrive at Left row ∷ events) number h = elim (Contains-cons_cases at.0 number (arrived Left events) h) [
+  | inl e ↦ (row, subst (λ n. Contains (Arrive at Left row ∷ events) (Arrive (record { 0 = n }) Left row)) e (Contains-head (Arrive at Left row) events))
+  | inr k ↦ let found = arrived-arrives Left events number k in (found.0, Contains-cons (Arrive at Left row) (Arrive (record { 0 = number }) Left found.0) events found.1)
+]
+arrived-arrives Right (Arrive at Right row ∷ events) number h = elim (Contains-cons_cases at.0 number (arrived Right events) h) [
+  | inl e ↦ (row, subst (λ n. Contains (Arrive at Right row ∷ events) (Arrive (record { 0 = n }) Right row)) e (Contains-head (Arrive at Right row) events))
+  | inr k ↦ let found = arrived-arrives Right events number k in (found.0, Contains-cons (Arrive at Right row) (Arrive (record { 0 = number }) Right found.0) events found.1)
+]
+arrived-arrives side (event ∷ events) number h = let found = arrived-arrives side events number h in (found.0, Contains-cons event (Arrive (record { 0 = number }) side found.0) events found.1)
+
+behind_option : {X : Type 0} (o : Option X) (xs : List X) (x : X) → Contains xs x → Contains (cons_option o xs) x
+behind_option None xs x h = h
+behind_option (Some y) xs x h = Contains-cons y x xs h
+
+-- and that of an arrival is an arrived number
+arrives-arrived : {P : Type 0} (side : Side) (events : List (Event P)) (number : ℕ) (row : P) → Arrives events side number row → Contains (arrived side events) number
+arrives-arrived side [] number row h = absurd (Contains-nil (Arrive (record { 0 = number }) side row) h)
+arrives-arrived side (event ∷ events) number row h = elim (Contains-cons_cases event (Arrive (record { 0 = number }) side row) events h) [
+  | inl e ↦ subst (λ e. Contains (cons_option (arrival_no side e) (arrived side events)) number) (sym e) (rw (arrival_no-same side (record { 0 = number }) row) (Contains-head number (arrived side events)))
+  | inr k ↦ behind_option (arrival_no side event) (arrived side events) number (arrives-arrived side events number row k)
+]
+
+expired-told : {P : Type 0} (events : List (Event P)) (number at : ℕ) → Expires events number at → has_expired events number ≡ true
+expired-told events number at h = list_any_at (is_expiry_of number) events h.1.0 (Expire (record { 0 = at }) h.0 (record { 0 = number })) h.1.1 (rw h.1.2 (eq-eqb number number refl))
+
+told-expired : {P : Type 0} (events : List (Event P)) (number : ℕ) → has_expired events number ≡ true → (at : ℕ) × Expires events number at
+told-expired [] number h = absurd (false≢true h)
+told-expired (Arrive at side row ∷ events) number h = let found = told-expired events number h in (found.0, (found.1.0, Contains-cons _ _ events found.1.1))
+told-expired (Expire at side of ∷ events) number h = elim (or_cases (of.0 == number) (has_expired events number) h) [
+  | inl e ↦ (at.0, (side, subst (λ n. Contains (Expire at side of ∷ events) (Expire at side (record { 0 = n }))) (eqb-true of.0 number e) (Contains-head (Expire at side of) events)))
+  | inr k ↦ let found = told-expired events number k in (found.0, (found.1.0, Contains-cons _ _ events found.1.1))
+]
+
+-- a live row arrived, and hasn't expired
+pub live_rows-live : {P : Type 0} (side : Side) (events : List (Event P)) (number : ℕ) → Contains (live_rows side events) number → ((row : P) × Arrives events side number row) × ((at : ℕ) → ¬ (Expires events number at))
+live_rows-live side events number h =
+    let found = Contains-from_filter (λ x. not (has_expired events x)) (arrived side events) number h in
+    (arrived-arrives side events number found.0, λ at expiry. false≢true (sym (not-true (has_expired events number) found.1) ∙ expired-told events number at expiry))
+
+-- a row that arrived and isn't live has expired
+pub live_rows-rest : {P : Type 0} (side : Side) (events : List (Event P)) (number : ℕ) (row : P) → Arrives events side number row → (Contains (live_rows side events) number → ⊥) → (at : ℕ) × Expires events number at
+live_rows-rest side events number row arrival absent = elim (cases_Bool (has_expired events number)) [
+  | inl e ↦ told-expired events number e
+  | inr e ↦ absurd (absent (Contains-filter (λ x. not (has_expired events x)) (arrived side events) number (arrives-arrived side events number row arrival) (ap not e)))
+]

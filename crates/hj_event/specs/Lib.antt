@@ -1,0 +1,14 @@
+pub mod Arrivals
+pub mod Cut
+pub mod Events
+pub mod Merger
+pub mod Merging
+pub mod Numbering
+pub mod Pieces
+pub mod Reading
+pub mod RowAnswers
+pub mod Rows
+pub mod Source
+pub mod Stages
+pub mod Window
+pub mod Windows

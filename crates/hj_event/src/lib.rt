@@ -1,0 +1,23 @@
+//! The two streams merged into one list of numbered events.
+#![tactic(auto)]
+
+mod arrivals;
+mod fault;
+mod laws;
+mod live;
+mod merger;
+mod numbering;
+mod pieces;
+mod reading;
+mod record;
+mod row;
+mod source;
+mod stop;
+
+pub use fault::{RecordFault, RowFault};
+pub use hj_msg::{Event, Pair};
+pub use laws::{cut_stream_gives_prefix, events_are_well_formed, rows_expire_in_turn};
+pub use merger::{Merger, Next};
+
+#[cfg(test)]
+mod tests;
