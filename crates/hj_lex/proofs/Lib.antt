@@ -1,0 +1,10 @@
+pub mod Cutting
+pub mod Computed
+pub mod Fronts
+pub mod Reading
+pub mod Runs
+pub mod Signs
+pub mod Spelling
+pub mod Texts
+pub mod Utf8
+pub mod Values
