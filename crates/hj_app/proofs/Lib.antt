@@ -1,0 +1,11 @@
+pub mod Ascending
+pub mod Joining
+pub mod Lines
+pub mod NoteFront
+pub mod Noting
+pub mod Numbering
+pub mod Opening
+pub mod Sending
+pub mod Spelling
+pub mod WholeStreams
+pub mod WindowWord

@@ -1,0 +1,27 @@
+-- A window's word: its digits, and their value where `parse` refuses it.
+use Rattle.std.proofs.Common.{◌&&◌, ◌≡◌, ℕ, ◌<◌, ◌≤◌, ◌^◌, true, false, List, [], ◌∷◌, length, refl, ap, arith, inl, inr, None, Ok, Err, Result}
+use Rattle.std.proofs.lemmas.Str.Parse.{IsNumeralModel, numerals_by_value, tells_all_ascii_digits, parse_digits}
+use Rattle.std.specs.Char.{is_ascii_digit}
+use Rattle.std.specs.List.{list_all}
+use Rattle.std.specs.Result.{result_ok}
+use Rattle.std.specs.Str.{all_ascii_digits}
+use Rattle.std.specs.Str.Parse.{digits_value, ParsesUnsigned}
+use Rattle.hj_app.specs.Words.{is_window}
+use Rattle.std.proofs.lemmas.Bool.{cases_lt, lt-leb, and_right}
+
+pub list_all-digits : (ds : List ℕ) → list_all is_ascii_digit ds ≡ all_ascii_digits ds
+list_all-digits [] = refl
+list_all-digits (c ∷ cs) = ap (λ b. is_ascii_digit c && b) (list_all-digits cs)
+
+digits : IsNumeralModel (λ ds. all_ascii_digits ds ≡ true) (digits_value 10)
+digits = numerals_by_value (λ ds. all_ascii_digits ds ≡ true) tells_all_ascii_digits
+
+-- digits that `parse` refuses have a value that does not fit
+over : {E : Type 0} (bs : List ℕ) (r : Result ℕ E) → result_ok r ≡ None → ParsesUnsigned 32 10 bs r → all_ascii_digits bs ≡ true → 0 < length bs → 2 ^ 32 ≤ digits_value 10 bs
+over bs (Ok n) is h all some = absurd (cc)
+over bs (Err e) is h all some =
+    elim (cases_lt (digits_value 10 bs) (2 ^ 32)) [ inl fits ↦ absurd (parse_digits digits 32 bs (Err e) h all (some, fits)) | inr wide ↦ wide ]
+
+pub refused : {E : Type 0} (bs : List ℕ) (r : Result ℕ E) → result_ok r ≡ None → ParsesUnsigned 32 10 bs r → all_ascii_digits bs ≡ true → 0 < length bs → is_window bs ≡ false
+refused bs r is h all some =
+    and_right _ _ (lt-leb (digits_value 10 bs) 1000000 (let wide : 2 ^ 32 ≤ digits_value 10 bs = over bs r is h all some in omega (arith, wide)))

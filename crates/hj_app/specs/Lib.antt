@@ -1,0 +1,15 @@
+pub mod Edge
+pub mod EdgeStage
+pub mod Join
+pub mod JoinText
+pub mod Line
+pub mod NoteText
+pub mod NoteWritten
+pub mod Notes
+pub mod Output
+pub mod Parts
+pub mod Run
+pub mod Serve
+pub mod WindowView
+pub mod Windows
+pub mod Words
