@@ -1,5 +1,5 @@
 -- What a caller of a merger knows of the roles.
-use Rattle.std.proofs.Common.{◌≡◌, ◌⊎◌, inl, inr, sym, subst}
+use Rattle.std.proofs.Common.{inl, inr, sym, subst}
 use Rattle.hj_base.specs.Outside.{Phase, unbegun, opened, refused, RoleState, IsOpen, at_end}
 use Rattle.hj_event.specs.Merger.{IsReadOn}
 

@@ -3,9 +3,15 @@ use Rattle.std.proofs.Common.{◌≡◌, ℕ, ◌-◌, ◌<◌, ◌≤◌, ◌�
 use Rattle.std.proofs.lemmas.Bool.{ltb-true, lt-ltb, le-ltb, cases_Bool, cases_lt}
 use Rattle.std.proofs.Math.Seq.{take-append-add}
 use Rattle.std.proofs.lemmas.List.{take_all, take-append-le}
+use Rattle.hj_base.specs.Journals.{IsPrefix}
 use Rattle.hj_record.specs.declared.fault.PieceFault.TheVariants as fault
 use Rattle.hj_record.specs.Pieces.{Stream, Split, Pieces, unread, bad, ended, most_in_piece, put_front, put_piece, split, then_pieces, up_to_too_long, last_pieces, pieces_of}
-use Rattle.hj_event.specs.Cut.{Begins}
+
+pub IsPrefix-nil : {X : Type 0} (all : List X) → IsPrefix [] all
+IsPrefix-nil all = record { rest = all; is = refl }
+
+pub IsPrefix-cons : {X : Type 0} (x : X) (cut all : List X) → IsPrefix cut all → IsPrefix (x ∷ cut) (x ∷ all)
+IsPrefix-cons x cut all h = record { rest = h.rest; is = ap (λ xs. x ∷ xs) h.is }
 
 -- one byte string cut at the same places, as far as it goes
 abbrev Extends : Split → Split → Type 0
@@ -41,11 +47,11 @@ split-extends inside (b ∷ bytes) more = step-extends ((b == 10) && not inside)
 
 -- The same pieces with the same ending, or the first of them, up to where the stream was cut off.
 abbrev pub PiecesCut : Pieces → Pieces → Type 0
-PiecesCut cut all = (cut ≡ all) ⊎ ((cut.ending ≡ unread) × Begins cut.pieces all.pieces)
+PiecesCut cut all = (cut ≡ all) ⊎ ((cut.ending ≡ unread) × IsPrefix cut.pieces all.pieces)
 
 then_pieces-cut : (piece : List ℕ) (cut all : Pieces) → PiecesCut cut all → PiecesCut (then_pieces piece cut) (then_pieces piece all)
 then_pieces-cut piece cut all (inl e) = inl (ap (λ others. then_pieces piece others) e)
-then_pieces-cut piece cut all (inr e) = inr (e.0, (e.1.0, ap (λ pieces. piece ∷ pieces) e.1.1))
+then_pieces-cut piece cut all (inr e) = inr (e.0, IsPrefix-cons piece cut.pieces all.pieces e.1)
 
 test-cut : (test : Bool) (same cut all : Pieces) → PiecesCut cut all → PiecesCut (cond test same cut) (cond test same all)
 test-cut true same cut all h = inl refl
@@ -70,7 +76,7 @@ cut_off bytes = record { bytes = bytes; whole = false }
 last_pieces-cut : (limit : ℕ) (bytes rest more : List ℕ) (all : Pieces) → length bytes ≤ limit → (ltb most_in_piece (length (rest ++ more)) ≡ true → all ≡ ended (bad fault.TooLong)) → PiecesCut (last_pieces limit (cut_off bytes) rest) all
 last_pieces-cut limit bytes rest more all fits long = elim (cases_Bool (ltb most_in_piece (length rest))) [
   | inl e ↦ rw e (inl (sym (long (too_long rest more e))))
-  | inr e ↦ rw e (rw (le-ltb limit (length bytes) fits) (inr (refl, (all.pieces, refl))))
+  | inr e ↦ rw e (rw (le-ltb limit (length bytes) fits) (inr (refl, IsPrefix-nil all.pieces)))
 ]
 
 last_pieces-long : (limit : ℕ) (stream : Stream) (rest : List ℕ) → ltb most_in_piece (length rest) ≡ true → last_pieces limit stream rest ≡ ended (bad fault.TooLong)

@@ -4,6 +4,7 @@ use Rattle.hj_value.specs.declared.field.Field.{Field}
 use Rattle.hj_value.specs.Row.{time_of}
 use Rattle.hj_base.specs.declared.numbers.Side.{Side}
 use Rattle.hj_base.specs.declared.numbers.Side.TheVariants.{Left, Right}
+use Rattle.hj_base.specs.Journals.{IsPrefix}
 use Rattle.hj_msg.specs.declared.event.Event.{Event}
 use Rattle.hj_msg.specs.declared.event.Event.TheVariants.{Arrive, Expire}
 use Rattle.hj_record.specs.Pieces.{Stream, Pieces, PiecesEnd, pieces_of, unread as pieces_unread}
@@ -11,16 +12,16 @@ use Rattle.hj_event.specs.declared.fault.RecordFault.{RecordFault}
 use Rattle.hj_event.specs.Rows.{Rows, RowsEnd, then_rows, put_row, row_at, rows_from, rows_of, most_in_stream, clean as rows_clean, bad as rows_bad, unread as rows_unread}
 use Rattle.hj_event.specs.Arrivals.{Arrival, Arrivals, unread, no_arrival, then_arrivals, stop_or, right_only, left_among, merge, arrivals_of}
 use Rattle.hj_event.specs.Events.{Live, none_live, of_side, with_side, expire_over, number_from, Numbered, events_of}
-use Rattle.hj_event.specs.Cut.{Begins, IsCutOf}
-use Rattle.hj_event.proofs.CutPieces.{PiecesCut, pieces_of-cut}
+use Rattle.hj_event.specs.Cut.{IsCutOf}
+use Rattle.hj_event.proofs.CutPieces.{IsPrefix-cons, IsPrefix-nil, PiecesCut, pieces_of-cut}
 
 -- The same rows with the same ending, or the first of them, up to where the stream was cut off.
 abbrev RowsCut : Rows → Rows → Type 0
-RowsCut cut all = (cut ≡ all) ⊎ ((cut.ending ≡ rows_unread) × Begins cut.rows all.rows)
+RowsCut cut all = (cut ≡ all) ⊎ ((cut.ending ≡ rows_unread) × IsPrefix cut.rows all.rows)
 
 then_rows-cut : (row : List Field) (cut all : Rows) → RowsCut cut all → RowsCut (then_rows row cut) (then_rows row all)
 then_rows-cut row cut all (inl e) = inl (ap (λ others. then_rows row others) e)
-then_rows-cut row cut all (inr e) = inr (e.0, (e.1.0, ap (λ rows. row ∷ rows) e.1.1))
+then_rows-cut row cut all (inr e) = inr (e.0, IsPrefix-cons row cut.rows all.rows e.1)
 
 put_row-cut : (record_no : ℕ) (before : Option ℤ) (found : Result (Option (List Field)) RecordFault) (cut all : ℕ → Option ℤ → Rows) → ((next : ℕ) (time : Option ℤ) → RowsCut (cut next time) (all next time)) → RowsCut (put_row record_no before found cut) (put_row record_no before found all)
 put_row-cut record_no before (Err found) cut all h = inl refl
@@ -28,13 +29,13 @@ put_row-cut record_no before (Ok None) cut all h = h record_no before
 put_row-cut record_no before (Ok (Some row)) cut all h = then_rows-cut row (cut (record_no + 1) (Some (time_of row))) (all (record_no + 1) (Some (time_of row))) (h (record_no + 1) (Some (time_of row)))
 
 rows_from-front : (record_no : ℕ) (before : Option ℤ) (pieces others : List (List ℕ)) (ending : PiecesEnd) → RowsCut (rows_from record_no before pieces pieces_unread) (rows_from record_no before (pieces ++ others) ending)
-rows_from-front record_no before [] others ending = inr (refl, ((rows_from record_no before others ending).rows, refl))
+rows_from-front record_no before [] others ending = inr (refl, IsPrefix-nil (rows_from record_no before others ending).rows)
 rows_from-front record_no before (piece ∷ pieces) others ending = put_row-cut record_no before (row_at before piece) (λ next time. rows_from next time pieces pieces_unread) (λ next time. rows_from next time (pieces ++ others) ending)
     (λ next time. rows_from-front next time pieces others ending)
 
 rows_from-cut : (record_no : ℕ) (before : Option ℤ) (cut all : Pieces) → PiecesCut cut all → RowsCut (rows_from record_no before cut.pieces cut.ending) (rows_from record_no before all.pieces all.ending)
 rows_from-cut record_no before cut all (inl e) = inl (ap (λ pieces. rows_from record_no before pieces.pieces pieces.ending) e)
-rows_from-cut record_no before cut all (inr e) = rw (e.0) (rw (e.1.1) (rows_from-front record_no before cut.pieces e.1.0 all.ending))
+rows_from-cut record_no before cut all (inr e) = rw (e.0) (rw (e.1.is) (rows_from-front record_no before cut.pieces e.1.rest all.ending))
 
 abbrev rows_within : ℕ → Stream → Rows
 rows_within limit stream = rows_from 1 None (pieces_of limit stream).pieces (pieces_of limit stream).ending
@@ -43,27 +44,27 @@ rows_within-cut : (limit : ℕ) (cut all : Stream) → IsCutOf cut all → RowsC
 rows_within-cut limit cut all (inl e) = inl (ap (λ stream. rows_within limit stream) e)
 rows_within-cut limit cut all (inr e) =
     subst (λ stream. RowsCut (rows_within limit stream) (rows_within limit all)) (ap (λ whole. record { bytes = cut.bytes; whole = whole }) (sym e.0))
-    (subst (λ bytes. RowsCut (rows_within limit (record { bytes = cut.bytes; whole = false })) (rows_within limit (record { bytes = bytes; whole = all.whole }))) (sym e.1.1)
-    (rows_from-cut 1 None (pieces_of limit (record { bytes = cut.bytes; whole = false })) (pieces_of limit (record { bytes = cut.bytes ++ e.1.0; whole = all.whole })) (pieces_of-cut limit cut.bytes e.1.0 all.whole)))
+    (subst (λ bytes. RowsCut (rows_within limit (record { bytes = cut.bytes; whole = false })) (rows_within limit (record { bytes = bytes; whole = all.whole }))) (sym e.1.is)
+    (rows_from-cut 1 None (pieces_of limit (record { bytes = cut.bytes; whole = false })) (pieces_of limit (record { bytes = cut.bytes ++ e.1.rest; whole = all.whole })) (pieces_of-cut limit cut.bytes e.1.rest all.whole)))
 
 rows_of-cut : (cut all : Stream) → IsCutOf cut all → RowsCut (rows_of cut) (rows_of all)
 rows_of-cut cut all h = rows_within-cut most_in_stream cut all h
 
 -- The same arrivals with the same ending, or the first of them, up to where a stream was cut off.
 abbrev ArrivalsCut : Arrivals → Arrivals → Type 0
-ArrivalsCut cut all = (cut ≡ all) ⊎ (((side : Side) × (cut.ending ≡ unread side)) × Begins cut.rows all.rows)
+ArrivalsCut cut all = (cut ≡ all) ⊎ (((side : Side) × (cut.ending ≡ unread side)) × IsPrefix cut.rows all.rows)
 
 ArrivalsCut-trans : (one two three : Arrivals) → ArrivalsCut one two → ArrivalsCut two three → ArrivalsCut one three
 ArrivalsCut-trans one two three (inl e) k = subst (λ arrivals. ArrivalsCut arrivals three) (sym e) k
 ArrivalsCut-trans one two three (inr h) (inl e) = subst (λ arrivals. ArrivalsCut one arrivals) e (inr h)
-ArrivalsCut-trans one two three (inr h) (inr k) = inr (h.0, (h.1.0 ++ k.1.0, k.1.1 ∙ (ap (λ rows. rows ++ k.1.0) h.1.1 ∙ append_assoc one.rows h.1.0 k.1.0)))
+ArrivalsCut-trans one two three (inr h) (inr k) = inr (h.0, record { rest = h.1.rest ++ k.1.rest; is = k.1.is ∙ (ap (λ rows. rows ++ k.1.rest) h.1.is ∙ append_assoc one.rows h.1.rest k.1.rest) })
 
 stopped : (side : Side) (all : Arrivals) → ArrivalsCut (no_arrival (unread side)) all
-stopped side all = inr ((side, refl), (all.rows, refl))
+stopped side all = inr ((side, refl), IsPrefix-nil all.rows)
 
 then_arrivals-cut : (side : Side) (row : List Field) (cut all : Arrivals) → ArrivalsCut cut all → ArrivalsCut (then_arrivals side row cut) (then_arrivals side row all)
 then_arrivals-cut side row cut all (inl e) = inl (ap (λ others. then_arrivals side row others) e)
-then_arrivals-cut side row cut all (inr e) = inr (e.0, (e.1.0, ap (λ rows. record { side = side; row = row } ∷ rows) e.1.1))
+then_arrivals-cut side row cut all (inr e) = inr (e.0, IsPrefix-cons (record { side = side; row = row }) cut.rows all.rows e.1)
 
 stop_or-cut : (side : Side) (ending : RowsEnd) (cut all : Arrivals) → ArrivalsCut cut all → ArrivalsCut (stop_or side ending cut) (stop_or side ending all)
 stop_or-cut side rows_clean cut all h = h
@@ -108,50 +109,47 @@ merge-left_front (row ∷ rows) others ending right right_end = left_among-behin
 
 merge-right_cut : (left cut all : Rows) → RowsCut cut all → ArrivalsCut (arrivals_of left cut) (arrivals_of left all)
 merge-right_cut left cut all (inl e) = inl (ap (λ rows. arrivals_of left rows) e)
-merge-right_cut left cut all (inr e) = rw (e.0) (rw (e.1.1) (merge-right_front left.rows left.ending cut.rows e.1.0 all.ending))
+merge-right_cut left cut all (inr e) = rw (e.0) (rw (e.1.is) (merge-right_front left.rows left.ending cut.rows e.1.rest all.ending))
 
 merge-left_cut : (cut all right : Rows) → RowsCut cut all → ArrivalsCut (arrivals_of cut right) (arrivals_of all right)
 merge-left_cut cut all right (inl e) = inl (ap (λ rows. arrivals_of rows right) e)
-merge-left_cut cut all right (inr e) = rw (e.0) (rw (e.1.1) (merge-left_front cut.rows e.1.0 all.ending right.rows right.ending))
+merge-left_cut cut all right (inr e) = rw (e.0) (rw (e.1.is) (merge-left_front cut.rows e.1.rest all.ending right.rows right.ending))
 
 arrivals_of-cut : (cut_left cut_right left right : Rows) → RowsCut cut_left left → RowsCut cut_right right → ArrivalsCut (arrivals_of cut_left cut_right) (arrivals_of left right)
 arrivals_of-cut cut_left cut_right left right h k = ArrivalsCut-trans (arrivals_of cut_left cut_right) (arrivals_of cut_left right) (arrivals_of left right) (merge-right_cut cut_left cut_right right k) (merge-left_cut cut_left left right h)
 
-choice-begins : {X : Type 0} (test : Bool) (cut all cut' all' : List X) → Begins cut all → Begins cut' all' → Begins (cond test cut cut') (cond test all all')
-choice-begins true cut all cut' all' h k = h
-choice-begins false cut all cut' all' h k = k
+choice-prefix : {X : Type 0} (test : Bool) (cut all cut' all' : List X) → IsPrefix cut all → IsPrefix cut' all' → IsPrefix (cond test cut cut') (cond test all all')
+choice-prefix true cut all cut' all' h k = h
+choice-prefix false cut all cut' all' h k = k
 
-Begins-cons : {X : Type 0} (x : X) (cut all : List X) → Begins cut all → Begins (x ∷ cut) (x ∷ all)
-Begins-cons x cut all h = (h.0, ap (λ xs. x ∷ xs) h.1)
-
-expire_over-begins : (window : ℕ) (side : Side) (at : ℕ) (numbers : List ℕ) (cut all : ℕ → List ℕ → List (Event (List Field))) → ((next : ℕ) (rows : List ℕ) → Begins (cut next rows) (all next rows)) → Begins (expire_over window side at numbers cut) (expire_over window side at numbers all)
-expire_over-begins window side at [] cut all h = h at []
-expire_over-begins window side at (oldest ∷ others) cut all h = choice-begins (ltb window (length (oldest ∷ others)))
+expire_over-prefix : (window : ℕ) (side : Side) (at : ℕ) (numbers : List ℕ) (cut all : ℕ → List ℕ → List (Event (List Field))) → ((next : ℕ) (rows : List ℕ) → IsPrefix (cut next rows) (all next rows)) → IsPrefix (expire_over window side at numbers cut) (expire_over window side at numbers all)
+expire_over-prefix window side at [] cut all h = h at []
+expire_over-prefix window side at (oldest ∷ others) cut all h = choice-prefix (ltb window (length (oldest ∷ others)))
     (Expire (record { 0 = at }) side (record { 0 = oldest }) ∷ cut (at + 1) others) (Expire (record { 0 = at }) side (record { 0 = oldest }) ∷ all (at + 1) others) (cut at (oldest ∷ others)) (all at (oldest ∷ others))
-    (Begins-cons (Expire (record { 0 = at }) side (record { 0 = oldest })) (cut (at + 1) others) (all (at + 1) others) (h (at + 1) others)) (h at (oldest ∷ others))
+    (IsPrefix-cons (Expire (record { 0 = at }) side (record { 0 = oldest })) (cut (at + 1) others) (all (at + 1) others) (h (at + 1) others)) (h at (oldest ∷ others))
 
-number_from-begins : (window at : ℕ) (live : Live) (arrivals others : List Arrival) → Begins (number_from window at live arrivals) (number_from window at live (arrivals ++ others))
-number_from-begins window at live [] others = (number_from window at live others, refl)
-number_from-begins window at live (arrival ∷ arrivals) others = Begins-cons (Arrive (record { 0 = at }) arrival.side arrival.row) _ _
-    (expire_over-begins window arrival.side (at + 1) (of_side arrival.side live ++ at ∷ []) (λ next numbers. number_from window next (with_side arrival.side numbers live) arrivals) (λ next numbers. number_from window next (with_side arrival.side numbers live) (arrivals ++ others))
-    (λ next numbers. number_from-begins window next (with_side arrival.side numbers live) arrivals others))
+number_from-prefix : (window at : ℕ) (live : Live) (arrivals others : List Arrival) → IsPrefix (number_from window at live arrivals) (number_from window at live (arrivals ++ others))
+number_from-prefix window at live [] others = IsPrefix-nil (number_from window at live others)
+number_from-prefix window at live (arrival ∷ arrivals) others = IsPrefix-cons (Arrive (record { 0 = at }) arrival.side arrival.row) _ _
+    (expire_over-prefix window arrival.side (at + 1) (of_side arrival.side live ++ at ∷ []) (λ next numbers. number_from window next (with_side arrival.side numbers live) arrivals) (λ next numbers. number_from window next (with_side arrival.side numbers live) (arrivals ++ others))
+    (λ next numbers. number_from-prefix window next (with_side arrival.side numbers live) arrivals others))
 
 -- The same events with the same ending, or the first of them, up to where a stream was cut off.
 abbrev pub NumberedCut : Numbered → Numbered → Type 0
-NumberedCut cut all = (cut ≡ all) ⊎ (((side : Side) × (cut.ending ≡ unread side)) × Begins cut.events all.events)
+NumberedCut cut all = (cut ≡ all) ⊎ (((side : Side) × (cut.ending ≡ unread side)) × IsPrefix cut.events all.events)
 
 abbrev numbered : ℕ → Arrivals → Numbered
 numbered window arrivals = record { events = number_from window 0 none_live arrivals.rows; ending = arrivals.ending }
 
 numbered-cut : (window : ℕ) (cut all : Arrivals) → ArrivalsCut cut all → NumberedCut (numbered window cut) (numbered window all)
 numbered-cut window cut all (inl e) = inl (ap (λ arrivals. numbered window arrivals) e)
-numbered-cut window cut all (inr e) = inr (e.0, rw (e.1.1) (number_from-begins window 0 none_live cut.rows e.1.0))
+numbered-cut window cut all (inr e) = inr (e.0, rw (e.1.is) (number_from-prefix window 0 none_live cut.rows e.1.rest))
 
 pub events_of-cut : (window : ℕ) (cut_left cut_right left right : Stream) → IsCutOf cut_left left → IsCutOf cut_right right → NumberedCut (events_of window cut_left cut_right) (events_of window left right)
 events_of-cut window cut_left cut_right left right h k = numbered-cut window (arrivals_of (rows_of cut_left) (rows_of cut_right)) (arrivals_of (rows_of left) (rows_of right)) (arrivals_of-cut (rows_of cut_left) (rows_of cut_right) (rows_of left) (rows_of right) (rows_of-cut cut_left left h) (rows_of-cut cut_right right k))
 
-pub events-begin : (cut all : Numbered) → NumberedCut cut all → Begins cut.events all.events
-events-begin cut all (inl e) = ([], sym (ap (λ numbered. numbered.events) e) ∙ sym (append-nil cut.events))
+pub events-begin : (cut all : Numbered) → NumberedCut cut all → IsPrefix cut.events all.events
+events-begin cut all (inl e) = record { rest = []; is = sym (ap (λ numbered. numbered.events) e) ∙ sym (append-nil cut.events) }
 events-begin cut all (inr e) = e.1
 
 pub ends_as : (cut all : Numbered) → NumberedCut cut all → (cut ≡ all) ⊎ ((side : Side) × (cut.ending ≡ unread side))

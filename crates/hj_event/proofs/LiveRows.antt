@@ -1,5 +1,5 @@
 -- The live rows of a side: what an event does to them, and what stands of each in the events.
-use Rattle.std.proofs.Common.{◌≡◌, ℕ, zero, suc, ◌⊎◌, inl, inr, Bool, true, false, not, cond, ◌&&◌, ◌||◌, ◌==◌, List, [], ◌∷◌, ◌++◌, filter, filter_map, Option, append-nil, Contains, Some, None, arith, refl, sym, ap, subst, ◌∙◌}
+use Rattle.std.proofs.Common.{◌≡◌, ℕ, ◌⊎◌, inl, inr, Bool, true, false, not, cond, ◌&&◌, ◌||◌, ◌==◌, List, [], ◌∷◌, ◌++◌, filter, filter_map, Option, append-nil, Contains, Some, None, refl, sym, ap, subst, ◌∙◌}
 use Rattle.std.specs.List.{list_any, cons_option}
 use Rattle.std.proofs.lemmas.Bool.{eq-eqb, eqb-true, ne_eqb, or_cases, false≢true, not-true, cases_Bool}
 use Rattle.std.proofs.lemmas.List.Elements.{filter_map-append, filter-append, filter_agree}
@@ -10,20 +10,8 @@ use Rattle.hj_base.specs.declared.numbers.Side.TheVariants.{Left, Right}
 use Rattle.hj_msg.specs.declared.event.Event.{Event}
 use Rattle.hj_msg.specs.declared.event.Event.TheVariants.{Arrive, Expire}
 use Rattle.hj_msg.specs.Event.{Arrives, Expires}
+use Rattle.hj_msg.proofs.Members.{Contains-nil, Contains-head, Contains-cons, Contains-cons_cases, Contains-filter, Contains-from_filter}
 use Rattle.hj_event.specs.Windows.{arrival_no, is_expiry_of, live_rows}
-
-pub Contains-nil : {X : Type 0} (x : X) → Contains [] x → ⊥
-Contains-nil x h = omega (arith, h.1)
-
-pub Contains-head : {X : Type 0} (x : X) (xs : List X) → Contains (x ∷ xs) x
-Contains-head x xs = (zero, omega arith, refl)
-
-pub Contains-cons : {X : Type 0} (x y : X) (xs : List X) → Contains xs y → Contains (x ∷ xs) y
-Contains-cons x y xs h = (suc h.0, omega (arith, h.1), h.2)
-
-pub Contains-cons_cases : {X : Type 0} (x y : X) (xs : List X) → Contains (x ∷ xs) y → (x ≡ y) ⊎ Contains xs y
-Contains-cons_cases x y xs (zero, l, e) = inl e
-Contains-cons_cases x y xs (suc k, l, e) = inr (k, omega arith, e)
 
 -- two sides are one, or differ
 pub cases_side : (one other : Side) → (one ≡ other) ⊎ (one ≡ other → ⊥)
@@ -46,28 +34,6 @@ filter_both one other both is (x ∷ xs) = rw (is x) (filter_both-head other x (
 
 filter_out : {X : Type 0} (test : X → Bool) (x : X) (xs : List X) → test x ≡ false → ((y : X) → Contains xs y → test y ≡ true) → filter test (x ∷ xs) ≡ xs
 filter_out test x xs e h = rw e (filter_none_out test xs h)
-
-kept_cases : {X : Type 0} (keep : Bool) (x y : X) (xs : List X) → Contains (cond keep (x ∷ xs) xs) y → (keep ≡ true) × (x ≡ y) ⊎ Contains xs y
-kept_cases true x y xs h = elim (Contains-cons_cases x y xs h) [ inl e ↦ inl (refl, e) | inr k ↦ inr k ]
-kept_cases false x y xs h = inr h
-
-Contains-from_filter : {X : Type 0} (test : X → Bool) (xs : List X) (x : X) → Contains (filter test xs) x → Contains xs x × (test x ≡ true)
-Contains-from_filter test [] x h = absurd (Contains-nil x h)
-Contains-from_filter test (y ∷ ys) x h = elim (kept_cases (test y) y x (filter test ys) h) [
-  | inl t ↦ subst (λ z. Contains (y ∷ ys) z × (test z ≡ true)) t.1 (Contains-head y ys, t.0)
-  | inr k ↦ (Contains-cons y x ys (Contains-from_filter test ys x k).0, (Contains-from_filter test ys x k).1)
-]
-
-kept_behind : {X : Type 0} (keep : Bool) (x y : X) (xs : List X) → Contains xs y → Contains (cond keep (x ∷ xs) xs) y
-kept_behind true x y xs h = Contains-cons x y xs h
-kept_behind false x y xs h = h
-
-Contains-filter : {X : Type 0} (test : X → Bool) (xs : List X) (x : X) → Contains xs x → test x ≡ true → Contains (filter test xs) x
-Contains-filter test [] x h t = h
-Contains-filter test (y ∷ ys) x h t = elim (Contains-cons_cases y x ys h) [
-  | inl e ↦ subst (λ z. Contains (cond (test z) (z ∷ filter test ys) (filter test ys)) x) (sym e) (rw t (Contains-head x (filter test ys)))
-  | inr k ↦ kept_behind (test y) y x (filter test ys) (Contains-filter test ys x k t)
-]
 
 -- one of these events is the expiry of this number's row
 abbrev pub has_expired : {P : Type 0} → List (Event P) → ℕ → Bool

@@ -1,5 +1,5 @@
 -- Cutting the next piece, by what the cutter answered.
-use Rattle.std.proofs.Common.{◌≡◌, ℕ, zero, suc, ◌-◌, ◌<◌, ◌≤◌, ◌⊎◌, inl, inr, Bool, true, List, [], length, take, drop, Ok, Err, None, Some, sym, refl, ap, ◌∙◌, arith, length-take}
+use Rattle.std.proofs.Common.{◌≡◌, ℕ, zero, suc, ◌-◌, ◌<◌, ◌≤◌, ◌⊎◌, inl, inr, Bool, true, List, [], length, drop, Ok, Err, None, Some, sym, refl, ap, ◌∙◌, arith}
 use Rattle.std.proofs.lemmas.List.{append-nil}
 use Rattle.std.proofs.lemmas.Bool.Decides.{nat_tests}
 use Rattle.std.proofs.Math.Seq.{drop-length}
@@ -8,7 +8,7 @@ use Rattle.hj_record.specs.declared.fault.PieceFault.{PieceFault}
 use Rattle.hj_record.specs.declared.fault.PieceFault.TheVariants as fault
 use Rattle.hj_record.specs.declared.cutter.Fed.TheVariants as fed
 use Rattle.hj_record.specs.Cutter.{Cutting, cleared, pieces_from, Feeds, Ends, Leads, LeadsAtEnd}
-use Rattle.hj_record.specs.Pieces.{ended, then_pieces, clean, bad, most_in_piece, pieces_of, IsPiece}
+use Rattle.hj_record.specs.Pieces.{ended, then_pieces, clean, bad, most_in_piece, pieces_of}
 use Rattle.hj_event.specs.Pieces.{behind_of, Cuts}
 
 -- An empty stream has no piece.

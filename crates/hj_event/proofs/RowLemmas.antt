@@ -3,7 +3,6 @@ use Rattle.std.proofs.Common.{◌≡◌, ℕ, List, [], ◌∷◌, ℤ, Ok, Err,
 use Rattle.std.specs.List.{slice_get}
 use Rattle.std.specs.declared.result.Result.{Result}
 use Rattle.hj_value.specs.declared.field.Field.{Field}
-use Rattle.hj_value.specs.declared.field.Field.TheVariants.{Int}
 use Rattle.hj_value.specs.declared.number.IntFault.{IntFault}
 use Rattle.hj_value.specs.Number.{int_of}
 use Rattle.hj_event.specs.declared.fault.RowFault.{RowFault}

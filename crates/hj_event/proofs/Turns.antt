@@ -8,11 +8,12 @@ use Rattle.hj_base.specs.declared.numbers.Side.{Side}
 use Rattle.hj_base.specs.declared.numbers.Side.TheVariants.{Left, Right}
 use Rattle.hj_msg.specs.declared.event.Event.{Event}
 use Rattle.hj_msg.specs.declared.event.Event.TheVariants.{Arrive, Expire}
+use Rattle.hj_msg.proofs.Members.{Contains-nil, Contains-head, Contains-cons}
 use Rattle.hj_event.specs.Arrivals.{Arrival}
 use Rattle.hj_event.specs.Events.{Live, none_live, of_side, with_side, expire_over, number_from}
 use Rattle.hj_event.specs.Windows.{live_rows}
 use Rattle.hj_event.proofs.Moments.{AtEach}
-use Rattle.hj_event.proofs.LiveRows.{Contains-nil, Contains-head, Contains-cons, cases_side, has_expired, has_expired-arrival, has_expired-cases, live_rows-arrival, live_rows-other_arrival, live_rows-first, live_rows-absent}
+use Rattle.hj_event.proofs.LiveRows.{cases_side, has_expired, has_expired-arrival, has_expired-cases, live_rows-arrival, live_rows-other_arrival, live_rows-first, live_rows-absent}
 
 -- each number is below all that follow it
 abbrev pub Rising : List ℕ → Type 0

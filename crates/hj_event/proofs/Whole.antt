@@ -5,9 +5,10 @@ use Rattle.hj_base.specs.declared.numbers.Side.{Side}
 use Rattle.hj_msg.specs.declared.event.Event.{Event}
 use Rattle.hj_msg.specs.declared.event.Event.TheVariants.{Arrive, Expire}
 use Rattle.hj_msg.specs.Event.{NumbersFrom, NamesLive, IsWellFormed, Arrives, Expires}
+use Rattle.hj_msg.proofs.Members.{Contains-head, Contains-cons_cases}
 use Rattle.hj_event.specs.Windows.{live_rows, ExpiresNext, RowsExpireInTurn}
 use Rattle.hj_event.proofs.Moments.{AtEach, AtEach-cut}
-use Rattle.hj_event.proofs.LiveRows.{Contains-head, Contains-cons_cases, cases_side, live_rows-live, live_rows-rest}
+use Rattle.hj_event.proofs.LiveRows.{cases_side, live_rows-live, live_rows-rest}
 use Rattle.hj_event.proofs.Turns.{Moment, AtExpiry}
 
 numbers_from : {P : Type 0} (window first : ℕ) (before events : List (Event P)) → length before ≡ first → AtEach (Moment window) before events → NumbersFrom first events
