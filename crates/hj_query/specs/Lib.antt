@@ -1,0 +1,11 @@
+pub mod Lexemes
+pub mod Sides
+pub mod Parts
+pub mod Grammar
+pub mod Faults
+pub mod Texts
+pub mod Keyed
+pub mod Same
+pub mod Readings
+pub mod Canonical
+pub mod Unwritten

@@ -1,0 +1,106 @@
+ghost use Rattle.std.specs.Prelude.{◌≡◌};
+ghost use Rattle.hj_query.specs.Grammar.{IsReadable};
+ghost use Rattle.hj_query.specs.Sides.{by_side};
+
+use crate::Pred;
+use crate::schemas::Schemas;
+use hj_base::{Side, Window};
+use hj_value::Schema;
+use std::marker::Model;
+
+/// Which rows of two streams are joined: the schemas and the windows of both, and the condition on their rows.
+#[derive(Debug, Drop)]
+pub struct Query {
+    schemas: Schemas,
+    left_window: Window,
+    right_window: Window,
+    pred: Pred,
+}
+
+impl Model for Query {
+    ghost use Rattle.hj_query.specs.Grammar.{IsReadable};
+    ghost use Rattle.hj_query.specs.Parts.{Parts};
+    ghost use Rattle.hj_query.specs.contracts.pred.Pred as e;
+    ghost use Rattle.std.specs.Coded.{codes};
+
+    ghost Value = { Parts };
+
+    ghost coded = { Prim.hlevel (codes, e.the_row.coded) };
+
+    ghost view = { λ q. record {
+      left = q.schemas.left;
+      right = q.schemas.right;
+      left_window = q.left_window;
+      right_window = q.right_window;
+      pred = q.pred;
+    } };
+
+    ghost invariant = { λ q. IsReadable (record {
+      left = q.schemas.left;
+      right = q.schemas.right;
+      left_window = q.left_window;
+      right_window = q.right_window;
+      pred = q.pred;
+    }) };
+}
+
+impl Query {
+    /// The query with these parts.
+    pub(crate) fn new(
+        schemas: Schemas,
+        left_window: Window,
+        right_window: Window,
+        pred: Pred,
+    ) -> Self
+        requires { IsReadable (record {
+          left = schemas.left;
+          right = schemas.right;
+          left_window = left_window;
+          right_window = right_window;
+          pred = pred;
+        }) }
+        ensures { result ≡ record {
+          left = schemas.left;
+          right = schemas.right;
+          left_window = left_window;
+          right_window = right_window;
+          pred = pred;
+        } }
+    {
+        Query {
+            schemas,
+            left_window,
+            right_window,
+            pred,
+        }
+    }
+
+    /// How long the rows of a side live: so many rows, or so many of the stream's own time units.
+    pub fn window(&self, side: Side) -> Window
+        ensures { result ≡ by_side self.now.left_window self.now.right_window side }
+    {
+        match side {
+            Side::Left => self.left_window,
+            Side::Right => self.right_window,
+        }
+    }
+
+    /// The columns of a side's rows, in their order.
+    pub fn schema(&self, side: Side) -> &Schema
+        ensures { result.now ≡ by_side self.now.left self.now.right side }
+    {
+        match side {
+            Side::Left => &self.schemas.left,
+            Side::Right => &self.schemas.right,
+        }
+    }
+
+    /// The condition on a left and a right row. The query is one that some tokens read as, so a column in it has a place
+    /// in the schema of its side, and the types of both sides of a comparison agree.
+    pub fn pred(&self) -> &Pred
+        ensures pred { result.now ≡ self.now.pred }
+        ensures readable { IsReadable self.now }
+    {
+        &self.pred
+    }
+}

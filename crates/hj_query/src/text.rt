@@ -1,0 +1,54 @@
+ghost use Rattle.std.specs.Prelude.{◌≡◌, ◌⊎◌, MatchResult};
+ghost use Rattle.hj_query.specs.Parts.{Parts};
+ghost use Rattle.hj_query.specs.Same.{IsSameQuery};
+ghost use Rattle.hj_query.specs.Texts.{IsFirst, Spells, Unless};
+ghost use Rattle.hj_query.specs.declared.fault.QueryFault.{QueryFault};
+
+use crate::condition::condition;
+use crate::cursor::Cursor;
+use crate::schema::schema;
+use crate::schemas::Schemas;
+use crate::window::window;
+use crate::{Query, QueryFault, Wanted};
+use hj_lex::lex;
+use std::alloc::Global;
+
+const MOST_BYTES: usize = 65_536;
+
+/// The query that a text spells by the grammar of queries, or the text's first fault.
+///
+/// `text` is the whole text, which is a query's only where it has at most 65,536 bytes. Its length is looked at first, then its
+/// tokens, then the grammar; the place of a fault counts the bytes before it. `Memory` is the answer for want of memory. The
+/// grammar is this project's own: `IsQuery` states it, and `FaultsQuery` the first fault of each other text.
+pub fn parse(alloc: Global, text: &[u8]) -> Result<Query, QueryFault>
+    ensures reads { MatchResult result (Spells text.now) (λ fault. Unless fault (IsFirst text.now)) }
+
+    // A query comes exactly where the text spells it, and each fault exactly where it is the first.
+    ensures query { (query : Parts) → Spells text.now query
+        → MatchResult result (IsSameQuery query) (λ fault. fault ≡ QueryFault.Memory) }
+    ensures fault { (found : QueryFault) → IsFirst text.now found
+        → (result ≡ Err found) ⊎ (result ≡ Err QueryFault.Memory) }
+{
+    query(alloc, text)
+}
+
+/// Reads a query, up to the end of the text.
+fn query(alloc: Global, text: &[u8]) -> Result<Query, QueryFault>
+    ensures { MatchResult result (Spells text.now) (λ fault. Unless fault (IsFirst text.now)) }
+{
+    if text.len() > MOST_BYTES {
+        return Err(QueryFault::TooLong);
+    }
+    let tokens = lex(alloc, text)?;
+    let mut cursor = Cursor::new(text, &tokens);
+    let left = schema(alloc, &mut cursor, b"left", Wanted::LeftWord)?;
+    let right = schema(alloc, &mut cursor, b"right", Wanted::RightWord)?;
+    let left_window = window(&mut cursor, b"left")?;
+    let right_window = window(&mut cursor, b"right")?;
+    let schemas = Schemas { left, right };
+    let pred = condition(alloc, &schemas, &mut cursor)?;
+    Ok(Query::new(schemas, left_window, right_window, pred))
+}
+
+#[cfg(test)]
+mod tests;
