@@ -25,6 +25,7 @@ use Rattle.hj_app.specs.JoinText.{same_key, text, join_text, join_ending}
 use Rattle.hj_app.specs.Output.{AppendsFront}
 use Rattle.hj_app.specs.Windows.{AreBelow}
 use Rattle.hj_app.proofs.Numbering.{numbered, below_after}
+use Rattle.hj_app.proofs.Prefixes.{begins_behind}
 use Rattle.hj_app.proofs.WholeStreams.{IsKnown, ending_known}
 
 -- Both streams were read. The merger's answer is the first of the events to come, and what was written is the text of those before.
@@ -316,7 +317,7 @@ pub running_front : (window : ℕ) (answer : Next) (merger : Merging) (windows :
 running_front window answer merger windows before now old new (inl reading) = record {
   grown = reading.done;
   written = reading.written;
-  front = inr (record { left = reading.left; right = reading.right; read = reading.read; begins = (text (kang_from same_key windows reading.events), reading.whole) });
+  front = inr (record { left = reading.left; right = reading.right; read = reading.read; begins = record { rest = text (kang_from same_key windows reading.events); is = reading.whole } });
 }
 running_front window answer merger windows before now old new (inr early) = record { grown = []; written = early.written; front = inl refl }
 
@@ -332,9 +333,6 @@ stopped_front window event merger windows before now old mid new taken sent =
         left = taken.left;
         right = taken.right;
         read = taken.read;
-        begins = (
-          sent.front.0 ++ behind,
-          taken.whole ∙ ap (λ l. taken.done ++ (l ++ behind)) sent.front.1 ∙ ap (λ l. taken.done ++ l) (append_assoc sent.grown sent.front.0 behind) ∙ sym (append_assoc taken.done sent.grown (sent.front.0 ++ behind)),
-        );
+        begins = begins_behind taken.done (text (listed same_key windows event)) behind (join_text window taken.left taken.right) sent.grown taken.whole sent.front;
       });
     }

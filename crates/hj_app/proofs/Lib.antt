@@ -1,3 +1,4 @@
+pub mod Checking
 pub mod Ascending
 pub mod Joining
 pub mod Lines
@@ -5,6 +6,7 @@ pub mod NoteFront
 pub mod Noting
 pub mod Numbering
 pub mod Opening
+pub mod Prefixes
 pub mod Sending
 pub mod Spelling
 pub mod WholeStreams

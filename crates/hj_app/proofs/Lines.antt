@@ -18,6 +18,7 @@ use Rattle.hj_app.specs.declared.windows.HeldRow.{HeldRow}
 use Rattle.hj_app.specs.Output.{AppendsFront, Sends}
 use Rattle.hj_app.specs.WindowView.{held_of}
 use Rattle.hj_app.specs.Windows.{line_with, lines_with, opposite}
+use Rattle.hj_app.proofs.Prefixes.{begins_behind}
 
 lines_with-append : (of : Side) (row : List Field) (front back : List (Held (List Field))) → lines_with of row (front ++ back) ≡ lines_with of row front ++ lines_with of row back
 lines_with-append of row [] back = refl
@@ -36,10 +37,7 @@ pub front_more : (front part back whole : List ℕ) (old mid new : Option (List 
 front_more front part back whole old mid new is so_far next = record {
   grown = front ++ next.grown;
   written = Appends-trans old mid new front next.grown so_far next.written;
-  front = (
-    next.front.0 ++ back,
-    is ∙ ap (λ l. front ++ (l ++ back)) next.front.1 ∙ ap (λ l. front ++ l) (append_assoc next.grown next.front.0 back) ∙ sym (append_assoc front next.grown (next.front.0 ++ back)),
-  );
+  front = begins_behind front part back whole next.grown is next.front;
 }
 
 pub stops_at : (answer : Sent) (front part back whole : List ℕ) (old mid new : Option (List ℕ)) → answer ≢ sent.Whole → whole ≡ front ++ (part ++ back) → Appends old mid front → Sends answer part mid new → Sends answer whole old new

@@ -1,5 +1,5 @@
 -- What stands of a note when a part of it is refused.
-use Rattle.std.proofs.Common.{◌≡◌, ◌≤◌, ◌<◌, ◌⊎◌, ℕ, suc, List, ◌∷◌, ◌++◌, length, take, drop, get_or, sym, ap, ◌∙◌, subst, append_assoc, take-append-drop, drop-cons, inl, inr}
+use Rattle.std.proofs.Common.{◌≡◌, ◌≤◌, ◌<◌, ◌⊎◌, ℕ, suc, List, ◌∷◌, ◌++◌, length, take, drop, get_or, sym, ap, ◌∙◌, subst, take-append-drop, drop-cons, inl, inr}
 use Rattle.std.proofs.KnownBytes.{Appends-trans}
 use Rattle.std.proofs.lemmas.Grind.{flat_map-append}
 use Rattle.std.specs.List.{flat_map}
@@ -12,6 +12,7 @@ use Rattle.hj_app.specs.declared.output.Sent.TheVariants as sent
 use Rattle.hj_app.specs.Output.{AppendsFront, Sends, CountsRefusals}
 use Rattle.hj_app.specs.NoteWritten.{NoteWritten}
 use Rattle.hj_app.specs.Parts.{part_text}
+use Rattle.hj_app.proofs.Prefixes.{begins_behind}
 
 cut : (parts : List Part) (i : ℕ) (d : Part) → i < length parts → parts ≡ take i parts ++ (get_or parts i d ∷ drop (suc i) parts)
 cut parts i d h = sym (take-append-drop i parts) ∙ ap (λ l. take i parts ++ l) (drop-cons parts i d h)
@@ -29,11 +30,7 @@ stopped parts i d old mid new before now h so_far front rise =
     record {
       grown = done ++ front.grown;
       written = Appends-trans old mid new done front.grown so_far front.written;
-      front = (
-        front.front.0 ++ rest,
-        split parts i d h ∙ ap (λ l. done ++ (l ++ rest)) front.front.1
-            ∙ ap (λ l. done ++ l) (append_assoc front.grown front.front.0 rest) ∙ sym (append_assoc done front.grown (front.front.0 ++ rest)),
-      );
+      front = begins_behind done (part_text (get_or parts i d)) rest (flat_map part_text parts) front.grown (split parts i d h) front.front;
       rising = rise.0;
       whole = inr rise.1;
     }

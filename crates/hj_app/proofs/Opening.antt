@@ -1,5 +1,5 @@
 -- Both streams of an order are opened, and a join then runs: what its outcome says of the whole run.
-use Rattle.std.proofs.Common.{◌≡◌, ◌≢◌, ◌⊎◌, ℕ, List, [], ◌++◌, true, false, refl, ap, sym, ◌∙◌, inl, inr, append-nil, None, Some, IfSome}
+use Rattle.std.proofs.Common.{Result, subst, ◌≡◌, ◌≢◌, ℕ, List, ◌++◌, false, refl, ap, sym, ◌∙◌, inl, inr, append-nil, None, Some}
 use Rattle.std.specs.Io.KnownBytes.{Consumes, IsAtEnd}
 use Rattle.std.specs.declared.option.Option.{Option}
 use Rattle.hj_base.specs.declared.numbers.Side.{Side}
@@ -14,8 +14,10 @@ use Rattle.hj_event.specs.Merger.{IsRead, role_of}
 use Rattle.hj_app.specs.declared.join.Outcome.{Outcome}
 use Rattle.hj_app.specs.declared.join.Outcome.TheVariants as outcome
 use Rattle.hj_app.specs.Join.{BothRead, JoinsAll, BeginsText, JoinsFront, Joins, CountsSinkFault}
-use Rattle.hj_app.specs.Run.{Runs}
-use Rattle.hj_app.specs.Serve.{StandsFor, IsReadToEnd, HasRead, WritesAll, IsFront, WritesFront, Fails}
+use Rattle.hj_app.specs.declared.notes.Note.{Note}
+use Rattle.hj_app.specs.Run.{RunsJoin, end_of}
+use Rattle.hj_app.specs.Serve.{HasRead, WritesAll, IsFront, WritesFront}
+use Rattle.hj_app.specs.Streams.{StandsFor, IsReadToEnd, Fails}
 use Rattle.hj_app.specs.Words.{Equi}
 
 -- A role is open under a name, with the bytes that are told to stand under it, and didn't fail.
@@ -55,7 +57,7 @@ opened_both order under under' s0 s1 s2 first others second others' same =
       };
     }
 
-stands : (told left : Option (List ℕ)) (bytes : List ℕ) → Consumes told left bytes → IsAtEnd left → StandsFor told bytes
+pub stands : (told left : Option (List ℕ)) (bytes : List ℕ) → Consumes told left bytes → IsAtEnd left → StandsFor told bytes
 stands None left bytes c e = tt
 stands (Some xs) None bytes c e = absurd c
 stands (Some xs) (Some ys) bytes c e = c ∙ ap (λ (z : List ℕ). bytes ++ z) e ∙ append-nil bytes
@@ -70,15 +72,20 @@ ended_read : (name : List ℕ) (told : Option (List ℕ)) (before mid now : Role
 ended_read name told before mid now bytes is read = (read.phase ∙ ap at_end is.phase, read.nothing_left)
 
 module _ (order : Equi) (under : List ℕ → Option (List ℕ)) (before mid now : Role → RoleState) (are : AreOpened order under before mid) (old new : Option (List ℕ)) where
-  has_read : (left right : List ℕ) → BothRead left right mid now → HasRead order under now left right
+  faults_same : (left right : List ℕ) → BothRead left right mid now → (of : Side) → (now (role_of of)).faults ≡ (before (role_of of)).faults
+  faults_same left right read side.Left = read.left_read.faults ∙ are.left.faults
+  faults_same left right read side.Right = read.right_read.faults ∙ are.right.faults
+
+  has_read : (left right : List ℕ) → BothRead left right mid now → HasRead order under before now left right
   has_read left right read = record {
     left_stands = stands_read order.left _ _ _ _ left are.left read.left_read;
     right_stands = stands_read order.right _ _ _ _ right are.right read.right_read;
     left_ended = ended_read order.left _ _ _ _ left are.left read.left_read;
     right_ended = ended_read order.right _ _ _ _ right are.right read.right_read;
+    faults = faults_same left right read;
   }
 
-  writes_all : (ending : Ending) → JoinsAll ending order.window mid now old new → WritesAll (λ e. e ≡ ending) order under now old new
+  writes_all : (ending : Ending) → JoinsAll ending order.window mid now old new → WritesAll (λ e. e ≡ ending) order under before now old new
   writes_all ending j = record {
     left = j.left;
     right = j.right;
@@ -87,7 +94,7 @@ module _ (order : Equi) (under : List ℕ → Option (List ℕ)) (before mid now
     written = j.written;
   }
 
-  is_front : (grown : List ℕ) → BeginsText grown order.window mid now → IsFront grown order under now
+  is_front : (grown : List ℕ) → BeginsText grown order.window mid now → IsFront grown order under before now
   is_front grown b = record {
     left = b.left;
     right = b.right;
@@ -95,20 +102,23 @@ module _ (order : Equi) (under : List ℕ → Option (List ℕ)) (before mid now
     begins = b.begins;
   }
 
-  pub writes_front : JoinsFront order.window mid now old new → WritesFront order under now old new
+  pub writes_front : JoinsFront order.window mid now old new → WritesFront order under before now old new
   writes_front j = record {
     grown = j.grown;
     written = j.written;
     front = elim j.front [ inl e ↦ inl e | inr b ↦ inr (is_front j.grown b) ];
   }
 
-  fails : (of : Side) → Rose (mid (role_of of)).faults (now (role_of of)).faults → Fails of before now
+  fails : (of : Side) → Rose (mid (role_of of)).faults (now (role_of of)).faults → Fails (role_of of) before now
   fails side.Left r = rw are.left.faults at r
   fails side.Right r = rw are.right.faults at r
 
-  pub runs_as : (ended : Outcome) (faults faults' : ℕ) → Joins ended order.window mid now old new → CountsSinkFault ended faults faults' → Runs ended order under before now old new faults faults'
+  runs_as : (ended : Outcome) (faults faults' : ℕ) → Joins ended order.window mid now old new → CountsSinkFault ended faults faults' → RunsJoin (end_of ended) order under before now old new faults faults'
   runs_as outcome.Done f f' j c = writes_all clean j
   runs_as (outcome.BadRecord of at found) f f' j c = writes_all (bad of at found) j
-  runs_as (outcome.SourceFault of) f f' j c = fails of j
+  runs_as (outcome.SourceFault of) f f' j c = (of, refl, fails of j)
   runs_as outcome.SinkFault f f' j c = c.1
   runs_as outcome.Memory f f' j c = tt
+
+  pub runs_so : (end : Result (Unit {0}) Note) (ended : Outcome) (faults faults' : ℕ) → end ≡ end_of ended → Joins ended order.window mid now old new → CountsSinkFault ended faults faults' → RunsJoin end order under before now old new faults faults'
+  runs_so end ended f f' e j c = subst (λ (result : Result (Unit {0}) Note). RunsJoin result order under before now old new f f') (sym e) (runs_as ended f f' j c)

@@ -10,7 +10,7 @@ use Rattle.hj_event.specs.Arrivals.{Ending, clean, bad}
 use Rattle.hj_event.specs.Merger.{IsRead, role_of}
 use Rattle.hj_app.specs.declared.join.Outcome.{Outcome}
 use Rattle.hj_app.specs.declared.join.Outcome.TheVariants as outcome
-use Rattle.hj_app.specs.Output.{BeginsWith}
+use Rattle.hj_base.specs.Journals.{IsPrefix}
 use Rattle.hj_app.specs.JoinText.{join_text, join_ending}
 
 -- Both streams were read to their ends, and gave these bytes.
@@ -31,7 +31,7 @@ pub record BeginsText (grown : List ℕ) (window : ℕ) (before now : Role → R
   pub left : List ℕ
   pub right : List ℕ
   pub read : BothRead left right before now
-  pub begins : BeginsWith grown (join_text window left right)
+  pub begins : IsPrefix grown (join_text window left right)
 
 -- Nothing was written, or a front of the text.
 pub record JoinsFront (window : ℕ) (before now : Role → RoleState) (old new : Option (List ℕ)) : Type 0 where

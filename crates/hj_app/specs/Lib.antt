@@ -1,3 +1,4 @@
+pub mod Check
 pub mod Edge
 pub mod EdgeStage
 pub mod Join
@@ -6,10 +7,13 @@ pub mod Line
 pub mod NoteText
 pub mod NoteWritten
 pub mod Notes
+pub mod Orders
 pub mod Output
 pub mod Parts
+pub mod QueryReading
 pub mod Run
 pub mod Serve
+pub mod Streams
 pub mod WindowView
 pub mod Windows
 pub mod Words

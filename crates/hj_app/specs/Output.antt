@@ -1,20 +1,17 @@
 -- Writing a piece whole: what stands afterwards, whether all of it was taken or not.
-use Rattle.std.specs.Prelude.{◌≡◌, ℕ, ◌≤◌, List, ◌++◌}
+use Rattle.std.specs.Prelude.{◌≡◌, ℕ, ◌≤◌, List}
 use Rattle.std.specs.Io.KnownBytes.{Appends}
 use Rattle.std.specs.declared.option.Option.{Option}
 use Rattle.hj_base.specs.Counts.{Rose}
+use Rattle.hj_base.specs.Journals.{IsPrefix}
 use Rattle.hj_app.specs.declared.output.Sent.{Sent}
 use Rattle.hj_app.specs.declared.output.Sent.TheVariants as sent
-
--- The first list begins the second.
-abbrev pub BeginsWith : List ℕ → List ℕ → Type 0
-BeginsWith front bytes = (rest : List ℕ) × (bytes ≡ front ++ rest)
 
 -- A front of the bytes was appended.
 pub record AppendsFront (bytes : List ℕ) (old new : Option (List ℕ)) : Type 0 where
   pub grown : List ℕ
   pub written : Appends old new grown
-  pub front : BeginsWith grown bytes
+  pub front : IsPrefix grown bytes
 
 -- What a sink that tells its bytes has, by how the sending of these bytes went.
 abbrev pub Sends : Sent → List ℕ → Option (List ℕ) → Option (List ℕ) → Type 0

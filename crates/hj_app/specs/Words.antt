@@ -1,6 +1,5 @@
 -- The words of the command line, and the order that they spell.
 use Rattle.std.specs.Prelude.{ℕ, Bool, not, ◌&&◌, ◌==◌, List, [], ◌∷◌, nat_lt, nat_le, length, slice_index, codes, if◌then◌else◌, None, Some}
-use Rattle.std.specs.Option.{option_map}
 use Rattle.std.specs.Str.{all_ascii_digits, bytes_eq}
 use Rattle.std.specs.Str.Parse.{digits_value}
 use Rattle.std.specs.declared.option.Option.{Option}
@@ -11,6 +10,11 @@ pub record Equi : Type 0 where
   pub left : List ℕ
   pub right : List ℕ
 
+-- What the words order: a join on equal keys, or `check QUERY`, the canonical text of the query under this name.
+pub data Order : Type 0 where
+  join_equal : Equi → Order
+  check_query : (name : List ℕ) → Order
+
 -- 1 to 20 decimal digits of a value from 1 to 1000000
 abbrev pub is_window : List ℕ → Bool
 is_window word = nat_le 1 (length word) && nat_le (length word) 20 && all_ascii_digits word
@@ -20,10 +24,23 @@ is_window word = nat_le 1 (length word) && nat_le (length word) 20 && all_ascii_
 abbrev pub is_name : List ℕ → Bool
 is_name word = nat_lt 0 (length word) && not (slice_index word 0 == 45)
 
--- The order that the words spell, if they spell one.
-abbrev pub order_of : List (List ℕ) → Option Equi
-order_of (command ∷ window ∷ left ∷ right ∷ []) =
-    if bytes_eq command (codes "equi") && is_window window && is_name left && is_name right
-    then Some (record { window = digits_value 10 window; left = left; right = right })
+-- the words behind `equi`
+abbrev pub equi_of : List (List ℕ) → Option Order
+equi_of (window ∷ left ∷ right ∷ []) =
+    if is_window window && is_name left && is_name right
+    then Some (join_equal (record { window = digits_value 10 window; left = left; right = right }))
     else None
-order_of words = None
+equi_of words = None
+
+-- the words behind `check`
+abbrev pub check_of : List (List ℕ) → Option Order
+check_of (name ∷ []) = if is_name name then Some (check_query name) else None
+check_of words = None
+
+-- The order that the words spell, if they spell one.
+abbrev pub order_of : List (List ℕ) → Option Order
+order_of (command ∷ words) =
+    if bytes_eq command (codes "equi") then equi_of words
+    else if bytes_eq command (codes "check") then check_of words
+    else None
+order_of [] = None

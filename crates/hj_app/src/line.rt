@@ -1,8 +1,7 @@
-ghost use Rattle.std.specs.Prelude.{◌≡◌, ◌<◌, ◌++◌, [], ◌∷◌, List, OnOk, length, string_bytes};
+ghost use Rattle.std.specs.Prelude.{◌≡◌, ◌<◌, ◌++◌, [], ◌∷◌, OnOk, length, string_bytes};
 ghost use Rattle.std.specs.Fmt.{signed_decimal};
-ghost use Rattle.hj_value.specs.declared.field.Field.{Field};
 ghost use Rattle.hj_app.specs.JoinText.{line};
-ghost use Rattle.hj_app.specs.Line.{Spells};
+ghost use Rattle.hj_app.specs.Line.{AddsFields};
 
 use hj_base::Memory;
 use hj_value::{Field, Row};
@@ -21,7 +20,7 @@ pub fn fill_line(buffer: &mut String, left: &Row, right: &Row) -> Result<(), Mem
 
 /// Adds a row's fields to those that a line has.
 fn push_row(buffer: &mut String, row: &Row) -> Result<(), Memory>
-    ensures { OnOk result ((fields : List Field) → Spells fields (string_bytes buffer.old) → Spells (fields ++ row.now) (string_bytes buffer.new)) }
+    ensures { OnOk result (AddsFields row.now (string_bytes buffer.old) (string_bytes buffer.new)) }
 {
     for at in 0..row.len() {
         if let Some(field) = row.get(at) {
@@ -33,7 +32,7 @@ fn push_row(buffer: &mut String, row: &Row) -> Result<(), Memory>
 
 /// Adds a field to those that a line has.
 fn push_field(buffer: &mut String, field: &Field) -> Result<(), Memory>
-    ensures { OnOk result ((fields : List Field) → Spells fields (string_bytes buffer.old) → Spells (fields ++ field.now ∷ []) (string_bytes buffer.new)) }
+    ensures { OnOk result (AddsFields (field.now ∷ []) (string_bytes buffer.old) (string_bytes buffer.new)) }
 {
     if !buffer.is_empty() {
         buffer.push(',')?;

@@ -1,6 +1,7 @@
-//! Joins two streams of rows, and writes each pair once, in one order.
+//! Joins two streams of rows, and writes each pair once, in one order; and writes the canonical text of a query.
 #![tactic(auto)]
 
+mod check;
 mod edge;
 mod join;
 mod line;

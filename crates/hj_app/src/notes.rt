@@ -1,34 +1,61 @@
 ghost use Rattle.std.specs.Prelude.{◌≡◌};
 ghost use Rattle.std.specs.List.{flat_map};
-ghost use Rattle.hj_app.specs.Notes.{side_name, piece_text, row_text, fault_text, record_note};
+ghost use Rattle.hj_app.specs.Notes.{role_name, side_name, piece_text, row_text, fault_text, record_note, query_note, query_place, query_text, lex_place, lex_text, place_text, wanted_text};
 ghost use Rattle.hj_app.specs.Parts.{part_text};
 ghost use Rattle.hj_app.specs.Output.{Sends, CountsRefusals};
 ghost use Rattle.hj_app.specs.NoteText.{note_text, status_of};
 ghost use Rattle.hj_app.specs.NoteWritten.{NoteWritten};
 
 use crate::output::{Sent, put_all};
-use hj_base::{Side, Sink};
+use hj_base::{Memory, Role, Side, Sink};
 use hj_event::{RecordFault, RowFault};
+use hj_lex::LexFault;
+use hj_query::{QueryFault, Wanted};
 use hj_record::PieceFault;
 use itoa::Buffer;
+use std::alloc::AllocError;
 
 /// Why a run ended otherwise than well.
 #[derive(Clone, Copy, Debug)]
 pub enum Note {
     /// The words spell no order.
     Usage,
+    /// The text is no query.
+    BadQuery(QueryFault),
     /// The record of a side, by its number from 1, is refused.
     BadRecord {
         side: Side,
         at: u64,
         fault: RecordFault,
     },
-    /// The stream of a side couldn't be opened or read.
-    Source(Side),
+    /// The stream of a role couldn't be opened or read.
+    Source(Role),
     /// The output failed.
     Sink,
     /// Memory ran out.
     Memory,
+}
+
+impl From<Memory> for Note {
+    ghost use Rattle.std.specs.Prelude.{◌≡◌};
+    ghost use Rattle.hj_app.specs.declared.notes.Note.TheVariants as note;
+
+    ghost from_gives = { λ _ e. e ≡ note.Memory };
+
+    fn from(_: Memory) -> Self {
+        Note::Memory
+    }
+}
+
+impl From<AllocError> for Note {
+    ghost use Rattle.std.specs.Prelude.{◌≡◌};
+    ghost use Rattle.hj_app.specs.declared.notes.Note.TheVariants as note;
+
+    ghost from_gives = { λ _ e. e ≡ note.Memory };
+
+    fn from(_: AllocError) -> Self {
+        Note::Memory
+    }
 }
 
 impl Note {
@@ -38,6 +65,7 @@ impl Note {
     {
         match self {
             Note::Usage => 1,
+            Note::BadQuery(_) => 2,
             Note::BadRecord { .. } => 3,
             Note::Source(_) => 4,
             Note::Sink => 5,
@@ -61,11 +89,15 @@ pub fn write_note<N: Sink>(notes: &mut N, note: &Note)
     ensures { NoteWritten (note_text note.now) (N.told notes.old) (N.told notes.new) (N.refusals notes.old) (N.refusals notes.new) }
 {
     match *note {
-        Note::Usage => put_parts(notes, &[Part::Words("usage: equi W LEFT RIGHT\n")]),
-        Note::BadRecord { side, at, fault } => put_record(notes, side, at, fault),
-        Note::Source(side) => put_parts(
+        Note::Usage => put_parts(
             notes,
-            &[Part::Words("source: "), side_name(side), Part::Words("\n")],
+            &[Part::Words("usage: equi W LEFT RIGHT | check QUERY\n")],
+        ),
+        Note::BadQuery(fault) => put_query(notes, fault),
+        Note::BadRecord { side, at, fault } => put_record(notes, side, at, fault),
+        Note::Source(role) => put_parts(
+            notes,
+            &[Part::Words("source: "), role_name(role), Part::Words("\n")],
         ),
         Note::Sink => put_parts(notes, &[Part::Words("sink\n")]),
         Note::Memory => put_parts(notes, &[Part::Words("memory\n")]),
@@ -88,6 +120,124 @@ fn put_record<N: Sink>(notes: &mut N, side: Side, at: u64, fault: RecordFault)
         Part::Words("\n"),
     ];
     put_parts(notes, &parts)
+}
+
+fn put_query<N: Sink>(notes: &mut N, fault: QueryFault)
+    ensures { NoteWritten (query_note fault) (N.told notes.old) (N.told notes.new) (N.refusals notes.old) (N.refusals notes.new) }
+{
+    let [kind, wanted] = query_parts(fault);
+    let [at, place] = place_parts(query_place(fault));
+    let parts = [
+        Part::Words("query: "),
+        kind,
+        wanted,
+        at,
+        place,
+        Part::Words("\n"),
+    ];
+    put_parts(notes, &parts)
+}
+
+fn query_parts(fault: QueryFault) -> [Part; 2]
+    ensures { flat_map part_text result ≡ query_text fault }
+{
+    let kind = match fault {
+        QueryFault::Expected(wanted, _) => return [Part::Words("Expected "), wanted_name(wanted)],
+        QueryFault::Lex(found) => lex_name(found),
+        QueryFault::DoubleColumn(_) => "DoubleColumn",
+        QueryFault::UnknownColumn(_) => "UnknownColumn",
+        QueryFault::Types(_) => "Types",
+        QueryFault::FirstColumn(_) => "FirstColumn",
+        QueryFault::WindowRange(_) => "WindowRange",
+        QueryFault::TooDeep(_) => "TooDeep",
+        QueryFault::TooManyColumns(_) => "TooManyColumns",
+        QueryFault::TooLong => "TooLong",
+        QueryFault::Memory => "Memory",
+    };
+    [Part::Words(kind), NOTHING]
+}
+
+fn lex_name(fault: LexFault) -> &'static str
+    ensures { result.now ≡ lex_text fault }
+{
+    match fault {
+        LexFault::BadByte(_) => "BadByte",
+        LexFault::OpenText(_) => "OpenText",
+        LexFault::NumberRange(_) => "NumberRange",
+        LexFault::Memory => "Memory",
+    }
+}
+
+fn wanted_name(wanted: Wanted) -> Part
+    ensures { part_text result ≡ wanted_text wanted }
+{
+    Part::Words(match wanted {
+        Wanted::LeftWord => "LeftWord",
+        Wanted::RightWord => "RightWord",
+        Wanted::OpenParen => "OpenParen",
+        Wanted::CommaOrClose => "CommaOrClose",
+        Wanted::ColumnName => "ColumnName",
+        Wanted::ColumnKind => "ColumnKind",
+        Wanted::WindowWord => "WindowWord",
+        Wanted::WindowSide => "WindowSide",
+        Wanted::WindowKind => "WindowKind",
+        Wanted::Number => "Number",
+        Wanted::OnWord => "OnWord",
+        Wanted::OfWord => "OfWord",
+        Wanted::Dot => "Dot",
+        Wanted::Term => "Term",
+        Wanted::Comparison => "Comparison",
+        Wanted::CloseParen => "CloseParen",
+        Wanted::End => "End",
+    })
+}
+
+/// The place of a fault in the text of a query; None where it has none.
+fn query_place(fault: QueryFault) -> Option<usize>
+    ensures { result ≡ query_place fault }
+{
+    match fault {
+        QueryFault::Lex(found) => lex_place(found),
+        QueryFault::Expected(_, place)
+        | QueryFault::DoubleColumn(place)
+        | QueryFault::UnknownColumn(place)
+        | QueryFault::Types(place)
+        | QueryFault::FirstColumn(place)
+        | QueryFault::WindowRange(place)
+        | QueryFault::TooDeep(place)
+        | QueryFault::TooManyColumns(place) => Some(place),
+        QueryFault::TooLong | QueryFault::Memory => None,
+    }
+}
+
+fn lex_place(fault: LexFault) -> Option<usize>
+    ensures { result ≡ lex_place fault }
+{
+    match fault {
+        LexFault::BadByte(place) | LexFault::OpenText(place) | LexFault::NumberRange(place) => {
+            Some(place)
+        }
+        LexFault::Memory => None,
+    }
+}
+
+fn place_parts(place: Option<usize>) -> [Part; 2]
+    ensures { flat_map part_text result ≡ place_text place }
+{
+    match place {
+        Some(place) => [Part::Words(" at "), Part::Number(place as u64)],
+        None => [NOTHING, NOTHING],
+    }
+}
+
+fn role_name(role: Role) -> Part
+    ensures { part_text result ≡ role_name role }
+{
+    match role {
+        Role::Query => Part::Words("query"),
+        Role::Left => Part::Words("left"),
+        Role::Right => Part::Words("right"),
+    }
 }
 
 fn side_name(side: Side) -> Part
@@ -175,9 +325,10 @@ mod tests {
     #[test]
     fn writes_notes(rt: HostRuntime) {
         let table = [
-            (Note::Usage, "usage: equi W LEFT RIGHT\n"),
-            (Note::Source(Side::Left), "source: left\n"),
-            (Note::Source(Side::Right), "source: right\n"),
+            (Note::Usage, "usage: equi W LEFT RIGHT | check QUERY\n"),
+            (Note::Source(Role::Query), "source: query\n"),
+            (Note::Source(Role::Left), "source: left\n"),
+            (Note::Source(Role::Right), "source: right\n"),
             (Note::Sink, "sink\n"),
             (Note::Memory, "memory\n"),
             (
@@ -208,6 +359,71 @@ mod tests {
         for (note, text) in table {
             let mut notes = MemSink::new(rt.alloc(), 5);
             write_note(&mut notes, &note);
+            assert_eq!(rt; notes.bytes(), text.as_bytes(), "at {text}");
+        }
+    }
+
+    #[test]
+    fn names_faults_of_queries(rt: HostRuntime) {
+        let table = [
+            (
+                QueryFault::Lex(LexFault::BadByte(2)),
+                "query: BadByte at 2\n",
+            ),
+            (
+                QueryFault::Lex(LexFault::OpenText(5)),
+                "query: OpenText at 5\n",
+            ),
+            (
+                QueryFault::Lex(LexFault::NumberRange(0)),
+                "query: NumberRange at 0\n",
+            ),
+            (QueryFault::DoubleColumn(14), "query: DoubleColumn at 14\n"),
+            (
+                QueryFault::UnknownColumn(93),
+                "query: UnknownColumn at 93\n",
+            ),
+            (QueryFault::Types(85), "query: Types at 85\n"),
+            (QueryFault::FirstColumn(6), "query: FirstColumn at 6\n"),
+            (QueryFault::WindowRange(46), "query: WindowRange at 46\n"),
+            (QueryFault::TooDeep(149), "query: TooDeep at 149\n"),
+            (
+                QueryFault::TooManyColumns(65536),
+                "query: TooManyColumns at 65536\n",
+            ),
+            (QueryFault::TooLong, "query: TooLong\n"),
+        ];
+        for (fault, text) in table {
+            let mut notes = MemSink::new(rt.alloc(), 5);
+            write_note(&mut notes, &Note::BadQuery(fault));
+            assert_eq!(rt; notes.bytes(), text.as_bytes(), "at {text}");
+        }
+    }
+
+    #[test]
+    fn names_what_is_wanted(rt: HostRuntime) {
+        let table = [
+            (Wanted::LeftWord, "query: Expected LeftWord at 7\n"),
+            (Wanted::RightWord, "query: Expected RightWord at 7\n"),
+            (Wanted::OpenParen, "query: Expected OpenParen at 7\n"),
+            (Wanted::CommaOrClose, "query: Expected CommaOrClose at 7\n"),
+            (Wanted::ColumnName, "query: Expected ColumnName at 7\n"),
+            (Wanted::ColumnKind, "query: Expected ColumnKind at 7\n"),
+            (Wanted::WindowWord, "query: Expected WindowWord at 7\n"),
+            (Wanted::WindowSide, "query: Expected WindowSide at 7\n"),
+            (Wanted::WindowKind, "query: Expected WindowKind at 7\n"),
+            (Wanted::Number, "query: Expected Number at 7\n"),
+            (Wanted::OnWord, "query: Expected OnWord at 7\n"),
+            (Wanted::OfWord, "query: Expected OfWord at 7\n"),
+            (Wanted::Dot, "query: Expected Dot at 7\n"),
+            (Wanted::Term, "query: Expected Term at 7\n"),
+            (Wanted::Comparison, "query: Expected Comparison at 7\n"),
+            (Wanted::CloseParen, "query: Expected CloseParen at 7\n"),
+            (Wanted::End, "query: Expected End at 7\n"),
+        ];
+        for (wanted, text) in table {
+            let mut notes = MemSink::new(rt.alloc(), 5);
+            write_note(&mut notes, &Note::BadQuery(QueryFault::Expected(wanted, 7)));
             assert_eq!(rt; notes.bytes(), text.as_bytes(), "at {text}");
         }
     }

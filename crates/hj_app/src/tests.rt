@@ -7,10 +7,11 @@ use std::alloc::Global;
 use std::process::Abort;
 use std::test::Fail;
 
-/// A run: its words, with blanks between them, the streams that stand under `left` and `right`, and what comes of it.
+/// A run: its words, with blanks between them, what stands under `query`, `left` and `right`, and what comes of it.
 #[derive(Clone, Copy)]
 struct Case {
     words: &'static str,
+    query: Option<&'static str>,
     left: Option<&'static str>,
     right: Option<&'static str>,
     out: &'static str,
@@ -18,7 +19,7 @@ struct Case {
     status: u8,
 }
 
-const USAGE: &str = "usage: equi W LEFT RIGHT\n";
+const USAGE: &str = "usage: equi W LEFT RIGHT | check QUERY\n";
 
 const TEN: &str = "equi 10 left right";
 
@@ -33,6 +34,7 @@ fn join(
 ) -> Case {
     Case {
         words,
+        query: None,
         left: Some(left),
         right: Some(right),
         out,
@@ -41,9 +43,24 @@ fn join(
     }
 }
 
+/// A check of a query.
+fn check(query: &'static str, out: &'static str, notes: &'static str, status: u8) -> Case {
+    Case {
+        words: "check query",
+        query: Some(query),
+        left: None,
+        right: None,
+        out,
+        notes,
+        status,
+    }
+}
+
+/// Words that are no order.
 fn refused(words: &'static str) -> Case {
     Case {
         words,
+        query: None,
         left: None,
         right: None,
         out: "",
@@ -65,6 +82,9 @@ fn run(rt: &impl Abort, alloc: Global, case: &Case, chunk: usize) -> Result<(), 
     requires { 1 ≤ chunk }
 {
     let mut outside = MemOutside::new(alloc, chunk);
+    if let Some(query) = case.query {
+        outside.add("query", query.as_bytes())?;
+    }
     if let Some(left) = case.left {
         outside.add("left", left.as_bytes())?;
     }
@@ -201,6 +221,10 @@ fn missing_streams_and_faulty_words(rt: HostRuntime) -> Result<(), Fail> {
         refused("equi 000000000000000000001 a b"),
         refused("equi 99999999999999999999 a b"),
         refused("join 1 a b"),
+        refused("check"),
+        refused("check a b"),
+        refused("check -a"),
+        refused("check --cores=2 a"),
     ];
     run_all(&rt, rt.alloc(), &cases)
 }
@@ -236,5 +260,108 @@ fn failing_notes_change_nothing_else(rt: HostRuntime) -> Result<(), Fail> {
     assert_eq!(rt; out.bytes(), b"1,7,0,7\n".as_slice());
     assert_eq!(rt; notes.bytes(), b"left".as_slice());
     assert_eq!(rt; status, 3);
+    Ok(())
+}
+
+#[test]
+fn checks_queries(rt: HostRuntime) -> Result<(), Fail> {
+    let cases = [
+        check(
+            "left (ts int, k int) right (ts int, k int) window left rows 1 window right rows 1 on (l.k=r.k)",
+            "left (ts int, k int)\nright (ts int, k int)\nwindow left rows 1\nwindow right rows 1\non l.k = r.k\n",
+            "",
+            0,
+        ),
+        check(
+            "left (ts int, k int) right (ts int, k int) window left rows 1 window right time 5000 on l.k=r.k and not(l.k<3 or r.k>-1)",
+            "left (ts int, k int)\nright (ts int, k int)\nwindow left rows 1\nwindow right time 5000\non l.k = r.k and not (l.k < 3 or r.k > -1)\n",
+            "",
+            0,
+        ),
+        check(
+            "left (ts int, k int) right (ts int, k int) window left rows 1 window right rows 1 on l.k + 1 = r.k",
+            "left (ts int, k int)\nright (ts int, k int)\nwindow left rows 1\nwindow right rows 1\non l.k + 1 = r.k\n",
+            "",
+            0,
+        ),
+    ];
+    run_all(&rt, rt.alloc(), &cases)
+}
+
+#[test]
+fn refuses_queries(rt: HostRuntime) -> Result<(), Fail> {
+    let cases = [
+        check("", "", "query: Expected LeftWord at 0\n", 2),
+        check(
+            "left (ts int, ts int)",
+            "",
+            "query: DoubleColumn at 14\n",
+            2,
+        ),
+        check("left (k int)", "", "query: FirstColumn at 6\n", 2),
+        check("12ab", "", "query: BadByte at 2\n", 2),
+        check(
+            "left (ts int, k int) right (ts int, k int) window left rows 1 window right rows 1 on l.k = r.z",
+            "",
+            "query: UnknownColumn at 93\n",
+            2,
+        ),
+        check(
+            "left (ts int, k int) right (ts int, k int) window left rows 1 window right rows 1 on l.k = 'a'",
+            "",
+            "query: Types at 85\n",
+            2,
+        ),
+        Case {
+            query: None,
+            ..check("", "", "source: query\n", 4)
+        },
+    ];
+    run_all(&rt, rt.alloc(), &cases)
+}
+
+/// Checks a query of so many blanks.
+fn check_blanks(rt: &impl Abort, alloc: Global, count: usize, note: &str) -> Result<(), Fail> {
+    let blanks = " ".repeat(alloc, count)?;
+    let mut outside = MemOutside::new(alloc, 1000);
+    outside.add("query", blanks.as_bytes())?;
+    let words = words_of(alloc, "check query")?;
+    let mut out = MemSink::new(alloc, 100);
+    let mut notes = MemSink::new(alloc, 100);
+    let status = serve(alloc, &words, &mut outside, &mut out, &mut notes, &OpenGate);
+    assert_eq!(rt; out.bytes(), b"".as_slice());
+    assert_eq!(rt; notes.bytes(), note.as_bytes());
+    assert_eq!(rt; status, 2);
+    Ok(())
+}
+
+#[test]
+fn bounds_the_text_of_a_query(rt: HostRuntime) -> Result<(), Fail> {
+    check_blanks(
+        &rt,
+        rt.alloc(),
+        65_536,
+        "query: Expected LeftWord at 65536\n",
+    )?;
+    check_blanks(&rt, rt.alloc(), 65_537, "query: TooLong\n")?;
+    check_blanks(&rt, rt.alloc(), 70_000, "query: TooLong\n")
+}
+
+#[test]
+fn a_failing_output_ends_a_check(rt: HostRuntime) -> Result<(), Fail> {
+    let alloc = rt.alloc();
+    let mut outside = MemOutside::new(alloc, 4096);
+    outside.add(
+        "query",
+        b"left(ts int)right(ts int)window left rows 1 window right rows 1 on l.ts=r.ts",
+    )?;
+    let words = words_of(alloc, "check query")?;
+    let mut out = MemSink::new(alloc, 9);
+    out.fail_write(2)?;
+    let mut notes = MemSink::new(alloc, 100);
+    let status = serve(alloc, &words, &mut outside, &mut out, &mut notes, &OpenGate);
+    assert_eq!(rt; out.bytes(), b"left (ts ".as_slice());
+    assert_eq!(rt; notes.bytes(), b"sink\n".as_slice());
+    assert_eq!(rt; status, 5);
     Ok(())
 }

@@ -2,14 +2,27 @@ ghost use Rattle.std.specs.Prelude.{◌≡◌, ◌≤◌, List, ℕ, map, string
 ghost use Rattle.std.specs.Option.{option_map};
 ghost use Rattle.std.specs.Str.{all_ascii_digits};
 ghost use Rattle.std.specs.Str.Parse.{digits_value};
-ghost use Rattle.hj_app.specs.Words.{order_of, is_window, is_name};
+ghost use Rattle.hj_app.specs.Orders.{order_seen};
+ghost use Rattle.hj_app.specs.Words.{check_of, equi_of, order_of, is_window, is_name};
 
 /// The order `equi W LEFT RIGHT`: two streams joined on equal keys, over windows of so many rows on each side.
 #[derive(Clone, Copy, Debug)]
 pub struct Equi<'a> {
+    /// How many rows of a side are live, from 1 to 1,000,000.
     pub window: u32,
+    /// The name of the left stream.
     pub left: &'a str,
+    /// The name of the right stream.
     pub right: &'a str,
+}
+
+/// What the words order.
+#[derive(Clone, Copy, Debug)]
+pub enum Order<'a> {
+    /// `equi W LEFT RIGHT`.
+    Equi(Equi<'a>),
+    /// `check QUERY`: the canonical text of the query under this name.
+    Check(&'a str),
 }
 
 const MOST_DIGITS: usize = 20;
@@ -17,22 +30,47 @@ const MOST_DIGITS: usize = 20;
 const MOST_ROWS: u32 = 1_000_000;
 
 /// The order that the words after the program's name spell, if they spell one.
-pub fn read_words(words: &[String]) -> Option<Equi<'_>>
-    ensures { option_map (λ e. record { window = e.window; left = e.left.now; right = e.right.now }) result ≡ order_of (map string_bytes words.now) }
+pub fn read_words(words: &[String]) -> Option<Order<'_>>
+    ensures { option_map order_seen result ≡ order_of (map string_bytes words.now) }
 {
-    let [command, window, left, right] = words else {
+    let [command, rest @ ..] = words else {
+        return None;
+    };
+    match command.as_str() {
+        "equi" => read_equi(rest),
+        "check" => read_check(rest),
+        _ => None,
+    }
+}
+
+/// The order of the words behind `equi`.
+fn read_equi(words: &[String]) -> Option<Order<'_>>
+    ensures { option_map order_seen result ≡ equi_of (map string_bytes words.now) }
+{
+    let [window, left, right] = words else {
         return None;
     };
     let (left, right) = (left.as_str(), right.as_str());
-    if command.as_str() != "equi" || !is_name(left) || !is_name(right) {
+    if !is_name(left) || !is_name(right) {
         return None;
     }
     let window = read_window(window.as_str())?;
-    Some(Equi {
+    Some(Order::Equi(Equi {
         window,
         left,
         right,
-    })
+    }))
+}
+
+/// The order of the words behind `check`.
+fn read_check(words: &[String]) -> Option<Order<'_>>
+    ensures { option_map order_seen result ≡ check_of (map string_bytes words.now) }
+{
+    let [name] = words else {
+        return None;
+    };
+    let name = name.as_str();
+    is_name(name).then_some(Order::Check(name))
 }
 
 /// A window: 1 to 20 digits, of a value from 1 to 1,000,000.
@@ -98,8 +136,37 @@ mod tests {
             for word in line.split(' ') {
                 words.push(String::from_str(rt.alloc(), word)?)?;
             }
-            let found = read_words(&words).map(|order| order.window);
+            let found = match read_words(&words) {
+                Some(Order::Equi(order)) => Some(order.window),
+                _ => None,
+            };
             assert_eq!(rt; found, window, "at {line}");
+        }
+        Ok(())
+    }
+
+    #[test]
+    fn reads_names_of_queries(rt: HostRuntime) -> Result<(), Fail> {
+        let table = [
+            ("check a", Some("a")),
+            ("check a-", Some("a-")),
+            ("check -a", None),
+            ("check -", None),
+            ("check ", None),
+            ("check", None),
+            ("check a b", None),
+            ("Check a", None),
+        ];
+        for (line, name) in table {
+            let mut words = Vec::new(rt.alloc());
+            for word in line.split(' ') {
+                words.push(String::from_str(rt.alloc(), word)?)?;
+            }
+            let found = match read_words(&words) {
+                Some(Order::Check(name)) => Some(name),
+                _ => None,
+            };
+            assert_eq!(rt; found, name, "at {line}");
         }
         Ok(())
     }

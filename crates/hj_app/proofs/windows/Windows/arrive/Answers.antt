@@ -1,9 +1,10 @@
-use Rattle.std.proofs.Common.{◌≡◌, ◌∙◌, [], append-nil, sym, rules, tests, subst}
+use Rattle.std.proofs.Common.{◌≡◌, sym, rules, tests, subst}
 use Rattle.std.specs.Io.KnownBytes.{Appends}
 use Rattle.hj_app.specs.declared.output.Sent.TheVariants as sent
 use Rattle.hj_app.specs.Windows.{lines_with, opposite}
 use Rattle.hj_app.specs.Output.{Sends}
 use Rattle.hj_app.proofs.Lines.{listed_lines}
+use Rattle.hj_app.proofs.Prefixes.{begins_all}
 use Rattle.hj_app.proofs.windows.Windows.arrive.Goals as goal
 
 pub returns-then-ne-clause-sends : goal.returns-then-ne-clause-sends
@@ -25,5 +26,5 @@ returns-in-Err-clause-sends g c =
     record {
       grown = lines_with c.args.side c.args.row (opposite c.args.side c.args.self.now);
       written = subst (λ answer. Sends answer (lines_with c.args.side c.args.row (opposite c.args.side c.args.self.now)) (g.K.Sink.told c.args.out.now) (g.K.Sink.told c.match-side.out)) whole lines;
-      front = ([], listed_lines c.args.self.now c.args.no c.args.side c.args.row ∙ sym (append-nil _));
+      front = begins_all _ _ (listed_lines c.args.self.now c.args.no c.args.side c.args.row);
     }
