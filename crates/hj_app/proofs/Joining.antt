@@ -9,7 +9,7 @@ use Rattle.hj_base.specs.declared.numbers.Side.{Side}
 use Rattle.hj_base.specs.declared.outside.Role.{Role}
 use Rattle.hj_base.specs.declared.outside.Role.TheVariants as role
 use Rattle.hj_base.specs.Counts.{Rose}
-use Rattle.hj_base.specs.Outside.{RoleState, Phase, unbegun, opened, refused, IsOpen, at_end}
+use Rattle.hj_base.specs.Outside.{RoleState, Phase, unbegun, opened, refused, IsOpen, at_end, role_of}
 use Rattle.hj_msg.specs.declared.event.Event.{Event}
 use Rattle.hj_msg.specs.Event.{number, NumbersFrom}
 use Rattle.hj_msg.specs.Kang.{Windows, no_rows, listed, after, kang_from}
@@ -19,7 +19,7 @@ use Rattle.hj_event.specs.declared.merger.Next.TheVariants as next
 use Rattle.hj_event.specs.Arrivals.{Ending, clean, bad, unread, arrivals_of}
 use Rattle.hj_event.specs.Rows.{rows_of}
 use Rattle.hj_event.specs.Events.{Numbered, events_of, none_live}
-use Rattle.hj_event.specs.Merger.{Merging, fresh, holding, failed, spent, StepsFrom, Steps, IsRead, IsReadOn, ReadsSides, Untouched, Answers, role_of}
+use Rattle.hj_event.specs.Merger.{Merging, fresh, holding, failed, spent, StepsFrom, Steps, IsRead, IsReadOn, ReadsSides, Untouched, Answers}
 use Rattle.hj_app.specs.Join.{BothRead, JoinsAll, JoinsFront}
 use Rattle.hj_app.specs.JoinText.{same_key, text, join_text, join_ending}
 use Rattle.hj_app.specs.Output.{AppendsFront}

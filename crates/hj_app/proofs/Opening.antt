@@ -8,9 +8,9 @@ use Rattle.hj_base.specs.declared.outside.Opened.TheVariants as start
 use Rattle.hj_base.specs.declared.outside.Role.{Role}
 use Rattle.hj_base.specs.declared.outside.Role.TheVariants as role
 use Rattle.hj_base.specs.Counts.{Rose}
-use Rattle.hj_base.specs.Outside.{RoleState, Starts, ChangesOnly, opened, at_end}
+use Rattle.hj_base.specs.Outside.{RoleState, Starts, ChangesOnly, opened, at_end, role_of}
 use Rattle.hj_event.specs.Arrivals.{Ending, clean, bad}
-use Rattle.hj_event.specs.Merger.{IsRead, role_of}
+use Rattle.hj_event.specs.Merger.{IsRead}
 use Rattle.hj_app.specs.declared.join.Outcome.{Outcome}
 use Rattle.hj_app.specs.declared.join.Outcome.TheVariants as outcome
 use Rattle.hj_app.specs.Join.{BothRead, JoinsAll, BeginsText, JoinsFront, Joins, CountsSinkFault}

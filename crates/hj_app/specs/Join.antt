@@ -5,9 +5,9 @@ use Rattle.std.specs.declared.option.Option.{Option}
 use Rattle.hj_base.specs.declared.outside.Role.{Role}
 use Rattle.hj_base.specs.declared.outside.Role.TheVariants as role
 use Rattle.hj_base.specs.Counts.{Rose}
-use Rattle.hj_base.specs.Outside.{RoleState}
+use Rattle.hj_base.specs.Outside.{RoleState, role_of}
 use Rattle.hj_event.specs.Arrivals.{Ending, clean, bad}
-use Rattle.hj_event.specs.Merger.{IsRead, role_of}
+use Rattle.hj_event.specs.Merger.{IsRead}
 use Rattle.hj_app.specs.declared.join.Outcome.{Outcome}
 use Rattle.hj_app.specs.declared.join.Outcome.TheVariants as outcome
 use Rattle.hj_base.specs.Journals.{IsPrefix}

@@ -7,9 +7,8 @@ use Rattle.hj_base.specs.declared.numbers.Side.{Side}
 use Rattle.hj_base.specs.declared.outside.Role.{Role}
 use Rattle.hj_base.specs.declared.outside.Role.TheVariants as role
 use Rattle.hj_base.specs.Counts.{Rose}
-use Rattle.hj_base.specs.Outside.{RoleState}
+use Rattle.hj_base.specs.Outside.{RoleState, role_of}
 use Rattle.hj_event.specs.Arrivals.{clean, bad}
-use Rattle.hj_event.specs.Merger.{role_of}
 use Rattle.hj_app.specs.declared.join.Outcome.{Outcome}
 use Rattle.hj_app.specs.declared.join.Outcome.TheVariants as outcome
 use Rattle.hj_app.specs.declared.notes.Note.{Note}

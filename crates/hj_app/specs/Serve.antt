@@ -6,10 +6,9 @@ use Rattle.hj_base.specs.declared.numbers.Side.{Side}
 use Rattle.hj_base.specs.declared.outside.Role.{Role}
 use Rattle.hj_base.specs.declared.outside.Role.TheVariants as role
 use Rattle.hj_base.specs.Counts.{Rose}
-use Rattle.hj_base.specs.Outside.{RoleState, unbegun, IsOpen}
+use Rattle.hj_base.specs.Outside.{RoleState, unbegun, IsOpen, role_of}
 use Rattle.hj_event.specs.declared.fault.RecordFault.{RecordFault}
 use Rattle.hj_event.specs.Arrivals.{Ending, clean, bad}
-use Rattle.hj_event.specs.Merger.{role_of}
 use Rattle.hj_query.specs.Texts.{IsFirst}
 use Rattle.hj_query.specs.declared.fault.QueryFault.{QueryFault}
 use Rattle.hj_app.specs.Check.{BeginsQuery, FindsFault, IsQueryRead, WritesCanonical, WritesCanonicalFront}

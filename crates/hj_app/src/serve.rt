@@ -2,7 +2,6 @@ ghost use Rattle.std.specs.Prelude.{◌≡◌, ◌≢◌, ◌≤◌, ◌↔◌, 
 ghost use Rattle.hj_base.specs.declared.outside.Role.{Role};
 ghost use Rattle.hj_base.specs.Counts.{Rose};
 ghost use Rattle.hj_base.specs.Outside.{unbegun};
-ghost use Rattle.hj_event.specs.Merger.{role_of};
 ghost use Rattle.hj_app.specs.Orders.{equi_seen};
 ghost use Rattle.hj_app.specs.Words.{order_of};
 ghost use Rattle.hj_app.specs.Serve.{Begins, BeginsInOrder, FailsSource, IsDone, IsStatus, IsUnfailed, NoneFails, Notes, RefusesQuery, RefusesRecord, Writes, WritesFront};
@@ -14,7 +13,7 @@ use crate::check::check;
 use crate::join::{Outcome, join};
 use crate::notes::{Note, write_note};
 use crate::words::{Equi, Order, read_words};
-use hj_base::{Gate, Opened, Outside, Role, Side, Sink};
+use hj_base::{Gate, Opened, Outside, Role, Sink};
 use std::alloc::Global;
 
 /// Does what the words after the program's name say, and answers the exit status.
@@ -107,19 +106,9 @@ fn end_of(outcome: Outcome) -> Result<(), Note>
     match outcome {
         Outcome::Done => Ok(()),
         Outcome::BadRecord { side, at, fault } => Err(Note::BadRecord { side, at, fault }),
-        Outcome::SourceFault(side) => Err(Note::Source(role_of(side))),
+        Outcome::SourceFault(side) => Err(Note::Source(side.role())),
         Outcome::SinkFault => Err(Note::Sink),
         Outcome::Memory => Err(Note::Memory),
-    }
-}
-
-/// The role of a side's stream.
-fn role_of(side: Side) -> Role
-    ensures { result ≡ role_of side }
-{
-    match side {
-        Side::Left => Role::Left,
-        Side::Right => Role::Right,
     }
 }
 

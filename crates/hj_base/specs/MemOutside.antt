@@ -26,10 +26,10 @@ lookup contents name = option_map (λ content. content.1) (find (λ content. byt
 abbrev pub told_under : OutsideState → List ℕ → Option (List ℕ)
 told_under outside name = Some (unwrap_or (lookup outside.contents name) [])
 
-abbrev pub role_of : OutsideState → Role → RoleState
-role_of outside Query = outside.query
-role_of outside Left = outside.left
-role_of outside Right = outside.right
+abbrev pub role_at : OutsideState → Role → RoleState
+role_at outside Query = outside.query
+role_at outside Left = outside.left
+role_at outside Right = outside.right
 
 -- the same with another state of a role
 abbrev pub with_role : OutsideState → Role → RoleState → OutsideState

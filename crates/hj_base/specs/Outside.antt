@@ -2,12 +2,20 @@
 use Rattle.std.specs.Prelude.{◌≡◌, ◌≢◌, ℕ, ◌≤◌, Bool, true, false, List, length, take}
 use Rattle.std.specs.Io.KnownBytes.{Consumes, IsAtEnd}
 use Rattle.std.specs.declared.option.Option.{Option}
+use Rattle.hj_base.specs.declared.numbers.Side.{Side}
+use Rattle.hj_base.specs.declared.numbers.Side.TheVariants as side
 use Rattle.hj_base.specs.declared.outside.Role.{Role}
+use Rattle.hj_base.specs.declared.outside.Role.TheVariants as role
 use Rattle.hj_base.specs.declared.outside.Opened.{Opened}
 use Rattle.hj_base.specs.declared.outside.Opened.TheVariants as start
 use Rattle.hj_base.specs.declared.outside.Got.{Got}
 use Rattle.hj_base.specs.declared.outside.Got.TheVariants as read
 use Rattle.hj_base.specs.Counts.{Rose}
+
+-- the role of a side's stream
+abbrev pub role_of : Side → Role
+role_of side.Left = role.Left
+role_of side.Right = role.Right
 
 -- A role begins once, under a name. Then it is open, and has answered the end of its bytes or has not; or its start failed.
 pub data Phase : Type 0 where

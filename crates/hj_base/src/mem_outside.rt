@@ -1,6 +1,6 @@
 ghost use Rattle.std.specs.Prelude.{◌≡◌, ◌≢◌, ◌≤◌, ◌<◌, ℕ, List, [], length, OnOk, OnErr, IfOk, IsSomeAnd, Some, option_copied, position, bytes_eq};
 ghost use Rattle.hj_base.specs.Outside.{unbegun, IsOpen, Starts, Reads, ChangesOnly};
-ghost use Rattle.hj_base.specs.MemOutside.{lookup, told_under, role_of, with_role, new_role, FailsAtMissing, after_start, read_answer, after_read, filled};
+ghost use Rattle.hj_base.specs.MemOutside.{lookup, told_under, role_at, with_role, new_role, FailsAtMissing, after_start, read_answer, after_read, filled};
 
 use crate::stream::Stream;
 use crate::{Got, Memory, Opened, Outside, Role};
@@ -89,17 +89,17 @@ impl MemOutside {
 }
 
 impl Outside for MemOutside {
-    ghost state = { role_of };
+    ghost state = { role_at };
 
     ghost under = { told_under };
 
     fn start(&mut self, role: Role, name: &str) -> Opened
-        requires { (role_of self.old role).phase ≡ unbegun }
-        ensures starts { Starts result name.now (told_under self.old name.now) (role_of self.old role) (role_of self.new role) }
-        ensures others { ChangesOnly role (role_of self.old) (role_of self.new) }
+        requires { (role_at self.old role).phase ≡ unbegun }
+        ensures starts { Starts result name.now (told_under self.old name.now) (role_at self.old role) (role_at self.new role) }
+        ensures others { ChangesOnly role (role_at self.old) (role_at self.new) }
         ensures names { (other : List ℕ) → told_under self.new other ≡ told_under self.old other }
         ensures answer { FailsAtMissing result (lookup self.old.contents name.now) }
-        ensures after { self.new ≡ with_role self.old role (after_start result name.now (lookup self.old.contents name.now) (role_of self.old role)) }
+        ensures after { self.new ≡ with_role self.old role (after_start result name.now (lookup self.old.contents name.now) (role_at self.old role)) }
     {
         let found = find(&self.contents, name);
         match role {
@@ -110,14 +110,14 @@ impl Outside for MemOutside {
     }
 
     fn read(&mut self, role: Role, buf: &mut [u8]) -> Got
-        requires open { IsOpen (role_of self.old role).phase }
+        requires open { IsOpen (role_at self.old role).phase }
         requires room { 0 < length buf.old }
-        ensures reads { Reads result buf.new (role_of self.old role) (role_of self.new role) }
-        ensures others { ChangesOnly role (role_of self.old) (role_of self.new) }
+        ensures reads { Reads result buf.new (role_at self.old role) (role_at self.new role) }
+        ensures others { ChangesOnly role (role_at self.old) (role_at self.new) }
         ensures names { (other : List ℕ) → told_under self.new other ≡ told_under self.old other }
-        ensures answer { IsSomeAnd (role_of self.old role).left (λ bytes. result ≡ read_answer self.old.chunk (length buf.old) bytes) }
-        ensures after { self.new ≡ with_role self.old role (after_read result (role_of self.old role)) }
-        ensures filled { IsSomeAnd (role_of self.old role).left (λ bytes. buf.new ≡ filled result bytes buf.old) }
+        ensures answer { IsSomeAnd (role_at self.old role).left (λ bytes. result ≡ read_answer self.old.chunk (length buf.old) bytes) }
+        ensures after { self.new ≡ with_role self.old role (after_read result (role_at self.old role)) }
+        ensures filled { IsSomeAnd (role_at self.old role).left (λ bytes. buf.new ≡ filled result bytes buf.old) }
     {
         match role {
             Role::Query => self.query.read(self.chunk, buf),

@@ -1,3 +1,7 @@
+ghost use Rattle.std.specs.Prelude.{◌≡◌};
+ghost use Rattle.hj_base.specs.Outside.{role_of};
+
+use crate::outside::Role;
 use std::alloc::{AllocError, AllocFailed};
 use thiserror::Error;
 
@@ -14,6 +18,18 @@ pub struct CoreNo(pub u16);
 pub enum Side {
     Left,
     Right,
+}
+
+impl Side {
+    /// The role of this side's stream.
+    pub fn role(self) -> Role
+        ensures { result ≡ role_of self }
+    {
+        match self {
+            Side::Left => Role::Left,
+            Side::Right => Role::Right,
+        }
+    }
 }
 
 /// How long a row of one stream lives.

@@ -52,3 +52,9 @@ fn starts_with_what_stands(rt: HostRuntime) -> Result<(), Fail> {
 fn opens_the_gate(_rt: HostRuntime) {
     OpenGate.pass(CoreNo(1), 2);
 }
+
+#[test]
+fn names_the_role_of_a_side(rt: HostRuntime) {
+    assert_eq!(rt; Side::Left.role(), Role::Left);
+    assert_eq!(rt; Side::Right.role(), Role::Right);
+}

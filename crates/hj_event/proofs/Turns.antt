@@ -8,7 +8,7 @@ use Rattle.hj_base.specs.declared.numbers.Side.{Side}
 use Rattle.hj_base.specs.declared.numbers.Side.TheVariants.{Left, Right}
 use Rattle.hj_msg.specs.declared.event.Event.{Event}
 use Rattle.hj_msg.specs.declared.event.Event.TheVariants.{Arrive, Expire}
-use Rattle.hj_msg.proofs.Members.{Contains-nil, Contains-head, Contains-cons}
+use Rattle.hj_msg.proofs.Members.{Contains-nil, Contains-head, Contains-cons, Ranked, Ranked-push}
 use Rattle.hj_event.specs.Arrivals.{Arrival}
 use Rattle.hj_event.specs.Events.{Live, none_live, of_side, with_side, expire_over, number_from}
 use Rattle.hj_event.specs.Windows.{live_rows}
@@ -17,15 +17,7 @@ use Rattle.hj_event.proofs.LiveRows.{cases_side, has_expired, has_expired-arriva
 
 -- each number is below all that follow it
 abbrev pub Rising : List ℕ → Type 0
-Rising [] = Unit {0}
-Rising (x ∷ xs) = ((y : ℕ) → Contains xs y → x < y) × Rising xs
-
-Rising-push : (xs : List ℕ) (y : ℕ) → Rising xs → ((x : ℕ) → Contains xs x → x < y) → Rising (xs ++ y ∷ [])
-Rising-push [] y r below = ((λ z h. absurd (Contains-nil z h)), tt)
-Rising-push (x ∷ xs) y r below = (
-  (λ z h. elim (Contains-push_cases xs y z h) [ inl k ↦ r.0 z k | inr e ↦ subst (λ w. x < w) e (below x (Contains-head x xs)) ]),
-  Rising-push xs y r.1 (λ z h. below z (Contains-cons x z xs h)),
-)
+Rising numbers = Ranked (λ x y. x < y) numbers
 
 -- The rows of one side change.
 record Changes (side : Side) (this : List ℕ) (old new : Side → List ℕ) : Type 0 where
@@ -55,7 +47,7 @@ Stands-arrival before at side row old new s c = record {
       (λ other differs. live_rows-other_arrival before (record { 0 = at }) side other row differs ∙ s.shown other);
   below = λ other number h. elim (which other number h) [ inl k ↦ (let l = s.below other number k in omega arith) | inr e ↦ omega (arith, e.1) ];
   rising = each_side (λ other numbers. Rising numbers) side (old side ++ at ∷ []) old new c
-      (Rising-push (old side) at (s.rising side) (s.below side)) (λ other differs. s.rising other);
+      (Ranked-push (λ x y. x < y) (old side) at (s.rising side) (s.below side)) (λ other differs. s.rising other);
   apart = λ one other number differs h k. elim (which one number h) [
     | inl m ↦ elim (which other number k) [ inl n ↦ s.apart one other number differs m n | inr e ↦ omega (arith, s.below one number m, e.1) ]
     | inr d ↦ elim (which other number k) [ inl n ↦ omega (arith, s.below other number n, d.1) | inr e ↦ differs (d.0 ∙ sym e.0) ]

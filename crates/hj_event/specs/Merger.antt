@@ -3,11 +3,10 @@ use Rattle.std.specs.Prelude.{◌≡◌, ◌≤◌, ◌⊎◌, ℕ, true, List, 
 use Rattle.std.specs.Io.KnownBytes.{Consumes, IsAtEnd}
 use Rattle.hj_value.specs.declared.field.Field.{Field}
 use Rattle.hj_base.specs.declared.numbers.Side.{Side}
-use Rattle.hj_base.specs.declared.numbers.Side.TheVariants as side
 use Rattle.hj_base.specs.declared.outside.Role.{Role}
 use Rattle.hj_base.specs.declared.outside.Role.TheVariants as role
 use Rattle.hj_base.specs.Counts.{Rose}
-use Rattle.hj_base.specs.Outside.{RoleState, at_end}
+use Rattle.hj_base.specs.Outside.{RoleState, at_end, role_of}
 use Rattle.hj_msg.specs.declared.event.Event.{Event}
 use Rattle.hj_event.specs.declared.merger.Next.{Next}
 use Rattle.hj_event.specs.declared.merger.Next.TheVariants as next
@@ -20,10 +19,6 @@ pub data Merging : Type 0 where
   holding : Numbered → Merging
   failed : Side → Merging
   spent : Merging
-
-abbrev pub role_of : Side → Role
-role_of side.Left = role.Left
-role_of side.Right = role.Right
 
 -- The answer where no event is left.
 abbrev pub EndsAs : Ending → Next → Type 0

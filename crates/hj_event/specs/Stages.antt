@@ -4,7 +4,7 @@ use Rattle.std.specs.declared.option.Option.{Option}
 use Rattle.hj_base.specs.declared.outside.Role.{Role}
 use Rattle.hj_base.specs.declared.outside.Role.TheVariants as role
 use Rattle.hj_base.specs.Counts.{Rose}
-use Rattle.hj_base.specs.Outside.{RoleState}
+use Rattle.hj_base.specs.Outside.{RoleState, role_of}
 use Rattle.hj_event.specs.declared.merger.Next.{Next}
 use Rattle.hj_event.specs.declared.merger.Next.TheVariants as next
 use Rattle.hj_event.specs.declared.merger.Stage.{Stage}
@@ -13,7 +13,7 @@ use Rattle.hj_event.specs.declared.stop.Last.{Last}
 use Rattle.hj_event.specs.declared.stop.Last.TheVariants as last
 use Rattle.hj_event.specs.Arrivals.{clean, bad}
 use Rattle.hj_event.specs.Events.{events_of}
-use Rattle.hj_event.specs.Merger.{Merging, fresh, holding, failed, spent, role_of, IsRead, Steps, RunsOut}
+use Rattle.hj_event.specs.Merger.{Merging, fresh, holding, failed, spent, IsRead, Steps, RunsOut}
 
 abbrev pub merging_of_last : Last → Merging
 merging_of_last last.Done = holding (record { events = []; ending = clean })

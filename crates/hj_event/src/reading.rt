@@ -1,10 +1,10 @@
 ghost use Rattle.std.specs.Prelude.{◌≡◌, List, ℕ};
-ghost use Rattle.hj_base.specs.Outside.{IsOpen, ChangesOnly};
-ghost use Rattle.hj_event.specs.Merger.{role_of, IsReadOn};
+ghost use Rattle.hj_base.specs.Outside.{role_of, IsOpen, ChangesOnly};
+ghost use Rattle.hj_event.specs.Merger.{IsReadOn};
 ghost use Rattle.hj_event.specs.Reading.{ReadsSide};
 
 use crate::stop::Last;
-use hj_base::{Got, Outside, Role, Side};
+use hj_base::{Got, Outside, Side};
 use std::alloc::Global;
 
 /// How many bytes one read asks for.
@@ -23,7 +23,7 @@ pub(crate) fn read_side<O: Outside>(
     ensures others { ChangesOnly (role_of side) (O.state outside.old) (O.state outside.new) }
     ensures names { (name : List ℕ) → O.under outside.new name ≡ O.under outside.old name }
 {
-    let role = role_of(side);
+    let role = side.role();
     let mut bytes = Vec::new(alloc);
     let mut portion = [0; MOST_IN_READ];
     for _ in 0..u64::MAX {
@@ -34,14 +34,4 @@ pub(crate) fn read_side<O: Outside>(
         }
     }
     Err(Last::Memory)
-}
-
-/// The role of a side's stream.
-fn role_of(side: Side) -> Role
-    ensures { result ≡ role_of side }
-{
-    match side {
-        Side::Left => Role::Left,
-        Side::Right => Role::Right,
-    }
 }
