@@ -10,14 +10,14 @@ ghost use Rattle.hj_app.specs.Run.{RunsCheck};
 use crate::notes::Note;
 use crate::output::{Sent, put_all};
 use hj_base::{Got, Opened, Outside, Role, Sink};
-use hj_query::{QueryFault, QueryText, parse, print};
+use hj_query::{MOST_BYTES, QueryFault, QueryText, parse, print};
 use std::alloc::Global;
 
 /// How many bytes one read asks for.
 const MOST_IN_READ: usize = 4_096;
 
 /// A text with so many bytes is no query, whatever follows.
-const TOO_MANY: usize = 65_537;
+const TOO_MANY: usize = MOST_BYTES + 1;
 
 /// Writes the canonical text of the query under a name to `out`, in one write where the sink takes all of it. The error is the
 /// note that says why that couldn't be done: the query's stream, its text, the sink, or memory.

@@ -1,18 +1,18 @@
 -- What was read of a text is a query that it spells or its first fault.
-use Rattle.std.proofs.Common.{◌≡◌, ℕ, ◌≤◌, List, [], ◌∷◌, length, None, refl, subst}
+use Rattle.std.proofs.Common.{◌≡◌, ℕ, ◌≤◌, List, length, refl, subst}
 use Rattle.std.specs.Prelude.{◌≢◌}
 use Rattle.hj_lex.specs.declared.fault.LexFault.{LexFault}
 use Rattle.hj_lex.specs.declared.fault.LexFault.TheVariants as lex_fault
 use Rattle.hj_lex.specs.declared.token.Token.{Token}
-use Rattle.hj_lex.specs.Tokens.{AreTokens, Cuts, Explains, bytes_of}
+use Rattle.hj_lex.specs.Tokens.{AreTokens, Explains}
 use Rattle.hj_query.specs.Faults.{FaultsQuery}
-use Rattle.hj_query.specs.Grammar.{AreSuited, IsQuery, IsReadable}
+use Rattle.hj_query.specs.Grammar.{IsQuery, IsReadable}
 use Rattle.hj_query.specs.Lexemes.{Lexeme, lexemes}
 use Rattle.hj_query.specs.Parts.{Parts}
 use Rattle.hj_query.specs.Texts.{IsFirst, Spells, Unless, grammar, most_bytes, token}
 use Rattle.hj_query.specs.declared.fault.QueryFault.{QueryFault}
 use Rattle.hj_query.specs.declared.fault.QueryFault.TheVariants as faults
-use Rattle.hj_query.proofs.Lists.{suits}
+use Rattle.hj_query.proofs.Suited.{suited_tokens}
 
 -- Reading a text.
 
@@ -35,9 +35,5 @@ pub spelled : (text : List ℕ) (tokens : List Token) (here : List Lexeme) (quer
 spelled text tokens here query e le cut q =
     record { short = le; tokens = tokens; cut = cut; parsed = subst (λ (here : List Lexeme). IsQuery here query) e q }
 
-suited : (text : List ℕ) (from : ℕ) (tokens : List Token) → Cuts text from tokens None → AreSuited (lexemes text tokens)
-suited text from [] cut = (tt, tt)
-suited text from (first ∷ tokens) cut = (suits first.kind (bytes_of text first) _ cut.1.2, suited text first.to tokens cut.2)
-
 pub readable : (text : List ℕ) (tokens : List Token) (here : List Lexeme) (query : Parts) → here ≡ lexemes text tokens → AreTokens text tokens → IsQuery here query → IsReadable query
-readable text tokens here query e cut q = (lexemes text tokens, suited text 0 tokens cut, subst (λ (here : List Lexeme). IsQuery here query) e q)
+readable text tokens here query e cut q = (lexemes text tokens, suited_tokens text 0 tokens cut, subst (λ (here : List Lexeme). IsQuery here query) e q)

@@ -1,20 +1,20 @@
 -- Reading one token: it is the one that is wanted, or the fault is that it isn't.
-use Rattle.std.proofs.Common.{◌≡◌, ℕ, Bool, true, false, ◌&&◌, List, [], ◌∷◌, None, ap, refl, sym, ◌∙◌, subst}
+use Rattle.std.proofs.Common.{◌≡◌, ℕ, Bool, true, false, ◌&&◌, List, [], ◌∷◌, ap, refl, sym, ◌∙◌}
 use Rattle.std.specs.Str.{bytes_eq}
 use Rattle.std.proofs.lemmas.Bool.{and_parts, false≢true}
 use Rattle.std.proofs.lemmas.Slice.Eq.{bytes_eq-Decides}
-use Rattle.hj_lex.specs.declared.token.Token.{Token}
 use Rattle.hj_lex.specs.declared.token.TokenKind.{TokenKind}
 use Rattle.hj_lex.specs.declared.token.TokenKind.TheVariants as kinds
-use Rattle.hj_lex.specs.Tokens.{Cuts, bytes_of, number_value}
+use Rattle.hj_lex.specs.Tokens.{number_value}
 use Rattle.hj_query.specs.declared.fault.QueryFault.{QueryFault}
 use Rattle.hj_query.specs.declared.fault.QueryFault.TheVariants as faults
 use Rattle.hj_query.specs.declared.fault.Wanted.{Wanted}
 use Rattle.hj_query.specs.Faults.{IsExpected}
 pub use Rattle.hj_query.specs.Grammar.{AreSuited}
-use Rattle.hj_query.specs.Lexemes.{Lexeme, behind, is_same_kind, lexemes, next_has, next_is, place, IsNext, IsNumber, IsSign, IsWord, LacksKind, LacksSign, LacksWord, Suits}
-use Rattle.hj_query.proofs.Lists.{bytes_same, is_has, kind_same, same_kind, suits}
+use Rattle.hj_query.specs.Lexemes.{Lexeme, behind, is_same_kind, next_has, next_is, place, IsNext, IsNumber, IsSign, IsWord, LacksKind, LacksSign, LacksWord}
+use Rattle.hj_query.proofs.Lists.{bytes_same, is_has, kind_same, same_kind}
 use Rattle.hj_query.proofs.Outcomes.{IsOne, Outcome, fault, read}
+pub use Rattle.hj_query.proofs.Suited.{suited_next, suited_rest, suited_tokens}
 
 -- What the next token is.
 
@@ -73,33 +73,11 @@ has_other_kind kind other bytes (next ∷ more) rest n h = ap (λ (k : TokenKind
 pub lacks_kind : (kind : TokenKind) (bytes : List ℕ) (here : List Lexeme) → next_has kind here ≡ false → next_is kind bytes here ≡ false
 lacks_kind kind bytes here h = not_true _ (λ g. true_false _ (is_has kind bytes here g) h)
 
--- Tokens that are ones of a text.
-
-suited_behind : (here : List Lexeme) → AreSuited here → AreSuited (behind here)
-unfolding behind
-suited_behind [] h = tt
-suited_behind (next ∷ rest) h = h.1
-
-pub suited_rest : (kind : TokenKind) (bytes : List ℕ) (here rest : List Lexeme) → IsNext kind bytes here rest → AreSuited here → AreSuited rest
-suited_rest kind bytes here rest n h = subst AreSuited (sym n.left) (suited_behind here h)
-
-pub suited_next : (kind : TokenKind) (bytes : List ℕ) (here rest : List Lexeme) → IsNext kind bytes here rest → AreSuited here → Suits kind bytes
-unfolding next_is
-suited_next kind bytes [] rest n h = absurd (false≢true n.found)
-suited_next kind bytes (next ∷ more) rest n h =
-    let p = first_is kind bytes next more n.found in
-    subst (λ (k : TokenKind). Suits k bytes) p.0 (subst (Suits next.kind) p.1 h.0)
-
 -- a next token of a kind has some bytes
 pub has_bytes : (kind : TokenKind) (here : List Lexeme) → next_has kind here ≡ true → (bytes : List ℕ) × IsNext kind bytes here (behind here)
 unfolding next_has next_is
 has_bytes kind [] h = absurd (false≢true h)
 has_bytes kind (next ∷ rest) h = (next.bytes, record { found = ap (λ b. b && bytes_eq next.bytes next.bytes) h ∙ bytes_same next.bytes; left = refl })
-
--- the tokens of a text, and its end
-pub suited_tokens : (text : List ℕ) (at : ℕ) (tokens : List Token) → Cuts text at tokens None → AreSuited (lexemes text tokens)
-suited_tokens text at [] cut = (tt, tt)
-suited_tokens text at (first ∷ tokens) cut = (suits first.kind (bytes_of text first) _ cut.1.2, suited_tokens text first.to tokens cut.2)
 
 -- A given token, or the fault that it doesn't come.
 

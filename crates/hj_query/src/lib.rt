@@ -24,4 +24,4 @@ pub use laws::text_is_query_or_fault;
 pub use pred::{Op, Pred};
 pub use query::Query;
 pub use sum::{Part, Rest, Sum, Term};
-pub use text::parse;
+pub use text::{MOST_BYTES, parse};

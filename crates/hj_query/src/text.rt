@@ -13,7 +13,8 @@ use crate::{Query, QueryFault, Wanted};
 use hj_lex::lex;
 use std::alloc::Global;
 
-const MOST_BYTES: usize = 65_536;
+/// How many bytes the text of a query may have.
+pub const MOST_BYTES: usize = 65_536;
 
 /// The query that a text spells by the grammar of queries, or the text's first fault.
 ///
