@@ -89,10 +89,7 @@ impl Query {
     pub fn schema(&self, side: Side) -> &Schema
         ensures { result.now ≡ by_side self.now.left self.now.right side }
     {
-        match side {
-            Side::Left => &self.schemas.left,
-            Side::Right => &self.schemas.right,
-        }
+        self.schemas.of(side)
     }
 
     /// The condition on a left and a right row. The query is one that some tokens read as, so a column in it has a place

@@ -283,61 +283,60 @@ fn judges_texts_and_sides(rt: HostRuntime) -> Result<(), Fail> {
 
 #[test]
 fn bounds_the_depth(rt: HostRuntime) -> Result<(), Fail> {
-    for (count, fault) in [(64, None), (65, Some(TooDeep(149)))] {
-        let open = repeated(rt.alloc(), "(", count)?;
-        let close = repeated(rt.alloc(), ")", count)?;
+    let table = [
+        ("(", ")", 64, None),
+        ("(", ")", 65, Some(TooDeep(149))),
+        ("not ", "", 64, None),
+        ("not ", "", 65, Some(TooDeep(341))),
+        ("not (", ")", 32, None),
+        ("not (", ")", 33, Some(TooDeep(245))),
+    ];
+    for (open, close, count, fault) in table {
+        let front = repeated(rt.alloc(), open, count)?;
+        let end = repeated(rt.alloc(), close, count)?;
         assert_eq!(rt;
-            fault_of(rt.alloc(), &[HEAD, "on ", &open, "l.k = r.k", &close])?,
-            fault
+            fault_of(rt.alloc(), &[HEAD, "on ", &front, "l.k = r.k", &end])?,
+            fault,
+            "{count} of {open}"
         );
     }
-    for (count, fault) in [(64, None), (65, Some(TooDeep(341)))] {
-        let words = repeated(rt.alloc(), "not ", count)?;
-        assert_eq!(rt;
-            fault_of(rt.alloc(), &[HEAD, "on ", &words, "l.k = r.k"])?,
-            fault
-        );
-    }
-    for (count, fault) in [(32, None), (33, Some(TooDeep(245)))] {
-        let open = repeated(rt.alloc(), "not (", count)?;
-        let close = repeated(rt.alloc(), ")", count)?;
-        assert_eq!(rt;
-            fault_of(rt.alloc(), &[HEAD, "on ", &open, "l.k = r.k", &close])?,
-            fault
-        );
-    }
-    // Behind what was closed the depth is what it was.
+    Ok(())
+}
+
+// Behind what was closed the depth is what it was.
+#[test]
+fn depth_ends_where_it_is_closed(rt: HostRuntime) -> Result<(), Fail> {
+    let open = repeated(rt.alloc(), "(", 64)?;
+    let close = repeated(rt.alloc(), ")", 64)?;
     for (count, fault) in [(64, None), (65, Some(TooDeep(291)))] {
-        let open = repeated(rt.alloc(), "(", 64)?;
-        let close = repeated(rt.alloc(), ")", 64)?;
-        let more = repeated(rt.alloc(), "(", count)?;
+        let front = repeated(rt.alloc(), "(", count)?;
         let end = repeated(rt.alloc(), ")", count)?;
-        assert_eq!(rt;
-            fault_of(
-                rt.alloc(),
-                &[
-                    HEAD,
-                    "on ",
-                    &open,
-                    "l.k = r.k",
-                    &close,
-                    " and ",
-                    &more,
-                    "1=1",
-                    &end
-                ]
-            )?,
-            fault
-        );
+        let parts = [
+            HEAD,
+            "on ",
+            &open,
+            "l.k = r.k",
+            &close,
+            " and ",
+            &front,
+            "1=1",
+            &end,
+        ];
+        assert_eq!(rt; fault_of(rt.alloc(), &parts)?, fault);
     }
-    // What isn't nested may be as long as the text.
+    Ok(())
+}
+
+// What isn't nested may be as long as the text.
+#[test]
+fn length_is_no_depth(rt: HostRuntime) -> Result<(), Fail> {
     let operands = repeated(rt.alloc(), "1=1 or 1=1 and ", 4000)?;
     assert_eq!(rt;
         fault_of(rt.alloc(), &[HEAD, "on ", &operands, "1=1"])?,
         None
     );
-    let parts = repeated(rt.alloc(), "+1", 30000)?;
-    assert_eq!(rt; fault_of(rt.alloc(), &[HEAD, "on 1", &parts, "=1"])?, None);
+    let terms = repeated(rt.alloc(), "+1", 30000)?;
+    assert_eq!(rt; fault_of(rt.alloc(), &[HEAD, "on 1", &terms, "=1"])?, None);
     Ok(())
 }
 
