@@ -2,21 +2,29 @@
 ghost use Rattle.std.specs.Prelude.{◌≤◌};
 
 use crate::serve::serve;
-use hj_base::{MemOutside, MemSink, OpenGate};
+use hj_base::{MemOutside, MemSink, Memory, OpenGate};
 use std::alloc::Global;
 use std::process::Abort;
 use std::test::Fail;
 
 /// A run: its words, with blanks between them, what stands under `query`, `left` and `right`, and what comes of it.
 #[derive(Clone, Copy)]
-struct Case {
-    words: &'static str,
-    query: Option<&'static str>,
-    left: Option<&'static str>,
-    right: Option<&'static str>,
-    out: &'static str,
-    notes: &'static str,
+struct Case<'a> {
+    words: &'a str,
+    query: Option<&'a str>,
+    left: Option<&'a str>,
+    right: Option<&'a str>,
+    out: &'a str,
+    notes: &'a str,
     status: u8,
+}
+
+/// What fails in a run at its second write.
+#[derive(Clone, Copy)]
+enum Failing {
+    Nothing,
+    Output,
+    Notes,
 }
 
 const USAGE: &str = "usage: equi W LEFT RIGHT | check QUERY\n";
@@ -24,14 +32,14 @@ const USAGE: &str = "usage: equi W LEFT RIGHT | check QUERY\n";
 const TEN: &str = "equi 10 left right";
 
 /// A join of two streams that are there.
-fn join(
-    words: &'static str,
-    left: &'static str,
-    right: &'static str,
-    out: &'static str,
-    notes: &'static str,
+fn join<'a>(
+    words: &'a str,
+    left: &'a str,
+    right: &'a str,
+    out: &'a str,
+    notes: &'a str,
     status: u8,
-) -> Case {
+) -> Case<'a> {
     Case {
         words,
         query: None,
@@ -44,7 +52,7 @@ fn join(
 }
 
 /// A check of a query.
-fn check(query: &'static str, out: &'static str, notes: &'static str, status: u8) -> Case {
+fn check<'a>(query: &'a str, out: &'a str, notes: &'a str, status: u8) -> Case<'a> {
     Case {
         words: "check query",
         query: Some(query),
@@ -57,7 +65,7 @@ fn check(query: &'static str, out: &'static str, notes: &'static str, status: u8
 }
 
 /// Words that are no order.
-fn refused(words: &'static str) -> Case {
+fn refused(words: &str) -> Case<'_> {
     Case {
         words,
         query: None,
@@ -77,8 +85,25 @@ fn words_of(alloc: Global, text: &str) -> Result<Vec<String>, Fail> {
     Ok(words)
 }
 
+/// A sink that takes at most `chunk` bytes a write, and may fail at its second one.
+fn sink_of(alloc: Global, chunk: usize, fails: bool) -> Result<MemSink, Memory>
+    requires { 1 ≤ chunk }
+{
+    let mut sink = MemSink::new(alloc, chunk);
+    if fails {
+        sink.fail_write(2)?;
+    }
+    Ok(sink)
+}
+
 /// Runs a case with reads and writes of at most `chunk` bytes.
-fn run(rt: &impl Abort, alloc: Global, case: &Case, chunk: usize) -> Result<(), Fail>
+fn run(
+    rt: &impl Abort,
+    alloc: Global,
+    case: &Case<'_>,
+    chunk: usize,
+    failing: Failing,
+) -> Result<(), Fail>
     requires { 1 ≤ chunk }
 {
     let mut outside = MemOutside::new(alloc, chunk);
@@ -91,30 +116,21 @@ fn run(rt: &impl Abort, alloc: Global, case: &Case, chunk: usize) -> Result<(), 
     if let Some(right) = case.right {
         outside.add("right", right.as_bytes())?;
     }
-    let words = words_of(alloc, case.words)?;
-    let mut out = MemSink::new(alloc, chunk);
-    let mut notes = MemSink::new(alloc, chunk);
+    let name = case.words;
+    let words = words_of(alloc, name)?;
+    let mut out = sink_of(alloc, chunk, matches!(failing, Failing::Output))?;
+    let mut notes = sink_of(alloc, chunk, matches!(failing, Failing::Notes))?;
     let status = serve(alloc, &words, &mut outside, &mut out, &mut notes, &OpenGate);
-    assert_eq!(rt;
-        out.bytes(),
-        case.out.as_bytes(),
-        "output of {}",
-        case.words
-    );
-    assert_eq!(rt;
-        notes.bytes(),
-        case.notes.as_bytes(),
-        "notes of {}",
-        case.words
-    );
-    assert_eq!(rt; status, case.status, "status of {}", case.words);
+    assert_eq!(rt; out.bytes(), case.out.as_bytes(), "output of {name}");
+    assert_eq!(rt; notes.bytes(), case.notes.as_bytes(), "notes of {name}");
+    assert_eq!(rt; status, case.status, "status of {name}");
     Ok(())
 }
 
-fn run_all(rt: &impl Abort, alloc: Global, cases: &[Case]) -> Result<(), Fail> {
+fn run_all(rt: &impl Abort, alloc: Global, cases: &[Case<'_>]) -> Result<(), Fail> {
     for case in cases {
         for chunk in [1, 3, 4096] {
-            run(rt, alloc, case, chunk)?;
+            run(rt, alloc, case, chunk, Failing::Nothing)?;
         }
     }
     Ok(())
@@ -231,36 +247,14 @@ fn missing_streams_and_faulty_words(rt: HostRuntime) -> Result<(), Fail> {
 
 #[test]
 fn a_failing_output_ends_a_run(rt: HostRuntime) -> Result<(), Fail> {
-    let alloc = rt.alloc();
-    let mut outside = MemOutside::new(alloc, 4096);
-    outside.add("left", b"1,7\n3,7\n")?;
-    outside.add("right", b"2,7\n")?;
-    let words = words_of(alloc, TEN)?;
-    let mut out = MemSink::new(alloc, 100);
-    out.fail_write(2)?;
-    let mut notes = MemSink::new(alloc, 100);
-    let status = serve(alloc, &words, &mut outside, &mut out, &mut notes, &OpenGate);
-    assert_eq!(rt; out.bytes(), b"1,7,2,7\n".as_slice());
-    assert_eq!(rt; notes.bytes(), b"sink\n".as_slice());
-    assert_eq!(rt; status, 5);
-    Ok(())
+    let case = join(TEN, "1,7\n3,7\n", "2,7\n", "1,7,2,7\n", "sink\n", 5);
+    run(&rt, rt.alloc(), &case, 100, Failing::Output)
 }
 
 #[test]
 fn failing_notes_change_nothing_else(rt: HostRuntime) -> Result<(), Fail> {
-    let alloc = rt.alloc();
-    let mut outside = MemOutside::new(alloc, 4096);
-    outside.add("left", b"1,7\n3,x\n")?;
-    outside.add("right", b"0,7\n")?;
-    let words = words_of(alloc, TEN)?;
-    let mut out = MemSink::new(alloc, 100);
-    let mut notes = MemSink::new(alloc, 100);
-    notes.fail_write(2)?;
-    let status = serve(alloc, &words, &mut outside, &mut out, &mut notes, &OpenGate);
-    assert_eq!(rt; out.bytes(), b"1,7,0,7\n".as_slice());
-    assert_eq!(rt; notes.bytes(), b"left".as_slice());
-    assert_eq!(rt; status, 3);
-    Ok(())
+    let case = join(TEN, "1,7\n3,x\n", "0,7\n", "1,7,0,7\n", "left", 3);
+    run(&rt, rt.alloc(), &case, 100, Failing::Notes)
 }
 
 #[test]
@@ -321,47 +315,32 @@ fn refuses_queries(rt: HostRuntime) -> Result<(), Fail> {
 }
 
 /// Checks a query of so many blanks.
-fn check_blanks(rt: &impl Abort, alloc: Global, count: usize, note: &str) -> Result<(), Fail> {
+fn check_blanks(rt: &impl Abort, alloc: Global, count: usize, notes: &str) -> Result<(), Fail> {
     let blanks = " ".repeat(alloc, count)?;
-    let mut outside = MemOutside::new(alloc, 1000);
-    outside.add("query", blanks.as_bytes())?;
-    let words = words_of(alloc, "check query")?;
-    let mut out = MemSink::new(alloc, 100);
-    let mut notes = MemSink::new(alloc, 100);
-    let status = serve(alloc, &words, &mut outside, &mut out, &mut notes, &OpenGate);
-    assert_eq!(rt; out.bytes(), b"".as_slice());
-    assert_eq!(rt; notes.bytes(), note.as_bytes());
-    assert_eq!(rt; status, 2);
-    Ok(())
+    let case = check(blanks.as_str(), "", notes, 2);
+    run(rt, alloc, &case, 1000, Failing::Nothing)
 }
 
 #[test]
 fn bounds_the_text_of_a_query(rt: HostRuntime) -> Result<(), Fail> {
-    check_blanks(
-        &rt,
-        rt.alloc(),
-        65_536,
-        "query: Expected LeftWord at 65536\n",
-    )?;
-    check_blanks(&rt, rt.alloc(), 65_537, "query: TooLong\n")?;
-    check_blanks(&rt, rt.alloc(), 70_000, "query: TooLong\n")
+    let table = [
+        (65_536, "query: Expected LeftWord at 65536\n"),
+        (65_537, "query: TooLong\n"),
+        (70_000, "query: TooLong\n"),
+    ];
+    for (count, notes) in table {
+        check_blanks(&rt, rt.alloc(), count, notes)?;
+    }
+    Ok(())
 }
 
 #[test]
 fn a_failing_output_ends_a_check(rt: HostRuntime) -> Result<(), Fail> {
-    let alloc = rt.alloc();
-    let mut outside = MemOutside::new(alloc, 4096);
-    outside.add(
-        "query",
-        b"left(ts int)right(ts int)window left rows 1 window right rows 1 on l.ts=r.ts",
-    )?;
-    let words = words_of(alloc, "check query")?;
-    let mut out = MemSink::new(alloc, 9);
-    out.fail_write(2)?;
-    let mut notes = MemSink::new(alloc, 100);
-    let status = serve(alloc, &words, &mut outside, &mut out, &mut notes, &OpenGate);
-    assert_eq!(rt; out.bytes(), b"left (ts ".as_slice());
-    assert_eq!(rt; notes.bytes(), b"sink\n".as_slice());
-    assert_eq!(rt; status, 5);
-    Ok(())
+    let case = check(
+        "left(ts int)right(ts int)window left rows 1 window right rows 1 on l.ts=r.ts",
+        "left (ts ",
+        "sink\n",
+        5,
+    );
+    run(&rt, rt.alloc(), &case, 9, Failing::Output)
 }

@@ -104,7 +104,17 @@ fn is_name(word: &str) -> bool
 #[cfg(test)]
 mod tests {
     use super::*;
+    use std::alloc::Global;
     use std::test::Fail;
+
+    /// The words of a line, with one blank between any two.
+    fn words_of(alloc: Global, line: &str) -> Result<Vec<String>, Fail> {
+        let mut words = Vec::new(alloc);
+        for word in line.split(' ') {
+            words.push(String::from_str(alloc, word)?)?;
+        }
+        Ok(words)
+    }
 
     #[test]
     fn reads_windows(rt: HostRuntime) -> Result<(), Fail> {
@@ -132,10 +142,7 @@ mod tests {
             ("", None),
         ];
         for (line, window) in table {
-            let mut words = Vec::new(rt.alloc());
-            for word in line.split(' ') {
-                words.push(String::from_str(rt.alloc(), word)?)?;
-            }
+            let words = words_of(rt.alloc(), line)?;
             let found = match read_words(&words) {
                 Some(Order::Equi(order)) => Some(order.window),
                 _ => None,
@@ -158,10 +165,7 @@ mod tests {
             ("Check a", None),
         ];
         for (line, name) in table {
-            let mut words = Vec::new(rt.alloc());
-            for word in line.split(' ') {
-                words.push(String::from_str(rt.alloc(), word)?)?;
-            }
+            let words = words_of(rt.alloc(), line)?;
             let found = match read_words(&words) {
                 Some(Order::Check(name)) => Some(name),
                 _ => None,
