@@ -1,5 +1,6 @@
-ghost use Rattle.std.specs.Prelude.{◌≡◌, ◌≤◌, ◌++◌, codes, length, IfOk, OnOk};
+ghost use Rattle.std.specs.Prelude.{◌≡◌, ◌≤◌, ◌++◌, [], ◌∷◌, codes, length, slice_get, IfOk, OnOk, OnErr};
 ghost use Rattle.std.specs.List.{join_by};
+ghost use Rattle.std.specs.Option.{option_copied};
 ghost use Rattle.hj_query.specs.Canonical.{canonical, column_text, line_end, schema_text, window_text};
 ghost use Rattle.hj_query.specs.Grammar.{kind_word};
 ghost use Rattle.hj_query.specs.Texts.{most_bytes, Spells};
@@ -31,11 +32,43 @@ impl Model for QueryText {
 }
 
 impl QueryText {
+    /// No bytes.
+    pub fn new(alloc: Global) -> Self
+        ensures { result ≡ [] }
+    {
+        QueryText {
+            bytes: Vec::new(alloc),
+        }
+    }
+
+    /// How many bytes the text has.
+    pub fn len(&self) -> usize
+        ensures { result ≡ length self.now }
+    {
+        self.bytes.len()
+    }
+
+    /// The byte at a place, counted from 0; None exactly at or past the length.
+    pub fn get(&self, at: usize) -> Option<&u8>
+        ensures { option_copied result ≡ slice_get self.now at }
+    {
+        self.bytes.get(at)
+    }
+
     /// The bytes of the text.
     pub fn bytes(&self) -> &[u8]
         ensures { result.now ≡ self.now }
     {
         &self.bytes
+    }
+
+    /// Adds a byte at the end. After a refusal nothing changed.
+    pub fn push(&mut self, byte: u8) -> Result<(), Memory>
+        ensures ok { OnOk result (self.new ≡ self.old ++ byte ∷ []) }
+        ensures err { OnErr result (self.new ≡ self.old) }
+    {
+        self.bytes.push(byte)?;
+        Ok(())
     }
 }
 
