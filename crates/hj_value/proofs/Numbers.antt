@@ -1,81 +1,78 @@
--- A sign and digits are ASCII, and `parse` reads them as `int_of` does.
-use Rattle.std.proofs.Common.{◌&&◌, ◌≡◌, ℕ, ◌<◌, ◌^◌, Bool, true, false, cond, not, eqb, ltb, List, [], ◌∷◌, length, drop, refl, sym, ap, ◌∙◌, arith, ℤ, pos, negsuc, Ok, Err, Result, w64, MatchResult}
-use mir.Val.{SFits}
+-- Digits are read from the left.
+use Rattle.std.proofs.Common.{◌&&◌, ◌≡◌, ℕ, ◌+◌, ◌*◌, ◌-◌, ◌<◌, ◌≤◌, ◌^◌, Bool, true, false, cond, not, ltb, List, [], ◌∷◌, length, drop, refl, sym, ap, ◌∙◌, arith, get_or, add-one, lit<, Ok, Err, Result, Option, Some, None}
 use Rattle.std.proofs.lemmas.Bool.Decides.{nat_tests}
-use Rattle.std.proofs.lemmas.Bool.{and_parts, ltb-true, ltb-false, eqb-true, false≢true, cond-true, cond-false, true_from_ne_false, false_from_ne_true}
-use Rattle.std.proofs.lemmas.Str.{IsUtf8-from_ascii}
-use Rattle.std.proofs.lemmas.Str.Ascii.{IsAscii-cons, IsAscii-nil}
-use Rattle.std.proofs.lemmas.Str.Parse.{IsNumeralModel, numerals_by_value, tells_all_ascii_digits}
-use Rattle.std.specs.Char.{is_ascii_digit}
+use Rattle.std.proofs.lemmas.Bool.{lt-ltb, le-ltb, cond-true, cond-false}
+use Rattle.std.proofs.lemmas.List.{at_drop_more, at_drop_all}
+use Rattle.std.proofs.Math.Nat.{pow-le-pow_right, pow-succ'}
+use Rattle.std.specs.Char.{is_ascii_digit, digit_value}
 use Rattle.std.specs.List.{list_all}
-use Rattle.std.specs.Str.{all_ascii_digits, IsAscii, IsUtf8}
-use Rattle.std.specs.Str.Parse.{without_leading_sign, signed_digits_value, digits_value, ParsesSigned, IsNumeral}
-use Rattle.hj_value.specs.Number.{is_number, fits_i64, int_of}
+use Rattle.std.specs.Option.{ok_or}
+use Rattle.std.specs.Str.{all_ascii_digits}
+use Rattle.std.specs.Str.Parse.{digits_value_after}
+use Rattle.hj_value.specs.Magnitude.{if_small, magnitude_of, IsUpTo}
+use Rattle.hj_value.specs.declared.number.IntFault.{IntFault}
 use Rattle.hj_value.specs.declared.number.IntFault.TheVariants as fault
 
+-- `all_ascii_digits` in the words of a test of each byte
 pub list_all-digits : (ds : List ℕ) → list_all is_ascii_digit ds ≡ all_ascii_digits ds
 list_all-digits [] = refl
 list_all-digits (c ∷ cs) = ap (λ b. is_ascii_digit c && b) (list_all-digits cs)
 
-digit_small : (c : ℕ) → is_ascii_digit c ≡ true → c < 128
-digit_small c h = grind (arith, nat_tests)
+-- digits read from the left, behind those that gave n
+abbrev pub read_on : ℕ → List ℕ → Result ℕ IntFault
+read_on n [] = if_small n
+read_on n (c ∷ cs) = cond (is_ascii_digit c) (read_on (n * 10 + (c - 48)) cs) (Err fault.NotNumber)
 
-IsAscii-digits : (ds : List ℕ) → all_ascii_digits ds ≡ true → IsAscii ds
-IsAscii-digits [] h = IsAscii-nil
-IsAscii-digits (c ∷ cs) h =
-    let p : (is_ascii_digit c ≡ true) × (all_ascii_digits cs ≡ true) = and_parts _ _ h in
-    IsAscii-cons c cs (digit_small c p.0) (IsAscii-digits cs p.1)
+digit_is : (c : ℕ) → is_ascii_digit c ≡ true → digit_value c ≡ c - 48
+digit_is c h = grind (arith, nat_tests)
 
--- the first byte is a sign or a digit, and the others are digits
-signed_at : (minus plus : Bool) (c : ℕ) (cs : List ℕ) → (minus ≡ true → c < 128) → (plus ≡ true → c < 128) → all_ascii_digits (cond minus cs (drop (cond plus 1 0) (c ∷ cs))) ≡ true → (c < 128) × (all_ascii_digits cs ≡ true)
-signed_at true plus c cs m p h = (m refl, h)
-signed_at false true c cs m p h = (p refl, h)
-signed_at false false c cs m p h =
-    let q : (is_ascii_digit c ≡ true) × (all_ascii_digits cs ≡ true) = and_parts _ _ h in (digit_small c q.0, q.1)
+read_on-first : (n c : ℕ) (cs : List ℕ) (digit : Bool) → digit ≡ is_ascii_digit c → ((m : ℕ) → read_on m cs ≡ cond (not (all_ascii_digits cs)) (Err fault.NotNumber) (if_small (digits_value_after 10 m cs))) → cond digit (read_on (n * 10 + (c - 48)) cs) (Err fault.NotNumber) ≡ cond (not (digit && all_ascii_digits cs)) (Err fault.NotNumber) (if_small (digits_value_after 10 (n * 10 + digit_value c) cs))
+read_on-first n c cs true e rest = rw (digit_is c (sym e)) (rest (n * 10 + (c - 48)))
+read_on-first n c cs false e rest = refl
 
-signed : (c : ℕ) (cs : List ℕ) → all_ascii_digits (without_leading_sign (c ∷ cs)) ≡ true → (c < 128) × (all_ascii_digits cs ≡ true)
-signed c cs h = signed_at (eqb c 45) (eqb c 43) c cs (λ e. omega (arith, eqb-true c 45 e)) (λ e. omega (arith, eqb-true c 43 e)) h
+pub read_on-is : (n : ℕ) (ds : List ℕ) → read_on n ds ≡ cond (not (all_ascii_digits ds)) (Err fault.NotNumber) (if_small (digits_value_after 10 n ds))
+read_on-is n [] = refl
+read_on-is n (c ∷ cs) = read_on-first n c cs (is_ascii_digit c) refl (λ m. read_on-is m cs)
 
-digits : IsNumeralModel (λ ds. all_ascii_digits ds ≡ true) (digits_value 10)
-digits = numerals_by_value (λ ds. all_ascii_digits ds ≡ true) tells_all_ascii_digits
+read_on-whole : (ds : List ℕ) → read_on 0 ds ≡ magnitude_of ds
+read_on-whole ds = read_on-is 0 ds
 
-fits : (z : ℤ) → fits_i64 z ≡ true → SFits w64 z
-fits (pos n) h = record { sfits = ltb-true n (2 ^ 63) h }
-fits (negsuc n) h = record { sfits = ltb-true n (2 ^ 63) h }
+pub read_on-step : (ds : List ℕ) (i n : ℕ) → i < length ds → is_ascii_digit (get_or ds i 0) ≡ true → read_on n (drop i ds) ≡ read_on 0 ds → read_on (n * 10 + (get_or ds i 0 - 48)) (drop (i + 1) ds) ≡ read_on 0 ds
+read_on-step ds i n h d so_far =
+    sym (cond-true (is_ascii_digit (get_or ds i 0)) (read_on (n * 10 + (get_or ds i 0 - 48)) (drop (i + 1) ds)) (Err fault.NotNumber) d) ∙ sym (at_drop_more (read_on n) ds i 0 h) ∙ so_far
 
-fits_back : (z : ℤ) → fits_i64 z ≡ false → SFits w64 z → ⊥
-fits_back (pos n) h f = omega (arith, ltb-false n (2 ^ 63) h, f.sfits)
-fits_back (negsuc n) h f = omega (arith, ltb-false n (2 ^ 63) h, f.sfits)
+pub read_on-stop : (ds : List ℕ) (i n : ℕ) → i < length ds → is_ascii_digit (get_or ds i 0) ≡ false → read_on n (drop i ds) ≡ read_on 0 ds → Err fault.NotNumber ≡ magnitude_of ds
+read_on-stop ds i n h d so_far =
+    sym (cond-false (is_ascii_digit (get_or ds i 0)) (read_on (n * 10 + (get_or ds i 0 - 48)) (drop (i + 1) ds)) (Err fault.NotNumber) d) ∙ sym (at_drop_more (read_on n) ds i 0 h) ∙ so_far ∙ read_on-whole ds
 
-pub IsUtf8-is_number : (bs : List ℕ) → is_number bs ≡ true → IsUtf8 bs
-IsUtf8-is_number [] h = IsUtf8-from_ascii [] IsAscii-nil
-IsUtf8-is_number (c ∷ cs) h =
-    let p : (c < 128) × (all_ascii_digits cs ≡ true) = signed c cs (and_parts _ _ h).1 in
-    IsUtf8-from_ascii (c ∷ cs) (IsAscii-cons c cs p.0 (IsAscii-digits cs p.1))
+pub read_on-end : (ds : List ℕ) (i n : ℕ) → length ds ≤ i → read_on n (drop i ds) ≡ read_on 0 ds → if_small n ≡ magnitude_of ds
+read_on-end ds i n h so_far = sym (at_drop_all (read_on n) ds i h) ∙ so_far ∙ read_on-whole ds
 
--- a number, in range and not
-pick : {A : Type 0} (number fit : Bool) (x y z : A) → number ≡ true → cond (not number) x (cond fit y z) ≡ cond fit y z
-pick true fit x y z h = refl
-pick false fit x y z h = absurd (false≢true h)
+pub digit_below : (c : ℕ) → is_ascii_digit c ≡ true → c - 48 < 10
+digit_below c d = grind (arith, nat_tests)
 
-in_range : (bs : List ℕ) → is_number bs ≡ true → fits_i64 (signed_digits_value 10 bs) ≡ true → int_of bs ≡ Ok (signed_digits_value 10 bs)
-in_range bs h f =
-    pick (is_number bs) (fits_i64 (signed_digits_value 10 bs)) (Err fault.NotNumber) (Ok (signed_digits_value 10 bs)) (Err fault.NumberRange) h
-    ∙ cond-true (fits_i64 (signed_digits_value 10 bs)) (Ok (signed_digits_value 10 bs)) (Err fault.NumberRange) f
+-- a digit more makes a number that has a digit more
+pub more_digits : (n c i : ℕ) → is_ascii_digit c ≡ true → n < 10 ^ i → n * 10 + (c - 48) < 10 ^ (i + 1)
+more_digits n c i d h =
+    let below : c - 48 < 10 = digit_below c d in
+    let power : 10 ^ (i + 1) ≡ 10 * 10 ^ i = ap (λ k. 10 ^ k) (add-one i) ∙ pow-succ' 10 i in
+    omega arith
 
-out_of_range : (bs : List ℕ) → is_number bs ≡ true → fits_i64 (signed_digits_value 10 bs) ≡ false → int_of bs ≡ Err fault.NumberRange
-out_of_range bs h f =
-    pick (is_number bs) (fits_i64 (signed_digits_value 10 bs)) (Err fault.NotNumber) (Ok (signed_digits_value 10 bs)) (Err fault.NumberRange) h
-    ∙ cond-false (fits_i64 (signed_digits_value 10 bs)) (Ok (signed_digits_value 10 bs)) (Err fault.NumberRange) f
+-- a number of at most 18 digits
+few_below : (n i : ℕ) → n < 10 ^ i → i ≤ 18 → n < 10 ^ 18
+few_below n i h l =
+    let most : 10 ^ i ≤ 10 ^ 18 = pow-le-pow_right (lit< tt) l in
+    omega arith
 
-numeral : (bs : List ℕ) → is_number bs ≡ true → IsNumeral 10 (without_leading_sign bs)
-numeral bs h =
-    let p : (ltb 0 (length (without_leading_sign bs)) ≡ true) × (all_ascii_digits (without_leading_sign bs) ≡ true) = and_parts _ _ h in
-    (ltb-true _ _ p.0, digits.to _ p.1)
+pub few_digits : (n c i : ℕ) → is_ascii_digit c ≡ true → n < 10 ^ i → i < 18 → n * 10 + (c - 48) < 10 ^ 18
+few_digits n c i d h l = few_below (n * 10 + (c - 48)) (i + 1) (more_digits n c i d h) (omega arith)
 
--- what `parse` gives of a number
-pub parsed : {E : Type 0} (bs : List ℕ) (r : Result ℤ E) → is_number bs ≡ true → ParsesSigned w64 10 bs r → MatchResult r (λ z. int_of bs ≡ Ok z) (λ _. int_of bs ≡ Err fault.NumberRange)
-parsed bs (Ok z) h p =
-    in_range bs h (true_from_ne_false _ (λ f. fits_back _ f p.0.1)) ∙ ap (λ z. Ok z) (sym p.1)
-parsed bs (Err e) h p =
-    out_of_range bs h (false_from_ne_true _ (λ f. p (numeral bs h, fits _ f)))
+pub read_on-few : (ds : List ℕ) (i n : ℕ) → length ds ≤ i → i ≤ 18 → n < 10 ^ i → read_on n (drop i ds) ≡ read_on 0 ds → Ok n ≡ magnitude_of ds
+read_on-few ds i n e l h so_far =
+    sym (cond-true (ltb n (2 ^ 64)) (Ok n) (Err fault.NumberRange) (lt-ltb n (2 ^ 64) (omega (arith, few_below n i h l)))) ∙ read_on-end ds i n e so_far
+
+pub read_on-long : (ds : List ℕ) (i n : ℕ) (value : Option ℕ) → length ds ≤ i → IsUpTo value n → read_on n (drop i ds) ≡ read_on 0 ds → ok_or value fault.NumberRange ≡ magnitude_of ds
+read_on-long ds i n None e h so_far =
+    sym (cond-false (ltb n (2 ^ 64)) (Ok n) (Err fault.NumberRange) (le-ltb n (2 ^ 64) h)) ∙ read_on-end ds i n e so_far
+read_on-long ds i n (Some value) e h so_far =
+    ap (λ m. Ok m) h.0 ∙ sym (cond-true (ltb n (2 ^ 64)) (Ok n) (Err fault.NumberRange) (lt-ltb n (2 ^ 64) h.1)) ∙ read_on-end ds i n e so_far

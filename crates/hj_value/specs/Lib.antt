@@ -1,3 +1,6 @@
+pub mod Field
+pub mod Magnitude
 pub mod Number
 pub mod Row
 pub mod Schema
+pub mod Slots

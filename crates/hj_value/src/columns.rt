@@ -1,4 +1,4 @@
-ghost use Rattle.std.specs.Prelude.{◌≡◌, ◌++◌, [], ◌∷◌, length, slice_get, OnOk, OnErr};
+ghost use Rattle.std.specs.Prelude.{◌≡◌, ◌++◌, [], ◌∷◌, length, slice_get, IfOk, OnOk, OnErr};
 ghost use Rattle.std.specs.Option.{option_copied};
 
 use crate::Column;
@@ -52,5 +52,19 @@ impl Columns {
     {
         self.columns.push(column)?;
         Ok(())
+    }
+
+    /// The same columns, in the same order.
+    pub fn copy(&self, alloc: Global) -> Result<Self, Memory>
+        ensures { IfOk result (λ copy. copy ≡ self.now) }
+    {
+        let mut copy = Columns::new(alloc);
+        for column in &self.columns {
+            copy.push(Column {
+                name: column.name.copy(alloc)?,
+                kind: column.kind,
+            })?;
+        }
+        Ok(copy)
     }
 }

@@ -1,18 +1,25 @@
 //! Values: whole numbers and texts, columns and schemas, fields and rows.
 #![tactic(auto)]
 
+mod borrowed;
 mod column;
 mod columns;
 mod field;
 mod number;
 mod row;
 mod schema;
+mod shared_row;
 mod text;
 
+pub use borrowed::Text;
 pub use column::{Column, ColumnType};
 pub use columns::Columns;
-pub use field::Field;
+pub use field::{Field, compare};
 pub use number::{IntFault, IntText, print_int, read_int};
 pub use row::Row;
 pub use schema::Schema;
+pub use shared_row::SharedRow;
 pub use text::TextBytes;
+
+#[cfg(test)]
+mod tests;

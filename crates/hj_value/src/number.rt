@@ -1,10 +1,12 @@
-ghost use Rattle.std.specs.Prelude.{◌≡◌, IfOk};
+ghost use Rattle.std.specs.Prelude.{◌≡◌, ◌+◌, ◌*◌, ◌++◌, ◌<◌, ◌≤◌, [], ◌∷◌, ℕ, length, slice_get, OnOk, OnErr, IfOk};
 ghost use Rattle.std.specs.Fmt.{signed_decimal};
-ghost use Rattle.std.specs.Str.{all_ascii_digits};
-ghost use Rattle.std.specs.Str.Parse.{without_leading_sign};
-ghost use Rattle.hj_value.specs.Number.{int_of, is_number};
+ghost use Rattle.std.specs.Option.{option_copied};
+ghost use Rattle.std.specs.Str.Parse.{starts_with_minus, without_leading_sign};
+ghost use Rattle.hj_value.specs.Magnitude.{magnitude_of, signed_of, IsUpTo};
+ghost use Rattle.hj_value.specs.Number.{int_of};
 
 use hj_base::Memory;
+use itoa::Buffer;
 use std::alloc::Global;
 use std::marker::Model;
 use thiserror::Error;
@@ -21,73 +23,144 @@ pub enum IntFault {
 }
 
 /// The text of a number, seen as the list of its bytes.
-#[derive(Drop)]
+#[derive(Debug, Drop)]
 pub struct IntText {
-    text: String,
+    bytes: Vec<u8>,
 }
 
 impl Model for IntText {
-    ghost use Rattle.std.specs.Prelude.{List, ℕ, string_bytes};
+    ghost use Rattle.std.specs.Prelude.{List, ℕ};
 
     ghost Value = { List ℕ };
 
-    ghost view = { λ t. string_bytes t.text };
+    ghost view = { λ t. t.bytes.items };
 }
 
 impl IntText {
+    /// A text of no bytes.
+    pub fn new(alloc: Global) -> Self
+        ensures { result ≡ [] }
+    {
+        IntText {
+            bytes: Vec::new(alloc),
+        }
+    }
+
+    /// How many bytes it has.
+    pub fn len(&self) -> usize
+        ensures { result ≡ length self.now }
+    {
+        self.bytes.len()
+    }
+
+    /// The byte at a place, counted from 0; None exactly at or past the length.
+    pub fn get(&self, at: usize) -> Option<&u8>
+        ensures { option_copied result ≡ slice_get self.now at }
+    {
+        self.bytes.get(at)
+    }
+
+    /// Adds a byte at the end. After a refusal nothing changed.
+    pub fn push(&mut self, byte: u8) -> Result<(), Memory>
+        ensures ok { OnOk result (self.new ≡ self.old ++ byte ∷ []) }
+        ensures err { OnErr result (self.new ≡ self.old) }
+    {
+        self.bytes.push(byte)?;
+        Ok(())
+    }
+
     /// The bytes of the text.
     pub fn bytes(&self) -> &[u8]
         ensures { result.now ≡ self.now }
     {
-        self.text.as_bytes()
+        &self.bytes
     }
-}
-
-/// The bytes without a leading `-` or `+`.
-fn after_sign(bytes: &[u8]) -> &[u8]
-    ensures { result.now ≡ without_leading_sign bytes.now }
-{
-    match bytes {
-        [b'+' | b'-', digits @ ..] => digits,
-        _ => bytes,
-    }
-}
-
-/// Whether each byte is a digit 0 to 9.
-fn are_digits(bytes: &[u8]) -> bool
-    ensures { result ≡ all_ascii_digits bytes.now }
-{
-    bytes.iter().all(|b| b.is_ascii_digit())
-}
-
-/// Whether bytes are an optional sign and one or more digits.
-fn is_number(bytes: &[u8]) -> bool
-    ensures { result ≡ is_number bytes.now }
-{
-    let digits = after_sign(bytes);
-    !digits.is_empty() && are_digits(digits)
 }
 
 /// Reads a whole number in decimal.
 pub fn read_int(bytes: &[u8]) -> Result<i64, IntFault>
     ensures { result ≡ int_of bytes.now }
 {
-    if !is_number(bytes) {
+    let (is_negative, digits) = split_sign(bytes);
+    if digits.is_empty() {
         return Err(IntFault::NotNumber);
     }
-    // A sign and digits are ASCII.
-    let Ok(text) = std::str::from_utf8(bytes) else {
-        unreachable!();
+    let magnitude = if digits.len() <= 18 {
+        short_magnitude(digits)?
+    } else {
+        long_magnitude(digits)?
     };
-    text.parse::<i64>().map_err(|_| IntFault::NumberRange)
+    signed(is_negative, magnitude)
+}
+
+/// Whether the bytes begin with `-`, and what follows a leading `-` or `+`.
+fn split_sign(bytes: &[u8]) -> (bool, &[u8])
+    ensures minus { result.0 ≡ starts_with_minus bytes.now }
+    ensures rest { result.1.now ≡ without_leading_sign bytes.now }
+{
+    match bytes {
+        [b'-', digits @ ..] => (true, digits),
+        [b'+', digits @ ..] => (false, digits),
+        _ => (false, bytes),
+    }
+}
+
+/// Reads at most 18 digits. Such a number is below 2^60, so no step has to look at the range.
+fn short_magnitude(digits: &[u8]) -> Result<u64, IntFault>
+    requires { length digits.now ≤ 18 }
+    ensures { result ≡ magnitude_of digits.now }
+{
+    let mut value = 0;
+    for digit in digits {
+        if !digit.is_ascii_digit() {
+            return Err(IntFault::NotNumber);
+        }
+        value = value * 10 + u64::from(*digit - b'0');
+    }
+    Ok(value)
+}
+
+/// Reads digits, of any number.
+#[cold]
+fn long_magnitude(digits: &[u8]) -> Result<u64, IntFault>
+    ensures { result ≡ magnitude_of digits.now }
+{
+    let mut value = Some(0);
+    for digit in digits {
+        if !digit.is_ascii_digit() {
+            return Err(IntFault::NotNumber);
+        }
+        value = with_digit(value, *digit - b'0');
+    }
+    value.ok_or(IntFault::NumberRange)
+}
+
+/// The number with one more digit; None for a number of 2^64 and more.
+fn with_digit(value: Option<u64>, digit: u8) -> Option<u64>
+    ensures { (n : ℕ) → IsUpTo value n → IsUpTo result (n * 10 + digit) }
+{
+    value?.checked_mul(10)?.checked_add(u64::from(digit))
+}
+
+/// The number with this sign.
+fn signed(is_negative: bool, magnitude: u64) -> Result<i64, IntFault>
+    ensures { result ≡ signed_of is_negative magnitude }
+{
+    match i64::try_from(magnitude) {
+        Ok(value) if is_negative => Ok(-value),
+        Ok(value) => Ok(value),
+        Err(_) if is_negative && magnitude == 1 << 63 => Ok(i64::MIN),
+        Err(_) => Err(IntFault::NumberRange),
+    }
 }
 
 /// The canonical decimal text of a number: no plus, no leading zeros, `0` for zero.
 pub fn print_int(alloc: Global, value: i64) -> Result<IntText, Memory>
     ensures { IfOk result (λ text. text ≡ signed_decimal value) }
 {
+    let mut buffer = Buffer::new();
     Ok(IntText {
-        text: value.to_string(alloc)?,
+        bytes: Vec::from_slice(alloc, buffer.format(value).as_bytes())?,
     })
 }
 

@@ -1,25 +1,37 @@
-ghost use Rattle.std.specs.Prelude.{◌≡◌, ◌++◌, ◌<◌, [], ◌∷◌, List, length, slice_get, OnOk, OnErr};
-ghost use Rattle.std.specs.Option.{option_copied};
+ghost use Rattle.std.specs.Prelude.{◌≡◌, ◌+◌, ◌++◌, ◌<◌, ◌^◌, [], ◌∷◌, List, length, slice_get, OnOk, OnErr, IfOk};
 ghost use Rattle.hj_value.specs.Row.{time_of};
+ghost use Rattle.hj_value.specs.declared.row.Slot.TheVariants as slots;
 
-use crate::Field;
+use crate::{Field, Text};
 use hj_base::Memory;
 use std::alloc::Global;
 use std::marker::Model;
 
+/// The value of one column, or where its bytes stand among the texts of the row: `from` on, up to `to`.
+#[derive(Clone, Copy)]
+enum Slot {
+    Int(i64),
+    Text { from: u32, to: u32 },
+}
+
 /// A row, seen as the list of its fields, in the order of the columns.
 #[derive(Drop)]
 pub struct Row {
-    fields: Vec<Field>,
+    slots: Vec<Slot>,
+    /// The bytes of all texts, one text behind another, so that they take one block of memory.
+    texts: Vec<u8>,
 }
 
 impl Model for Row {
-    ghost use Rattle.std.specs.Prelude.{List};
+    ghost use Rattle.std.specs.Prelude.{List, All};
     ghost use Rattle.hj_value.specs.declared.field.Field.{Field};
+    ghost use Rattle.hj_value.specs.Slots.{fields_of, IsPlace};
 
     ghost Value = { List Field };
 
-    ghost view = { λ r. r.fields.items };
+    ghost view = { λ r. fields_of r.texts.items r.slots.items };
+
+    ghost invariant = { λ r. All (IsPlace r.texts.items) r.slots.items };
 }
 
 impl Row {
@@ -28,40 +40,79 @@ impl Row {
         ensures { result ≡ [] }
     {
         Row {
-            fields: Vec::new(alloc),
+            slots: Vec::new(alloc),
+            texts: Vec::new(alloc),
         }
+    }
+
+    /// A row with no fields and room for so many, of which the texts have so many bytes together.
+    pub fn with_capacity(alloc: Global, fields: usize, text_bytes: usize) -> Result<Self, Memory>
+        ensures { IfOk result (λ row. row ≡ []) }
+    {
+        Ok(Row {
+            slots: Vec::with_capacity(alloc, fields)?,
+            texts: Vec::with_capacity(alloc, text_bytes)?,
+        })
     }
 
     /// How many fields it has.
     pub fn len(&self) -> usize
         ensures { result ≡ length self.now }
     {
-        self.fields.len()
+        self.slots.len()
     }
 
     /// The field at a place, counted from 0; None exactly at or past the length.
-    pub fn get(&self, at: usize) -> Option<&Field>
-        ensures { option_copied result ≡ slice_get self.now at }
+    pub fn get(&self, at: usize) -> Option<Field<'_>>
+        ensures { result ≡ slice_get self.now at }
     {
-        self.fields.get(at)
+        match self.slots.get(at) {
+            Some(Slot::Int(value)) => Some(Field::Int(*value)),
+            Some(Slot::Text { from, to }) => {
+                let bytes = &self.texts[*from as usize..*to as usize];
+                Some(Field::Text(Text::new(bytes)))
+            }
+            None => None,
+        }
     }
 
-    /// Adds a field at the end. After a refusal nothing changed.
-    pub fn push(&mut self, field: Field) -> Result<(), Memory>
-        ensures ok { OnOk result (self.new ≡ self.old ++ field ∷ []) }
+    /// Adds a field at the end. A row's texts have less than 2^32 bytes together; where there would be more, memory is
+    /// refused. After a refusal nothing changed.
+    pub fn push(&mut self, field: Field<'_>) -> Result<(), Memory>
+        ensures ok { OnOk result (self.new ≡ self.old ++ field.entry ∷ []) }
         ensures err { OnErr result (self.new ≡ self.old) }
     {
-        self.fields.push(field)?;
+        match field {
+            Field::Int(value) => self.slots.push(Slot::Int(value))?,
+            Field::Text(text) => {
+                self.slots.reserve(1)?;
+                let slot = add_text(&mut self.texts, text.bytes())?;
+                self.slots.push_reserved(slot);
+            }
+        }
         Ok(())
     }
 
-    /// The row's time, in the stream's own units: its first field; 0 where there is none.
+    /// The row's time, in the stream's own units: its first field; 0 where that is no number.
     pub fn time(&self) -> i64
         ensures { result ≡ time_of self.now }
     {
-        match self.fields.first() {
-            Some(Field::Int(time)) => *time,
-            None => 0,
+        match self.slots.first() {
+            Some(Slot::Int(time)) => *time,
+            Some(Slot::Text { .. }) | None => 0,
         }
     }
+}
+
+/// Adds a text behind the others, and answers where it stands.
+fn add_text(texts: &mut Vec<u8>, text: &[u8]) -> Result<Slot, Memory>
+    ensures texts { OnOk result (texts.new.items ≡ texts.old.items ++ text.now) }
+    ensures place { IfOk result (λ slot. slot
+        ≡ slots.Text (length texts.old.items) (length texts.old.items + length text.now)) }
+    ensures err { OnErr result (texts.new.items ≡ texts.old.items) }
+{
+    let from = u32::try_from(texts.len()).map_err(|_| Memory)?;
+    let to = u32::try_from(texts.len() + text.len()).map_err(|_| Memory)?;
+    texts.extend_from_slice(text)?;
+    Ok(Slot::Text { from, to })
 }

@@ -33,6 +33,15 @@ impl TextBytes {
         }))
     }
 
+    /// A text of the same bytes.
+    pub fn copy(&self, alloc: Global) -> Result<Self, Memory>
+        ensures { IfOk result (λ copy. copy ≡ self.now) }
+    {
+        Ok(TextBytes {
+            text: String::from_str(alloc, self.text.as_str())?,
+        })
+    }
+
     /// How many bytes it has.
     pub fn len(&self) -> usize
         ensures { result ≡ length self.now }

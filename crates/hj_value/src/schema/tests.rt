@@ -2,8 +2,6 @@ ghost use Rattle.std.specs.Prelude.{◌≡◌, codes};
 
 use super::*;
 use crate::{Column, ColumnType, TextBytes};
-use hj_base::Memory;
-use std::alloc::Global;
 use std::test::Fail;
 
 fn timed(alloc: Global, name: TextBytes) -> Result<Schema, Memory>
@@ -19,7 +17,7 @@ fn timed(alloc: Global, name: TextBytes) -> Result<Schema, Memory>
 fn begins_with_the_time(rt: HostRuntime) -> Result<(), Fail> {
     let bytes = b"ts";
     let name = TextBytes::from_bytes(rt.alloc(), bytes)?.ok_or("refused")?;
-    let schema = timed(rt.alloc(), name)?;
+    let schema = timed(rt.alloc(), name)?.copy(rt.alloc())?;
     let first = schema.columns.get(0).ok_or("none")?;
     assert_eq!(rt; schema.columns.len(), 1);
     assert_eq!(rt; first.name.bytes(), b"ts".as_slice());

@@ -1,0 +1,51 @@
+ghost use Rattle.std.specs.Prelude.{◌≡◌, IfOk};
+
+use crate::Row;
+use hj_base::{Memory, Share};
+use std::alloc::Global;
+use std::marker::Model;
+use std::sync::Arc;
+
+/// A row that several holders share, seen as that row. It goes away with its last holder.
+#[derive(Drop)]
+pub struct SharedRow {
+    row: Arc<Row>,
+}
+
+impl Model for SharedRow {
+    ghost use Rattle.std.specs.Prelude.{List};
+    ghost use Rattle.std.specs.Arc.{arc_value};
+    ghost use Rattle.hj_value.specs.declared.field.Field.{Field};
+
+    ghost Value = { List Field };
+
+    ghost view = { λ s. arc_value s.row };
+}
+
+impl SharedRow {
+    /// The row, ready to be shared. After a refusal it is gone.
+    pub fn new(alloc: Global, row: Row) -> Result<Self, Memory>
+        ensures { IfOk result (λ shared. shared ≡ row) }
+    {
+        Ok(SharedRow {
+            row: Arc::new(alloc, row)?,
+        })
+    }
+
+    /// The row that is shared.
+    pub fn row(&self) -> &Row
+        ensures { result.now ≡ self.now }
+    {
+        &self.row
+    }
+}
+
+impl Share for SharedRow {
+    fn share(&self) -> Result<Self, Memory>
+        ensures { IfOk result (λ shared. shared ≡ self.now) }
+    {
+        Ok(SharedRow {
+            row: Arc::try_clone(&self.row)?,
+        })
+    }
+}
