@@ -1,9 +1,9 @@
 -- Fields in a buffer, by their ends.
-use Rattle.std.proofs.Common.{◌≡◌, cond, ℕ, zero, suc, ◌-◌, ◌<◌, ◌≤◌, List, [], ◌∷◌, ◌++◌, length, get_or, take, drop, slice_range, slice_get, Some, None, refl, sym, ap, subst, ◌∙◌, arith}
+use Rattle.std.proofs.Common.{◌≡◌, cond, ℕ, zero, suc, ◌+◌, ◌-◌, ◌<◌, ◌≤◌, List, [], ◌∷◌, ◌++◌, length, get_or, set, take, drop, slice_range, slice_get, Some, None, refl, sym, ap, subst, ◌∙◌, arith}
 use Rattle.std.proofs.lemmas.List.{length-append, drop_at, take_all, drop-append-le, take-append-le, length-drop}
 use Rattle.std.proofs.lemmas.Bool.{ne_eqb}
 use Rattle.std.proofs.lemmas.Option.{slice_get_past}
-use Rattle.hj_record.specs.Fields.{AreEndsFrom, AreEnds, fields_from, fields_in, start_at}
+use Rattle.hj_record.specs.Fields.{AreEndsFrom, AreEnds, fields_from, fields_in, start_at, extend_last}
 
 pub length-fields_from : (start : ℕ) (bytes ends : List ℕ) → length (fields_from start bytes ends) ≡ length ends
 length-fields_from start bytes [] = refl
@@ -72,3 +72,42 @@ fields_from_push start bytes (first ∷ ends) field end are at =
 
 pub fields_in_push : (bytes ends field : List ℕ) (end : ℕ) → AreEnds ends (length bytes) → end ≡ length (bytes ++ field) → fields_in (bytes ++ field) (ends ++ end ∷ []) ≡ fields_in bytes ends ++ field ∷ []
 fields_in_push bytes ends field end are at = fields_from_push 0 bytes ends field end are at
+
+-- ---- more bytes in the last field
+
+pub extend_last-push : (fields : List (List ℕ)) (field more : List ℕ) → extend_last (fields ++ field ∷ []) more ≡ fields ++ (field ++ more) ∷ []
+extend_last-push [] field more = refl
+extend_last-push (first ∷ []) field more = refl
+extend_last-push (first ∷ next ∷ fields) field more = ap (λ fs. first ∷ fs) (extend_last-push (next ∷ fields) field more)
+
+AreEndsFrom_grow : (start : ℕ) (ends : List ℕ) (size end at : ℕ) → AreEndsFrom start ends size → size ≤ end → at + 1 ≡ length ends → AreEndsFrom start (set ends at end) end
+AreEndsFrom_grow start [] size end at are le last = absurd (omega arith)
+AreEndsFrom_grow start (first ∷ []) size end at are le last =
+    let zero_is : at ≡ 0 = omega arith in
+    rw zero_is (omega (arith, are.0, are.1), refl)
+AreEndsFrom_grow start (first ∷ next ∷ ends) size end zero are le last = absurd (omega arith)
+AreEndsFrom_grow start (first ∷ next ∷ ends) size end (suc at) are le last = (are.0, AreEndsFrom_grow first (next ∷ ends) size end at are.1 le (omega arith))
+
+pub AreEnds_grow : (ends : List ℕ) (size end more at : ℕ) → AreEnds ends size → size ≤ end → end ≡ more → at + 1 ≡ length ends → AreEnds (set ends at end) more
+AreEnds_grow ends size end more at are le is last = subst (AreEndsFrom 0 (set ends at end)) is (AreEndsFrom_grow 0 ends size end at are le last)
+
+range_longer : (bytes more : List ℕ) (start end size : ℕ) → start ≤ size → size ≡ length bytes → end ≡ length (bytes ++ more) → slice_range (bytes ++ more) start end ≡ slice_range bytes start size ++ more
+range_longer bytes more start end size le is at =
+    let sizes = length-append bytes more in
+    let left = length-drop start bytes in
+    ap (take (end - start)) (drop-append-le start bytes more (omega arith))
+    ∙ take_all (end - start) (drop start bytes ++ more) (omega (arith, length-append (drop start bytes) more))
+    ∙ ap (λ x. x ++ more) (sym (take_all (size - start) (drop start bytes) (omega arith)))
+
+fields_from_grow : (start : ℕ) (bytes ends more : List ℕ) (end at : ℕ) → AreEndsFrom start ends (length bytes) → end ≡ length (bytes ++ more) → at + 1 ≡ length ends → fields_from start (bytes ++ more) (set ends at end) ≡ extend_last (fields_from start bytes ends) more
+fields_from_grow start bytes [] more end at are is last = absurd (omega arith)
+fields_from_grow start bytes (first ∷ []) more end at are is last =
+    let zero_is : at ≡ 0 = omega arith in
+    rw zero_is (ap (λ x. x ∷ []) (range_longer bytes more start end first are.0 are.1 is))
+fields_from_grow start bytes (first ∷ next ∷ ends) more end zero are is last = absurd (omega arith)
+fields_from_grow start bytes (first ∷ next ∷ ends) more end (suc at) are is last =
+    ap (λ x. x ∷ fields_from first (bytes ++ more) (set (next ∷ ends) at end)) (range_before bytes more start first are.0 (start-le-size first (next ∷ ends) (length bytes) are.1))
+    ∙ ap (λ xs. slice_range bytes start first ∷ xs) (fields_from_grow first bytes (next ∷ ends) more end at are.1 is (omega arith))
+
+pub fields_in_grow : (bytes ends more : List ℕ) (end at : ℕ) → AreEnds ends (length bytes) → end ≡ length (bytes ++ more) → at + 1 ≡ length ends → fields_in (bytes ++ more) (set ends at end) ≡ extend_last (fields_in bytes ends) more
+fields_in_grow bytes ends more end at are is last = fields_from_grow 0 bytes ends more end at are is last

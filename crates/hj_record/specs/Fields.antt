@@ -1,5 +1,5 @@
 -- Fields that lie in one buffer, one behind the other, each up to its end.
-use Rattle.std.specs.Prelude.{◌≡◌, ℕ, ◌-◌, ◌≤◌, ◌==◌, List, [], ◌∷◌, slice_index, slice_range, if◌then◌else◌}
+use Rattle.std.specs.Prelude.{◌≡◌, ℕ, ◌-◌, ◌≤◌, ◌==◌, List, [], ◌∷◌, ◌++◌, slice_index, slice_range, if◌then◌else◌}
 
 abbrev pub AreEndsFrom : ℕ → List ℕ → ℕ → Type 0
 AreEndsFrom start [] size = start ≡ size
@@ -20,3 +20,9 @@ fields_in bytes ends = fields_from 0 bytes ends
 -- where the field at a place begins
 abbrev pub start_at : List ℕ → ℕ → ℕ
 start_at ends at = if at == 0 then 0 else slice_index ends (at - 1)
+
+-- bytes behind those of the last field
+abbrev pub extend_last : List (List ℕ) → List ℕ → List (List ℕ)
+extend_last [] more = []
+extend_last (field ∷ []) more = (field ++ more) ∷ []
+extend_last (field ∷ next ∷ fields) more = field ∷ extend_last (next ∷ fields) more

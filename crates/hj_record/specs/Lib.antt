@@ -3,4 +3,5 @@ pub mod CutterFields
 pub mod Fields
 pub mod LineEnd
 pub mod Pieces
+pub mod Plain
 pub mod Records

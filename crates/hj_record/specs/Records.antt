@@ -1,48 +1,47 @@
--- The record of a piece. Until quoted fields are read, a piece with a double quote, a carriage return or
--- a byte order mark in front is refused.
-use Rattle.std.specs.Prelude.{◌≡◌, ℕ, Bool, ◌&&◌, ◌||◌, ◌==◌, List, [], ◌∷◌, filter, length, slice_index, nat_lt, if◌then◌else◌, None, Some, Ok, Err}
-use Rattle.std.specs.List.{list_any}
+-- The record of a piece, as `csv` reads it by its defaults: comma, double quote, and two double quotes inside quotes for
+-- one; LF, CR and CR LF each end a record, and an empty line gives none.
+use Rattle.std.specs.Prelude.{◌≡◌, ℕ, Bool, true, false, List, [], ◌∷◌, if◌then◌else◌, None, Some, Ok, Err}
 use Rattle.std.specs.declared.option.Option.{Option}
 use Rattle.std.specs.declared.result.Result.{Result}
+use Rattle.csv.specs.Machine.{Read, next_record}
+use Rattle.csv.specs.Reading.{default_config, is_bom}
+use Rattle.csv.specs.declared.parser.State.TheVariants as st
 use Rattle.hj_record.specs.declared.fault.PieceFault.{PieceFault}
 use Rattle.hj_record.specs.declared.fault.PieceFault.TheVariants as fault
 
--- The parts between the bytes that separate them: one more than there are such bytes.
-abbrev pub put_first : ℕ → List (List ℕ) → List (List ℕ)
-put_first b [] = (b ∷ []) ∷ []
-put_first b (part ∷ parts) = (b ∷ part) ∷ parts
+-- The bytes without byte order marks in front: while they begin with EF BB BF, these three are dropped.
+abbrev pub without_marks : List ℕ → List ℕ
+without_marks [] = []
+without_marks (a ∷ []) = a ∷ []
+without_marks (a ∷ b ∷ []) = a ∷ b ∷ []
+without_marks (a ∷ b ∷ c ∷ rest) = if is_bom a b c then without_marks rest else a ∷ b ∷ c ∷ rest
 
-abbrev pub parts_at : ℕ → List ℕ → List (List ℕ)
-parts_at separator [] = [] ∷ []
-parts_at separator (b ∷ bs) = if b == separator then [] ∷ parts_at separator bs else put_first b (parts_at separator bs)
+-- fields behind which no second record may stand
+abbrev pub if_last : List (List ℕ) → Option Read → Result (Option (List (List ℕ))) PieceFault
+if_last fields None = Ok (Some fields)
+if_last fields (Some second) = Err fault.NotOneRecord
 
--- the lines of a piece that aren't empty, each without its line feed
-abbrev pub records : List ℕ → List (List ℕ)
-records piece = filter (λ line. nat_lt 0 (length line)) (parts_at 10 piece)
+-- the fields of the first record, where it is the only one
+abbrev pub only_record : Option Read → Result (Option (List (List ℕ))) PieceFault
+only_record None = Ok None
+only_record (Some first) = if_last first.0 (next_record default_config first.1 [] [] first.2)
 
--- the fields of a record
-abbrev pub fields : List ℕ → List (List ℕ)
-fields record_bytes = parts_at 44 record_bytes
+-- The fields of a text's one record, None where it has none.
+abbrev pub record_in : List ℕ → Result (Option (List (List ℕ))) PieceFault
+record_in text = only_record (next_record default_config st.StartRecord [] [] text)
 
--- EF BB BF in front
-abbrev pub begins_with_mark : List ℕ → Bool
-begins_with_mark piece = (slice_index piece 0 == 239) && (slice_index piece 1 == 187) && (slice_index piece 2 == 191)
-
--- bytes that are not read yet: a double quote or a carriage return anywhere, a byte order mark in front
-abbrev pub is_unbuilt : List ℕ → Bool
-is_unbuilt piece = list_any (λ b. (b == 34) || (b == 13)) piece || begins_with_mark piece
-
-abbrev pub one_record : List (List ℕ) → Result (Option (List (List ℕ))) PieceFault
-one_record [] = Ok None
-one_record (only ∷ []) = Ok (Some (fields only))
-one_record (first ∷ second ∷ others) = Err fault.NotOneRecord
-
--- The fields of a piece's one record, None where it has none.
 abbrev pub record_of : List ℕ → Result (Option (List (List ℕ))) PieceFault
-record_of piece = if is_unbuilt piece then Err fault.Unbuilt else one_record (records piece)
+record_of piece = record_in (without_marks piece)
 
 -- What reading a piece answers: its record, unless memory ran out.
 abbrev pub Answers : Result (Option (List (List ℕ))) PieceFault → List ℕ → Type 0
 Answers (Ok found) piece = record_of piece ≡ Ok found
 Answers (Err fault.Memory) piece = Unit {0}
 Answers (Err found) piece = record_of piece ≡ Err found
+
+-- What reading a piece into fields answers: whether it holds a record, whose fields they are then.
+abbrev pub ReadsInto : Result Bool PieceFault → List (List ℕ) → List ℕ → Type 0
+ReadsInto (Ok true) fields piece = record_of piece ≡ Ok (Some fields)
+ReadsInto (Ok false) fields piece = record_of piece ≡ Ok None
+ReadsInto (Err fault.Memory) fields piece = Unit {0}
+ReadsInto (Err found) fields piece = record_of piece ≡ Err found

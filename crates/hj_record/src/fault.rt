@@ -19,9 +19,6 @@ pub enum PieceFault {
     /// Memory ran out.
     #[error("out of memory")]
     Memory,
-    /// The piece has a double quote, a carriage return or a byte order mark, which are not read yet.
-    #[error("not read yet")]
-    Unbuilt,
 }
 
 impl From<Memory> for PieceFault {

@@ -1,6 +1,6 @@
-ghost use Rattle.std.specs.Prelude.{◌≡◌, ◌<◌, ◌++◌, [], ◌∷◌, length, slice_get, IfOk, OnOk, OnErr};
+ghost use Rattle.std.specs.Prelude.{◌≡◌, ◌<◌, ◌++◌, [], ◌∷◌, length, slice_get, OnOk, OnErr};
 ghost use Rattle.std.specs.Option.{option_copied};
-ghost use Rattle.hj_record.specs.Fields.{fields_in, start_at, AreEnds};
+ghost use Rattle.hj_record.specs.Fields.{fields_in, start_at, extend_last, AreEnds};
 
 use hj_base::Memory;
 use std::alloc::Global;
@@ -35,16 +35,6 @@ impl Fields {
         }
     }
 
-    /// No fields, with room for so many and for the bytes of all of them.
-    pub fn with_capacity(alloc: Global, count: usize, bytes: usize) -> Result<Self, Memory>
-        ensures { IfOk result (λ fields. fields ≡ []) }
-    {
-        Ok(Fields {
-            bytes: Vec::with_capacity(alloc, bytes)?,
-            ends: Vec::with_capacity(alloc, count)?,
-        })
-    }
-
     /// How many fields there are.
     pub fn len(&self) -> usize
         ensures { result ≡ length self.now }
@@ -59,6 +49,14 @@ impl Fields {
         field_at(&self.bytes, &self.ends, at)
     }
 
+    /// Takes every field out, and keeps the memory.
+    pub fn clear(&mut self)
+        ensures { self.new ≡ [] }
+    {
+        self.bytes.clear();
+        self.ends.clear();
+    }
+
     /// Adds a field at the end. After a refusal nothing changed.
     pub fn push(&mut self, field: &[u8]) -> Result<(), Memory>
         ensures ok { OnOk result (self.new ≡ self.old ++ field.now ∷ []) }
@@ -69,6 +67,23 @@ impl Fields {
         let end = self.bytes.len();
         self.ends.push(end)?;
         Ok(())
+    }
+
+    /// Adds bytes at the end of the last field. After a refusal nothing changed.
+    pub(crate) fn extend_last(&mut self, more: &[u8]) -> Result<(), Memory>
+        requires { 0 < length self.old }
+        ensures ok { OnOk result (self.new ≡ extend_last self.old more.now) }
+        ensures err { OnErr result (self.new ≡ self.old) }
+    {
+        self.bytes.extend_from_slice(more)?;
+        let last = self.ends.len() - 1;
+        self.ends[last] = self.bytes.len();
+        Ok(())
+    }
+
+    /// Where the memory comes from.
+    pub(crate) fn allocator(&self) -> Global {
+        *self.bytes.allocator()
     }
 }
 
@@ -113,5 +128,15 @@ mod tests {
             );
         }
         Ok(())
+    }
+
+    #[test]
+    fn is_used_again(rt: HostRuntime) {
+        let mut fields = Fields::new(rt.alloc());
+        assert!(rt; fields.push(b"a").is_ok());
+        fields.clear();
+        assert_eq!(rt; fields.len(), 0);
+        assert!(rt; fields.push(b"b").is_ok());
+        assert_eq!(rt; fields.get(0), Some(b"b".as_slice()));
     }
 }

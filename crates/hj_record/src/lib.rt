@@ -6,9 +6,10 @@ mod fault;
 mod fields;
 mod laws;
 mod piece;
+mod plain;
 
 pub use cutter::{Cutter, Fed};
 pub use fault::PieceFault;
 pub use fields::Fields;
 pub use laws::cuts_at_line_ends;
-pub use piece::read_piece;
+pub use piece::{read_piece, read_piece_into};

@@ -1,79 +1,106 @@
-ghost use Rattle.std.specs.Prelude.{◌≡◌, ◌≤◌, length, option_to_list, IfOk, IfErr};
-ghost use Rattle.std.specs.Option.{option_copied};
-ghost use Rattle.hj_record.specs.declared.fault.PieceFault.TheVariants.{NotOneRecord};
-ghost use Rattle.hj_record.specs.Records.{Answers, records, fields, is_unbuilt, begins_with_mark};
+ghost use Rattle.std.specs.Prelude.{◌≡◌, ◌≢◌, ◌≤◌, [], true, length, OnOk};
+ghost use Rattle.csv.specs.Reading.{strip_bom};
+ghost use Rattle.csv.specs.Records.{fields_of};
+ghost use Rattle.hj_record.specs.Plain.{ReadsText};
+ghost use Rattle.hj_record.specs.Records.{Answers, ReadsInto, without_marks};
 
+use crate::plain::{Plain, cut_plain};
 use crate::{Fields, PieceFault};
+use csv::{ByteRecord, ReaderBuilder};
 use hj_base::Memory;
 use std::alloc::Global;
-
-const LINE_FEED: u8 = b'\n';
-
-const CARRIAGE_RETURN: u8 = b'\r';
-
-const QUOTE: u8 = b'"';
-
-const COMMA: u8 = b',';
 
 /// Reads the record of a piece of at most 65,536 bytes: its fields, or None where it holds no record.
 pub fn read_piece(alloc: Global, piece: &[u8]) -> Result<Option<Fields>, PieceFault>
     requires { length piece.now ≤ 65536 }
     ensures { Answers result piece.now }
 {
-    if is_unbuilt(piece) {
-        return Err(PieceFault::Unbuilt);
-    }
-    match only_line(piece)? {
-        None => Ok(None),
-        Some(line) => Ok(Some(fields_of(alloc, line)?)),
+    let mut fields = Fields::new(alloc);
+    if read_piece_into(piece, &mut fields)? {
+        Ok(Some(fields))
+    } else {
+        Ok(None)
     }
 }
 
-/// Whether the piece has bytes that are not read yet.
-fn is_unbuilt(piece: &[u8]) -> bool
-    ensures { result ≡ is_unbuilt piece.now }
+/// Reads the record of a piece of at most 65,536 bytes into `fields`, in place of what they held. True where the piece holds
+/// a record, whose fields they then are; in every other case they are empty. A piece whose fields are each in quotes, or
+/// without quote, comma and line end, is read into the memory that `fields` have, and asks for more only where that doesn't
+/// do. Any other has a reader of `csv` made for it.
+pub fn read_piece_into(piece: &[u8], fields: &mut Fields) -> Result<bool, PieceFault>
+    requires { length piece.now ≤ 65536 }
+    ensures answer { ReadsInto result fields.new piece.now }
+    ensures empty { result ≢ Ok true → fields.new ≡ [] }
 {
+    let answer = read_text(without_marks(piece), fields);
+    if !matches!(answer, Ok(true)) {
+        fields.clear();
+    }
+    answer
+}
+
+/// The piece without the byte order marks in front.
+fn without_marks(mut piece: &[u8]) -> &[u8]
+    ensures { result.now ≡ without_marks piece.now }
+{
+    while let [0xEF, 0xBB, 0xBF, rest @ ..] = piece {
+        piece = rest;
+    }
     piece
-        .iter()
-        .any(|byte| *byte == QUOTE || *byte == CARRIAGE_RETURN)
-        || begins_with_mark(piece)
 }
 
-/// Whether a byte order mark stands in front.
-fn begins_with_mark(piece: &[u8]) -> bool
-    ensures { result ≡ begins_with_mark piece.now }
+/// Reads the record of a text that begins with no mark, in the plain form or by `csv`.
+fn read_text(text: &[u8], fields: &mut Fields) -> Result<bool, PieceFault>
+    requires { strip_bom text.now ≡ text.now }
+    ensures { ReadsText result fields.new text.now }
 {
-    matches!(piece, [0xEF, 0xBB, 0xBF, ..])
-}
-
-/// The only line of the piece that isn't empty, or None where there is none.
-fn only_line(piece: &[u8]) -> Result<Option<&[u8]>, PieceFault>
-    ensures ok { IfOk result (λ line. records piece.now ≡ option_to_list (option_copied line)) }
-    ensures err { IfErr result (λ fault. (fault ≡ NotOneRecord) × (2 ≤ length (records piece.now))) }
-{
-    let mut only = None;
-    for line in piece
-        .split(|byte| *byte == LINE_FEED)
-        .filter(|line| !line.is_empty())
-    {
-        if only.is_some() {
-            return Err(PieceFault::NotOneRecord);
+    fields.clear();
+    match cut_plain(text, fields)? {
+        Plain::Record => Ok(true),
+        Plain::NoRecord => Ok(false),
+        Plain::NotPlain => {
+            fields.clear();
+            read_by_csv(text, fields)
         }
-        only = Some(line);
     }
-    Ok(only)
 }
 
-/// The parts of a line between its commas.
-fn fields_of(alloc: Global, line: &[u8]) -> Result<Fields, Memory>
-    ensures { IfOk result (λ found. found ≡ fields line.now) }
+/// Reads the record of a text by a reader of `csv`, which takes some 10 microseconds.
+#[inline(never)]
+fn read_by_csv(text: &[u8], fields: &mut Fields) -> Result<bool, PieceFault>
+    requires marks { strip_bom text.now ≡ text.now }
+    requires empty { fields.old ≡ [] }
+    ensures { ReadsText result fields.new text.now }
 {
-    let commas = line.iter().filter(|byte| **byte == COMMA).count();
-    let mut found = Fields::with_capacity(alloc, commas + 1, line.len())?;
-    for part in line.split(|byte| *byte == COMMA) {
-        found.push(part)?;
+    let alloc = fields.allocator();
+    let mut reader = ReaderBuilder::new()
+        .has_headers(false)
+        .flexible(true)
+        .from_reader(alloc, text);
+    let mut record = ByteRecord::new(alloc);
+    match reader.read_byte_record(&mut record) {
+        Ok(true) => push_all(&record, fields)?,
+        Ok(false) => return Ok(false),
+        Err(_) => return Err(PieceFault::Memory),
     }
-    Ok(found)
+    match reader.read_byte_record(&mut record) {
+        Ok(true) => Err(PieceFault::NotOneRecord),
+        Ok(false) => Ok(true),
+        Err(_) => Err(PieceFault::Memory),
+    }
+}
+
+/// Adds each field of a record, to none before.
+fn push_all(row: &ByteRecord, fields: &mut Fields) -> Result<(), Memory>
+    requires { fields.old ≡ [] }
+    ensures { OnOk result (fields.new ≡ fields_of row.now) }
+{
+    for at in 0..row.len() {
+        if let Some(field) = row.get(at) {
+            fields.push(field)?;
+        }
+    }
+    Ok(())
 }
 
 #[cfg(test)]

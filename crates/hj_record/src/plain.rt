@@ -1,0 +1,163 @@
+ghost use Rattle.std.specs.Prelude.{◌≡◌, ◌≤◌, [], true, false, length, take, slice_get, All, IfOk, IfSome};
+ghost use Rattle.hj_record.specs.Plain.{BeginsWithField, CutsPlain, IsBare, IsLineEnd, IsNextQuote, StandsBehind, TakesField, is_special};
+
+use crate::Fields;
+use hj_base::Memory;
+
+const LINE_FEED: u8 = b'\n';
+
+const CARRIAGE_RETURN: u8 = b'\r';
+
+const QUOTE: u8 = b'"';
+
+const COMMA: u8 = b',';
+
+/// What a text in the plain form of RFC 4180 holds.
+#[derive(Clone, Copy)]
+pub(crate) enum Plain {
+    Record,
+    NoRecord,
+    /// The text has another form, and nothing is said of its record.
+    NotPlain,
+}
+
+/// A field taken from the front of a text.
+#[derive(Clone, Copy)]
+enum Taken {
+    /// The next field stands behind so many bytes, of which the last is a comma.
+    Next(usize),
+    /// It is the record's last.
+    Last,
+    NotPlain,
+}
+
+/// Cuts a text in the plain form of RFC 4180 into its fields: each in quotes, or without quote, comma and line end;
+/// behind the last of them LF, CR LF or nothing. It fills `fields`, which are empty before.
+pub(crate) fn cut_plain(text: &[u8], fields: &mut Fields) -> Result<Plain, Memory>
+    requires { fields.old ≡ [] }
+    ensures { IfOk result (λ found. CutsPlain found text.now fields.new) }
+{
+    if is_line_end(text) {
+        return Ok(Plain::NoRecord);
+    }
+    if begins_with_line_end(text) {
+        return Ok(Plain::NotPlain);
+    }
+    cut_line(text, fields)
+}
+
+/// Cuts a text that doesn't begin with the end of a line.
+fn cut_line(text: &[u8], fields: &mut Fields) -> Result<Plain, Memory>
+    requires field { BeginsWithField text.now }
+    requires empty { fields.old ≡ [] }
+    ensures { IfOk result (λ found. CutsPlain found text.now fields.new) }
+{
+    let mut at = 0;
+    loop {
+        match take_field(&text[at..], fields)? {
+            Taken::Next(used) => at += used,
+            Taken::Last => return Ok(Plain::Record),
+            Taken::NotPlain => return Ok(Plain::NotPlain),
+        }
+    }
+}
+
+/// Takes a field from the front of a text, and adds it to those before.
+fn take_field(text: &[u8], fields: &mut Fields) -> Result<Taken, Memory>
+    ensures { IfOk result (λ taken. TakesField taken text.now fields.old fields.new) }
+{
+    match text {
+        [QUOTE, ..] => take_quoted(text, fields),
+        _ => take_bare(text, fields),
+    }
+}
+
+/// Takes a field without quotes.
+fn take_bare(text: &[u8], fields: &mut Fields) -> Result<Taken, Memory>
+    ensures { IfOk result (λ taken. TakesField taken text.now fields.old fields.new) }
+{
+    let size = bare_size(text);
+    fields.push(&text[..size])?;
+    Ok(behind(text, size))
+}
+
+/// Takes a field in quotes. Of two quotes inside, the second is the field's.
+fn take_quoted(text: &[u8], fields: &mut Fields) -> Result<Taken, Memory>
+    requires { slice_get text.now 0 ≡ Some 34 }
+    ensures { IfOk result (λ taken. TakesField taken text.now fields.old fields.new) }
+{
+    let Some(mut quote) = quote_from(text, 1) else {
+        return Ok(Taken::NotPlain);
+    };
+    fields.push(&text[1..quote])?;
+    while quote + 1 < text.len() && text[quote + 1] == QUOTE {
+        let Some(next) = quote_from(text, quote + 2) else {
+            return Ok(Taken::NotPlain);
+        };
+        fields.extend_last(&text[quote + 1..next])?;
+        quote = next;
+    }
+    Ok(behind(text, quote + 1))
+}
+
+/// How many bytes a field without quotes has.
+fn bare_size(text: &[u8]) -> usize
+    ensures within { result ≤ length text.now }
+    ensures bare { All IsBare (take result text.now) }
+{
+    for (at, &byte) in text.iter().enumerate() {
+        if is_special(byte) {
+            return at;
+        }
+    }
+    text.len()
+}
+
+/// Whether a byte doesn't stand in a field without quotes.
+fn is_special(byte: u8) -> bool
+    ensures { result ≡ is_special byte }
+{
+    byte == COMMA || byte == QUOTE || byte == CARRIAGE_RETURN || byte == LINE_FEED
+}
+
+/// The place of the first quote from a place on.
+fn quote_from(text: &[u8], from: usize) -> Option<usize>
+    requires { from ≤ length text.now }
+    ensures { IfSome result (λ quote. IsNextQuote quote from text.now) }
+{
+    for (at, &byte) in text[from..].iter().enumerate() {
+        if byte == QUOTE {
+            return Some(from + at);
+        }
+    }
+    None
+}
+
+/// What stands behind a field that takes so many bytes.
+fn behind(text: &[u8], size: usize) -> Taken
+    requires { size ≤ length text.now }
+    ensures { StandsBehind result size text.now }
+{
+    match &text[size..] {
+        [COMMA, ..] => Taken::Next(size + 1),
+        rest if is_line_end(rest) => Taken::Last,
+        _ => Taken::NotPlain,
+    }
+}
+
+/// Whether nothing stands there but LF or CR LF, or nothing at all.
+fn is_line_end(bytes: &[u8]) -> bool
+    ensures { result ≡ true → IsLineEnd bytes.now }
+{
+    matches!(bytes, [] | [LINE_FEED] | [CARRIAGE_RETURN, LINE_FEED])
+}
+
+/// Whether LF or CR stands in front, or nothing.
+fn begins_with_line_end(text: &[u8]) -> bool
+    ensures { result ≡ false → BeginsWithField text.now }
+{
+    match text.first() {
+        Some(&first) => first == CARRIAGE_RETURN || first == LINE_FEED,
+        None => true,
+    }
+}
