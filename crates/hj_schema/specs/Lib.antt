@@ -1,0 +1,2 @@
+pub mod RowAnswers
+pub mod Rows
