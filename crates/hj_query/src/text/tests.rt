@@ -22,6 +22,9 @@ const SIDES: &str =
 const WHOLE: &str =
     "left (ts int, k text) right (ts int) window left rows 1 window right time 5 on not (l.ts - -1 within 2 of r.ts) and l.k = 'a'";
 
+/// Takes what may go to other threads and be read by them.
+fn crosses<T: Send + Sync + Drop>(_value: T) {}
+
 fn joined(alloc: Global, parts: &[&str]) -> Result<String, AllocError> {
     let mut text = String::new(alloc);
     for part in parts {
@@ -488,5 +491,6 @@ fn makes_the_query_of_equal_keys(rt: HostRuntime) -> Result<(), Fail> {
         assert_eq!(rt; key.name.bytes(), b"key".as_slice());
     }
     assert!(rt; matches!(query.pred(), Pred::Compare(Op::Eq, _, _)));
+    crosses(query);
     Ok(())
 }
