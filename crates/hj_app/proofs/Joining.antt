@@ -17,6 +17,7 @@ use Rattle.hj_event.specs.declared.fault.RecordFault.{RecordFault}
 use Rattle.hj_event.specs.declared.merger.Next.{Next}
 use Rattle.hj_event.specs.declared.merger.Next.TheVariants as next
 use Rattle.hj_event.specs.Arrivals.{Ending, clean, bad, unread, arrivals_of}
+use Rattle.hj_query.specs.Keyed.{keyed_columns}
 use Rattle.hj_event.specs.Rows.{rows_of}
 use Rattle.hj_event.specs.Events.{Numbered, events_of, none_live}
 use Rattle.hj_event.specs.Merger.{Merging, fresh, holding, failed, spent, StepsFrom, Steps, IsRead, IsReadOn, ReadsSides, Untouched, Answers}
@@ -56,7 +57,7 @@ first_answer : (window : ℕ) (answer : Next) (merger : Merging) (windows : Wind
     → Answers (fresh window) answer merger before now → Running window answer merger windows before now sink sink
 first_answer window answer merger windows before now sink empty (inl reads) =
     let all : Numbered = events_of window (record { bytes = reads.left_bytes; whole = true }) (record { bytes = reads.right_bytes; whole = true }) in
-    let rows = arrivals_of (rows_of (record { bytes = reads.left_bytes; whole = true })) (rows_of (record { bytes = reads.right_bytes; whole = true })) in
+    let rows = arrivals_of (rows_of keyed_columns (record { bytes = reads.left_bytes; whole = true })) (rows_of keyed_columns (record { bytes = reads.right_bytes; whole = true })) in
     inl (record {
       left = reads.left_bytes;
       right = reads.right_bytes;

@@ -1,49 +1,65 @@
--- A line grows field by field.
-use Rattle.std.proofs.Common.{◌≡◌, ◌+◌, take, slice_get, Some, subst, ℕ, ℤ, pos, negsuc, ◌<◌, List, [], ◌∷◌, ◌++◌, length, map, refl, sym, ap, ◌∙◌, append_assoc, arith, length-append, FitsSigned, w64}
-use Rattle.std.proofs.lemmas.List.{map-append, nil_from_length, take_more}
+-- A line grows field by field, each with a comma behind it, and the last comma gives way to the line feed.
+use Rattle.std.proofs.Common.{◌≡◌, ◌+◌, ◌-◌, ◌==◌, take, get_or, ℕ, ◌<◌, Bool, true, false, cond, List, [], ◌∷◌, ◌++◌, length, map, slice_get, Some, refl, sym, ap, ◌∙◌, append_assoc, append-nil, arith, length-append}
+use Rattle.std.proofs.Math.Seq.{take-append_seam}
+use Rattle.std.proofs.lemmas.List.{take_more}
 use Rattle.std.proofs.lemmas.Option.{slice_get_within, get_or_from_slice_get}
-use Rattle.std.proofs.lemmas.Fmt.{decimal_nonempty}
-use Rattle.std.specs.Fmt.{signed_decimal}
 use Rattle.hj_value.specs.declared.field.Field.{Field}
-use Rattle.hj_app.specs.JoinText.{field_text, with_commas, line}
-use Rattle.hj_app.specs.Line.{Spells}
+use Rattle.hj_app.specs.JoinText.{doubled, field_text, with_commas, line}
+use Rattle.hj_app.specs.Line.{commas_behind}
 
-with_commas_push : (part : List ℕ) (parts : List (List ℕ)) (more : List ℕ) → with_commas ((part ∷ parts) ++ more ∷ []) ≡ with_commas (part ∷ parts) ++ 44 ∷ more
-with_commas_push part [] more = refl
-with_commas_push part (next ∷ parts) more = ap (λ l. part ++ 44 ∷ l) (with_commas_push next parts more) ∙ sym (append_assoc part (44 ∷ with_commas (next ∷ parts)) (44 ∷ more))
-
--- the first field, into an empty text
-pub spells_first : (fields : List Field) (field : Field) (old new : List ℕ) → Spells fields old → length old ≡ 0 → new ≡ old ++ field_text field → 0 < length new → Spells (fields ++ field ∷ []) new
-spells_first fields field old new so_far empty grown filled = record {
-  spelled = grown ∙ ap (λ l. l ++ field_text field) (nil_from_length old empty) ∙ ap (λ l. with_commas (map field_text (l ++ field ∷ []))) (sym (so_far.begun empty));
-  begun = λ none. absurd (omega arith);
-}
-
--- a further field, behind a comma
-pub spells_more : (fields : List Field) (field : Field) (old new : List ℕ) → Spells fields old → 0 < length old → new ≡ (old ++ 44 ∷ []) ++ field_text field → Spells (fields ++ field ∷ []) new
-spells_more [] field old new so_far filled grown = absurd (omega (arith, ap length so_far.spelled))
-spells_more (first ∷ fields) field old new so_far filled grown = record {
-  spelled = grown ∙ append_assoc old (44 ∷ []) (field_text field) ∙ ap (λ l. l ++ 44 ∷ field_text field) so_far.spelled
-      ∙ sym (with_commas_push (field_text first) (map field_text fields) (field_text field)) ∙ ap with_commas (sym (map-append field_text (first ∷ fields) (field ∷ [])));
-  begun = λ empty. absurd (omega (arith, ap length grown, length-append (old ++ 44 ∷ []) (field_text field), length-append old (44 ∷ [])));
-}
-
-pub signed_decimal_filled : (value : ℤ) → FitsSigned w64 value → 0 < length (signed_decimal value)
-signed_decimal_filled (pos n) fits = decimal_nonempty n (omega arith)
-signed_decimal_filled (negsuc n) fits = omega arith
+pub commas_behind-append : (front back : List Field) → commas_behind (front ++ back) ≡ commas_behind front ++ commas_behind back
+commas_behind-append [] back = refl
+commas_behind-append (field ∷ front) back =
+    ap (λ l. field_text field ++ 44 ∷ [] ++ l) (commas_behind-append front back) ∙ sym (append_assoc (field_text field ++ 44 ∷ []) (commas_behind front) (commas_behind back))
 
 -- one more field of a row
-pub spells_step : (fields row : List Field) (at : ℕ) (field : Field) (text : List ℕ) → slice_get row at ≡ Some field → Spells (fields ++ take at row ++ field ∷ []) text
-    → Spells (fields ++ take (at + 1) row) text
-spells_step fields row at field text found so_far =
-    let longer : take (at + 1) row ≡ take at row ++ field ∷ [] = take_more row at field (slice_get_within row at field found) ∙ ap (λ x. take at row ++ x ∷ []) (get_or_from_slice_get row at field field found) in
-    subst (λ l. Spells l text) (append_assoc fields (take at row) (field ∷ []) ∙ ap (λ l. fields ++ l) (sym longer)) so_far
+pub commas_behind-step : (row : List Field) (at : ℕ) (field : Field) (old text new : List ℕ) → Some field ≡ slice_get row at → text ≡ old ++ commas_behind (take at row) → new ≡ text ++ field_text field ++ 44 ∷ [] → new ≡ old ++ commas_behind (take (at + 1) row)
+commas_behind-step row at field old text new found so_far grown =
+    let longer : take (at + 1) row ≡ take at row ++ field ∷ [] = take_more row at field (slice_get_within row at field (sym found)) ∙ ap (λ x. take at row ++ x ∷ []) (get_or_from_slice_get row at field field (sym found)) in
+    grown
+    ∙ append_assoc text (field_text field) (44 ∷ [])
+    ∙ ap (λ l. l ++ (field_text field ++ 44 ∷ [])) so_far
+    ∙ append_assoc old (commas_behind (take at row)) (field_text field ++ 44 ∷ [])
+    ∙ ap (λ l. old ++ (commas_behind (take at row) ++ l)) (sym (append-nil (field_text field ++ 44 ∷ [])))
+    ∙ ap (λ l. old ++ l) (sym (commas_behind-append (take at row) (field ∷ [])))
+    ∙ ap (λ fields. old ++ commas_behind fields) (sym longer)
 
--- what adding a list of fields does to a text
-abbrev pub AddsFields : List Field → List ℕ → List ℕ → Type 0
-AddsFields row old new = (fields : List Field) → Spells fields old → Spells (fields ++ row) new
+commas_behind-is : (field : Field) (fields : List Field) → commas_behind (field ∷ fields) ≡ with_commas (map field_text (field ∷ fields)) ++ 44 ∷ []
+commas_behind-is field [] = append-nil (field_text field ++ 44 ∷ [])
+commas_behind-is field (next ∷ fields) =
+    ap (λ l. field_text field ++ 44 ∷ [] ++ l) (commas_behind-is next fields)
+    ∙ append_assoc (field_text field) (44 ∷ []) (with_commas (map field_text (next ∷ fields)) ++ 44 ∷ [])
+    ∙ sym (append_assoc (field_text field) (44 ∷ with_commas (map field_text (next ∷ fields))) (44 ∷ []))
 
--- an empty text, both rows and a line feed make a line
-pub line_of_rows : (left right : List Field) (empty one both whole : List ℕ) → empty ≡ [] → AddsFields left empty one → AddsFields right one both → whole ≡ both ++ 10 ∷ [] → whole ≡ line left right
-line_of_rows left right empty one both whole none first second ended =
-    ended ∙ ap (λ l. l ++ 10 ∷ []) (second left (first [] (record { spelled = none; begun = λ _. refl }))).spelled
+without_last : (front : List ℕ) (last : ℕ) → take (length (front ++ last ∷ []) - 1) (front ++ last ∷ []) ≡ front
+without_last front last =
+    let long : length (front ++ last ∷ []) - 1 ≡ length front = omega (arith, length-append front (last ∷ [])) in
+    ap (λ n. take n (front ++ last ∷ [])) long ∙ take-append_seam front (last ∷ [])
+
+without_last_comma : (fields : List Field) → take (length (commas_behind fields) - 1) (commas_behind fields) ≡ with_commas (map field_text fields)
+without_last_comma [] = refl
+without_last_comma (field ∷ fields) =
+    ap (λ l. take (length l - 1) l) (commas_behind-is field fields) ∙ without_last (with_commas (map field_text (field ∷ fields))) 44
+
+-- both rows, without the last comma and with a line feed, make a line
+pub line_of_rows : (left right : List Field) (empty one both short whole : List ℕ) → empty ≡ [] → one ≡ empty ++ commas_behind left → both ≡ one ++ commas_behind right → short ≡ take (length both - 1) both → whole ≡ short ++ 10 ∷ [] → whole ≡ line left right
+line_of_rows left right empty one both short whole none first second shortened ended =
+    let all : both ≡ commas_behind (left ++ right) = second ∙ ap (λ l. l ++ commas_behind right) (first ∙ ap (λ l. l ++ commas_behind left) none) ∙ sym (commas_behind-append left right) in
+    ended ∙ ap (λ l. l ++ 10 ∷ []) (shortened ∙ ap (λ l. take (length l - 1) l) all ∙ without_last_comma (left ++ right))
+
+doubled-head : (quote : Bool) (b : ℕ) (front back both : List ℕ) → both ≡ front ++ back → cond quote (34 ∷ 34 ∷ both) (b ∷ both) ≡ cond quote (34 ∷ 34 ∷ front) (b ∷ front) ++ back
+doubled-head true b front back both e = ap (λ l. 34 ∷ 34 ∷ l) e
+doubled-head false b front back both e = ap (λ l. b ∷ l) e
+
+pub doubled-append : (front back : List ℕ) → doubled (front ++ back) ≡ doubled front ++ doubled back
+doubled-append [] back = refl
+doubled-append (b ∷ front) back = doubled-head (b == 34) b (doubled front) (doubled back) (doubled (front ++ back)) (doubled-append front back)
+
+-- one more byte of a quoted text
+pub doubled-step : (bytes : List ℕ) (at : ℕ) (old text new : List ℕ) → at < length bytes → text ≡ old ++ doubled (take at bytes) → new ≡ text ++ doubled (get_or bytes at 0 ∷ []) → new ≡ old ++ doubled (take (at + 1) bytes)
+doubled-step bytes at old text new within so_far grown =
+    grown
+    ∙ ap (λ l. l ++ doubled (get_or bytes at 0 ∷ [])) so_far
+    ∙ append_assoc old (doubled (take at bytes)) (doubled (get_or bytes at 0 ∷ []))
+    ∙ ap (λ l. old ++ l) (sym (doubled-append (take at bytes) (get_or bytes at 0 ∷ [])))
+    ∙ ap (λ l. old ++ doubled l) (sym (take_more bytes at 0 within))

@@ -1,12 +1,14 @@
 -- The events of whole streams never end in a missing read.
 use Rattle.std.proofs.Common.{ℕ, ◌+◌, ◌%◌, ℤ, Bool, true, false, cond, ◌==◌, nat_lt, int_le, take, List, [], ◌∷◌, length, Ok, Err, None, Some, Result, if◌then◌else◌}
 use Rattle.std.specs.declared.option.Option.{Option}
+use Rattle.hj_value.specs.declared.column.Column.{Column}
 use Rattle.hj_value.specs.declared.field.Field.{Field}
 use Rattle.hj_value.specs.Row.{time_of}
 use Rattle.hj_base.specs.declared.numbers.Side.{Side}
 use Rattle.hj_base.specs.declared.numbers.Side.TheVariants as side
 use Rattle.hj_record.specs.declared.fault.PieceFault.TheVariants as fault
 use Rattle.hj_record.specs.Pieces.{Stream, Pieces, split, quotes, most_in_piece, PiecesEnd, clean as pieces_clean, bad as pieces_bad, unread as pieces_unread, up_to_too_long, last_pieces, pieces_of, ended, then_pieces}
+use Rattle.hj_query.specs.Keyed.{keyed_columns}
 use Rattle.hj_event.specs.declared.fault.RecordFault.{RecordFault}
 use Rattle.hj_event.specs.Rows.{Rows, RowsEnd, clean as rows_clean, bad as rows_bad, unread as rows_unread, put_row, row_at, rows_from, rows_of, most_in_stream}
 use Rattle.hj_event.specs.Arrivals.{Arrivals, Ending, clean, bad, unread, stop_or, right_only, left_among, merge, no_arrival, then_arrivals}
@@ -52,17 +54,17 @@ put_known at before (Err fault) behind known = tt
 put_known at before (Ok None) behind known = known at before
 put_known at before (Ok (Some row)) behind known = known (at + 1) (Some (time_of row))
 
-rows_known : (at : ℕ) (before : Option ℤ) (pieces : List (List ℕ)) (ending : PiecesEnd) → PiecesKnown ending → RowsKnown (rows_from at before pieces ending).ending
-rows_known at before [] pieces_clean known = tt
-rows_known at before [] (pieces_bad found) known = tt
-rows_known at before [] pieces_unread known = known
-rows_known at before (piece ∷ pieces) ending known = put_known at before (row_at before piece) (λ next time. rows_from next time pieces ending) (λ next time. rows_known next time pieces ending known)
+rows_known : (columns : List Column) (at : ℕ) (before : Option ℤ) (pieces : List (List ℕ)) (ending : PiecesEnd) → PiecesKnown ending → RowsKnown (rows_from columns at before pieces ending).ending
+rows_known columns at before [] pieces_clean known = tt
+rows_known columns at before [] (pieces_bad found) known = tt
+rows_known columns at before [] pieces_unread known = known
+rows_known columns at before (piece ∷ pieces) ending known = put_known at before (row_at columns before piece) (λ next time. rows_from columns next time pieces ending) (λ next time. rows_known columns next time pieces ending known)
 
-stream_known : (bytes : List ℕ) → RowsKnown (rows_of (record { bytes = bytes; whole = true })).ending
-stream_known bytes =
+stream_known : (columns : List Column) (bytes : List ℕ) → RowsKnown (rows_of columns (record { bytes = bytes; whole = true })).ending
+stream_known columns bytes =
     let cut = split false (take most_in_stream bytes) in
     let stream : Stream = record { bytes = bytes; whole = true } in
-    rows_known 1 None (pieces_of most_in_stream stream).pieces (pieces_of most_in_stream stream).ending
+    rows_known columns 1 None (pieces_of most_in_stream stream).pieces (pieces_of most_in_stream stream).ending
     (up_to_known cut.pieces (last_pieces most_in_stream stream cut.rest) (last_known most_in_stream bytes cut.rest))
 
 stop_known : (of : Side) (ending : RowsEnd) (others : Arrivals) → RowsKnown ending → IsKnown others.ending → IsKnown (stop_or of ending others).ending
@@ -92,6 +94,6 @@ merge_known (row ∷ rows) left_end right right_end left_known right_end_known =
 -- two whole streams end with their bytes or in a bad record
 pub ending_known : (window : ℕ) (left right : List ℕ) → IsKnown (join_ending window left right)
 ending_known window left right =
-    let left_rows = rows_of (record { bytes = left; whole = true }) in
-    let right_rows = rows_of (record { bytes = right; whole = true }) in
-    merge_known left_rows.rows left_rows.ending right_rows.rows right_rows.ending (stream_known left) (stream_known right)
+    let left_rows = rows_of keyed_columns (record { bytes = left; whole = true }) in
+    let right_rows = rows_of keyed_columns (record { bytes = right; whole = true }) in
+    merge_known left_rows.rows left_rows.ending right_rows.rows right_rows.ending (stream_known keyed_columns left) (stream_known keyed_columns right)

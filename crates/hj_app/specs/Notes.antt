@@ -14,8 +14,8 @@ use Rattle.hj_query.specs.declared.fault.Wanted.TheVariants as wanted
 use Rattle.std.specs.declared.option.Option.{Option}
 use Rattle.hj_record.specs.declared.fault.PieceFault.{PieceFault}
 use Rattle.hj_record.specs.declared.fault.PieceFault.TheVariants as piece
-use Rattle.hj_event.specs.declared.fault.RowFault.{RowFault}
-use Rattle.hj_event.specs.declared.fault.RowFault.TheVariants as row
+use Rattle.hj_schema.specs.declared.fault.RowFault.{RowFault}
+use Rattle.hj_schema.specs.declared.fault.RowFault.TheVariants as row
 use Rattle.hj_event.specs.declared.fault.RecordFault.{RecordFault}
 use Rattle.hj_event.specs.declared.fault.RecordFault.TheVariants as fault
 
@@ -46,12 +46,12 @@ piece_text piece.NotOneRecord = codes "NotOneRecord"
 piece_text piece.TooLong = codes "TooLong"
 piece_text piece.StreamLong = codes "StreamLong"
 piece_text piece.Memory = codes "Memory"
-piece_text piece.Unbuilt = codes "Unbuilt"
 
 abbrev pub row_text : RowFault → List ℕ
 row_text (row.FieldCount found) = codes "FieldCount " ++ decimal found
 row_text (row.NotNumber column) = codes "NotNumber column " ++ decimal column
 row_text (row.NumberRange column) = codes "NumberRange column " ++ decimal column
+row_text (row.NotText column) = codes "NotText column " ++ decimal column
 row_text row.Memory = codes "Memory"
 
 abbrev pub fault_text : RecordFault → List ℕ

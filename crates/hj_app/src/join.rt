@@ -51,7 +51,7 @@ pub fn join<O: Outside, K: Sink>(
         return Outcome::Memory;
     };
     let mut windows = Windows::new(alloc);
-    let mut line = String::new(alloc);
+    let mut line = Vec::new(alloc);
     let mut next = merger.next(outside);
     loop {
         let event = match next {

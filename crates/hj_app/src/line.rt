@@ -1,53 +1,92 @@
-ghost use Rattle.std.specs.Prelude.{◌≡◌, ◌<◌, ◌++◌, [], ◌∷◌, OnOk, length, string_bytes};
-ghost use Rattle.std.specs.Fmt.{signed_decimal};
-ghost use Rattle.hj_app.specs.JoinText.{line};
-ghost use Rattle.hj_app.specs.Line.{AddsFields};
+ghost use Rattle.std.specs.Prelude.{◌≡◌, ◌++◌, [], ◌∷◌, OnOk};
+ghost use Rattle.std.specs.List.{list_any};
+ghost use Rattle.hj_app.specs.JoinText.{doubled, is_special, field_text, line, text_form};
+ghost use Rattle.hj_app.specs.Line.{commas_behind};
 
 use hj_base::Memory;
 use hj_value::{Field, Row};
+use itoa::Buffer;
 
 /// Makes a reused buffer hold the line of two joined rows: the left row's fields, then the right row's, with commas between
 /// them and a line feed behind. Memory is taken for the buffer's growth alone; after a refusal it holds a part of the line.
-pub fn fill_line(buffer: &mut String, left: &Row, right: &Row) -> Result<(), Memory>
-    ensures { OnOk result (string_bytes buffer.new ≡ line left.now right.now) }
+pub fn fill_line(buffer: &mut Vec<u8>, left: &Row, right: &Row) -> Result<(), Memory>
+    ensures { OnOk result (buffer.new.items ≡ line left.now right.now) }
 {
     buffer.clear();
     push_row(buffer, left)?;
     push_row(buffer, right)?;
-    buffer.push('\n')?;
+    // The line feed stands in place of the comma behind the last field.
+    buffer.truncate(buffer.len().saturating_sub(1));
+    buffer.push(b'\n')?;
     Ok(())
 }
 
-/// Adds a row's fields to those that a line has.
-fn push_row(buffer: &mut String, row: &Row) -> Result<(), Memory>
-    ensures { OnOk result (AddsFields row.now (string_bytes buffer.old) (string_bytes buffer.new)) }
+/// Adds a row's fields, each with a comma behind it.
+fn push_row(buffer: &mut Vec<u8>, row: &Row) -> Result<(), Memory>
+    ensures { OnOk result (buffer.new.items ≡ buffer.old.items ++ commas_behind row.now) }
 {
     for at in 0..row.len() {
-        if let Some(field) = row.get(at) {
-            push_field(buffer, field)?;
-        }
+        let Some(field) = row.get(at) else {
+            unreachable!();
+        };
+        push_field(buffer, &field)?;
     }
     Ok(())
 }
 
-/// Adds a field to those that a line has.
-fn push_field(buffer: &mut String, field: &Field) -> Result<(), Memory>
-    ensures { OnOk result (AddsFields (field.now ∷ []) (string_bytes buffer.old) (string_bytes buffer.new)) }
+/// Adds a field and a comma.
+fn push_field(buffer: &mut Vec<u8>, field: &Field<'_>) -> Result<(), Memory>
+    ensures { OnOk result (buffer.new.items ≡ buffer.old.items ++ field_text field.now ++ 44 ∷ []) }
 {
-    if !buffer.is_empty() {
-        buffer.push(',')?;
-    }
     match field {
-        Field::Int(value) => push_int(buffer, *value)?,
+        Field::Int(value) => {
+            let mut digits = Buffer::new();
+            buffer.extend_from_slice(digits.format(*value).as_bytes())?;
+        }
+        Field::Text(text) => push_text(buffer, text.bytes())?,
     }
+    buffer.push(b',')?;
     Ok(())
 }
 
-/// Adds a number in decimal.
-fn push_int(buffer: &mut String, value: i64) -> Result<(), Memory>
-    ensures text { OnOk result (string_bytes buffer.new ≡ string_bytes buffer.old ++ signed_decimal value) }
-    ensures filled { OnOk result (0 < length (string_bytes buffer.new)) }
+/// Adds a text as it is written.
+fn push_text(buffer: &mut Vec<u8>, text: &[u8]) -> Result<(), Memory>
+    ensures { OnOk result (buffer.new.items ≡ buffer.old.items ++ text_form text.now) }
 {
-    write!(buffer, "{value}")?;
+    if needs_quotes(text) {
+        push_quoted(buffer, text)
+    } else {
+        buffer.extend_from_slice(text)?;
+        Ok(())
+    }
+}
+
+/// Whether a text has a comma, a double quote, a carriage return or a line feed.
+fn needs_quotes(text: &[u8]) -> bool
+    ensures { result ≡ list_any is_special text.now }
+{
+    text.iter().any(|byte| *byte == b',' || *byte == b'"' || *byte == b'\r' || *byte == b'\n')
+}
+
+/// Adds a text in double quotes, with each quote inside doubled.
+fn push_quoted(buffer: &mut Vec<u8>, text: &[u8]) -> Result<(), Memory>
+    ensures { OnOk result (buffer.new.items ≡ buffer.old.items ++ 34 ∷ doubled text.now ++ 34 ∷ []) }
+{
+    buffer.push(b'"')?;
+    for byte in text {
+        push_doubled(buffer, *byte)?;
+    }
+    buffer.push(b'"')?;
+    Ok(())
+}
+
+/// Adds a byte, or two for a double quote.
+fn push_doubled(buffer: &mut Vec<u8>, byte: u8) -> Result<(), Memory>
+    ensures { OnOk result (buffer.new.items ≡ buffer.old.items ++ doubled (byte ∷ [])) }
+{
+    if byte == b'"' {
+        buffer.push(b'"')?;
+    }
+    buffer.push(byte)?;
     Ok(())
 }

@@ -273,7 +273,6 @@ fn piece_name(fault: PieceFault) -> Part
         PieceFault::TooLong => "TooLong",
         PieceFault::StreamLong => "StreamLong",
         PieceFault::Memory => "Memory",
-        PieceFault::Unbuilt => "Unbuilt",
     })
 }
 
@@ -284,6 +283,7 @@ fn row_parts(fault: RowFault) -> [Part; 4]
         RowFault::FieldCount(found) => ("FieldCount ", found as u64),
         RowFault::NotNumber(column) => ("NotNumber column ", u64::from(column)),
         RowFault::NumberRange(column) => ("NumberRange column ", u64::from(column)),
+        RowFault::NotText(column) => ("NotText column ", u64::from(column)),
         RowFault::Memory => return [Part::Words("Memory"), NOTHING, NOTHING, NOTHING],
     };
     [Part::Words(kind), Part::Number(number), NOTHING, NOTHING]

@@ -207,7 +207,7 @@ fn bad_records_end_a_run(rt: HostRuntime) -> Result<(), Fail> {
             "right record 1: NumberRange column 2\n",
             3,
         ),
-        join(TEN, "1,7\r\n", "", "", "left record 1: Unbuilt\n", 3),
+        join(TEN, "\u{feff}\"1\",7\r\n", "2,\"7\"", "1,7,2,7\n", "", 0),
         join(TEN, "5,7\n5,7\n", "5,7\n", "5,7,5,7\n5,7,5,7\n", "", 0),
     ];
     run_all(&rt, rt.alloc(), &cases)

@@ -86,7 +86,7 @@ impl Window {
     }
 
     /// Sends the line of a side's row with each row of this, the opposite window, that has its key, the oldest first.
-    fn send_lines<K: Sink>(&self, side: Side, row: &Row, out: &mut K, line: &mut String) -> Sent
+    fn send_lines<K: Sink>(&self, side: Side, row: &Row, out: &mut K, line: &mut Vec<u8>) -> Sent
         ensures sends { Sends result (lines_with side row.now self.now) (K.told out.old) (K.told out.new) }
         ensures faults { CountsFaults result (K.faults out.old) (K.faults out.new) }
     {
@@ -131,7 +131,7 @@ impl Windows {
     /// Handles the event that comes after those of the rows held: the lines of an arriving row with the rows of the
     /// opposite window that have its key go to `out`, the oldest first, and it enters its own window; an expiring row leaves
     /// its window. `line` is a buffer that is used again and again. Unless all was done, the windows are as they were.
-    pub fn handle<K: Sink>(&mut self, event: Event<Row>, out: &mut K, line: &mut String) -> Sent
+    pub fn handle<K: Sink>(&mut self, event: Event<Row>, out: &mut K, line: &mut Vec<u8>) -> Sent
         requires { AreBelow (number event) self.old }
         ensures sends { Sends result (text (listed same_key self.old event)) (K.told out.old) (K.told out.new) }
         ensures faults { CountsFaults result (K.faults out.old) (K.faults out.new) }
@@ -152,7 +152,7 @@ impl Windows {
         side: Side,
         row: Row,
         out: &mut K,
-        line: &mut String,
+        line: &mut Vec<u8>,
     ) -> Sent
         requires { AreBelow no.0 self.old }
         ensures sends { Sends result (text (listed same_key self.old (Event.Arrive no side row))) (K.told out.old) (K.told out.new) }
@@ -192,7 +192,7 @@ fn send_if_joined<K: Sink>(
     row: &Row,
     other: &Row,
     out: &mut K,
-    line: &mut String,
+    line: &mut Vec<u8>,
 ) -> Sent
     ensures sends { Sends result (line_with side row.now other.now) (K.told out.old) (K.told out.new) }
     ensures faults { CountsFaults result (K.faults out.old) (K.faults out.new) }
@@ -205,12 +205,12 @@ fn send_if_joined<K: Sink>(
         return Sent::Whole;
     }
     match fill_line(line, left, right) {
-        Ok(()) => put_all(out, line.as_bytes()),
+        Ok(()) => put_all(out, line),
         Err(Memory) => Sent::Memory,
     }
 }
 
-/// Whether both rows have a key, the field behind the time, and the keys are equal.
+/// Whether both rows have a number as their key, the field behind the time, and the keys are equal.
 fn have_same_key(left: &Row, right: &Row) -> bool
     ensures { result ≡ same_key left.now right.now }
 {

@@ -1,5 +1,6 @@
 -- The rows, the arrivals and the events of streams that were cut off, beside those of the whole ones.
 use Rattle.std.proofs.Common.{◌≡◌, ℕ, ◌+◌, ◌⊎◌, inl, inr, Bool, true, false, cond, ltb, ℤ, int_le, List, [], ◌∷◌, ◌++◌, length, append_assoc, append-nil, Option, Result, None, Some, Ok, Err, refl, sym, ap, subst, ◌∙◌}
+use Rattle.hj_value.specs.declared.column.Column.{Column}
 use Rattle.hj_value.specs.declared.field.Field.{Field}
 use Rattle.hj_value.specs.Row.{time_of}
 use Rattle.hj_base.specs.declared.numbers.Side.{Side}
@@ -8,6 +9,7 @@ use Rattle.hj_base.specs.Journals.{IsPrefix}
 use Rattle.hj_msg.specs.declared.event.Event.{Event}
 use Rattle.hj_msg.specs.declared.event.Event.TheVariants.{Arrive, Expire}
 use Rattle.hj_record.specs.Pieces.{Stream, Pieces, PiecesEnd, pieces_of, unread as pieces_unread}
+use Rattle.hj_query.specs.Keyed.{keyed_columns}
 use Rattle.hj_event.specs.declared.fault.RecordFault.{RecordFault}
 use Rattle.hj_event.specs.Rows.{Rows, RowsEnd, then_rows, put_row, row_at, rows_from, rows_of, most_in_stream, clean as rows_clean, bad as rows_bad, unread as rows_unread}
 use Rattle.hj_event.specs.Arrivals.{Arrival, Arrivals, unread, no_arrival, then_arrivals, stop_or, right_only, left_among, merge, arrivals_of}
@@ -28,27 +30,27 @@ put_row-cut record_no before (Err found) cut all h = inl refl
 put_row-cut record_no before (Ok None) cut all h = h record_no before
 put_row-cut record_no before (Ok (Some row)) cut all h = then_rows-cut row (cut (record_no + 1) (Some (time_of row))) (all (record_no + 1) (Some (time_of row))) (h (record_no + 1) (Some (time_of row)))
 
-rows_from-front : (record_no : ℕ) (before : Option ℤ) (pieces others : List (List ℕ)) (ending : PiecesEnd) → RowsCut (rows_from record_no before pieces pieces_unread) (rows_from record_no before (pieces ++ others) ending)
-rows_from-front record_no before [] others ending = inr (refl, IsPrefix-nil (rows_from record_no before others ending).rows)
-rows_from-front record_no before (piece ∷ pieces) others ending = put_row-cut record_no before (row_at before piece) (λ next time. rows_from next time pieces pieces_unread) (λ next time. rows_from next time (pieces ++ others) ending)
-    (λ next time. rows_from-front next time pieces others ending)
+rows_from-front : (columns : List Column) (record_no : ℕ) (before : Option ℤ) (pieces others : List (List ℕ)) (ending : PiecesEnd) → RowsCut (rows_from columns record_no before pieces pieces_unread) (rows_from columns record_no before (pieces ++ others) ending)
+rows_from-front columns record_no before [] others ending = inr (refl, IsPrefix-nil (rows_from columns record_no before others ending).rows)
+rows_from-front columns record_no before (piece ∷ pieces) others ending = put_row-cut record_no before (row_at columns before piece) (λ next time. rows_from columns next time pieces pieces_unread) (λ next time. rows_from columns next time (pieces ++ others) ending)
+    (λ next time. rows_from-front columns next time pieces others ending)
 
-rows_from-cut : (record_no : ℕ) (before : Option ℤ) (cut all : Pieces) → PiecesCut cut all → RowsCut (rows_from record_no before cut.pieces cut.ending) (rows_from record_no before all.pieces all.ending)
-rows_from-cut record_no before cut all (inl e) = inl (ap (λ pieces. rows_from record_no before pieces.pieces pieces.ending) e)
-rows_from-cut record_no before cut all (inr e) = rw (e.0) (rw (e.1.is) (rows_from-front record_no before cut.pieces e.1.rest all.ending))
+rows_from-cut : (columns : List Column) (record_no : ℕ) (before : Option ℤ) (cut all : Pieces) → PiecesCut cut all → RowsCut (rows_from columns record_no before cut.pieces cut.ending) (rows_from columns record_no before all.pieces all.ending)
+rows_from-cut columns record_no before cut all (inl e) = inl (ap (λ pieces. rows_from columns record_no before pieces.pieces pieces.ending) e)
+rows_from-cut columns record_no before cut all (inr e) = rw (e.0) (rw (e.1.is) (rows_from-front columns record_no before cut.pieces e.1.rest all.ending))
 
-abbrev rows_within : ℕ → Stream → Rows
-rows_within limit stream = rows_from 1 None (pieces_of limit stream).pieces (pieces_of limit stream).ending
+abbrev rows_within : List Column → ℕ → Stream → Rows
+rows_within columns limit stream = rows_from columns 1 None (pieces_of limit stream).pieces (pieces_of limit stream).ending
 
-rows_within-cut : (limit : ℕ) (cut all : Stream) → IsCutOf cut all → RowsCut (rows_within limit cut) (rows_within limit all)
-rows_within-cut limit cut all (inl e) = inl (ap (λ stream. rows_within limit stream) e)
-rows_within-cut limit cut all (inr e) =
-    subst (λ stream. RowsCut (rows_within limit stream) (rows_within limit all)) (ap (λ whole. record { bytes = cut.bytes; whole = whole }) (sym e.0))
-    (subst (λ bytes. RowsCut (rows_within limit (record { bytes = cut.bytes; whole = false })) (rows_within limit (record { bytes = bytes; whole = all.whole }))) (sym e.1.is)
-    (rows_from-cut 1 None (pieces_of limit (record { bytes = cut.bytes; whole = false })) (pieces_of limit (record { bytes = cut.bytes ++ e.1.rest; whole = all.whole })) (pieces_of-cut limit cut.bytes e.1.rest all.whole)))
+rows_within-cut : (columns : List Column) (limit : ℕ) (cut all : Stream) → IsCutOf cut all → RowsCut (rows_within columns limit cut) (rows_within columns limit all)
+rows_within-cut columns limit cut all (inl e) = inl (ap (λ stream. rows_within columns limit stream) e)
+rows_within-cut columns limit cut all (inr e) =
+    subst (λ stream. RowsCut (rows_within columns limit stream) (rows_within columns limit all)) (ap (λ whole. record { bytes = cut.bytes; whole = whole }) (sym e.0))
+    (subst (λ bytes. RowsCut (rows_within columns limit (record { bytes = cut.bytes; whole = false })) (rows_within columns limit (record { bytes = bytes; whole = all.whole }))) (sym e.1.is)
+    (rows_from-cut columns 1 None (pieces_of limit (record { bytes = cut.bytes; whole = false })) (pieces_of limit (record { bytes = cut.bytes ++ e.1.rest; whole = all.whole })) (pieces_of-cut limit cut.bytes e.1.rest all.whole)))
 
-rows_of-cut : (cut all : Stream) → IsCutOf cut all → RowsCut (rows_of cut) (rows_of all)
-rows_of-cut cut all h = rows_within-cut most_in_stream cut all h
+rows_of-cut : (columns : List Column) (cut all : Stream) → IsCutOf cut all → RowsCut (rows_of columns cut) (rows_of columns all)
+rows_of-cut columns cut all h = rows_within-cut columns most_in_stream cut all h
 
 -- The same arrivals with the same ending, or the first of them, up to where a stream was cut off.
 abbrev ArrivalsCut : Arrivals → Arrivals → Type 0
@@ -146,7 +148,7 @@ numbered-cut window cut all (inl e) = inl (ap (λ arrivals. numbered window arri
 numbered-cut window cut all (inr e) = inr (e.0, rw (e.1.is) (number_from-prefix window 0 none_live cut.rows e.1.rest))
 
 pub events_of-cut : (window : ℕ) (cut_left cut_right left right : Stream) → IsCutOf cut_left left → IsCutOf cut_right right → NumberedCut (events_of window cut_left cut_right) (events_of window left right)
-events_of-cut window cut_left cut_right left right h k = numbered-cut window (arrivals_of (rows_of cut_left) (rows_of cut_right)) (arrivals_of (rows_of left) (rows_of right)) (arrivals_of-cut (rows_of cut_left) (rows_of cut_right) (rows_of left) (rows_of right) (rows_of-cut cut_left left h) (rows_of-cut cut_right right k))
+events_of-cut window cut_left cut_right left right h k = numbered-cut window (arrivals_of (rows_of keyed_columns cut_left) (rows_of keyed_columns cut_right)) (arrivals_of (rows_of keyed_columns left) (rows_of keyed_columns right)) (arrivals_of-cut (rows_of keyed_columns cut_left) (rows_of keyed_columns cut_right) (rows_of keyed_columns left) (rows_of keyed_columns right) (rows_of-cut keyed_columns cut_left left h) (rows_of-cut keyed_columns cut_right right k))
 
 pub events-begin : (cut all : Numbered) → NumberedCut cut all → IsPrefix cut.events all.events
 events-begin cut all (inl e) = record { rest = []; is = sym (ap (λ numbered. numbered.events) e) ∙ sym (append-nil cut.events) }

@@ -5,6 +5,5 @@ pub mod LiveRows
 pub mod MergerLemmas
 pub mod Moments
 pub mod PieceLemmas
-pub mod RowLemmas
 pub mod Turns
 pub mod Whole

@@ -62,7 +62,6 @@ Cuts-fault fault.NotOneRecord rest c c1 h = elim h [ inl e ↦ cc | inr e ↦ e 
 Cuts-fault fault.TooLong rest c c1 h = elim h [ inl e ↦ cc | inr e ↦ e ]
 Cuts-fault fault.StreamLong rest c c1 h = elim h [ inl e ↦ cc | inr e ↦ e ]
 Cuts-fault fault.Memory rest c c1 h = tt
-Cuts-fault fault.Unbuilt rest c c1 h = elim h [ inl e ↦ cc | inr e ↦ e ]
 
 module _ (c c0 c1 : Cutting) (rest : List ℕ) (clear : c0 ≡ cleared c) where
   pub Cuts-piece : (used : ℕ) → Feeds (fed.Piece used) rest c0 c1 → (c0.fault ≡ None → Leads (fed.Piece used) rest c0 c1) → Cuts (Ok (Some used)) rest c c1

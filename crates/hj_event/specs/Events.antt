@@ -1,12 +1,14 @@
 -- The numbered events of two streams under row windows: after an arrival that makes one live row too many on its
 -- side, the oldest live row of that side expires as the next event.
 use Rattle.std.specs.Prelude.{ℕ, ◌+◌, List, [], ◌∷◌, ◌++◌, length, nat_lt, if◌then◌else◌}
+use Rattle.hj_value.specs.declared.column.Column.{Column}
 use Rattle.hj_value.specs.declared.field.Field.{Field}
 use Rattle.hj_base.specs.declared.numbers.Side.{Side}
 use Rattle.hj_base.specs.declared.numbers.Side.TheVariants.{Left, Right}
 use Rattle.hj_msg.specs.declared.event.Event.{Event}
 use Rattle.hj_msg.specs.declared.event.Event.TheVariants.{Arrive, Expire}
 use Rattle.hj_record.specs.Pieces.{Stream}
+use Rattle.hj_query.specs.Keyed.{keyed_columns}
 use Rattle.hj_event.specs.Rows.{rows_of}
 use Rattle.hj_event.specs.Arrivals.{Arrival, Ending, arrivals_of}
 
@@ -46,8 +48,12 @@ pub record Numbered : Type 0 where
   pub events : List (Event (List Field))
   pub ending : Ending
 
--- The events of two streams under row windows.
-abbrev pub events_of : ℕ → Stream → Stream → Numbered
-events_of window left right =
-    let arrivals = arrivals_of (rows_of left) (rows_of right) in
+-- The events of two streams, each read by its columns, under row windows.
+abbrev pub events_by : ℕ → List Column → List Column → Stream → Stream → Numbered
+events_by window left_columns right_columns left right =
+    let arrivals = arrivals_of (rows_of left_columns left) (rows_of right_columns right) in
     record { events = number_from window 0 none_live arrivals.rows; ending = arrivals.ending }
+
+-- The events of two streams of a time and a key, under row windows.
+abbrev pub events_of : ℕ → Stream → Stream → Numbered
+events_of window left right = events_by window keyed_columns keyed_columns left right

@@ -1,39 +1,17 @@
--- The rows of a stream of two whole numbers a record, a time and a key, whose times never fall.
-use Rattle.std.specs.Prelude.{ℕ, ◌+◌, ◌^◌, ℤ, List, [], ◌∷◌, ◌==◌, length, if◌then◌else◌, int_lt, None, Some, Ok, Err}
+-- The rows of a stream, read by the columns of its schema, whose times never fall.
+use Rattle.std.specs.Prelude.{ℕ, ◌+◌, ◌^◌, ℤ, List, [], ◌∷◌, if◌then◌else◌, int_lt, None, Some, Ok, Err}
 use Rattle.std.specs.declared.option.Option.{Option}
 use Rattle.std.specs.declared.result.Result.{Result}
+use Rattle.hj_value.specs.declared.column.Column.{Column}
 use Rattle.hj_value.specs.declared.field.Field.{Field}
-use Rattle.hj_value.specs.declared.field.Field.TheVariants.{Int}
-use Rattle.hj_value.specs.declared.number.IntFault.{IntFault}
-use Rattle.hj_value.specs.declared.number.IntFault.TheVariants as int
-use Rattle.hj_value.specs.Number.{int_of}
 use Rattle.hj_value.specs.Row.{time_of}
 use Rattle.hj_record.specs.declared.fault.PieceFault.{PieceFault}
 use Rattle.hj_record.specs.Pieces.{Stream, PiecesEnd, pieces_of, clean as pieces_clean, bad as pieces_bad, unread as pieces_unread}
 use Rattle.hj_record.specs.Records.{record_of}
-use Rattle.hj_event.specs.declared.fault.RowFault.{RowFault}
-use Rattle.hj_event.specs.declared.fault.RowFault.TheVariants as row_fault
+use Rattle.hj_schema.specs.declared.fault.RowFault.{RowFault}
+use Rattle.hj_schema.specs.Rows.{row_of}
 use Rattle.hj_event.specs.declared.fault.RecordFault.{RecordFault}
 use Rattle.hj_event.specs.declared.fault.RecordFault.TheVariants as fault
-
--- the fault of a column's number; columns are counted from 1
-abbrev pub column_fault : ℕ → IntFault → RowFault
-column_fault column int.NotNumber = row_fault.NotNumber column
-column_fault column int.NumberRange = row_fault.NumberRange column
-
-abbrev pub put_field : ℕ → Result ℤ IntFault → Result (List Field) RowFault → Result (List Field) RowFault
-put_field column (Err fault) others = Err (column_fault column fault)
-put_field column (Ok value) (Err fault) = Err fault
-put_field column (Ok value) (Ok fields) = Ok (Int value ∷ fields)
-
--- the numbers of the fields from this column on, or the first fault
-abbrev pub ints_from : ℕ → List (List ℕ) → Result (List Field) RowFault
-ints_from column [] = Ok []
-ints_from column (bytes ∷ others) = put_field column (int_of bytes) (ints_from (column + 1) others)
-
--- The row of a record's fields: two whole numbers.
-abbrev pub row_of : List (List ℕ) → Result (List Field) RowFault
-row_of fields = if length fields == 2 then ints_from 1 fields else Err (row_fault.FieldCount (length fields))
 
 -- the row where its time isn't below that of the row before
 abbrev pub in_time : Option ℤ → List Field → Result (Option (List Field)) RecordFault
@@ -44,14 +22,14 @@ abbrev row_in_time : Option ℤ → Result (List Field) RowFault → Result (Opt
 row_in_time before (Err found) = Err (fault.Row found)
 row_in_time before (Ok row) = in_time before row
 
-abbrev record_row : Option ℤ → Result (Option (List (List ℕ))) PieceFault → Result (Option (List Field)) RecordFault
-record_row before (Err found) = Err (fault.Piece found)
-record_row before (Ok None) = Ok None
-record_row before (Ok (Some fields)) = row_in_time before (row_of fields)
+abbrev record_row : List Column → Option ℤ → Result (Option (List (List ℕ))) PieceFault → Result (Option (List Field)) RecordFault
+record_row columns before (Err found) = Err (fault.Piece found)
+record_row columns before (Ok None) = Ok None
+record_row columns before (Ok (Some fields)) = row_in_time before (row_of columns fields)
 
 -- The row of a piece, behind a row of this time; None where the piece holds no record.
-abbrev pub row_at : Option ℤ → List ℕ → Result (Option (List Field)) RecordFault
-row_at before piece = record_row before (record_of piece)
+abbrev pub row_at : List Column → Option ℤ → List ℕ → Result (Option (List Field)) RecordFault
+row_at columns before piece = record_row columns before (record_of piece)
 
 -- How a stream's rows end: with its bytes, in a bad record, by its number from 1, or where it was cut off.
 pub data RowsEnd : Type 0 where
@@ -83,15 +61,15 @@ put_row record_no before (Ok None) behind = behind record_no before
 put_row record_no before (Ok (Some row)) behind = then_rows row (behind (record_no + 1) (Some (time_of row)))
 
 -- The rows of pieces of which the first record has this number, behind a row of this time.
-abbrev pub rows_from : ℕ → Option ℤ → List (List ℕ) → PiecesEnd → Rows
-rows_from record_no before [] ending = no_row (end_at record_no ending)
-rows_from record_no before (piece ∷ pieces) ending =
-    put_row record_no before (row_at before piece) (λ next time. rows_from next time pieces ending)
+abbrev pub rows_from : List Column → ℕ → Option ℤ → List (List ℕ) → PiecesEnd → Rows
+rows_from columns record_no before [] ending = no_row (end_at record_no ending)
+rows_from columns record_no before (piece ∷ pieces) ending =
+    put_row record_no before (row_at columns before piece) (λ next time. rows_from columns next time pieces ending)
 
 -- how many bytes a stream may have
 abbrev pub most_in_stream : ℕ
 most_in_stream = 2 ^ 62
 
--- The rows of a stream.
-abbrev pub rows_of : Stream → Rows
-rows_of stream = let cut = pieces_of most_in_stream stream in rows_from 1 None cut.pieces cut.ending
+-- The rows of a stream, read by these columns.
+abbrev pub rows_of : List Column → Stream → Rows
+rows_of columns stream = let cut = pieces_of most_in_stream stream in rows_from columns 1 None cut.pieces cut.ending

@@ -2,9 +2,10 @@
 use Rattle.std.specs.Prelude.{◌≡◌, ℕ, ◌<◌, ℤ, List, Ok, Err, None, Some}
 use Rattle.std.specs.declared.option.Option.{Option}
 use Rattle.std.specs.declared.result.Result.{Result}
+use Rattle.hj_value.specs.declared.column.Column.{Column}
 use Rattle.hj_value.specs.declared.field.Field.{Field}
 use Rattle.hj_record.specs.declared.fault.PieceFault.TheVariants as piece_fault
-use Rattle.hj_event.specs.declared.fault.RowFault.TheVariants as row_fault
+use Rattle.hj_schema.specs.declared.fault.RowFault.TheVariants as row_fault
 use Rattle.hj_event.specs.declared.fault.RecordFault.{RecordFault}
 use Rattle.hj_event.specs.declared.fault.RecordFault.TheVariants as fault
 use Rattle.hj_event.specs.declared.stop.Stop.{Stop}
@@ -20,9 +21,9 @@ pub record Coming : Type 0 where
   -- how many bytes weren't taken yet
   pub left : ℕ
 
--- What is to come where the next record has this number, behind a row of this time.
-abbrev pub coming : ℕ → Option ℤ → Reading → Coming
-coming record_no before pieces = record { rows = rows_from record_no before pieces.behind.pieces pieces.behind.ending; left = pieces.left }
+-- What is to come, read by these columns, where the next record has this number, behind a row of this time.
+abbrev pub coming : List Column → ℕ → Option ℤ → Reading → Coming
+coming columns record_no before pieces = record { rows = rows_from columns record_no before pieces.behind.pieces pieces.behind.ending; left = pieces.left }
 
 -- why the stream stops at the record of this number
 abbrev pub stop_of : ℕ → RecordFault → Stop

@@ -1,5 +1,4 @@
-ghost use Rattle.std.specs.Prelude.{◌≡◌, true, None};
-ghost use Rattle.hj_event.specs.Rows.{rows_of};
+ghost use Rattle.std.specs.Prelude.{◌≡◌, None};
 ghost use Rattle.hj_event.specs.Arrivals.{arrivals_of};
 ghost use Rattle.hj_event.specs.Source.{TakesRow};
 ghost use Rattle.hj_event.specs.Merging.{with_head, last_of, TakesArrival};
@@ -8,7 +7,6 @@ use crate::source::Source;
 use crate::stop::{Last, Stop};
 use hj_base::Side;
 use hj_value::Row;
-use std::alloc::Global;
 use std::marker::Model;
 
 /// The rows of one side, of which the first may have been looked at.
@@ -50,19 +48,17 @@ impl Model for Arrivals {
 }
 
 impl Arrivals {
-    /// The arrivals of two streams of these bytes.
-    pub(crate) fn new(alloc: Global, left: Vec<u8>, right: Vec<u8>) -> Self
-        ensures { result ≡ arrivals_of
-            (rows_of (record { bytes = left.items; whole = true }))
-            (rows_of (record { bytes = right.items; whole = true })) }
+    /// The arrivals of the rows of two sources.
+    pub(crate) fn new(left: Source, right: Source) -> Self
+        ensures { result ≡ arrivals_of left.rows right.rows }
     {
         Arrivals {
             left: Rows {
-                source: Source::new(alloc, left),
+                source: left,
                 head: None,
             },
             right: Rows {
-                source: Source::new(alloc, right),
+                source: right,
                 head: None,
             },
         }

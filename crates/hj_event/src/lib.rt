@@ -10,12 +10,12 @@ mod numbering;
 mod pieces;
 mod reading;
 mod record;
-mod row;
 mod source;
 mod stop;
 
-pub use fault::{RecordFault, RowFault};
+pub use fault::RecordFault;
 pub use hj_msg::{Event, Pair};
+pub use hj_schema::RowFault;
 pub use laws::{cut_stream_gives_prefix, events_are_well_formed, rows_expire_in_turn};
 pub use merger::{Merger, Next};
 

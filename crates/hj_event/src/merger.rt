@@ -1,15 +1,20 @@
-ghost use Rattle.std.specs.Prelude.{◌≡◌, ◌≤◌, IfOk, List, ℕ};
+ghost use Rattle.std.specs.Prelude.{◌≡◌, ◌≤◌, true, IfOk, List, ℕ};
 ghost use Rattle.hj_base.specs.Outside.{IsOpen};
 ghost use Rattle.hj_base.specs.declared.outside.Role.TheVariants as role;
+ghost use Rattle.hj_query.specs.Keyed.{IsKeyed};
+ghost use Rattle.hj_event.specs.Events.{events_by};
 ghost use Rattle.hj_event.specs.Merger.{fresh, Answers, ReadsSides};
 ghost use Rattle.hj_event.specs.Stages.{merging_of, answer_of, Begins};
 
 use crate::RecordFault;
+use crate::arrivals::Arrivals;
 use crate::numbering::Numbering;
 use crate::reading::read_side;
+use crate::source::Source;
 use crate::stop::Last;
 use hj_base::{Memory, Outside, Side};
 use hj_msg::Event;
+use hj_query::{Query, equi};
 use hj_value::Row;
 use std::alloc::Global;
 use std::marker::Model;
@@ -44,6 +49,8 @@ enum Stage {
 #[derive(Drop)]
 pub struct Merger {
     alloc: Global,
+    /// The query whose streams are merged.
+    query: Query,
     window: u32,
     /// None before the first event is asked for.
     stage: Option<Stage>,
@@ -56,6 +63,10 @@ impl Model for Merger {
     ghost Value = { Merging };
 
     ghost view = { λ m. merging m.window m.stage };
+
+    ghost use Rattle.hj_query.specs.Keyed.{IsKeyed};
+
+    ghost invariant = { λ m. IsKeyed m.window m.query };
 }
 
 impl Merger {
@@ -67,6 +78,7 @@ impl Merger {
     {
         Ok(Merger {
             alloc,
+            query: equi(alloc, window)?,
             window,
             stage: None,
         })
@@ -84,7 +96,7 @@ impl Merger {
         match &mut self.stage {
             Some(stage) => stage.next(),
             None => {
-                let mut stage = begin(self.alloc, self.window, outside);
+                let mut stage = begin(self.alloc, &self.query, self.window, outside);
                 let answer = stage.next();
                 self.stage = Some(stage);
                 answer
@@ -114,7 +126,8 @@ impl Stage {
 }
 
 /// Reads both streams, the left one first, each to its end or to a failed read.
-fn begin<O: Outside>(alloc: Global, window: u32, outside: &mut O) -> Stage
+fn begin<O: Outside>(alloc: Global, query: &Query, window: u32, outside: &mut O) -> Stage
+    requires keyed { IsKeyed window query.now }
     requires left { IsOpen (O.state outside.old role.Left).phase }
     requires right { IsOpen (O.state outside.old role.Right).phase }
     ensures begins { Begins window (merging_of result) (O.state outside.old) (O.state outside.new) }
@@ -125,10 +138,32 @@ fn begin<O: Outside>(alloc: Global, window: u32, outside: &mut O) -> Stage
         Ok(bytes) => bytes,
         Err(last) => return Stage::Over(last),
     };
-    match read_side(alloc, Side::Right, outside) {
-        Ok(right) => Stage::Running(Numbering::new(alloc, window, left, right)),
-        Err(last) => Stage::Over(last),
+    let right = match read_side(alloc, Side::Right, outside) {
+        Ok(bytes) => bytes,
+        Err(last) => return Stage::Over(last),
+    };
+    match numbering(alloc, query, window, left, right) {
+        Ok(numbering) => Stage::Running(numbering),
+        Err(Memory) => Stage::Over(Last::Memory),
     }
+}
+
+/// The events of two streams of these bytes, each read by the schema of its side.
+fn numbering(
+    alloc: Global,
+    query: &Query,
+    window: u32,
+    left: Vec<u8>,
+    right: Vec<u8>,
+) -> Result<Numbering, Memory>
+    ensures { IfOk result (λ numbering. numbering
+        ≡ events_by window query.now.left.columns query.now.right.columns
+        (record { bytes = left.items; whole = true })
+        (record { bytes = right.items; whole = true })) }
+{
+    let left = Source::new(alloc, query.schema(Side::Left).copy(alloc)?, left);
+    let right = Source::new(alloc, query.schema(Side::Right).copy(alloc)?, right);
+    Ok(Numbering::new(alloc, window, Arrivals::new(left, right)))
 }
 
 fn answer(last: Last) -> Next

@@ -1,5 +1,5 @@
-ghost use Rattle.std.specs.Prelude.{◌≡◌, ◌+◌, true, IfOk};
-ghost use Rattle.hj_event.specs.Events.{events_of};
+ghost use Rattle.std.specs.Prelude.{◌≡◌, ◌+◌, None, IfOk};
+ghost use Rattle.hj_event.specs.Events.{none_live};
 
 use crate::arrivals::Arrivals;
 use crate::live::Live;
@@ -38,20 +38,18 @@ impl Model for Numbering {
 }
 
 impl Numbering {
-    ghost use Rattle.hj_event.specs.Numbering.{TakesEvent};
+    ghost use Rattle.hj_event.specs.Numbering.{numbered, TakesEvent};
 
-    /// The events of two streams of these bytes, with windows of `window` rows.
-    pub(crate) fn new(alloc: Global, window: u32, left: Vec<u8>, right: Vec<u8>) -> Self
-        ensures { result ≡ events_of window
-            (record { bytes = left.items; whole = true })
-            (record { bytes = right.items; whole = true }) }
+    /// The events of these arrivals, with windows of `window` rows.
+    pub(crate) fn new(alloc: Global, window: u32, arrivals: Arrivals) -> Self
+        ensures { result ≡ numbered window 0 None none_live arrivals }
     {
         Numbering {
             window,
             next: 0,
             due: None,
             live: Live::new(alloc),
-            arrivals: Arrivals::new(alloc, left, right),
+            arrivals,
         }
     }
 

@@ -2,24 +2,27 @@ ghost use Rattle.std.specs.Prelude.{◌≤◌, length};
 ghost use Rattle.hj_event.specs.RowAnswers.{ReadsPiece, InTime};
 
 use crate::RecordFault;
-use crate::row::read_row;
-use hj_record::read_piece;
-use hj_value::Row;
+use hj_record::{Fields, read_piece_into};
+use hj_schema::read_row;
+use hj_value::{Row, Schema};
 use std::alloc::Global;
 
-/// Reads the row of a piece, behind a row of the time `before`; None where the piece holds no record.
+/// Reads the row of a piece by a schema, behind a row of the time `before`; None where the piece holds no record. The
+/// fields are read into `fields`, whose memory is used again.
 pub(crate) fn read_record(
     alloc: Global,
+    schema: &Schema,
     before: Option<i64>,
     piece: &[u8],
+    fields: &mut Fields,
 ) -> Result<Option<Row>, RecordFault>
     requires { length piece.now ≤ 65536 }
-    ensures { ReadsPiece result before piece.now }
+    ensures { ReadsPiece result schema.now.columns before piece.now }
 {
-    let Some(fields) = read_piece(alloc, piece)? else {
+    if !read_piece_into(piece, fields)? {
         return Ok(None);
-    };
-    let row = read_row(alloc, &fields)?;
+    }
+    let row = read_row(alloc, schema, fields)?;
     Ok(Some(in_time(before, row)?))
 }
 

@@ -6,8 +6,8 @@ use crate::pieces::PieceReader;
 use crate::record::read_record;
 use crate::stop::{Found, Stop};
 use crate::{RecordFault, RowFault};
-use hj_record::PieceFault;
-use hj_value::Row;
+use hj_record::{Fields, PieceFault};
+use hj_value::{Row, Schema};
 use std::alloc::Global;
 use std::marker::Model;
 
@@ -15,6 +15,9 @@ use std::marker::Model;
 #[derive(Drop)]
 pub(crate) struct Source {
     alloc: Global,
+    schema: Schema,
+    /// The fields of the record that was read last; their memory is used again for the next one.
+    fields: Fields,
     pieces: PieceReader,
     /// The number that the next record has.
     record_no: u64,
@@ -27,16 +30,19 @@ impl Model for Source {
 
     ghost Value = { Coming };
 
-    ghost view = { λ s. coming s.record_no s.before s.pieces };
+    ghost view = { λ s. coming s.schema.columns s.record_no s.before s.pieces };
 }
 
 impl Source {
-    /// A source of the rows of these bytes.
-    pub(crate) fn new(alloc: Global, bytes: Vec<u8>) -> Self
-        ensures { result.rows ≡ rows_of (record { bytes = bytes.items; whole = true }) }
+    /// A source of the rows of these bytes, by this schema.
+    pub(crate) fn new(alloc: Global, schema: Schema, bytes: Vec<u8>) -> Self
+        ensures { result.rows
+            ≡ rows_of schema.columns (record { bytes = bytes.items; whole = true }) }
     {
         Source {
             alloc,
+            schema,
+            fields: Fields::new(alloc),
             pieces: PieceReader::new(alloc, bytes),
             record_no: 1,
             before: None,
@@ -65,7 +71,14 @@ impl Source {
             Ok(false) => return Ok(Found::End),
             Err(fault) => return Err(stop(self.record_no, RecordFault::Piece(fault))),
         }
-        let row = match read_record(self.alloc, self.before, self.pieces.piece()) {
+        let read = read_record(
+            self.alloc,
+            &self.schema,
+            self.before,
+            self.pieces.piece(),
+            &mut self.fields,
+        );
+        let row = match read {
             Ok(Some(row)) => row,
             Ok(None) => return Ok(Found::NoRecord),
             Err(fault) => return Err(stop(self.record_no, fault)),
