@@ -1,0 +1,5 @@
+mod SideLemmas
+pub mod Order
+mod Merging
+mod Finding
+mod Arriving

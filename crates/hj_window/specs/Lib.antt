@@ -1,0 +1,4 @@
+pub mod LiveRows
+pub mod Numbers
+pub mod SideRows
+pub mod LiveView

@@ -1,0 +1,163 @@
+ghost use Rattle.std.specs.Prelude.{◌≡◌, ◌<◌, ◌≤◌, ◌-ℤ◌, ◌+◌, ◌++◌, [], ◌∷◌, length, drop, OnOk, OnErr};
+ghost use Rattle.hj_window.specs.LiveRows.{is_gone_at};
+ghost use Rattle.std.specs.VecDeque.{deque_len, deque_capacity};
+ghost use Rattle.hj_window.specs.SideRows.{aged, unaged, due_rows, overflow, IsAsBefore, IsInTime, OnceInTime};
+
+use hj_base::{EventNo, Memory, Window};
+use std::alloc::Global;
+use std::collections::VecDeque;
+use std::marker::Model;
+
+/// A live row: the number of its arrival, and its time.
+#[derive(Clone, Copy)]
+pub(crate) struct HeldRow {
+    pub(crate) no: EventNo,
+    pub(crate) time: i64,
+}
+
+/// A row that is gone by its age, and the place behind it.
+#[derive(Clone, Copy)]
+pub(crate) struct Due {
+    pub(crate) held: HeldRow,
+    pub(crate) next: usize,
+}
+
+/// The live rows of one side, the oldest first.
+#[derive(Drop)]
+pub(crate) struct SideRows {
+    window: Window,
+    rows: VecDeque<HeldRow>,
+    /// No row's time is below that of a row before it.
+    in_time: bool,
+}
+
+impl Model for SideRows {
+    ghost use Rattle.hj_window.specs.SideRows.{Kept, OnceInTime};
+    ghost use Rattle.std.specs.Prelude.{◌-◌};
+    ghost use Rattle.std.specs.VecDeque.{deque_len, deque_capacity};
+
+    ghost Value = { Kept };
+
+    ghost view = { λ s. record { window = s.window; rows = s.rows.items; room = deque_capacity s.rows - deque_len s.rows } };
+
+    ghost invariant = { λ s. OnceInTime s.in_time s.rows.items };
+}
+
+impl SideRows {
+    /// No live row.
+    pub(crate) fn new(alloc: Global, window: Window) -> Self
+        ensures window { result.window ≡ window }
+        ensures rows { result.rows ≡ [] }
+    {
+        SideRows {
+            window,
+            rows: VecDeque::new(alloc),
+            in_time: true,
+        }
+    }
+
+    /// The first row at or behind a place that is gone by its age at this time.
+    pub(crate) fn due_from(&self, from: usize, now: i64) -> Option<Due>
+        ensures { aged self.now.window now (drop from self.now.rows) ≡ due_rows self.now.window now self.now.rows result }
+    {
+        if let Window::Rows(_) = self.window {
+            return None;
+        }
+        for at in from..self.rows.len() {
+            let held = self.rows[at];
+            if is_aged(self.window, now, held.time) {
+                return Some(Due { held, next: at + 1 });
+            }
+            if self.in_time {
+                // No later row is older.
+                return None;
+            }
+        }
+        None
+    }
+
+    /// Makes room for a row that arrives at this time, unless a row that leaves by its age makes it.
+    pub(crate) fn reserve(&mut self, now: i64) -> Result<(), Memory>
+        ensures same { IsAsBefore self.old self.new }
+        ensures room { OnOk result (0 < self.new.room + length (aged self.old.window now self.old.rows)) }
+    {
+        if self.due_from(0, now).is_none() {
+            self.rows.reserve(1)?;
+        }
+        Ok(())
+    }
+
+    /// Takes out the rows that are gone by their age at this time.
+    pub(crate) fn remove_aged(&mut self, now: i64)
+        ensures window { self.new.window ≡ self.old.window }
+        ensures rows { self.new.rows ≡ unaged self.old.window now self.old.rows }
+        ensures room { self.old.room + length (aged self.old.window now self.old.rows) ≤ self.new.room }
+    {
+        let window = self.window;
+        if self.in_time {
+            pop_aged(&mut self.rows, window, now);
+        } else {
+            self.rows.retain(|held| !is_aged(window, now, held.time));
+        }
+    }
+
+    /// Puts a row behind the others. Where the window then has one row too many, takes out the oldest, and answers its number.
+    pub(crate) fn enter(&mut self, held: HeldRow) -> Option<EventNo>
+        requires { 0 < self.old.room }
+        ensures window { self.new.window ≡ self.old.window }
+        ensures gone { result ≡ (overflow self.old.window (self.old.rows ++ held ∷ [])).gone }
+        ensures rows { self.new.rows ≡ (overflow self.old.window (self.old.rows ++ held ∷ [])).rows }
+    {
+        self.in_time = self.stays_in_time(held);
+        self.rows.push_back_reserved(held);
+        pop_overflow(&mut self.rows, self.window)
+    }
+
+    /// Whether it is known that the times never fall, also with this row behind the others.
+    fn stays_in_time(&self, held: HeldRow) -> bool
+        ensures { OnceInTime result (self.now.rows ++ held ∷ []) }
+    {
+        match self.rows.back() {
+            Some(newest) => self.in_time && newest.time <= held.time,
+            None => true,
+        }
+    }
+}
+
+/// Takes out the rows that are gone by their age at this time, where the times never fall: they stand in front.
+fn pop_aged(rows: &mut VecDeque<HeldRow>, window: Window, now: i64)
+    requires { IsInTime rows.old.items }
+    ensures items { rows.new.items ≡ unaged window now rows.old.items }
+    ensures in_time { IsInTime rows.new.items }
+    ensures capacity { deque_capacity rows.new ≡ deque_capacity rows.old }
+{
+    while let Some(oldest) = rows.front() {
+        if !is_aged(window, now, oldest.time) {
+            return;
+        }
+        let _ = rows.pop_front();
+    }
+}
+
+/// Where there is one row too many for the window, takes out the first, and answers its number.
+fn pop_overflow(rows: &mut VecDeque<HeldRow>, window: Window) -> Option<EventNo>
+    ensures gone { result ≡ (overflow window rows.old.items).gone }
+    ensures items { rows.new.items ≡ (overflow window rows.old.items).rows }
+{
+    match window {
+        Window::Rows(count) if rows.len() > count as usize => {
+            rows.pop_front().map(|oldest| oldest.no)
+        }
+        _ => None,
+    }
+}
+
+/// Whether a row of this time is gone by its age. An age may pass 64 bits.
+fn is_aged(window: Window, now: i64, time: i64) -> bool
+    ensures { result ≡ is_gone_at window (now -ℤ time) }
+{
+    match window {
+        Window::Rows(_) => false,
+        Window::Time(span) => i128::from(span) <= i128::from(now) - i128::from(time),
+    }
+}
