@@ -25,14 +25,14 @@ use Rattle.hj_msg.proofs.Counts.{count, count_is, count-append, count-prefix, lo
 use Rattle.hj_msg.proofs.Ends.{puts-append, takes-append, puts-left, puts-right, count-takes}
 
 -- What a core sends on a side holds each row at most as often as the message that it handled, and none from the other side.
-count-only_if : {P : Type 0} (p : Msg P → Bool) (holds : Bool) (message : Msg P) → p message ≡ false → count p (only_if holds message) ≡ 0
+pub count-only_if : {P : Type 0} (p : Msg P → Bool) (holds : Bool) (message : Msg P) → p message ≡ false → count p (only_if holds message) ≡ 0
 count-only_if p true message e = rw e refl
 count-only_if p false message e = refl
 
-count-both : {P : Type 0} (p : Msg P → Bool) (here there : Bool) (one other : Msg P) → p one ≡ false → p other ≡ false → count p (only_if here one ++ only_if there other) ≡ 0
+pub count-both : {P : Type 0} (p : Msg P → Bool) (here there : Bool) (one other : Msg P) → p one ≡ false → p other ≡ false → count p (only_if here one ++ only_if there other) ≡ 0
 count-both p here there one other e f = omega (arith, count-append p (only_if here one) (only_if there other), count-only_if p here one e, count-only_if p there other f)
 
-sends-right-R : {P : Type 0} (at place n : ℕ) (message : Msg P) → count (is_R at) (sends place n message).right ≡ cond (is_R at message) 1 0
+pub sends-right-R : {P : Type 0} (at place n : ℕ) (message : Msg P) → count (is_R at) (sends place n message).right ≡ cond (is_R at message) 1 0
 sends-right-R at place n (R other row) = omega arith
 sends-right-R at place n (S other row) =
     count-both (is_R at) (nat_lt (place + 1) n) (place == 0) (AckS other) (EndS other) refl refl
@@ -56,7 +56,7 @@ sends-right-S at place n (EndR other) = refl
 sends-right-S at place n (ExpR other) = refl
 sends-right-S at place n CloseR = refl
 
-sends-left-S : {P : Type 0} (at place n : ℕ) (message : Msg P) → count (is_S at) (sends place n message).left ≡ cond (is_S at message) 1 0
+pub sends-left-S : {P : Type 0} (at place n : ℕ) (message : Msg P) → count (is_S at) (sends place n message).left ≡ cond (is_S at message) 1 0
 sends-left-S at place n (R other row) = count-only_if (is_S at) (is_last place n) (EndR other) refl
 sends-left-S at place n (S other row) = omega arith
 sends-left-S at place n (AckS other) = refl
@@ -79,9 +79,9 @@ sends-left-R at place n (ExpR other) = refl
 sends-left-R at place n CloseR = refl
 
 -- Every turn, a cut one too, puts a prefix of what the core sends.
-record PutsOnly {P : Type 0} (place n : ℕ) (turn : Turn P) : Type 0 where
-  left : IsPrefix turn.to_left (sends place n turn.message).left
-  right : IsPrefix turn.to_right (sends place n turn.message).right
+pub record PutsOnly {P : Type 0} (place n : ℕ) (turn : Turn P) : Type 0 where
+  pub left : IsPrefix turn.to_left (sends place n turn.message).left
+  pub right : IsPrefix turn.to_right (sends place n turn.message).right
 
 prefix_of_same : {X : Type 0} (xs ys : List X) → xs ≡ ys → IsPrefix xs ys
 prefix_of_same xs ys e = record { rest = []; is = sym e ∙ sym (append-nil xs) }
@@ -96,7 +96,7 @@ cut_puts : {P : Type 0} (place n : ℕ) (cut : Option (Turn P)) → IfSome cut (
 cut_puts place n None is = tt
 cut_puts place n (Some turn) is = (record { left = is.left; right = is.right }, tt)
 
-all_put : {P : Type 0} {matches : P → P → Bool} {place n : ℕ} {turns : Turns P} {left right : List (Entry (Msg P))} {reports : List (Entry (Report P))}
+pub all_put : {P : Type 0} {matches : P → P → Bool} {place n : ℕ} {turns : Turns P} {left right : List (Entry (Msg P))} {reports : List (Entry (Report P))}
     → TakesTurns matches place n turns left right reports → AllByRecursion (PutsOnly place n) (all_of turns)
 all_put {matches = matches} {place = place} {n = n} {turns = turns} core =
     whole_puts matches place n empty_state turns.whole (option_to_list turns.cut) core.whole (cut_puts place n turns.cut core.cut)
@@ -199,7 +199,7 @@ count-port p at port each (entry ∷ log) =
       count-port p at port each log,
     )
 
-count-port-none : {P : Type 0} (p : Msg P → Bool) (port : Side) → ((n : ℕ) (turn : DriverTurn P) → count p (puts (at_port port n turn)) ≡ 0)
+pub count-port-none : {P : Type 0} (p : Msg P → Bool) (port : Side) → ((n : ℕ) (turn : DriverTurn P) → count p (puts (at_port port n turn)) ≡ 0)
     → (log : List (LogEntry P)) → count p (puts (port_journal port log)) ≡ 0
 count-port-none p port each [] = refl
 count-port-none p port each (entry ∷ log) =
@@ -215,7 +215,7 @@ count-port-none p port each (entry ∷ log) =
 beginning : {X : Type 0} (xs ys zs all : List X) → all ≡ (xs ++ ys) ++ zs → all ≡ xs ++ (ys ++ zs)
 beginning xs ys zs all e = e ∙ append_assoc xs ys zs
 
-never_both : {M : Type 0} {capacity : ℕ} (link : Link M) → Agrees capacity link → (p q : M → Bool) (left_before left_after right_before right_after : List (Entry M))
+pub never_both : {M : Type 0} {capacity : ℕ} (link : Link M) → Agrees capacity link → (p q : M → Bool) (left_before left_after right_before right_after : List (Entry M))
     → link.left ≡ left_before ++ left_after → link.right ≡ right_before ++ right_after
     → 1 ≤ count p (takes left_before) → count q (puts left_before) ≡ 0
     → 1 ≤ count q (takes right_before) → count p (puts right_before) ≡ 0 → ⊥
@@ -394,10 +394,10 @@ module _ {P : Type 0} (run : Run P) (is : IsRun run) where
       = rw (is.steps k low).left (puts-left-S at k run.cores (all_of (is.turns k)) (all_put (is.steps k low))) in
       omega (arith, sent, handled_S at k low, S_once at d (k + 1) (omega arith))
 
-  handled_R_once : (at k : ℕ) → k < run.cores → count (is_R at) (handled (is.turns k)) ≤ 1
+  pub handled_R_once : (at k : ℕ) → k < run.cores → count (is_R at) (handled (is.turns k)) ≤ 1
   handled_R_once at k low = omega (arith, handled_R at k low, R_once at k (omega arith))
 
-  handled_S_once : (at k : ℕ) → k < run.cores → count (is_S at) (handled (is.turns k)) ≤ 1
+  pub handled_S_once : (at k : ℕ) → k < run.cores → count (is_S at) (handled (is.turns k)) ≤ 1
   handled_S_once at k low = omega (arith, handled_S at k low, S_once at (run.cores - (k + 1)) (k + 1) (omega arith))
 
   -- At a moment of core k, its right end has taken S j where the front has it, and puts no left row that the front hasn't.

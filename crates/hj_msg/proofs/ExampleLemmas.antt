@@ -31,7 +31,7 @@ received_of_1 = r 3 Right (S (event 1) 7) ∷ r 4 Left (R (event 0) 7) ∷ r 7 L
 abbrev turns_of : ℕ → List (Received ℕ) → Turns ℕ
 turns_of place rs = record { whole = whole_turns equal place 2 empty_state rs; cut = None }
 
-abbrev turns : ℕ → Turns ℕ
+abbrev pub turns : ℕ → Turns ℕ
 turns zero = turns_of 0 received_of_0
 turns (suc k) = turns_of 1 received_of_1
 
@@ -95,7 +95,7 @@ queues_in_turn : (k : ℕ) → k < 2 → IsInTurn (whole_queue k).sender × IsIn
 queues_in_turn zero low = (non_decreasing 0 (2 ∷ 5 ∷ 16 ∷ []) (omega arith), non_decreasing 0 (20 ∷ 21 ∷ 22 ∷ []) (omega arith))
 queues_in_turn (suc k) low = (non_decreasing 0 (3 ∷ 4 ∷ 17 ∷ []) (omega arith), non_decreasing 0 (23 ∷ 24 ∷ 25 ∷ []) (omega arith))
 
-events_are : IsWellFormed two_events
+pub events_are : IsWellFormed two_events
 events_are = record { numbered = (refl, (refl, tt)); live = λ earlier later event is. walked NamesLive [] two_events (tt, (tt, tt)) earlier later event is }
 
 is_closing : DriverTurn ℕ → Bool
@@ -108,12 +108,12 @@ unfolding is_closing
 not_closed earlier none has = true≢false (sym (list_any_at is_closing earlier has.0 closing has.1 (ap is_closing has.2)) ∙ none)
 
 -- what the rules ask of each turn of a log
-abbrev rule_of_flight : List (DriverTurn ℕ) → DriverTurn ℕ → Type 0
+abbrev pub rule_of_flight : List (DriverTurn ℕ) → DriverTurn ℕ → Type 0
 rule_of_flight earlier (admission event) = length (outstanding earlier) < 2
 rule_of_flight earlier (receipt port message) = Unit {0}
 rule_of_flight earlier closing = Unit {0}
 
-abbrev rule_of_expiry : List (DriverTurn ℕ) → DriverTurn ℕ → Type 0
+abbrev pub rule_of_expiry : List (DriverTurn ℕ) → DriverTurn ℕ → Type 0
 rule_of_expiry earlier (admission event) = HasComeOut event earlier
 rule_of_expiry earlier (receipt port message) = Unit {0}
 rule_of_expiry earlier closing = Unit {0}
@@ -152,6 +152,10 @@ is_run = record {
   right_port = refl;
   lawful = lawful;
 }
+
+pub turns_are : (k : ℕ) → is_run.turns k ≡ turns k
+unfolding is_run
+turns_are k = refl
 
 uncut : (k : ℕ) → k < 2 → (turns k).cut ≡ None
 uncut zero low = refl

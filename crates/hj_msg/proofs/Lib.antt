@@ -1,11 +1,41 @@
+pub mod AllMet
+mod ArrivalOrder
+pub mod ComesOut
 mod CoreTurns
 mod Counts
 mod CrossingLemmas
+mod CrossingPlace
+mod Directions
+pub mod Emitting
 mod Ends
 mod ExampleLemmas
+mod Expiries
+mod Fronts
+pub mod Growing
 pub mod Joined
+mod Latches
+mod ListedOnce
+pub mod Marks
+mod MeetingExampleLemmas
+mod MeetingPlaces
 pub mod Members
+pub mod MetOnce
 mod Moments
 mod NoRunLemmas
 pub mod Numbered
+pub mod OnlyMatches
+mod Orders
+mod Origins
+mod Ports
+pub mod RankedLists
+mod Reports
+mod RowBeforeExpiry
+mod Rows
+mod Settling
+mod Sides
+pub mod Sorting
+mod States
+mod Stores
+mod Waits
 pub mod Windows
+pub mod WithinPunctuation

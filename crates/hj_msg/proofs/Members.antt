@@ -1,5 +1,6 @@
--- Members of lists, and lists in which each element stands in a relation to all that follow it.
-use Rattle.std.proofs.Common.{◌≡◌, zero, suc, ◌⊎◌, inl, inr, Bool, true, false, cond, List, [], ◌∷◌, ◌++◌, map, filter, Contains, arith, refl, sym, ap, subst}
+-- Members of lists and what tests find among them, and lists in which each element stands in a relation to all that follow it.
+use Rattle.std.proofs.Common.{◌≡◌, zero, suc, ◌⊎◌, inl, inr, Bool, true, false, cond, ◌||◌, List, [], ◌∷◌, ◌++◌, map, filter, Contains, arith, refl, sym, ap, ◌∙◌, subst, true≢false}
+use Rattle.std.specs.List.{list_any}
 use Rattle.std.proofs.lemmas.List.Elements.{Contains-append_right, Contains-append_cases}
 
 pub Contains-nil : {X : Type 0} (x : X) → Contains [] x → ⊥
@@ -95,3 +96,28 @@ Ranked-map R S f (x ∷ xs) keeps r = (
 pub Ranked-apart : {X : Type 0} (R : X → X → Type 0) (before between behind : List X) (p q : X) → Ranked R (before ++ p ∷ (between ++ q ∷ behind)) → R p q
 Ranked-apart R [] between behind p q r = r.0 q (Contains-append_right between (q ∷ behind) q (Contains-head q behind))
 Ranked-apart R (x ∷ xs) between behind p q r = Ranked-apart R xs between behind p q r.1
+
+-- a member that passes a test shows that one does, and the other way round
+pub any_of : {X : Type 0} (test : X → Bool) (xs : List X) (x : X) → Contains xs x → test x ≡ true → list_any test xs ≡ true
+any_of test [] x h e = absurd (Contains-nil x h)
+any_of test (y ∷ ys) x h e = elim (Contains-cons_cases y x ys h) [
+  | inl same ↦ rw (ap test same ∙ e) refl
+  | inr k ↦ rw (any_of test ys x k e) (or_true (test y))
+]
+  where
+    or_true : (b : Bool) → (b || true) ≡ true
+    or_true true = refl
+    or_true false = refl
+
+pub record Found {X : Type 0} (test : X → Bool) (xs : List X) : Type 0 where
+  pub one : X
+  pub is : Contains xs one
+  pub passes : test one ≡ true
+
+pub find : {X : Type 0} (test : X → Bool) (xs : List X) → list_any test xs ≡ true → Found test xs
+find test [] h = absurd (true≢false (sym h))
+find {X} test (x ∷ xs) h = go (test x) refl h (find test xs)
+  where
+    go : (b : Bool) → test x ≡ b → (b || list_any test xs) ≡ true → (list_any test xs ≡ true → Found test xs) → Found test (x ∷ xs)
+    go true e h deeper = record { one = x; is = Contains-head x xs; passes = e }
+    go false e h deeper = let found = deeper h in record { one = found.one; is = Contains-cons x found.one xs found.is; passes = found.passes }

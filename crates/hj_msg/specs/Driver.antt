@@ -1,6 +1,6 @@
 -- The log of the driver, which admits the events at the two ends of the chain (handshake join: Teubner and Mueller, SIGMOD
 -- 2011) and takes out what leaves it. The rules of admission are this project's own profile.
-use Rattle.std.specs.Prelude.{◌≡◌, ℕ, ◌<◌, Bool, false, ◌&&◌, IsTrue, List, [], ◌∷◌, ◌++◌, length, if◌then◌else◌}
+use Rattle.std.specs.Prelude.{◌≡◌, ℕ, ◌<◌, Bool, false, ◌==◌, ◌&&◌, ◌||◌, IsTrue, List, [], ◌∷◌, ◌++◌, length, if◌then◌else◌}
 use Rattle.std.specs.List.{list_any, Contains}
 use Rattle.hj_base.specs.declared.numbers.Side.{Side}
 use Rattle.hj_base.specs.declared.numbers.Side.TheVariants.{Left, Right}
@@ -60,11 +60,29 @@ outstanding (admission event ∷ later) = if has_left event later then outstandi
 outstanding (receipt port message ∷ later) = outstanding later
 outstanding (closing ∷ later) = outstanding later
 
+-- whether an event is the arrival of a row of this side, under this number
+abbrev pub is_arrival : {P : Type 0} → Side → ℕ → Event P → Bool
+is_arrival Left number (Arrive at Left row) = at.0 == number
+is_arrival Right number (Arrive at Right row) = at.0 == number
+is_arrival side number event = false
+
+-- whether the row of an arrival was taken at the port where it comes out of its link
+abbrev pub row_taken : {P : Type 0} → Event P → List (DriverTurn P) → Bool
+row_taken (Arrive at Left row) log = took Right (is_R at.0) log
+row_taken (Arrive at Right row) log = took Left (is_S at.0) log
+row_taken (Expire at side of) log = false
+
+-- whether a row of this side, under this number, came out since its arrival was put
+abbrev pub came_out : {P : Type 0} → Side → ℕ → List (DriverTurn P) → Bool
+came_out side number [] = false
+came_out side number (admission event ∷ later) = (is_arrival side number event && row_taken event later) || came_out side number later
+came_out side number (receipt port message ∷ later) = came_out side number later
+came_out side number (closing ∷ later) = came_out side number later
+
 -- The row of an expiry has come out of its link, at the port on which the expiry is put.
 abbrev pub HasComeOut : {P : Type 0} → Event P → List (DriverTurn P) → Type 0
 HasComeOut (Arrive at side row) earlier = Unit {0}
-HasComeOut (Expire at Left of) earlier = IsTrue (took Right (is_R of.0) earlier)
-HasComeOut (Expire at Right of) earlier = IsTrue (took Left (is_S of.0) earlier)
+HasComeOut (Expire at side of) earlier = IsTrue (came_out side of.0 earlier)
 
 -- the closes come after all events, with none outstanding, and once
 pub record ClosesLast {P : Type 0} (events : List (Event P)) (earlier : List (DriverTurn P)) : Type 0 where

@@ -236,6 +236,7 @@ pub record Outstanding : Type 0 where
   pub out : outstanding (admission left_row ∷ receipt Right (R (event 0) 7) ∷ receipt Left (EndR (event 0)) ∷ []) ≡ []
   pub may_expire : HasComeOut its_expiry (admission left_row ∷ receipt Right (R (event 0) 7) ∷ [])
   pub may_not_expire : ¬ (HasComeOut its_expiry (admission left_row ∷ receipt Left (EndR (event 0)) ∷ []))
+  pub out_too_early : ¬ (HasComeOut its_expiry (receipt Right (R (event 0) 7) ∷ admission left_row ∷ []))
 
 -- Marks of two cores.
 abbrev pub reported : ℕ → Report ℕ

@@ -7,9 +7,12 @@ pub mod Event
 pub mod Examples
 pub mod Feed
 pub mod Kang
+pub mod Meeting
+pub mod MeetingExamples
 pub mod Messages
 pub mod Met
 pub mod Order
+pub mod Overtaking
 pub mod Punctuation
 pub mod Run
 pub mod Store

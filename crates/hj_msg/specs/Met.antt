@@ -3,7 +3,7 @@
 use Rattle.std.specs.Prelude.{◌≡◌, ℕ, ◌<◌, List, [], length, map, slice_index_or}
 use Rattle.std.specs.List.{flat_map}
 use Rattle.hj_base.specs.declared.numbers.Side.TheVariants.{Left, Right}
-use Rattle.hj_base.specs.Journals.{IsPrefix, puts}
+use Rattle.hj_base.specs.Journals.{IsPrefix, puts, takes}
 use Rattle.hj_msg.specs.declared.event.Pair.{Pair}
 use Rattle.hj_msg.specs.declared.message.Report.{Report}
 use Rattle.hj_msg.specs.declared.message.Report.TheVariants.{Handled, Ended, NoMemory}
@@ -13,6 +13,11 @@ use Rattle.hj_msg.specs.Run.{Run}
 pub record AreReportsOf {P : Type 0} (run : Run P) (lists : List (List (Report P))) : Type 0 where
   pub one_each : length lists ≡ run.cores
   pub prefixes : (k : ℕ) → k < run.cores → IsPrefix (slice_index_or lists k []) (puts (run.queue k).sender)
+
+-- Lists of reports that hold all that was taken of each core's reports.
+pub record AreAllReportsOf {P : Type 0} (run : Run P) (lists : List (List (Report P))) : Type 0 where
+  pub of_run : AreReportsOf run lists
+  pub all_taken : (k : ℕ) → k < run.cores → IsPrefix (takes (run.queue k).receiver) (slice_index_or lists k [])
 
 -- the pairs of a report: its row with each of the partners
 abbrev pub pairs_of : {P : Type 0} → Report P → List (Pair P)

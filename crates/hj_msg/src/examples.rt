@@ -4,6 +4,7 @@ ghost use Rattle.hj_msg.specs.Met.{AreReportsOf, met};
 ghost use Rattle.hj_msg.specs.Punctuation.{punctuation, up_to, all};
 ghost use Rattle.hj_msg.specs.Emission.{emitted};
 ghost use Rattle.hj_msg.specs.Examples.{MeetInFlight, MeetAtRest, OneCore, ThreeCores, OtherMessages, PartnersByNumber, Outstanding, Marks, whole_run, whole_lists, joined, unacknowledged, early_report, overfull, crossed, KeepsAllElse};
+ghost use Rattle.hj_msg.specs.MeetingExamples.{Meets, reports_of, left_first_run, left_first_queue, right_first_run, right_first_queue};
 
 /// A core's step, on small chains: each core's state, sends and report.
 pub fn small_steps()
@@ -22,6 +23,14 @@ pub fn small_run()
     ensures reports { AreReportsOf whole_run whole_lists }
     ensures met_once { met whole_lists ≡ joined 0 1 ∷ [] }
     ensures emitted { emitted whole_lists ≡ joined 0 1 ∷ [] }
+{}
+
+/// Runs of two cores to which the laws of meeting apply, one for each way in which a pair is met: both cores handle the
+/// left row first, one of them does, and none.
+pub fn small_meetings()
+    ensures left_first { Meets left_first_run (reports_of left_first_queue) (joined 0 1) 2 }
+    ensures between { Meets whole_run whole_lists (joined 0 1) 1 }
+    ensures right_first { Meets right_first_run (reports_of right_first_queue) (joined 1 0) 0 }
 {}
 
 /// The same run with one rule broken is no run.

@@ -4,22 +4,26 @@
 
 mod crossing;
 mod drain;
+mod emission;
 mod event;
 mod examples;
 mod feed;
 mod join;
 mod laws;
+mod meeting;
 mod message;
 mod partner;
 mod store;
 
 pub use crossing::{journals_tell_what_was_handled, rows_cross_in_one_order};
 pub use drain::{Drain, Drained};
+pub use emission::punctuation_never_overtakes;
 pub use event::{Event, Pair};
-pub use examples::{no_runs, small_logs, small_run, small_steps};
+pub use examples::{no_runs, small_logs, small_meetings, small_run, small_steps};
 pub use feed::{Feed, Given};
 pub use join::Join;
 pub use laws::{join_lists_each_match_once, join_of_prefix_is_prefix, prefix_is_well_formed};
+pub use meeting::matches_are_met_once;
 pub use message::{Msg, Report};
 pub use partner::{Partner, Partners};
 pub use store::Store;

@@ -56,7 +56,10 @@ fn laws_and_examples_can_be_called(_rt: HostRuntime) {
     rows_cross_in_one_order::<u64>();
     journals_tell_what_was_handled::<u64>();
     small_steps();
+    matches_are_met_once::<u64>();
+    punctuation_never_overtakes::<u64>();
     small_run();
+    small_meetings();
     no_runs();
     small_logs();
 }
