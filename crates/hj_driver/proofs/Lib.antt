@@ -1,0 +1,7 @@
+pub mod Arrivals
+pub mod ComingOut
+pub mod FirstRow
+pub mod Logs
+pub mod MayClose
+pub mod Standing
+pub mod States

@@ -1,0 +1,193 @@
+-- A driver stands for a log with one more turn.
+use Rattle.std.proofs.Common.{◌≡◌, ℕ, ◌<◌, ◌⊎◌, true, false, List, [], ◌∷◌, ◌++◌, length, Contains, refl, ap, sym, ◌∙◌, subst, inl, inr, arith, append-nil, length-append}
+use Rattle.std.specs.List.{filter_map, filter, list_any}
+use Rattle.std.proofs.lemmas.Bool.{false≢true}
+use Rattle.std.proofs.lemmas.List.Folds.{list_any_at}
+use Rattle.hj_base.specs.declared.numbers.EventNo.{EventNo}
+use Rattle.hj_base.specs.declared.numbers.Side.{Side}
+use Rattle.hj_base.specs.declared.numbers.Side.TheVariants.{Left, Right}
+use Rattle.hj_msg.specs.declared.event.Event.{Event}
+use Rattle.hj_msg.specs.declared.event.Event.TheVariants.{Arrive, Expire}
+use Rattle.hj_msg.specs.declared.message.Msg.{Msg}
+use Rattle.hj_msg.specs.Event.{IsWellFormed}
+use Rattle.hj_msg.specs.Driver.{DriverTurn, admission, receipt, closing, admitted, outstanding, HasComeOut, IsLawful}
+use Rattle.hj_driver.specs.Driver.{DriverState, after_take, after_put, arrival_of, after_message, stays, after_close, closed, new_driver, is_sent, count_of}
+use Rattle.hj_driver.specs.StandsFor.{StandsFor, is_closing}
+use Rattle.hj_driver.proofs.Logs.{admitted-push, arrivals_of-receipt, expiries_of-receipt, closes_of-receipt, arrivals_of-admission, expiries_of-admission, closes_of-admission, arrivals_of-closing, expiries_of-closing, closes_of-closing, length-outstanding, is_sent-closes_of}
+
+-- where a list with one element more is cut
+pub split-push : {X : Type 0} (xs : List X) (x : X) (ys : List X) (y : X) (zs : List X) → xs ++ x ∷ [] ≡ ys ++ y ∷ zs → ((rest : List X) × (xs ≡ ys ++ y ∷ rest)) ⊎ ((xs ≡ ys) × (x ≡ y))
+split-push [] x [] y zs is = inr (refl, cc)
+split-push [] x (u ∷ us) y zs is = absurd (omega (arith, ap length is, length-append us (y ∷ zs)))
+split-push (v ∷ vs) x [] y zs is = inl (vs, let same : v ≡ y = cc in ap (λ w. w ∷ vs) same)
+split-push {X} (v ∷ vs) x (u ∷ us) y zs is =
+    let first : v ≡ u = cc in
+    let later : vs ++ x ∷ [] ≡ us ++ y ∷ zs = cc in
+    elim (split-push vs x us y zs later) [
+      | inl w ↦ inl (w.0, ap (λ (a : X). a ∷ vs) first ∙ ap (λ (l : List X). u ∷ l) w.1)
+      | inr w ↦ inr (ap (λ (a : X). a ∷ vs) first ∙ ap (λ (l : List X). u ∷ l) w.0, w.1)
+    ]
+
+has_closing : {P : Type 0} (earlier later : List (DriverTurn P)) → list_any is_closing (earlier ++ closing ∷ later) ≡ true
+has_closing [] later = refl
+has_closing (admission event ∷ earlier) later = has_closing earlier later
+has_closing (receipt port message ∷ earlier) later = has_closing earlier later
+has_closing (closing ∷ earlier) later = refl
+
+contains_closing : {P : Type 0} (log : List (DriverTurn P)) → list_any is_closing log ≡ false → Contains log closing → ⊥
+contains_closing log unclosed has = false≢true (sym unclosed ∙ list_any_at is_closing log has.0 closing has.1 (ap is_closing has.2))
+
+prefix_of_itself : {P : Type 0} (events : List (Event P)) → events ≡ events ++ []
+prefix_of_itself events = sym (append-nil events)
+
+module _ {P : Type 0} (flight : ℕ) (log : List (DriverTurn P)) (lawful : IsLawful flight (admitted log) log) where
+  pub lawful-receipt : (port : Side) (m : Msg P) → IsLawful flight (admitted (log ++ receipt port m ∷ [])) (log ++ receipt port m ∷ [])
+  lawful-receipt port m =
+      let same : admitted (log ++ receipt port m ∷ []) ≡ admitted log = admitted-push log (receipt port m) ∙ append-nil (admitted log) in
+      record {
+        in_order = record { rest = []; is = prefix_of_itself _ };
+        in_flight = λ earlier later event is. elim (split-push log (receipt port m) earlier (admission event) later is) [ inl w ↦ lawful.in_flight earlier w.0 event w.1 | inr w ↦ absurd (let e = w.1 in cc) ];
+        come_out = λ earlier later event is. elim (split-push log (receipt port m) earlier (admission event) later is) [ inl w ↦ lawful.come_out earlier w.0 event w.1 | inr w ↦ absurd (let e = w.1 in cc) ];
+        closes = λ earlier later is. elim (split-push log (receipt port m) earlier closing later is) [
+          | inl w ↦ let last = lawful.closes earlier w.0 w.1 in record { all = last.all ∙ sym same; none_outstanding = last.none_outstanding; once = last.once }
+          | inr w ↦ absurd (let e = w.1 in cc)
+        ];
+      }
+
+  pub lawful-admission : (put : Event P) → list_any is_closing log ≡ false → length (outstanding log) < flight → HasComeOut put log → IsLawful flight (admitted (log ++ admission put ∷ [])) (log ++ admission put ∷ [])
+  lawful-admission put unclosed room out = record {
+    in_order = record { rest = []; is = prefix_of_itself _ };
+    in_flight = λ earlier later event is. elim (split-push log (admission put) earlier (admission event) later is) [ inl w ↦ lawful.in_flight earlier w.0 event w.1 | inr w ↦ subst (λ (l : List (DriverTurn P)). length (outstanding l) < flight) w.0 room ];
+    come_out = λ earlier later event is. elim (split-push log (admission put) earlier (admission event) later is) [
+      | inl w ↦ lawful.come_out earlier w.0 event w.1
+      | inr w ↦ let same : put ≡ event = (let e = w.1 in cc) in subst (λ (l : List (DriverTurn P)). HasComeOut event l) w.0 (subst (λ (x : Event P). HasComeOut x log) same out)
+    ];
+    closes = λ earlier later is. elim (split-push log (admission put) earlier closing later is) [
+      | inl w ↦ absurd (false≢true (sym unclosed ∙ ap (list_any is_closing) w.1 ∙ has_closing earlier w.0))
+      | inr w ↦ absurd (let e = w.1 in cc)
+    ];
+  }
+
+  pub lawful-closing : list_any is_closing log ≡ false → outstanding log ≡ [] → IsLawful flight (admitted (log ++ closing ∷ [])) (log ++ closing ∷ [])
+  lawful-closing unclosed none =
+      let same : admitted (log ++ closing ∷ []) ≡ admitted log = admitted-push log closing ∙ append-nil (admitted log) in
+      record {
+        in_order = record { rest = []; is = prefix_of_itself _ };
+        in_flight = λ earlier later event is. elim (split-push log closing earlier (admission event) later is) [ inl w ↦ lawful.in_flight earlier w.0 event w.1 | inr w ↦ absurd (let e = w.1 in cc) ];
+        come_out = λ earlier later event is. elim (split-push log closing earlier (admission event) later is) [ inl w ↦ lawful.come_out earlier w.0 event w.1 | inr w ↦ absurd (let e = w.1 in cc) ];
+        closes = λ earlier later is. elim (split-push log closing earlier closing later is) [
+          | inl w ↦ absurd (false≢true (sym unclosed ∙ ap (list_any is_closing) w.1 ∙ has_closing earlier w.0))
+          | inr w ↦ record {
+            all = ap admitted (sym w.0) ∙ sym same;
+            none_outstanding = ap outstanding (sym w.0) ∙ none;
+            once = subst (λ (l : List (DriverTurn P)). Contains l closing → ⊥) w.0 (contains_closing log unclosed);
+          }
+        ];
+      }
+
+empty : {X : Type 0} (l : List X) → length l ≡ 0 → l ≡ []
+empty [] is = refl
+empty (x ∷ xs) is = absurd (omega arith)
+
+pub stands-count : {P : Type 0} (driver : DriverState) (log : List (DriverTurn P)) → StandsFor driver log → length (outstanding log) ≡ count_of driver
+stands-count driver log stands =
+    omega (arith, length-outstanding log, ap length stands.left_arrivals, ap length stands.left_expiries, ap length stands.right_arrivals, ap length stands.right_expiries)
+
+-- the steps of a driver that stands for a log
+pub stands-receipt : {P : Type 0} (driver : DriverState) (log : List (DriverTurn P)) (port : Side) (m : Msg P) → StandsFor driver log → StandsFor (after_take port m driver) (log ++ receipt port m ∷ [])
+stands-receipt driver log port m stands = record {
+  well_formed = subst IsWellFormed (sym (admitted-push log (receipt port m) ∙ append-nil (admitted log))) stands.well_formed;
+  lawful = lawful-receipt driver.flight log stands.lawful port m;
+  left_arrivals = ap (filter_map (after_message Left port m)) stands.left_arrivals ∙ sym (arrivals_of-receipt Left log port m);
+  left_expiries = ap (filter (stays Left port m)) stands.left_expiries ∙ sym (expiries_of-receipt Left log port m);
+  right_arrivals = ap (filter_map (after_message Right port m)) stands.right_arrivals ∙ sym (arrivals_of-receipt Right log port m);
+  right_expiries = ap (filter (stays Right port m)) stands.right_expiries ∙ sym (expiries_of-receipt Right log port m);
+  closes = ap (after_close port m) stands.closes ∙ sym (closes_of-receipt log port m);
+}
+
+pub stands-closing : {P : Type 0} (driver : DriverState) (log : List (DriverTurn P)) → StandsFor driver log → is_sent driver.closes ≡ false → count_of driver ≡ 0 → StandsFor (closed driver) (log ++ closing ∷ [])
+stands-closing driver log stands unsent none =
+    let unclosed : list_any is_closing log ≡ false = sym (is_sent-closes_of log) ∙ ap is_sent (sym stands.closes) ∙ unsent in
+    record {
+      well_formed = subst IsWellFormed (sym (admitted-push log closing ∙ append-nil (admitted log))) stands.well_formed;
+      lawful = lawful-closing driver.flight log stands.lawful unclosed (empty (outstanding log) (stands-count driver log stands ∙ none));
+      left_arrivals = stands.left_arrivals ∙ sym (arrivals_of-closing Left log);
+      left_expiries = stands.left_expiries ∙ sym (expiries_of-closing Left log);
+      right_arrivals = stands.right_arrivals ∙ sym (arrivals_of-closing Right log);
+      right_expiries = stands.right_expiries ∙ sym (expiries_of-closing Right log);
+      closes = sym (closes_of-closing log unclosed);
+    }
+
+stands-put : {P : Type 0} (driver : DriverState) (log : List (DriverTurn P)) (put : Event P) → StandsFor driver log → IsWellFormed (admitted (log ++ admission put ∷ [])) → IsLawful driver.flight (admitted (log ++ admission put ∷ [])) (log ++ admission put ∷ [])
+    → StandsFor (after_put put driver) (log ++ admission put ∷ [])
+stands-put {P} driver log (Arrive at Left row) stands well lawful = record {
+  well_formed = well;
+  lawful = lawful;
+  left_arrivals = ap (λ l. l ++ arrival_of at ∷ []) stands.left_arrivals ∙ sym (arrivals_of-admission Left log (Arrive at Left row));
+  left_expiries = stands.left_expiries ∙ sym (append-nil _) ∙ sym (expiries_of-admission Left log (Arrive at Left row));
+  right_arrivals = stands.right_arrivals ∙ sym (append-nil _) ∙ sym (arrivals_of-admission Right log (Arrive at Left row));
+  right_expiries = stands.right_expiries ∙ sym (append-nil _) ∙ sym (expiries_of-admission Right log (Arrive at Left row));
+  closes = stands.closes ∙ sym (closes_of-admission log (Arrive at Left row));
+}
+stands-put {P} driver log (Arrive at Right row) stands well lawful = record {
+  well_formed = well;
+  lawful = lawful;
+  left_arrivals = stands.left_arrivals ∙ sym (append-nil _) ∙ sym (arrivals_of-admission Left log (Arrive at Right row));
+  left_expiries = stands.left_expiries ∙ sym (append-nil _) ∙ sym (expiries_of-admission Left log (Arrive at Right row));
+  right_arrivals = ap (λ l. l ++ arrival_of at ∷ []) stands.right_arrivals ∙ sym (arrivals_of-admission Right log (Arrive at Right row));
+  right_expiries = stands.right_expiries ∙ sym (append-nil _) ∙ sym (expiries_of-admission Right log (Arrive at Right row));
+  closes = stands.closes ∙ sym (closes_of-admission log (Arrive at Right row));
+}
+stands-put {P} driver log (Expire at Left of) stands well lawful = record {
+  well_formed = well;
+  lawful = lawful;
+  left_arrivals = stands.left_arrivals ∙ sym (append-nil _) ∙ sym (arrivals_of-admission Left log (Expire at Left of));
+  left_expiries = ap (λ (l : List EventNo). l ++ of ∷ []) stands.left_expiries ∙ sym (expiries_of-admission Left log (Expire at Left of));
+  right_arrivals = stands.right_arrivals ∙ sym (append-nil _) ∙ sym (arrivals_of-admission Right log (Expire at Left of));
+  right_expiries = stands.right_expiries ∙ sym (append-nil _) ∙ sym (expiries_of-admission Right log (Expire at Left of));
+  closes = stands.closes ∙ sym (closes_of-admission log (Expire at Left of));
+}
+stands-put {P} driver log (Expire at Right of) stands well lawful = record {
+  well_formed = well;
+  lawful = lawful;
+  left_arrivals = stands.left_arrivals ∙ sym (append-nil _) ∙ sym (arrivals_of-admission Left log (Expire at Right of));
+  left_expiries = stands.left_expiries ∙ sym (append-nil _) ∙ sym (expiries_of-admission Left log (Expire at Right of));
+  right_arrivals = stands.right_arrivals ∙ sym (append-nil _) ∙ sym (arrivals_of-admission Right log (Expire at Right of));
+  right_expiries = ap (λ (l : List EventNo). l ++ of ∷ []) stands.right_expiries ∙ sym (expiries_of-admission Right log (Expire at Right of));
+  closes = stands.closes ∙ sym (closes_of-admission log (Expire at Right of));
+}
+
+-- what is put doesn't change how many may be outstanding
+pub flight-put : {P : Type 0} (put : Event P) (driver : DriverState) → (after_put put driver).flight ≡ driver.flight
+flight-put (Arrive at Left row) driver = refl
+flight-put (Arrive at Right row) driver = refl
+flight-put (Expire at Left of) driver = refl
+flight-put (Expire at Right of) driver = refl
+
+pub stands-admission : {P : Type 0} (driver : DriverState) (log : List (DriverTurn P)) (put : Event P) → StandsFor driver log → IsWellFormed (admitted log ++ put ∷ []) → is_sent driver.closes ≡ false → count_of driver < driver.flight → HasComeOut put log
+    → StandsFor (after_put put driver) (log ++ admission put ∷ [])
+stands-admission driver log put stands well unsent room out =
+    let unclosed : list_any is_closing log ≡ false = sym (is_sent-closes_of log) ∙ ap is_sent (sym stands.closes) ∙ unsent in
+    stands-put driver log put stands (subst IsWellFormed (sym (admitted-push log (admission put))) well) (lawful-admission driver.flight log stands.lawful put unclosed (omega (arith, stands-count driver log stands)) out)
+
+-- a new driver stands for the empty log
+pub stands-new : (P : Type 0) (flight : ℕ) → StandsFor {P = P} (new_driver flight) []
+stands-new P flight = record {
+  well_formed = record { numbered = tt; live = λ earlier later event is. absurd (omega (arith, ap length is, length-append earlier (event ∷ later))) };
+  lawful = record {
+    in_order = record { rest = []; is = refl };
+    in_flight = λ earlier later event is. absurd (omega (arith, ap length is, length-append earlier (admission event ∷ later)));
+    come_out = λ earlier later event is. absurd (omega (arith, ap length is, length-append earlier (admission event ∷ later)));
+    closes = λ earlier later is. absurd (omega (arith, ap length is, length-append earlier (closing ∷ later)));
+  };
+  left_arrivals = refl;
+  left_expiries = refl;
+  right_arrivals = refl;
+  right_expiries = refl;
+  closes = refl;
+}
+
+-- a call's step is the log's
+pub stands-take : {P : Type 0} (old new : DriverState) (log : List (DriverTurn P)) (port end : Side) (m : Msg P) → port ≡ end → new ≡ after_take end m old → StandsFor old log → StandsFor new (log ++ receipt port m ∷ [])
+stands-take {P} old new log port end m at is stands =
+    subst (λ (d : DriverState). StandsFor d (log ++ receipt port m ∷ [])) (ap (λ (s : Side). after_take s m old) at ∙ sym is) (stands-receipt old log port m stands)

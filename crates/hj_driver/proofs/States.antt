@@ -1,0 +1,206 @@
+-- What a driver keeps, where a message is taken.
+use Rattle.std.proofs.Common.{◌≡◌, ℕ, suc, ◌+◌, ◌≤◌, Bool, true, false, not, ◌==◌, ◌&&◌, ◌||◌, IsTrue, cond, List, [], ◌∷◌, length, Some, None, Option, refl, ap, sym, ◌∙◌, arith}
+use Rattle.std.specs.List.{filter_map, filter, cons_option, list_any}
+use Rattle.std.proofs.lemmas.Bool.{false≢true}
+use Rattle.hj_base.specs.declared.numbers.EventNo.{EventNo}
+use Rattle.hj_base.specs.declared.numbers.Side.{Side}
+use Rattle.hj_base.specs.declared.numbers.Side.TheVariants.{Left, Right}
+use Rattle.hj_msg.specs.declared.message.Msg.{Msg}
+use Rattle.hj_msg.specs.declared.message.Msg.TheVariants.{R, AckS, EndS, ExpS, CloseL, S, EndR, ExpR, CloseR}
+use Rattle.hj_driver.specs.declared.closes.Closes.{Closes}
+use Rattle.hj_driver.specs.declared.closes.Closes.TheVariants.{Unsent, Sent}
+use Rattle.hj_driver.specs.declared.lane.Part.{Part}
+use Rattle.hj_driver.specs.declared.lane.Part.TheVariants.{Row, End}
+use Rattle.hj_driver.specs.declared.lane.Arrival.{Arrival}
+use Rattle.hj_driver.specs.Lane.{LaneState, after_part, is_other, with_part, is_taken, waits_for}
+use Rattle.hj_driver.specs.Driver.{DriverState, after_take, after_close_taken, awaits, awaits_close, is_awaited}
+
+abbrev pub state : ℕ → List Arrival → List EventNo → List Arrival → List EventNo → Closes → DriverState
+state flight la le ra re closes = record { flight = flight; left_arrivals = la; left_expiries = le; right_arrivals = ra; right_expiries = re; closes = closes }
+
+filter_map-some : {X : Type 0} (l : List X) → filter_map (λ x. Some x) l ≡ l
+filter_map-some [] = refl
+filter_map-some {X} (x ∷ xs) = ap (λ (ys : List X). x ∷ ys) (filter_map-some xs)
+
+filter-true : {X : Type 0} (l : List X) → filter (λ x. true) l ≡ l
+filter-true [] = refl
+filter-true {X} (x ∷ xs) = ap (λ (ys : List X). x ∷ ys) (filter-true xs)
+
+fewer : {X : Type 0} (o : Option X) (l : List X) (n : ℕ) → length l ≤ n → length (cons_option o l) ≤ suc n
+fewer None l n low = omega arith
+fewer (Some x) l n low = omega arith
+
+kept : {X : Type 0} (b : Bool) (x : X) (l : List X) (n : ℕ) → length l ≤ n → length (cond b (x ∷ l) l) ≤ suc n
+kept true x l n low = omega arith
+kept false x l n low = omega arith
+
+-- the driver that is seen in its two lanes
+abbrev pub seen : LaneState → LaneState → ℕ → Closes → DriverState
+seen left right flight closes = record { flight = flight; left_arrivals = left.arrivals; left_expiries = left.expiries; right_arrivals = right.arrivals; right_expiries = right.expiries; closes = closes }
+
+abbrev pub with_arrivals : (List Arrival → List Arrival) → LaneState → LaneState
+with_arrivals f lane = record lane { arrivals = f lane.arrivals }
+
+abbrev pub with_expiries : (List EventNo → List EventNo) → LaneState → LaneState
+with_expiries f lane = record lane { expiries = f lane.expiries }
+
+-- what each message does to the lanes
+at_right-R-core : (P : Type 0) (l r : LaneState) (f : ℕ) (c : Closes) (at : EventNo) (row : P) → seen (with_arrivals (filter_map (after_part at.0 Row)) l) r f c ≡ after_take {P = P} Right (R at row) (seen l r f c)
+at_right-R-core P l r f c at row = simp (filter-true, filter_map-some) refl
+
+pub at_right-R : {P : Type 0} (m : Msg P) (l r after : LaneState) (f : ℕ) (c : Closes) (old : DriverState) (at : EventNo) (row : P) → m ≡ R at row → seen l r f c ≡ old → after ≡ with_arrivals (filter_map (after_part at.0 Row)) l → seen after r f c ≡ after_take Right m old
+at_right-R {P} m l r after f c old at row is_m is_old e = ap (λ (x : LaneState). seen x r f c) e ∙ at_right-R-core P l r f c at row ∙ ap (λ (d : DriverState). after_take {P = P} Right (R at row) d) is_old ∙ ap (λ (x : Msg P). after_take Right x old) (sym is_m)
+
+at_right-EndS-core : (P : Type 0) (l r : LaneState) (f : ℕ) (c : Closes) (at : EventNo) → seen l (with_arrivals (filter_map (after_part at.0 End)) r) f c ≡ after_take {P = P} Right (EndS at) (seen l r f c)
+at_right-EndS-core P l r f c at = simp (filter-true, filter_map-some) refl
+
+pub at_right-EndS : {P : Type 0} (m : Msg P) (l r after : LaneState) (f : ℕ) (c : Closes) (old : DriverState) (at : EventNo) → m ≡ EndS at → seen l r f c ≡ old → after ≡ with_arrivals (filter_map (after_part at.0 End)) r → seen l after f c ≡ after_take Right m old
+at_right-EndS {P} m l r after f c old at is_m is_old e = ap (λ (x : LaneState). seen l x f c) e ∙ at_right-EndS-core P l r f c at ∙ ap (λ (d : DriverState). after_take {P = P} Right (EndS at) d) is_old ∙ ap (λ (x : Msg P). after_take Right x old) (sym is_m)
+
+at_right-ExpS-core : (P : Type 0) (l r : LaneState) (f : ℕ) (c : Closes) (of : EventNo) → seen l (with_expiries (filter (is_other of.0)) r) f c ≡ after_take {P = P} Right (ExpS of) (seen l r f c)
+at_right-ExpS-core P l r f c of = simp (filter-true, filter_map-some) refl
+
+pub at_right-ExpS : {P : Type 0} (m : Msg P) (l r after : LaneState) (f : ℕ) (c : Closes) (old : DriverState) (of : EventNo) → m ≡ ExpS of → seen l r f c ≡ old → after ≡ with_expiries (filter (is_other of.0)) r → seen l after f c ≡ after_take Right m old
+at_right-ExpS {P} m l r after f c old of is_m is_old e = ap (λ (x : LaneState). seen l x f c) e ∙ at_right-ExpS-core P l r f c of ∙ ap (λ (d : DriverState). after_take {P = P} Right (ExpS of) d) is_old ∙ ap (λ (x : Msg P). after_take Right x old) (sym is_m)
+
+at_left-S-core : (P : Type 0) (l r : LaneState) (f : ℕ) (c : Closes) (at : EventNo) (row : P) → seen l (with_arrivals (filter_map (after_part at.0 Row)) r) f c ≡ after_take {P = P} Left (S at row) (seen l r f c)
+at_left-S-core P l r f c at row = simp (filter-true, filter_map-some) refl
+
+pub at_left-S : {P : Type 0} (m : Msg P) (l r after : LaneState) (f : ℕ) (c : Closes) (old : DriverState) (at : EventNo) (row : P) → m ≡ S at row → seen l r f c ≡ old → after ≡ with_arrivals (filter_map (after_part at.0 Row)) r → seen l after f c ≡ after_take Left m old
+at_left-S {P} m l r after f c old at row is_m is_old e = ap (λ (x : LaneState). seen l x f c) e ∙ at_left-S-core P l r f c at row ∙ ap (λ (d : DriverState). after_take {P = P} Left (S at row) d) is_old ∙ ap (λ (x : Msg P). after_take Left x old) (sym is_m)
+
+at_left-EndR-core : (P : Type 0) (l r : LaneState) (f : ℕ) (c : Closes) (at : EventNo) → seen (with_arrivals (filter_map (after_part at.0 End)) l) r f c ≡ after_take {P = P} Left (EndR at) (seen l r f c)
+at_left-EndR-core P l r f c at = simp (filter-true, filter_map-some) refl
+
+pub at_left-EndR : {P : Type 0} (m : Msg P) (l r after : LaneState) (f : ℕ) (c : Closes) (old : DriverState) (at : EventNo) → m ≡ EndR at → seen l r f c ≡ old → after ≡ with_arrivals (filter_map (after_part at.0 End)) l → seen after r f c ≡ after_take Left m old
+at_left-EndR {P} m l r after f c old at is_m is_old e = ap (λ (x : LaneState). seen x r f c) e ∙ at_left-EndR-core P l r f c at ∙ ap (λ (d : DriverState). after_take {P = P} Left (EndR at) d) is_old ∙ ap (λ (x : Msg P). after_take Left x old) (sym is_m)
+
+at_left-ExpR-core : (P : Type 0) (l r : LaneState) (f : ℕ) (c : Closes) (of : EventNo) → seen (with_expiries (filter (is_other of.0)) l) r f c ≡ after_take {P = P} Left (ExpR of) (seen l r f c)
+at_left-ExpR-core P l r f c of = simp (filter-true, filter_map-some) refl
+
+pub at_left-ExpR : {P : Type 0} (m : Msg P) (l r after : LaneState) (f : ℕ) (c : Closes) (old : DriverState) (of : EventNo) → m ≡ ExpR of → seen l r f c ≡ old → after ≡ with_expiries (filter (is_other of.0)) l → seen after r f c ≡ after_take Left m old
+at_left-ExpR {P} m l r after f c old of is_m is_old e = ap (λ (x : LaneState). seen x r f c) e ∙ at_left-ExpR-core P l r f c of ∙ ap (λ (d : DriverState). after_take {P = P} Left (ExpR of) d) is_old ∙ ap (λ (x : Msg P). after_take Left x old) (sym is_m)
+
+at_right-CloseL-core : (P : Type 0) (l r : LaneState) (f : ℕ) (c : Closes) → seen l r f (after_close_taken Left c) ≡ after_take {P = P} Right CloseL (seen l r f c)
+at_right-CloseL-core P l r f c = simp (filter-true, filter_map-some) refl
+
+pub at_right-CloseL : {P : Type 0} (m : Msg P) (l r : LaneState) (f : ℕ) (c after : Closes) (old : DriverState) → m ≡ CloseL → seen l r f c ≡ old → after ≡ after_close_taken Left c → seen l r f after ≡ after_take Right m old
+at_right-CloseL {P} m l r f c after old is_m is_old e = ap (λ (x : Closes). seen l r f x) e ∙ at_right-CloseL-core P l r f c ∙ ap (λ (d : DriverState). after_take {P = P} Right CloseL d) is_old ∙ ap (λ (x : Msg P). after_take Right x old) (sym is_m)
+
+at_left-CloseR-core : (P : Type 0) (l r : LaneState) (f : ℕ) (c : Closes) → seen l r f (after_close_taken Right c) ≡ after_take {P = P} Left CloseR (seen l r f c)
+at_left-CloseR-core P l r f c = simp (filter-true, filter_map-some) refl
+
+pub at_left-CloseR : {P : Type 0} (m : Msg P) (l r : LaneState) (f : ℕ) (c after : Closes) (old : DriverState) → m ≡ CloseR → seen l r f c ≡ old → after ≡ after_close_taken Right c → seen l r f after ≡ after_take Left m old
+at_left-CloseR {P} m l r f c after old is_m is_old e = ap (λ (x : Closes). seen l r f x) e ∙ at_left-CloseR-core P l r f c ∙ ap (λ (d : DriverState). after_take {P = P} Left CloseR d) is_old ∙ ap (λ (x : Msg P). after_take Left x old) (sym is_m)
+
+-- no other message changes anything
+idle : (d : DriverState) → d ≡ state d.flight (filter_map (λ x. Some x) d.left_arrivals) (filter (λ x. true) d.left_expiries) (filter_map (λ x. Some x) d.right_arrivals) (filter (λ x. true) d.right_expiries) d.closes
+idle d = simp (filter-true, filter_map-some) refl
+
+pub at_left-other : {P : Type 0} (m : Msg P) (d : DriverState) → ((at : EventNo) (row : P) → m ≡ S at row → ⊥) → ((at : EventNo) → m ≡ EndR at → ⊥) → ((of : EventNo) → m ≡ ExpR of → ⊥) → (m ≡ CloseR → ⊥) → d ≡ after_take Left m d
+at_left-other (R at row) d no_S no_EndR no_ExpR no_CloseR = idle d
+at_left-other (AckS at) d no_S no_EndR no_ExpR no_CloseR = idle d
+at_left-other (EndS at) d no_S no_EndR no_ExpR no_CloseR = idle d
+at_left-other (ExpS at) d no_S no_EndR no_ExpR no_CloseR = idle d
+at_left-other CloseL d no_S no_EndR no_ExpR no_CloseR = idle d
+at_left-other (S at row) d no_S no_EndR no_ExpR no_CloseR = absurd (no_S at row refl)
+at_left-other (EndR at) d no_S no_EndR no_ExpR no_CloseR = absurd (no_EndR at refl)
+at_left-other (ExpR of) d no_S no_EndR no_ExpR no_CloseR = absurd (no_ExpR of refl)
+at_left-other CloseR d no_S no_EndR no_ExpR no_CloseR = absurd (no_CloseR refl)
+
+pub at_right-other : {P : Type 0} (m : Msg P) (d : DriverState) → ((at : EventNo) (row : P) → m ≡ R at row → ⊥) → ((at : EventNo) → m ≡ EndS at → ⊥) → ((of : EventNo) → m ≡ ExpS of → ⊥) → (m ≡ CloseL → ⊥) → d ≡ after_take Right m d
+at_right-other (S at row) d no_R no_EndS no_ExpS no_CloseL = idle d
+at_right-other (AckS at) d no_R no_EndS no_ExpS no_CloseL = idle d
+at_right-other (EndR at) d no_R no_EndS no_ExpS no_CloseL = idle d
+at_right-other (ExpR at) d no_R no_EndS no_ExpS no_CloseL = idle d
+at_right-other CloseR d no_R no_EndS no_ExpS no_CloseL = idle d
+at_right-other (R at row) d no_R no_EndS no_ExpS no_CloseL = absurd (no_R at row refl)
+at_right-other (EndS at) d no_R no_EndS no_ExpS no_CloseL = absurd (no_EndS at refl)
+at_right-other (ExpS of) d no_R no_EndS no_ExpS no_CloseL = absurd (no_ExpS of refl)
+at_right-other CloseL d no_R no_EndS no_ExpS no_CloseL = absurd (no_CloseL refl)
+
+-- nothing becomes more
+pub length-filter_map : {X : Type 0} (f : X → Option X) (l : List X) → length (filter_map f l) ≤ length l
+length-filter_map f [] = omega arith
+length-filter_map f (x ∷ xs) = fewer (f x) (filter_map f xs) (length xs) (length-filter_map f xs)
+
+pub length-filter : {X : Type 0} (p : X → Bool) (l : List X) → length (filter p l) ≤ length l
+length-filter p [] = omega arith
+length-filter {X} p (x ∷ xs) = kept (p x) x (filter p xs) (length xs) (length-filter p xs)
+
+-- so a lane has no more events than before, and as much room
+pub record HasNoMore (before after : LaneState) : Type 0 where
+  pub fewer : length after.arrivals + length after.expiries ≤ length before.arrivals + length before.expiries
+  pub room : after.room ≡ before.room
+
+pub fewer_arrivals : (f : Arrival → Option Arrival) (before after : LaneState) → after ≡ with_arrivals (filter_map f) before → HasNoMore before after
+fewer_arrivals f before after e = record {
+  fewer = omega (arith, ap (λ (l : LaneState). length l.arrivals) e, ap (λ (l : LaneState). length l.expiries) e, length-filter_map f before.arrivals);
+  room = ap (λ (l : LaneState). l.room) e;
+}
+
+pub fewer_expiries : (p : EventNo → Bool) (before after : LaneState) → after ≡ with_expiries (filter p) before → HasNoMore before after
+fewer_expiries p before after e = record {
+  fewer = omega (arith, ap (λ (l : LaneState). length l.arrivals) e, ap (λ (l : LaneState). length l.expiries) e, length-filter p before.expiries);
+  room = ap (λ (l : LaneState). l.room) e;
+}
+
+-- a message that isn't awaited changes nothing
+neither : (a b : Bool) → a || b ≡ false → (a ≡ false) × (b ≡ false)
+neither true b none = absurd (false≢true (sym none))
+neither false b none = (refl, none)
+
+not_waited-if : (same : Bool) (part : Part) (a : Arrival) (taken : Option Part) → same && not (is_taken part taken) ≡ false → cond same (with_part part a taken) (Some a) ≡ Some a
+not_waited-if false part a taken unwaited = refl
+not_waited-if true part a None unwaited = absurd (false≢true (sym unwaited))
+not_waited-if true Row a (Some Row) unwaited = refl
+not_waited-if true Row a (Some End) unwaited = absurd (false≢true (sym unwaited))
+not_waited-if true End a (Some Row) unwaited = absurd (false≢true (sym unwaited))
+not_waited-if true End a (Some End) unwaited = refl
+
+not_waited : (number : ℕ) (part : Part) (a : Arrival) → waits_for number part a ≡ false → after_part number part a ≡ Some a
+not_waited number part a unwaited = not_waited-if (number == a.no.0) part a a.taken unwaited
+
+unwaited_arrivals : (number : ℕ) (part : Part) (l : List Arrival) → list_any (waits_for number part) l ≡ false → filter_map (after_part number part) l ≡ l
+unwaited_arrivals number part [] none = refl
+unwaited_arrivals number part (a ∷ l) none =
+    let w = neither (waits_for number part a) (list_any (waits_for number part) l) none in
+    ap (λ o. cons_option o (filter_map (after_part number part) l)) (not_waited number part a w.0) ∙ ap (λ (ys : List Arrival). a ∷ ys) (unwaited_arrivals number part l w.1)
+
+unwaited_expiries : (number : ℕ) (l : List EventNo) → is_awaited number l ≡ false → filter (is_other number) l ≡ l
+unwaited_expiries number [] none = refl
+unwaited_expiries number (of ∷ l) none =
+    let w = neither (number == of.0) (is_awaited number l) none in
+    ap (λ b. cond (not b) (of ∷ filter (is_other number) l) (filter (is_other number) l)) w.0 ∙ ap (λ (ys : List EventNo). of ∷ ys) (unwaited_expiries number l w.1)
+
+unwaited_close : (end : Side) (c : Closes) → awaits_close end c ≡ false → after_close_taken end c ≡ c
+unwaited_close Left Unsent none = refl
+unwaited_close Right Unsent none = refl
+unwaited_close Left (Sent true right) none = refl
+unwaited_close Left (Sent false right) none = absurd (false≢true (sym none))
+unwaited_close Right (Sent left true) none = refl
+unwaited_close Right (Sent left false) none = absurd (false≢true (sym none))
+
+is_false : (b : Bool) → (IsTrue b → ⊥) → b ≡ false
+is_false true never = absurd (never refl)
+is_false false never = refl
+
+pub unawaited : {P : Type 0} (port : Side) (m : Msg P) (d : DriverState) → (IsTrue (awaits port m d) → ⊥) → after_take port m d ≡ d
+unawaited Left (R at row) d never = sym (idle d)
+unawaited Left (AckS at) d never = sym (idle d)
+unawaited Left (EndS at) d never = sym (idle d)
+unawaited Left (ExpS of) d never = sym (idle d)
+unawaited Left CloseL d never = sym (idle d)
+unawaited Left (S at row) d never = simp (filter-true, filter_map-some) (ap (λ x. let changed : DriverState = record d { right_arrivals = x } in changed) (unwaited_arrivals at.0 Row d.right_arrivals (is_false _ never)))
+unawaited Left (EndR at) d never = simp (filter-true, filter_map-some) (ap (λ x. let changed : DriverState = record d { left_arrivals = x } in changed) (unwaited_arrivals at.0 End d.left_arrivals (is_false _ never)))
+unawaited Left (ExpR of) d never = simp (filter-true, filter_map-some) (ap (λ x. let changed : DriverState = record d { left_expiries = x } in changed) (unwaited_expiries of.0 d.left_expiries (is_false _ never)))
+unawaited Left CloseR d never = simp (filter-true, filter_map-some) (ap (λ x. let changed : DriverState = record d { closes = x } in changed) (unwaited_close Right d.closes (is_false _ never)))
+unawaited Right (R at row) d never = simp (filter-true, filter_map-some) (ap (λ x. let changed : DriverState = record d { left_arrivals = x } in changed) (unwaited_arrivals at.0 Row d.left_arrivals (is_false _ never)))
+unawaited Right (AckS at) d never = sym (idle d)
+unawaited Right (EndS at) d never = simp (filter-true, filter_map-some) (ap (λ x. let changed : DriverState = record d { right_arrivals = x } in changed) (unwaited_arrivals at.0 End d.right_arrivals (is_false _ never)))
+unawaited Right (ExpS of) d never = simp (filter-true, filter_map-some) (ap (λ x. let changed : DriverState = record d { right_expiries = x } in changed) (unwaited_expiries of.0 d.right_expiries (is_false _ never)))
+unawaited Right CloseL d never = simp (filter-true, filter_map-some) (ap (λ x. let changed : DriverState = record d { closes = x } in changed) (unwaited_close Left d.closes (is_false _ never)))
+unawaited Right (S at row) d never = sym (idle d)
+unawaited Right (EndR at) d never = sym (idle d)
+unawaited Right (ExpR of) d never = sym (idle d)
+unawaited Right CloseR d never = sym (idle d)

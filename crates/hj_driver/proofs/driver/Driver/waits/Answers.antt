@@ -1,0 +1,6 @@
+use Rattle.std.proofs.Common.{◌∙◌}
+use Rattle.hj_driver.proofs.ComingOut.{cause_of-same}
+use Rattle.hj_driver.proofs.driver.Driver.waits.Goals as goal
+
+pub returns : goal.returns
+returns g c = λ log stands well. c.cause.ensures.cause ∙ cause_of-same c.args.event.now c.args.self.now log stands well

@@ -1,0 +1,40 @@
+use Rattle.std.proofs.Common.{refl, sym, subst, arith, ◌∙◌}
+use Rattle.std.specs.List.{filter_map}
+use Rattle.hj_driver.specs.Lane.{LaneState, IsRising, IsAt, after_part}
+use Rattle.hj_driver.proofs.Arrivals.{none_changes, marked, removed, rising_after, lane_with, on_some}
+use Rattle.hj_driver.proofs.lane.Lane.take.Goals as goal
+
+pub returns-in_default : goal.returns-in_default
+returns-in_default c =
+    let s = c.args.self.now in
+    lane_with s s.arrivals s.arrivals s.expiries s.room (filter_map (after_part c.args.no.0 c.args.part)) refl (none_changes s.arrivals c.args.no.0 c.args.part c.in_default.ensures.absent)
+
+pub invariant_of-self : goal.invariant_of-self
+invariant_of-self c =
+    let l = c.self.inside.arrivals.items in
+    let is : IsAt l c.args.no.0 c.in-Ok.at = subst (λ (s : LaneState). IsAt s.arrivals c.args.no.0 c.in-Ok.at) (sym c.self.view_is) c.in-Ok.ensures.found in
+    let rising = subst IsRising (sym (marked l c.self.invariant.rising c.args.no.0 c.in-Ok.at is c.args.part c.index.result.now c.in-Some.arrival c.index.ensures (sym c.in-Some.ensures))) (rising_after c.args.no.0 c.args.part l c.self.invariant.rising) in
+    record { rising = rising; distinct = c.self.invariant.distinct; for_arrivals = c.self.invariant.for_arrivals; for_expiries = c.self.invariant.for_expiries }
+
+pub invariant_of-self-in-None : goal.invariant_of-self-in-None
+invariant_of-self-in-None c =
+    let l = c.self.inside.arrivals.items in
+    let is : IsAt l c.args.no.0 c.in-Ok.at = subst (λ (s : LaneState). IsAt s.arrivals c.args.no.0 c.in-Ok.at) (sym c.self.view_is) c.in-Ok.ensures.found in
+    let items = on_some c.remove.result _ (c.remove.ensures.variant.1 (omega (arith, is.in_range, c.self.inside.arrivals.ok.0))) c.remove.ensures.items in
+    let after = items ∙ removed l c.self.invariant.rising c.args.no.0 c.in-Ok.at is c.args.part c.index.result.now c.index.ensures (sym c.in-None.ensures) in
+    record { rising = subst IsRising (sym after) (rising_after c.args.no.0 c.args.part l c.self.invariant.rising); distinct = c.self.invariant.distinct; for_arrivals = omega (arith, c.remove.ensures.capacity, c.self.invariant.for_arrivals); for_expiries = c.self.invariant.for_expiries }
+
+pub returns-in-Some : goal.returns-in-Some
+returns-in-Some c =
+    let l = c.self.inside.arrivals.items in
+    let is : IsAt l c.args.no.0 c.in-Ok.at = subst (λ (s : LaneState). IsAt s.arrivals c.args.no.0 c.in-Ok.at) (sym c.self.view_is) c.in-Ok.ensures.found in
+    lane_with c.args.self.now l _ c.self.inside.expiries.items c.self.inside.room (filter_map (after_part c.args.no.0 c.args.part)) c.self.view_is
+    (marked l c.self.invariant.rising c.args.no.0 c.in-Ok.at is c.args.part c.index.result.now c.in-Some.arrival c.index.ensures (sym c.in-Some.ensures))
+
+pub returns-in-None : goal.returns-in-None
+returns-in-None c =
+    let l = c.self.inside.arrivals.items in
+    let is : IsAt l c.args.no.0 c.in-Ok.at = subst (λ (s : LaneState). IsAt s.arrivals c.args.no.0 c.in-Ok.at) (sym c.self.view_is) c.in-Ok.ensures.found in
+    let items = on_some c.remove.result _ (c.remove.ensures.variant.1 (omega (arith, is.in_range, c.self.inside.arrivals.ok.0))) c.remove.ensures.items in
+    lane_with c.args.self.now l _ c.self.inside.expiries.items c.self.inside.room (filter_map (after_part c.args.no.0 c.args.part)) c.self.view_is
+    (items ∙ removed l c.self.invariant.rising c.args.no.0 c.in-Ok.at is c.args.part c.index.result.now c.index.ensures (sym c.in-None.ensures))

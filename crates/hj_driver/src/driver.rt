@@ -1,0 +1,227 @@
+ghost use Rattle.std.specs.Prelude.{◌≡◌, ◌<◌, ◌≤◌, List, [], ◌∷◌, ◌++◌, IfOk, IsTrue};
+ghost use Rattle.std.specs.Bool.{OnTrue, OnFalse};
+ghost use Rattle.hj_msg.specs.Driver.{DriverTurn, admission, receipt, admitted, message_of, port_of};
+ghost use Rattle.hj_msg.specs.Event.{IsWellFormed};
+ghost use Rattle.hj_driver.specs.Driver.{IsNew, after_put, after_take, answer_to, awaits, cause_of, closed, closing_of, count_of, is_finished, is_send, new_driver};
+ghost use Rattle.hj_driver.specs.StandsFor.{StandsFor, cause_after};
+
+use crate::closes::Closes;
+use crate::lane::{Lane, Part};
+use crate::{Admitted, Closing, Why};
+use hj_base::{Memory, Side};
+use hj_msg::{Event, Msg};
+use std::alloc::Global;
+use std::marker::Model;
+
+/// What is outstanding of the events that were put into the chain, and how far the closes have come.
+#[derive(Debug, Drop)]
+pub struct Driver {
+    left: Lane,
+    right: Lane,
+    flight: u16,
+    closes: Closes,
+}
+
+impl Model for Driver {
+    ghost use Rattle.std.specs.Prelude.{◌≡◌, ◌+◌, ◌^◌, ◌<◌, ◌≤◌, length};
+    ghost use Rattle.hj_driver.specs.Driver.{DriverState};
+
+    ghost Value = { DriverState };
+
+    ghost view = { λ d. record {
+      flight = d.flight;
+      left_arrivals = d.left.arrivals;
+      left_expiries = d.left.expiries;
+      right_arrivals = d.right.arrivals;
+      right_expiries = d.right.expiries;
+      closes = d.closes;
+    } };
+
+    ghost invariant = { λ d. record {
+      left_room : d.left.room ≡ d.flight;
+      right_room : d.right.room ≡ d.flight;
+      few : (length d.left.arrivals + length d.left.expiries) + (length d.right.arrivals + length d.right.expiries) ≤ d.flight;
+      small : d.flight < 2 ^ 16;
+    } };
+}
+
+impl Driver {
+    /// The driver of a chain in which nothing was put, with at most `flight` events outstanding. Its rules are the same for
+    /// every number of cores. All memory of the driver is taken here.
+    pub fn new(alloc: Global, _cores: u16, flight: u16) -> Result<Self, Memory>
+        ensures { IfOk result (λ driver. driver ≡ new_driver flight) }
+    {
+        let room = usize::from(flight);
+        Ok(Driver {
+            left: Lane::new(alloc, room)?,
+            right: Lane::new(alloc, room)?,
+            flight,
+            closes: Closes::Unsent,
+        })
+    }
+
+    /// How many events are outstanding: put, and not yet left.
+    pub fn outstanding(&self) -> u32
+        ensures { result ≡ count_of self.now }
+    {
+        (self.left.len() + self.right.len()) as u32
+    }
+
+    /// Whether both closes were taken.
+    pub fn finished(&self) -> bool
+        ensures { result ≡ is_finished self.now.closes }
+    {
+        self.closes.are_taken()
+    }
+
+    /// Why `admit` of this event would answer Wait now; None exactly where it would answer Send.
+    pub fn waits<P>(&self, event: &Event<P>) -> Option<Why>
+        ensures { (log : List (DriverTurn P)) → StandsFor self.now log → IsWellFormed (admitted log ++ event.now ∷ []) → result ≡ cause_after self.now.flight event.now log }
+    {
+        self.cause(event)
+    }
+
+    /// Puts the next event into the chain, or says why not.
+    pub fn admit<P>(&mut self, event: Event<P>) -> Admitted<P>
+        // the events put so far, in some log that the driver stands for, and this one after them are well formed
+        requires { (log : List (DriverTurn P)) × StandsFor self.old log × IsWellFormed (admitted log ++ event ∷ []) }
+        ensures answer { (log : List (DriverTurn P)) → StandsFor self.old log → IsWellFormed (admitted log ++ event ∷ []) → result ≡ answer_to event (cause_after self.old.flight event log) }
+        ensures sent { (log : List (DriverTurn P)) → StandsFor self.old log → IsWellFormed (admitted log ++ event ∷ []) → OnTrue (is_send result) (StandsFor self.new (log ++ admission event ∷ [])) }
+        ensures waits { OnFalse (is_send result) (self.new ≡ self.old) }
+        ensures flight { self.new.flight ≡ self.old.flight }
+    {
+        match self.cause(&event) {
+            Some(why) => Admitted::Wait(why, event),
+            None => {
+                let (port, msg) = self.put(event);
+                Admitted::Send(port, msg)
+            }
+        }
+    }
+
+    /// Takes note of a message that was taken at a port.
+    pub fn took<P>(&mut self, port: Side, msg: &Msg<P>)
+        ensures turn { (log : List (DriverTurn P)) → StandsFor self.old log → StandsFor self.new (log ++ receipt port msg.now ∷ []) }
+        ensures others { ¬ (IsTrue (awaits port msg.now self.old)) → self.new ≡ self.old }
+        ensures flight { self.new.flight ≡ self.old.flight }
+    {
+        match port {
+            Side::Left => self.take_at_left(msg),
+            Side::Right => self.take_at_right(msg),
+        }
+    }
+
+    /// Whether both closes are to be put now: where no event is outstanding, and they weren't sent before.
+    pub fn close(&mut self) -> Closing
+        ensures answer { result ≡ closing_of self.old }
+        ensures sent { result ≡ Closing.Send → self.new ≡ closed self.old }
+        ensures waits { ¬ (result ≡ Closing.Send) → self.new ≡ self.old }
+    {
+        if self.closes.are_sent() {
+            return Closing::Already;
+        }
+        let count = self.outstanding();
+        if count > 0 {
+            return Closing::Wait(count);
+        }
+        self.closes = Closes::Sent {
+            left: false,
+            right: false,
+        };
+        Closing::Send
+    }
+
+    /// Why an event waits, if it does.
+    fn cause<P>(&self, event: &Event<P>) -> Option<Why>
+        ensures cause { result ≡ cause_of event.now self.now }
+        ensures few { count_of self.now ≤ self.now.flight }
+    {
+        if self.closes.are_sent() {
+            return Some(Why::Closed);
+        }
+        let count = self.outstanding();
+        if count == u32::from(self.flight) {
+            return Some(Why::Flight(count));
+        }
+        match event {
+            Event::Arrive { .. } => None,
+            Event::Expire { side, of, .. } => {
+                let waits = match side {
+                    Side::Left => self.left.waits_for_row(*of),
+                    Side::Right => self.right.waits_for_row(*of),
+                };
+                waits.then_some(Why::NotMarked(*of))
+            }
+        }
+    }
+
+    /// An event is put: its message, and the end of the chain at which it is put.
+    fn put<P>(&mut self, event: Event<P>) -> (Side, Msg<P>)
+        requires room { count_of self.old < self.old.flight }
+        requires new { IsNew event self.old }
+        ensures port { result.0 ≡ port_of event }
+        ensures message { result.1 ≡ message_of event }
+        ensures state { self.new ≡ after_put event self.old }
+    {
+        match event {
+            Event::Arrive {
+                no,
+                side: Side::Left,
+                row,
+            } => {
+                self.left.arrive(no);
+                (Side::Left, Msg::R { no, row })
+            }
+            Event::Arrive {
+                no,
+                side: Side::Right,
+                row,
+            } => {
+                self.right.arrive(no);
+                (Side::Right, Msg::S { no, row })
+            }
+            Event::Expire {
+                side: Side::Left,
+                of,
+                ..
+            } => {
+                self.left.expire(of);
+                (Side::Right, Msg::ExpR(of))
+            }
+            Event::Expire {
+                side: Side::Right,
+                of,
+                ..
+            } => {
+                self.right.expire(of);
+                (Side::Left, Msg::ExpS(of))
+            }
+        }
+    }
+
+    /// A message was taken at the left port.
+    fn take_at_left<P>(&mut self, msg: &Msg<P>)
+        ensures { self.new ≡ after_take Side.Left msg.now self.old }
+    {
+        match msg {
+            Msg::S { no, .. } => self.right.take(*no, Part::Row),
+            Msg::EndR(no) => self.left.take(*no, Part::End),
+            Msg::ExpR(of) => self.left.take_expiry(*of),
+            Msg::CloseR => self.closes = self.closes.take(Side::Right),
+            _ => {}
+        }
+    }
+
+    /// A message was taken at the right port.
+    fn take_at_right<P>(&mut self, msg: &Msg<P>)
+        ensures { self.new ≡ after_take Side.Right msg.now self.old }
+    {
+        match msg {
+            Msg::R { no, .. } => self.left.take(*no, Part::Row),
+            Msg::EndS(no) => self.right.take(*no, Part::End),
+            Msg::ExpS(of) => self.right.take_expiry(*of),
+            Msg::CloseL => self.closes = self.closes.take(Side::Left),
+            _ => {}
+        }
+    }
+}

@@ -1,0 +1,161 @@
+ghost use Rattle.std.specs.Prelude.{◌≡◌, ◌+◌, ◌<◌, [], ◌∷◌, ◌++◌, ◌==◌, ◌^◌, length, not, position, IfOk, IfErr};
+ghost use Rattle.std.specs.List.{All, Contains, filter, filter_map, list_any};
+ghost use Rattle.hj_driver.specs.Lane.{after_part, is_other, is_taken, waits_for, with_part, IsAt, IsAbsent};
+
+use hj_base::{EventNo, Memory};
+use std::alloc::Global;
+use std::collections::VecDeque;
+use std::marker::Model;
+
+/// One of the two messages by which an arrival leaves the chain.
+#[derive(Clone, Copy, Debug, PartialEq, Eq)]
+pub enum Part {
+    /// The row itself, at the far end.
+    Row,
+    /// The mark that the row has been at every core, at the end where the row came in.
+    End,
+}
+
+/// An outstanding arrival, with the message of it that was taken, if any.
+#[derive(Clone, Copy, Debug, PartialEq, Eq)]
+pub struct Arrival {
+    pub no: EventNo,
+    pub taken: Option<Part>,
+}
+
+impl Arrival {
+    /// Whether its row is still to be taken.
+    fn is_before_its_row(self) -> bool
+        ensures { result ≡ not (is_taken Part.Row self.taken) }
+    {
+        !matches!(self.taken, Some(Part::Row))
+    }
+
+    /// The arrival behind one of its messages; None exactly where the other one was taken before, so that it has left.
+    fn after(self, part: Part) -> Option<Arrival>
+        ensures { result ≡ with_part part self self.taken }
+    {
+        match (self.taken, part) {
+            (None, _) => Some(Arrival {
+                no: self.no,
+                taken: Some(part),
+            }),
+            (Some(Part::Row), Part::Row) | (Some(Part::End), Part::End) => Some(self),
+            (Some(Part::Row), Part::End) | (Some(Part::End), Part::Row) => None,
+        }
+    }
+}
+
+/// The outstanding events of one side. Its arrivals stand by their rising numbers; its expiries, each by the number of its
+/// row, in the order in which they were put, which is mostly that in which they leave.
+#[derive(Debug, Drop)]
+pub struct Lane {
+    arrivals: VecDeque<Arrival>,
+    expiries: VecDeque<EventNo>,
+    room: usize,
+}
+
+impl Model for Lane {
+    ghost use Rattle.std.specs.Prelude.{◌≤◌};
+    ghost use Rattle.std.specs.VecDeque.{deque_capacity};
+    ghost use Rattle.hj_driver.specs.Lane.{LaneState, IsRising, AreDistinct};
+
+    ghost Value = { LaneState };
+
+    ghost view = { λ l. record { arrivals = l.arrivals.items; expiries = l.expiries.items; room = l.room } };
+
+    ghost invariant = { λ l. record {
+      rising : IsRising l.arrivals.items;
+      distinct : AreDistinct l.expiries.items;
+      for_arrivals : l.room ≤ deque_capacity l.arrivals;
+      for_expiries : l.room ≤ deque_capacity l.expiries;
+    } };
+}
+
+impl Lane {
+    /// No events, with room for so many of each kind.
+    pub fn new(alloc: Global, room: usize) -> Result<Self, Memory>
+        ensures { IfOk result (λ lane. lane ≡ record { arrivals = []; expiries = []; room = room }) }
+    {
+        Ok(Lane {
+            arrivals: VecDeque::with_capacity(alloc, room)?,
+            expiries: VecDeque::with_capacity(alloc, room)?,
+            room,
+        })
+    }
+
+    /// How many events are outstanding.
+    pub fn len(&self) -> usize
+        requires { length self.now.arrivals + length self.now.expiries < 2 ^ 64 }
+        ensures { result ≡ length self.now.arrivals + length self.now.expiries }
+    {
+        self.arrivals.len() + self.expiries.len()
+    }
+
+    /// Whether the row of an arrival is still to be taken.
+    pub fn waits_for_row(&self, no: EventNo) -> bool
+        ensures { result ≡ list_any (waits_for no.0 Part.Row) self.now.arrivals }
+    {
+        match self.search(no) {
+            Ok(at) => self.arrivals[at].is_before_its_row(),
+            Err(_) => false,
+        }
+    }
+
+    /// An arrival is put.
+    pub fn arrive(&mut self, no: EventNo)
+        requires room { length self.old.arrivals < self.old.room }
+        requires rising { All (λ arrival. arrival.no.0 < no.0) self.old.arrivals }
+        ensures { self.new ≡ record self.old { arrivals = self.old.arrivals ++ record { no = no; taken = None } ∷ [] } }
+    {
+        self.arrivals
+            .push_back_reserved(Arrival { no, taken: None });
+    }
+
+    /// The expiry of a row is put.
+    pub fn expire(&mut self, of: EventNo)
+        requires room { length self.old.expiries < self.old.room }
+        requires once { ¬ (Contains self.old.expiries of) }
+        ensures { self.new ≡ record self.old { expiries = self.old.expiries ++ of ∷ [] } }
+    {
+        self.expiries.push_back_reserved(of);
+    }
+
+    /// A message of an arrival is taken.
+    pub fn take(&mut self, no: EventNo, part: Part)
+        ensures { self.new ≡ record self.old { arrivals = filter_map (after_part no.0 part) self.old.arrivals } }
+    {
+        let Ok(at) = self.search(no) else { return };
+        match self.arrivals[at].after(part) {
+            Some(arrival) => self.arrivals[at] = arrival,
+            None => {
+                self.arrivals.remove(at);
+            }
+        }
+    }
+
+    /// The message of the expiry of a row is taken.
+    pub fn take_expiry(&mut self, of: EventNo)
+        ensures { self.new ≡ record self.old { expiries = filter (is_other of.0) self.old.expiries } }
+    {
+        if let Some(at) = self.find(of) {
+            self.expiries.remove(at);
+        }
+    }
+
+    /// The place of an arrival.
+    fn search(&self, no: EventNo) -> Result<usize, usize>
+        ensures found { IfOk result (IsAt self.now.arrivals no.0) }
+        ensures absent { IfErr result (λ _. IsAbsent self.now.arrivals no.0) }
+    {
+        self.arrivals
+            .binary_search_by_key(&no.0, |arrival| arrival.no.0)
+    }
+
+    /// The place of an expiry: in a chain its message comes out as the first of its side.
+    fn find(&self, of: EventNo) -> Option<usize>
+        ensures { result ≡ position (λ other. of.0 == other.0) self.now.expiries }
+    {
+        self.expiries.iter().position(|other| of.0 == other.0)
+    }
+}
