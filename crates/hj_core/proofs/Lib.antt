@@ -1,0 +1,3 @@
+mod Flights
+mod Merges
+mod Steps

@@ -1,0 +1,6 @@
+pub mod Buffer
+pub mod Contents
+pub mod Order
+pub mod Prepared
+pub mod Ready
+pub mod Sent

@@ -1,0 +1,16 @@
+//! One core of the chain: for each message it finds the partners, keeps the row where it is to be kept, and tells what to
+//! send on.
+#![tactic(auto)]
+
+mod flight;
+mod flying;
+mod one_core;
+mod prepared;
+mod sends;
+
+pub use one_core::Core;
+pub use prepared::Prepared;
+pub use sends::Sends;
+
+#[cfg(test)]
+mod tests;

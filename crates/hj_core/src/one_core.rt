@@ -1,0 +1,357 @@
+ghost use Rattle.std.specs.Prelude.{◌≡◌, ◌+◌, ◌==◌, ◌<◌, nat_lt, ◌≤◌, ◌↔◌, [], not, ◌&&◌, IfOk, MatchOption};
+ghost use Rattle.std.specs.Option.{ForSome};
+ghost use Rattle.hj_base.specs.declared.numbers.Side.{Side as Sides};
+ghost use Rattle.hj_msg.specs.Core.{empty_state, after, sends, report, is_home, is_last};
+ghost use Rattle.hj_msg.specs.Store.{with_element, with_entry};
+ghost use Rattle.hj_msg.specs.declared.message.Msg.TheVariants.{R as LeftRow, S as RightRow};
+ghost use Rattle.hj_core.specs.Ready.{IsReady};
+
+use crate::flight::Flight;
+use crate::sends::when;
+use crate::{Prepared, Sends};
+use hj_base::{CoreNo, EventNo, Memory, Share, Side};
+use hj_msg::{Join, Msg, Report, Store};
+use std::alloc::Global;
+use std::marker::Model;
+
+/// One core of the chain, with a store of the rows of each stream.
+#[derive(Drop)]
+pub struct Core<P, J: Join<P>, L: Store<P, J>, R: Store<P, J>> {
+    join: J,
+    left: L,
+    right: R,
+    flight: Flight<P>,
+    closed_left: bool,
+    closed_right: bool,
+    place: CoreNo,
+    cores: u16,
+}
+
+impl<P, J: Join<P>, L: Store<P, J>, R: Store<P, J>> Model for Core<P, J, L, R> {
+    ghost use Rattle.std.specs.Prelude.{◌<◌};
+    ghost use Rattle.hj_core.specs.Contents.{Contents, Suits};
+
+    ghost Value = { Contents P J L R };
+
+    ghost view = { λ core. record { place = core.place.0; cores = core.cores; join = core.join; left = core.left; right = core.right; flight = core.flight; closed_left = core.closed_left; closed_right = core.closed_right } };
+
+    ghost invariant = { λ core. (0 < core.cores) × Suits L.suits R.suits core.join core.left core.right };
+}
+
+impl<P: Share + Drop, J: Join<P> + Drop, L: Store<P, J> + Drop, R: Store<P, J> + Drop> Core<
+    P,
+    J,
+    L,
+    R,
+> {
+    ghost use Rattle.hj_core.specs.Contents.{Contents, KeepsPlace, Suits, state_of};
+    ghost use Rattle.hj_core.specs.Prepared.{IsPrepared};
+    ghost use Rattle.hj_core.specs.Sent.{sent};
+
+    /// The core of this place among `cores`, which are at most 64, over two empty stores.
+    pub fn new(
+        join: J,
+        left_store: L,
+        right_store: R,
+        place: CoreNo,
+        cores: u16,
+        alloc: Global,
+    ) -> Self
+        requires place { place.0 < cores }
+        requires most { cores ≤ 64 }
+        requires left { L.entries left_store ≡ [] }
+        requires right { R.entries right_store ≡ [] }
+        requires suits { Suits L.suits R.suits join left_store right_store }
+        ensures state { state_of L.entries R.entries result ≡ empty_state }
+        ensures join { result.join ≡ join }
+        ensures place { result.place ≡ place.0 }
+        ensures cores { result.cores ≡ cores }
+    {
+        Core {
+            join,
+            left: left_store,
+            right: right_store,
+            flight: Flight::new(alloc),
+            closed_left: false,
+            closed_right: false,
+            place,
+            cores,
+        }
+    }
+
+    /// Takes all memory that a message needs, and finds the partners of its row. What the core holds stays.
+    #[inline(always)]
+    pub fn prepare(&mut self, msg: &Msg<P>) -> Result<Prepared<P>, Memory>
+        ensures state { state_of L.entries R.entries self.new ≡ state_of L.entries R.entries self.old }
+        ensures kept { KeepsPlace self.old self.new }
+        ensures prepared { IfOk result (IsPrepared (J.predicate self.new.join) self.new.place self.new.cores (state_of L.entries R.entries self.new)
+            (L.has_place self.new.left) (R.has_place self.new.right) self.new.flight.room msg.now) }
+    {
+        match msg {
+            Msg::R { no, row } => self.prepare_left(*no, row),
+            Msg::S { no, row } => self.prepare_right(*no, row),
+            _ => Ok(Prepared::PassedOn),
+        }
+    }
+
+    /// Handles a message for which this was prepared, with no other message prepared or handled between. Takes no memory.
+    #[inline(always)]
+    pub fn commit(&mut self, msg: Msg<P>, prepared: Prepared<P>) -> Sends<P>
+        requires { IsPrepared (J.predicate self.old.join) self.old.place self.old.cores (state_of L.entries R.entries self.old)
+            (L.has_place self.old.left) (R.has_place self.old.right) self.old.flight.room msg prepared }
+        ensures state { state_of L.entries R.entries self.new ≡ after self.old.place self.old.cores (state_of L.entries R.entries self.old) msg }
+        ensures sends { sent result ≡ sends self.old.place self.old.cores msg }
+        ensures report { result.entry ≡ report (J.predicate self.old.join) (state_of L.entries R.entries self.old) msg }
+        ensures kept { KeepsPlace self.old self.new }
+    {
+        match msg {
+            Msg::R { no, row } => self.commit_left(no, row, prepared),
+            Msg::S { no, row } => self.commit_right(no, row, prepared),
+            Msg::EndR(no) => {
+                self.left.settle(no);
+                Sends::left(Msg::EndR(no))
+            }
+            Msg::EndS(no) => {
+                self.right.settle(no);
+                Sends::right(Msg::EndS(no))
+            }
+            Msg::ExpR(no) => {
+                self.left.remove(no);
+                Sends::left(Msg::ExpR(no))
+            }
+            Msg::ExpS(no) => {
+                self.right.remove(no);
+                Sends::right(Msg::ExpS(no))
+            }
+            Msg::AckS(no) => {
+                self.flight.acknowledge(no);
+                Sends::nothing()
+            }
+            Msg::CloseL => {
+                let is_second = self.closed_right && !self.closed_left;
+                self.closed_left = true;
+                Sends::right(Msg::CloseL).with_end(is_second)
+            }
+            Msg::CloseR => {
+                let is_second = self.closed_left && !self.closed_right;
+                self.closed_right = true;
+                Sends::left(Msg::CloseR).with_end(is_second)
+            }
+        }
+    }
+
+    /// Whether both closes were handled.
+    pub fn ended(&self) -> bool
+        ensures { result ≡ (self.now.closed_left && self.now.closed_right) }
+    {
+        self.closed_left && self.closed_right
+    }
+
+    /// The core's place in the chain.
+    pub fn place(&self) -> CoreNo
+        ensures { result.0 ≡ self.now.place }
+    {
+        self.place
+    }
+
+    /// Whether this core is the home of an event.
+    #[inline(always)]
+    fn is_home(&self, no: EventNo) -> bool
+        ensures { result ≡ is_home self.now.place self.now.cores no.0 }
+    {
+        no.0 % u64::from(self.cores) == u64::from(self.place.0)
+    }
+
+    #[inline(always)]
+    fn is_first(&self) -> bool
+        ensures { result ≡ (self.now.place == 0) }
+    {
+        self.place.0 == 0
+    }
+
+    #[inline(always)]
+    fn is_last(&self) -> bool
+        ensures { result ≡ is_last self.now.place self.now.cores }
+    {
+        u32::from(self.place.0) + 1 == u32::from(self.cores)
+    }
+
+    #[inline(always)]
+    fn has_right_neighbour(&self) -> bool
+        ensures { result ≡ nat_lt (self.now.place + 1) self.now.cores }
+    {
+        u32::from(self.place.0) + 1 < u32::from(self.cores)
+    }
+
+    #[inline(always)]
+    fn prepare_left(&mut self, no: EventNo, row: &P) -> Result<Prepared<P>, Memory>
+        ensures state { state_of L.entries R.entries self.new ≡ state_of L.entries R.entries self.old }
+        ensures kept { KeepsPlace self.old self.new }
+        ensures prepared { IfOk result (IsPrepared (J.predicate self.new.join) self.new.place self.new.cores (state_of L.entries R.entries self.new)
+            (L.has_place self.new.left) (R.has_place self.new.right) self.new.flight.room (LeftRow no row.now)) }
+    {
+        let settled = self.right.probe(Side::Right, row, &self.join)?;
+        let partners = self.flight.add_partners(row, &self.join, settled)?;
+        let home = self.is_home(no);
+        Ok(Prepared::Arrival {
+            partners,
+            resting: share_at_home::<P, J, L>(&mut self.left, home, no, row)?,
+            reported: row.share()?,
+            flying: None,
+        })
+    }
+
+    #[inline(always)]
+    fn prepare_right(&mut self, no: EventNo, row: &P) -> Result<Prepared<P>, Memory>
+        ensures state { state_of L.entries R.entries self.new ≡ state_of L.entries R.entries self.old }
+        ensures kept { KeepsPlace self.old self.new }
+        ensures prepared { IfOk result (IsPrepared (J.predicate self.new.join) self.new.place self.new.cores (state_of L.entries R.entries self.new)
+            (L.has_place self.new.left) (R.has_place self.new.right) self.new.flight.room (RightRow no row.now)) }
+    {
+        let partners = self.left.probe(Side::Left, row, &self.join)?;
+        let home = self.is_home(no);
+        let first = self.is_first();
+        Ok(Prepared::Arrival {
+            partners,
+            resting: share_at_home::<P, J, R>(&mut self.right, home, no, row)?,
+            flying: share_in_flight(&mut self.flight, first, row)?,
+            reported: row.share()?,
+        })
+    }
+
+    #[inline(always)]
+    fn commit_left(&mut self, no: EventNo, row: P, prepared: Prepared<P>) -> Sends<P>
+        requires { IsPrepared (J.predicate self.old.join) self.old.place self.old.cores (state_of L.entries R.entries self.old)
+            (L.has_place self.old.left) (R.has_place self.old.right) self.old.flight.room (LeftRow no row) prepared }
+        ensures state { state_of L.entries R.entries self.new ≡ after self.old.place self.old.cores (state_of L.entries R.entries self.old) (LeftRow no row) }
+        ensures sends { sent result ≡ sends self.old.place self.old.cores (LeftRow no row) }
+        ensures report { result.entry ≡ report (J.predicate self.old.join) (state_of L.entries R.entries self.old) (LeftRow no row) }
+        ensures kept { KeepsPlace self.old self.new }
+    {
+        let Prepared::Arrival {
+            partners,
+            reported,
+            resting,
+            flying: _,
+        } = prepared
+        else {
+            unreachable!()
+        };
+        let last = self.is_last();
+        rest_at_home::<P, J, L>(&mut self.left, no, resting, last);
+        Sends {
+            to_left: when(last, Msg::EndR(no)),
+            to_right: Some(Msg::R { no, row }),
+            to_right_then: None,
+            entry: Some(Report::Handled {
+                no,
+                side: Side::Left,
+                row: reported,
+                partners,
+            }),
+        }
+    }
+
+    #[inline(always)]
+    fn commit_right(&mut self, no: EventNo, row: P, prepared: Prepared<P>) -> Sends<P>
+        requires { IsPrepared (J.predicate self.old.join) self.old.place self.old.cores (state_of L.entries R.entries self.old)
+            (L.has_place self.old.left) (R.has_place self.old.right) self.old.flight.room (RightRow no row) prepared }
+        ensures state { state_of L.entries R.entries self.new ≡ after self.old.place self.old.cores (state_of L.entries R.entries self.old) (RightRow no row) }
+        ensures sends { sent result ≡ sends self.old.place self.old.cores (RightRow no row) }
+        ensures report { result.entry ≡ report (J.predicate self.old.join) (state_of L.entries R.entries self.old) (RightRow no row) }
+        ensures kept { KeepsPlace self.old self.new }
+    {
+        let Prepared::Arrival {
+            partners,
+            reported,
+            resting,
+            flying,
+        } = prepared
+        else {
+            unreachable!()
+        };
+        let first = self.is_first();
+        let acknowledged = self.has_right_neighbour();
+        rest_at_home::<P, J, R>(&mut self.right, no, resting, first);
+        keep_in_flight(&mut self.flight, no, flying);
+        Sends {
+            to_left: Some(Msg::S { no, row }),
+            to_right: when(acknowledged, Msg::AckS(no)),
+            to_right_then: when(first, Msg::EndS(no)),
+            entry: Some(Report::Handled {
+                no,
+                side: Side::Right,
+                row: reported,
+                partners,
+            }),
+        }
+    }
+}
+
+/// At its home, one more of a row, with a place for it in a store.
+#[inline(always)]
+fn share_at_home<P: Share + Drop, J: Join<P>, S: Store<P, J>>(
+    store: &mut S,
+    home: bool,
+    no: EventNo,
+    row: &P,
+) -> Result<Option<P>, Memory>
+    ensures entries { S.entries store.new ≡ S.entries store.old }
+    ensures suits { (side : Sides) (join : J) → S.suits store.new side join ↔ S.suits store.old side join }
+    ensures ready { IfOk result (IsReady home row.now (S.has_place store.new no.0 row.now)) }
+{
+    if home {
+        store.reserve(no, row)?;
+        Ok(Some(row.share()?))
+    } else {
+        Ok(None)
+    }
+}
+
+/// Where a row has a left neighbour to go to, one more of it, with room in flight.
+#[inline(always)]
+fn share_in_flight<P: Share + Drop>(
+    flight: &mut Flight<P>,
+    first: bool,
+    row: &P,
+) -> Result<Option<P>, Memory>
+    ensures rows { flight.new.rows ≡ flight.old.rows }
+    ensures ready { IfOk result (IsReady (not first) row.now (0 < flight.new.room)) }
+{
+    if first {
+        Ok(None)
+    } else {
+        flight.reserve()?;
+        Ok(Some(row.share()?))
+    }
+}
+
+/// Puts the row that rests here into its store.
+#[inline(always)]
+fn rest_at_home<P: Drop, J: Join<P>, S: Store<P, J>>(
+    store: &mut S,
+    no: EventNo,
+    resting: Option<P>,
+    settled: bool,
+)
+    requires { ForSome resting (S.has_place store.old no.0) }
+    ensures entries { MatchOption resting (S.entries store.new ≡ S.entries store.old)
+        (λ row. S.entries store.new ≡ with_entry (record { no = no.0; row = row; settled = settled }) (S.entries store.old)) }
+    ensures suits { (side : Sides) (join : J) → S.suits store.new side join ↔ S.suits store.old side join }
+{
+    if let Some(row) = resting {
+        store.insert(no, row, settled);
+    }
+}
+
+/// Keeps the row that is in flight.
+#[inline(always)]
+fn keep_in_flight<P: Drop>(flight: &mut Flight<P>, no: EventNo, flying: Option<P>)
+    requires { ForSome flying (λ row. 0 < flight.old.room) }
+    ensures { MatchOption flying (flight.new.rows ≡ flight.old.rows)
+        (λ row. flight.new.rows ≡ with_element (λ one. one.no) (record { no = no.0; row = row }) flight.old.rows) }
+{
+    if let Some(row) = flying {
+        flight.put(no, row);
+    }
+}

@@ -1,0 +1,4 @@
+mod Probes
+mod Rows
+mod SortedProbes
+pub mod Sorting

@@ -1,0 +1,32 @@
+ghost use Rattle.std.specs.Prelude.{◌≡◌, is_some};
+ghost use Rattle.hj_index.specs.ListStore.{is_empty_place, settled_place};
+
+/// A row at rest.
+#[derive(Drop)]
+pub struct Rest<P> {
+    pub(crate) row: P,
+    pub(crate) settled: bool,
+}
+
+/// Settles the row of a place; false exactly where the place is empty.
+#[inline(always)]
+pub(crate) fn settle_place<P>(place: &mut Option<Rest<P>>) -> bool
+    ensures held { result ≡ is_some place.old }
+    ensures settled { place.new ≡ settled_place place.old }
+{
+    match place {
+        Some(rest) => {
+            rest.settled = true;
+            true
+        }
+        None => false,
+    }
+}
+
+/// Whether there was a place, an empty one.
+#[inline(always)]
+pub(crate) fn was_empty<P>(place: &Option<Option<Rest<P>>>) -> bool
+    ensures { result ≡ is_empty_place place.now }
+{
+    matches!(place, Some(None))
+}
