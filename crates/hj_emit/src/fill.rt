@@ -1,0 +1,121 @@
+ghost use Rattle.std.specs.Prelude.{◌≡◌, ◌++◌, [], ◌∷◌, List, map, OnOk};
+ghost use Rattle.std.specs.Fmt.{signed_decimal};
+ghost use Rattle.csv.specs.Writing.{default_writer, escaped, field_text, needs_byte, needs_quotes, quoted, row_text};
+ghost use Rattle.hj_emit.specs.Cells.{cells};
+ghost use Rattle.hj_value.specs.declared.field.Field.{Field};
+ghost use Rattle.hj_emit.specs.Line.{field_bytes, line_of};
+
+use crate::LineBytes;
+use hj_base::Memory;
+use hj_value::{Field, Row};
+use itoa::Buffer;
+
+/// Makes a line that of two joined rows, as `line` gives it, in place of what it held. Memory is taken for its growth
+/// alone; after a refusal it holds a part of the line.
+pub fn fill_line(line: &mut LineBytes, left: &Row, right: &Row) -> Result<(), Memory>
+    ensures { OnOk result (line.new ≡ line_of left.now right.now) }
+{
+    line.bytes.clear();
+    push_row(&mut line.bytes, left)?;
+    push_row(&mut line.bytes, right)?;
+    end_line(&mut line.bytes)
+}
+
+/// Adds a row's fields, with a comma behind each.
+fn push_row(text: &mut Vec<u8>, row: &Row) -> Result<(), Memory>
+    ensures { OnOk result (text.new.items ≡ text.old.items ++ cells row.now) }
+{
+    for at in 0..row.len() {
+        let Some(field) = row.get(at) else {
+            unreachable!();
+        };
+        push_field(text, &field)?;
+        text.push(b',')?;
+    }
+    Ok(())
+}
+
+/// Adds a field.
+fn push_field(text: &mut Vec<u8>, field: &Field<'_>) -> Result<(), Memory>
+    ensures { OnOk result (text.new.items ≡ text.old.items ++ field_text default_writer (field_bytes field.now)) }
+{
+    match field {
+        Field::Int(number) => push_number(text, *number),
+        Field::Text(bytes) => push_text(text, bytes.bytes()),
+    }
+}
+
+/// Adds a number in decimal, which needs no quotes.
+fn push_number(text: &mut Vec<u8>, number: i64) -> Result<(), Memory>
+    ensures { OnOk result (text.new.items ≡ text.old.items ++ field_text default_writer (signed_decimal number)) }
+{
+    let mut digits = Buffer::new();
+    text.extend_from_slice(digits.format(number).as_bytes())?;
+    Ok(())
+}
+
+/// Adds a text, in quotes where it needs them.
+fn push_text(text: &mut Vec<u8>, bytes: &[u8]) -> Result<(), Memory>
+    ensures { OnOk result (text.new.items ≡ text.old.items ++ field_text default_writer bytes.now) }
+{
+    if needs_quotes(bytes) {
+        return push_quoted(text, bytes);
+    }
+    text.extend_from_slice(bytes)?;
+    Ok(())
+}
+
+/// Whether a text needs quotes.
+fn needs_quotes(bytes: &[u8]) -> bool
+    ensures { result ≡ needs_quotes default_writer bytes.now }
+{
+    bytes.iter().any(|byte| is_special(*byte))
+}
+
+/// Whether a text with this byte needs quotes.
+fn is_special(byte: u8) -> bool
+    ensures { result ≡ needs_byte default_writer byte }
+{
+    matches!(byte, b',' | b'"' | b'\r' | b'\n')
+}
+
+/// Adds a text in quotes, with each quote in it doubled.
+#[cold]
+fn push_quoted(text: &mut Vec<u8>, bytes: &[u8]) -> Result<(), Memory>
+    ensures { OnOk result (text.new.items ≡ text.old.items ++ quoted default_writer bytes.now) }
+{
+    text.push(b'"')?;
+    for byte in bytes {
+        push_escaped(text, *byte)?;
+    }
+    text.push(b'"')?;
+    Ok(())
+}
+
+/// Adds a byte of a text in quotes: a quote twice.
+#[tactic(auto, unfolding(csv::specs::Writing::escaped))]
+fn push_escaped(text: &mut Vec<u8>, byte: u8) -> Result<(), Memory>
+    ensures { OnOk result (text.new.items ≡ text.old.items ++ escaped default_writer (byte ∷ [])) }
+{
+    if byte == b'"' {
+        text.extend_from_slice(b"\"\"")?;
+        return Ok(());
+    }
+    text.push(byte)?;
+    Ok(())
+}
+
+/// Ends a line of fields with a comma behind each: a line feed comes in place of the last comma. Where no byte is left, two
+/// quotes stand for the one empty field.
+fn end_line(text: &mut Vec<u8>) -> Result<(), Memory>
+    ensures { (fields : List Field) → text.old.items ≡ cells fields
+        → OnOk result (text.new.items ≡ row_text default_writer (map field_bytes fields)) }
+{
+    text.pop();
+    if text.is_empty() {
+        text.extend_from_slice(b"\"\"\n")?;
+        return Ok(());
+    }
+    text.push(b'\n')?;
+    Ok(())
+}

@@ -1,0 +1,58 @@
+ghost use Rattle.std.specs.Prelude.{◌≡◌};
+ghost use Rattle.hj_query.specs.declared.pred.Pred.{Compare, Within};
+ghost use Rattle.hj_eval.specs.Holds.{holds, pred_holds};
+ghost use Rattle.hj_eval.specs.Values.{value_in};
+
+use crate::rows::{Rows, sum_value};
+use crate::value::{compares, is_within};
+use hj_query::{Op, Pred, Query, Sum};
+use hj_value::Row;
+
+/// Whether the condition of a query holds for a left and a right row. Sums and distances have no bound, and texts compare
+/// by their bytes. A comparison or a distance with a missing value doesn't hold; a column has none where the row lacks it,
+/// or has another type there than the query's schema.
+pub fn holds(query: &Query, left: &Row, right: &Row) -> bool
+    ensures { result ≡ holds query.now left.now right.now }
+{
+    pred_holds(&Rows { query, left, right }, query.pred())
+}
+
+/// Whether a condition holds. The left operands may stand as deep as the condition is long, so this keeps little on the
+/// stack.
+fn pred_holds<'a>(rows: &Rows<'a>, pred: &'a Pred) -> bool
+    ensures { result ≡ pred_holds (value_in rows.now) pred.now }
+{
+    match pred {
+        Pred::Or(left, right) => pred_holds(rows, left) || pred_holds(rows, right),
+        Pred::And(left, right) => pred_holds(rows, left) && pred_holds(rows, right),
+        Pred::Not(inner) => !pred_holds(rows, inner),
+        Pred::Compare(op, left, right) => comparison_holds(rows, *op, left, right),
+        Pred::Within(distance, left, right) => distance_holds(rows, *distance, left, right),
+    }
+}
+
+/// Whether two sums compare so.
+fn comparison_holds<'a>(rows: &Rows<'a>, op: Op, left: &'a Sum, right: &'a Sum) -> bool
+    ensures { result ≡ pred_holds (value_in rows.now) (Compare op left.now right.now) }
+{
+    let Some(left) = sum_value(rows, left) else {
+        return false;
+    };
+    match sum_value(rows, right) {
+        Some(right) => compares(op, left, right),
+        None => false,
+    }
+}
+
+/// Whether two sums are numbers that differ by at most so much.
+fn distance_holds<'a>(rows: &Rows<'a>, distance: u64, left: &'a Sum, right: &'a Sum) -> bool
+    ensures { result ≡ pred_holds (value_in rows.now) (Within distance left.now right.now) }
+{
+    let Some(left) = sum_value(rows, left) else {
+        return false;
+    };
+    match sum_value(rows, right) {
+        Some(right) => is_within(distance, left, right),
+        None => false,
+    }
+}

@@ -1,0 +1,103 @@
+ghost use Rattle.std.specs.Prelude.{◌≡◌, ℕ, ◌+◌, ◌-◌, ◌^◌, Some, FitsSigned, IfSome, option_map, slice_get};
+ghost use Rattle.std.specs.Int.{w64};
+ghost use Rattle.hj_eval.specs.Holds.{column_value, sum_value, with_part, with_parts};
+ghost use Rattle.hj_eval.specs.Values.{field_of, value_in, IsSmall, IsTotalOf};
+ghost use Rattle.hj_query.specs.Grammar.{columns_of};
+ghost use Rattle.hj_query.specs.Sides.{by_side};
+ghost use Rattle.hj_value.specs.declared.field.Field.TheVariants as field;
+
+use crate::value::Value;
+use hj_base::Side;
+use hj_query::{Part, Query, Rest, Sum, Term};
+use hj_value::{ColumnType, Field, Row};
+
+/// A left and a right row, under a query.
+#[derive(Clone, Copy)]
+pub struct Rows<'a> {
+    pub query: &'a Query,
+    pub left: &'a Row,
+    pub right: &'a Row,
+}
+
+/// The value of a sum; None where a term has none, and where a text is one of several terms.
+pub fn sum_value<'a>(rows: &Rows<'a>, sum: &'a Sum) -> Option<Value<'a>>
+    ensures { option_map field_of result ≡ sum_value (value_in rows.now) sum.now }
+{
+    let first = term_value(rows, &sum.first)?;
+    if sum.rest.len() == 0 {
+        return Some(first);
+    }
+    match first {
+        Value::Number(number) => Some(Value::Number(total(rows, number, &sum.rest)?)),
+        Value::Text(_) => None,
+    }
+}
+
+/// The number with these terms added to it and taken off it; None where one of them is no number.
+fn total<'a>(rows: &Rows<'a>, front: i128, rest: &'a Rest) -> Option<i128>
+    requires { FitsSigned w64 front }
+    ensures { option_map (λ number. field.Int number) result ≡ with_parts (value_in rows.now) (Some (field.Int front)) rest.now }
+{
+    let mut total = front;
+    for at in 0..rest.len() {
+        let Some(part) = rest.get(at) else {
+            unreachable!();
+        };
+        total = with_part(rows, total, part)?;
+    }
+    Some(total)
+}
+
+/// The number with a term added to it or taken off it; None where the term is no number.
+fn with_part<'a>(rows: &Rows<'a>, total: i128, part: &'a Part) -> Option<i128>
+    requires { IsTotalOf (2 ^ 64 - 1) total }
+    ensures value { option_map (λ number. field.Int number) result ≡ with_part (value_in rows.now) (Some (field.Int total)) part.now }
+    ensures grows { (terms : ℕ) → IsTotalOf terms total → IfSome result (IsTotalOf (terms + 1)) }
+{
+    match term_value(rows, &part.term)? {
+        Value::Number(number) if part.plus => Some(total + number),
+        Value::Number(number) => Some(total - number),
+        Value::Text(_) => None,
+    }
+}
+
+/// The value of a term; None for a column that isn't in its row, or has another type there.
+fn term_value<'a>(rows: &Rows<'a>, term: &'a Term) -> Option<Value<'a>>
+    ensures value { option_map field_of result ≡ value_in rows.now term.now }
+    ensures small { IfSome result IsSmall }
+{
+    match term {
+        Term::Column(side, at) => match column_value(rows, *side, usize::from(*at))? {
+            Field::Int(number) => Some(Value::Number(i128::from(number))),
+            Field::Text(text) => Some(Value::Text(text.bytes())),
+        },
+        Term::Number(number) => Some(Value::Number(i128::from(*number))),
+        Term::Text(text) => Some(Value::Text(text.bytes())),
+    }
+}
+
+/// The field of a side's row in a column; None where the row lacks it, or has another type there.
+fn column_value<'a>(rows: &Rows<'a>, side: Side, at: usize) -> Option<Field<'a>>
+    ensures { result ≡ column_value
+        (slice_get (columns_of rows.now.query.now side) at)
+        (slice_get (by_side rows.now.left.now rows.now.right.now side) at) }
+{
+    let column = rows.query.schema(side).columns.get(at)?;
+    let field = rows.of(side).get(at)?;
+    match (column.kind, &field) {
+        (ColumnType::Int, Field::Int(_)) | (ColumnType::Text, Field::Text(_)) => Some(field),
+        _ => None,
+    }
+}
+
+impl<'a> Rows<'a> {
+    /// The row of a side.
+    fn of(&self, side: Side) -> &'a Row
+        ensures { result.now ≡ by_side self.now.left.now self.now.right.now side }
+    {
+        match side {
+            Side::Left => self.left,
+            Side::Right => self.right,
+        }
+    }
+}

@@ -1,0 +1,60 @@
+ghost use Rattle.std.specs.Prelude.{◌≡◌, Some};
+ghost use Rattle.hj_eval.specs.Holds.{accepts, compares, is_within};
+ghost use Rattle.hj_eval.specs.Values.{field_of};
+ghost use Rattle.hj_value.specs.declared.field.Field.TheVariants as field;
+
+use hj_query::Op;
+use std::cmp::Ordering;
+
+/// The value of a sum: a number, or the bytes of a text that stands elsewhere.
+#[derive(Clone, Copy)]
+pub enum Value<'a> {
+    Number(i128),
+    Text(&'a [u8]),
+}
+
+/// Whether two values compare so.
+pub fn compares(op: Op, left: Value<'_>, right: Value<'_>) -> bool
+    ensures { result ≡ compares op (Some (field_of left.entry)) (Some (field_of right.entry)) }
+{
+    match (left, right) {
+        (Value::Number(left), Value::Number(right)) => accepts(op, left.cmp(&right)),
+        (Value::Text(left), Value::Text(right)) => texts_compare(op, left, right),
+        _ => false,
+    }
+}
+
+/// Whether the bytes of two texts compare so.
+fn texts_compare(op: Op, left: &[u8], right: &[u8]) -> bool
+    ensures { result ≡ compares op (Some (field.Text left.now)) (Some (field.Text right.now)) }
+{
+    match op {
+        Op::Eq => left == right,
+        Op::Ne => left != right,
+        Op::Lt | Op::Le | Op::Gt | Op::Ge => accepts(op, left.cmp(&right)),
+    }
+}
+
+/// Whether two values in this order compare so.
+fn accepts(op: Op, order: Ordering) -> bool
+    ensures { result ≡ accepts op order }
+{
+    match op {
+        Op::Eq => order.is_eq(),
+        Op::Ne => order.is_ne(),
+        Op::Lt => order.is_lt(),
+        Op::Le => order.is_le(),
+        Op::Gt => order.is_gt(),
+        Op::Ge => order.is_ge(),
+    }
+}
+
+/// Whether two values are numbers that differ by at most so much.
+pub fn is_within(distance: u64, left: Value<'_>, right: Value<'_>) -> bool
+    ensures { result ≡ is_within distance (Some (field_of left.entry)) (Some (field_of right.entry)) }
+{
+    match (left, right) {
+        (Value::Number(left), Value::Number(right)) => left.abs_diff(right) <= u128::from(distance),
+        _ => false,
+    }
+}
