@@ -1,5 +1,5 @@
--- Streams whose bytes stand in memory, each under a name.
-use Rattle.std.specs.Prelude.{◌==◌, ℕ, false, List, [], ◌++◌, length, min, find, drop, take, if◌then◌else◌, None, Some, option_map, unwrap_or, bytes_eq, Option}
+-- Streams whose bytes stand in memory, each under a name, with the starts and reads that fail.
+use Rattle.std.specs.Prelude.{◌≡◌, ◌==◌, ◌⊎◌, ℕ, Bool, true, false, List, [], ◌++◌, Contains, IsSome, length, min, find, drop, take, if◌then◌else◌, None, Some, option_map, unwrap_or, bytes_eq, Option}
 use Rattle.hj_base.specs.declared.outside.Role.{Role}
 use Rattle.hj_base.specs.declared.outside.Role.TheVariants.{Query, Left, Right}
 use Rattle.hj_base.specs.declared.outside.Opened.{Opened}
@@ -9,14 +9,28 @@ use Rattle.hj_base.specs.declared.outside.Got.TheVariants as read
 use Rattle.hj_base.specs.Counts.{one_more}
 use Rattle.hj_base.specs.Outside.{RoleState, unbegun, opened, refused, at_end}
 
+-- A role's stream.
+pub record StreamState : Type 0 where
+  pub role : RoleState
+  -- its start fails, whatever stands under its name
+  pub start_fails : Bool
+  -- how many reads were answered
+  pub reads : ℕ
+  -- the reads that fail, counted from 1
+  pub failing : List ℕ
+
+-- The next read is one of those that fail.
+abbrev pub IsFailing : StreamState → Type 0
+IsFailing stream = Contains stream.failing (one_more stream.reads)
+
 pub record OutsideState : Type 0 where
   -- the most bytes that one read gives
   pub chunk : ℕ
   -- names, each with the bytes that stand under it
   pub contents : List (List ℕ × List ℕ)
-  pub query : RoleState
-  pub left : RoleState
-  pub right : RoleState
+  pub query : StreamState
+  pub left : StreamState
+  pub right : StreamState
 
 -- the bytes under a name, where it stands
 abbrev pub lookup : List (List ℕ × List ℕ) → List ℕ → Option (List ℕ)
@@ -26,44 +40,54 @@ lookup contents name = option_map (λ content. content.1) (find (λ content. byt
 abbrev pub told_under : OutsideState → List ℕ → Option (List ℕ)
 told_under outside name = Some (unwrap_or (lookup outside.contents name) [])
 
+abbrev pub stream_at : OutsideState → Role → StreamState
+stream_at outside Query = outside.query
+stream_at outside Left = outside.left
+stream_at outside Right = outside.right
+
 abbrev pub role_at : OutsideState → Role → RoleState
-role_at outside Query = outside.query
-role_at outside Left = outside.left
-role_at outside Right = outside.right
+role_at outside role = (stream_at outside role).role
 
--- the same with another state of a role
-abbrev pub with_role : OutsideState → Role → RoleState → OutsideState
-with_role outside Query state = record outside { query = state }
-with_role outside Left state = record outside { left = state }
-with_role outside Right state = record outside { right = state }
+-- the same with another state of a role's stream
+abbrev pub with_stream : OutsideState → Role → StreamState → OutsideState
+with_stream outside Query state = record outside { query = state }
+with_stream outside Left state = record outside { left = state }
+with_stream outside Right state = record outside { right = state }
 
--- a role of a new object
-abbrev pub new_role : RoleState
-new_role = record { phase = unbegun; faults = 0; left = None }
+-- a stream of a new object
+abbrev pub new_stream : StreamState
+new_stream = record { role = record { phase = unbegun; faults = 0; left = None }; start_fails = false; reads = 0; failing = [] }
 
--- A start is ready only where the name stands, and fails only where it is missing.
-abbrev pub FailsAtMissing : Opened → Option (List ℕ) → Type 0
-FailsAtMissing start.Ready (Some bytes) = Unit {0}
-FailsAtMissing start.Ready None = ⊥
-FailsAtMissing start.Failed (Some bytes) = ⊥
-FailsAtMissing start.Failed None = Unit {0}
-FailsAtMissing start.Memory found = Unit {0}
+-- A start is ready only where the name stands and it isn't one that fails; it fails only where that isn't so.
+abbrev pub AnswersStart : Opened → Bool → Option (List ℕ) → Type 0
+AnswersStart start.Ready fails found = (fails ≡ false) × IsSome found
+AnswersStart start.Failed fails found = (fails ≡ true) ⊎ (found ≡ None)
+AnswersStart start.Memory fails found = Unit {0}
 
--- a role after a start under a name, where these bytes were found
-abbrev pub after_start : Opened → List ℕ → Option (List ℕ) → RoleState → RoleState
-after_start start.Ready name found old = record { phase = opened name false; faults = old.faults; left = found }
-after_start start.Failed name found old = record { phase = refused name; faults = one_more old.faults; left = None }
+-- a stream after a start under a name, where these bytes were found
+abbrev pub after_start : Opened → List ℕ → Option (List ℕ) → StreamState → StreamState
+after_start start.Ready name found old = record old { role = record { phase = opened name false; faults = old.role.faults; left = found } }
+after_start start.Failed name found old = record old { role = record { phase = refused name; faults = one_more old.role.faults; left = None } }
 after_start start.Memory name found old = old
 
--- the answer to a read into a buffer with so much room, where these bytes are left
+-- the answer to a read that doesn't fail, into a buffer with so much room, where these bytes are left
 abbrev pub read_answer : ℕ → ℕ → List ℕ → Got
 read_answer chunk room bytes = if length bytes == 0 then read.End else read.Bytes (min chunk (min room (length bytes)))
 
+-- A read fails exactly where it is listed.
+abbrev pub AnswersRead : Got → ℕ → ℕ → List ℕ → StreamState → Type 0
+AnswersRead read.Failed chunk room bytes stream = IsFailing stream
+AnswersRead answer chunk room bytes stream = (answer ≡ read_answer chunk room bytes) × ¬ (IsFailing stream)
+
 -- a role after a read
-abbrev pub after_read : Got → RoleState → RoleState
-after_read (read.Bytes m) old = record old { left = option_map (drop m) old.left }
-after_read read.End old = record old { phase = at_end old.phase }
-after_read read.Failed old = old
+abbrev pub role_after : Got → RoleState → RoleState
+role_after (read.Bytes m) old = record old { left = option_map (drop m) old.left }
+role_after read.End old = record old { phase = at_end old.phase }
+role_after read.Failed old = record old { faults = one_more old.faults }
+
+-- a stream after a read
+abbrev pub after_read : Got → StreamState → StreamState
+after_read answer old = record old { role = role_after answer old.role; reads = one_more old.reads }
 
 -- a buffer after a read, where these bytes were left
 abbrev pub filled : Got → List ℕ → List ℕ → List ℕ

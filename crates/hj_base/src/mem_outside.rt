@@ -1,6 +1,6 @@
-ghost use Rattle.std.specs.Prelude.{◌≡◌, ◌≢◌, ◌≤◌, ◌<◌, ℕ, List, [], length, OnOk, OnErr, IfOk, IsSomeAnd, Some, option_copied, position, bytes_eq};
+ghost use Rattle.std.specs.Prelude.{◌≡◌, ◌≢◌, ◌≤◌, ◌<◌, ◌-◌, ◌^◌, ◌∷◌, ◌++◌, true, ℕ, List, [], length, OnOk, OnErr, IfOk, IsSomeAnd, Some, option_copied, position, bytes_eq};
 ghost use Rattle.hj_base.specs.Outside.{unbegun, IsOpen, Starts, Reads, ChangesOnly};
-ghost use Rattle.hj_base.specs.MemOutside.{lookup, told_under, role_at, with_role, new_role, FailsAtMissing, after_start, read_answer, after_read, filled};
+ghost use Rattle.hj_base.specs.MemOutside.{lookup, told_under, role_at, stream_at, with_stream, new_stream, AnswersStart, after_start, AnswersRead, after_read, filled};
 
 use crate::stream::Stream;
 use crate::{Got, Memory, Opened, Outside, Role};
@@ -33,7 +33,8 @@ impl Content {
     }
 }
 
-/// Streams whose bytes stand in memory, each under a name. Only the start of a name that is missing fails.
+/// Streams whose bytes stand in memory, each under a name. The start of a name that is missing fails, and so do the starts
+/// and reads that were listed; nothing else does.
 #[derive(Debug, Drop)]
 pub struct MemOutside {
     alloc: Global,
@@ -59,15 +60,15 @@ impl MemOutside {
     /// An object with no name, of which one read gives at most `chunk` bytes.
     pub fn new(alloc: Global, chunk: usize) -> MemOutside
         requires { 1 ≤ chunk }
-        ensures { result ≡ record { chunk = chunk; contents = []; query = new_role; left = new_role; right = new_role } }
+        ensures { result ≡ record { chunk = chunk; contents = []; query = new_stream; left = new_stream; right = new_stream } }
     {
         MemOutside {
             alloc,
             chunk,
             contents: Vec::new(alloc),
-            query: Stream::new(),
-            left: Stream::new(),
-            right: Stream::new(),
+            query: Stream::new(alloc),
+            left: Stream::new(alloc),
+            right: Stream::new(alloc),
         }
     }
 
@@ -88,6 +89,35 @@ impl MemOutside {
     }
 }
 
+impl MemOutside {
+    /// Has the start of a role fail. After a refusal nothing changed.
+    pub fn fail_start(&mut self, role: Role) -> Result<(), Memory>
+        ensures listed { OnOk result (self.new ≡ with_stream self.old role (record (stream_at self.old role) { start_fails = true })) }
+        ensures refused { OnErr result (self.new ≡ self.old) }
+    {
+        match role {
+            Role::Query => self.query.fail_start(),
+            Role::Left => self.left.fail_start(),
+            Role::Right => self.right.fail_start(),
+        }
+        Ok(())
+    }
+
+    /// Has the `nth` read of a role fail, counted from 1 over all its reads. After a refusal nothing changed.
+    pub fn fail_read(&mut self, role: Role, nth: u64) -> Result<(), Memory>
+        requires first { 1 ≤ nth }
+        requires last { nth ≤ 2 ^ 64 - 2 }
+        ensures listed { OnOk result (self.new ≡ with_stream self.old role (record (stream_at self.old role) { failing = (stream_at self.old role).failing ++ nth ∷ [] })) }
+        ensures refused { OnErr result (self.new ≡ self.old) }
+    {
+        match role {
+            Role::Query => self.query.fail_read(nth),
+            Role::Left => self.left.fail_read(nth),
+            Role::Right => self.right.fail_read(nth),
+        }
+    }
+}
+
 impl Outside for MemOutside {
     ghost state = { role_at };
 
@@ -98,8 +128,8 @@ impl Outside for MemOutside {
         ensures starts { Starts result name.now (told_under self.old name.now) (role_at self.old role) (role_at self.new role) }
         ensures others { ChangesOnly role (role_at self.old) (role_at self.new) }
         ensures names { (other : List ℕ) → told_under self.new other ≡ told_under self.old other }
-        ensures answer { FailsAtMissing result (lookup self.old.contents name.now) }
-        ensures after { self.new ≡ with_role self.old role (after_start result name.now (lookup self.old.contents name.now) (role_at self.old role)) }
+        ensures answer { AnswersStart result (stream_at self.old role).start_fails (lookup self.old.contents name.now) }
+        ensures after { self.new ≡ with_stream self.old role (after_start result name.now (lookup self.old.contents name.now) (stream_at self.old role)) }
     {
         let found = find(&self.contents, name);
         match role {
@@ -115,8 +145,8 @@ impl Outside for MemOutside {
         ensures reads { Reads result buf.new (role_at self.old role) (role_at self.new role) }
         ensures others { ChangesOnly role (role_at self.old) (role_at self.new) }
         ensures names { (other : List ℕ) → told_under self.new other ≡ told_under self.old other }
-        ensures answer { IsSomeAnd (role_at self.old role).left (λ bytes. result ≡ read_answer self.old.chunk (length buf.old) bytes) }
-        ensures after { self.new ≡ with_role self.old role (after_read result (role_at self.old role)) }
+        ensures answer { IsSomeAnd (role_at self.old role).left (λ bytes. AnswersRead result self.old.chunk (length buf.old) bytes (stream_at self.old role)) }
+        ensures after { self.new ≡ with_stream self.old role (after_read result (stream_at self.old role)) }
         ensures filled { IsSomeAnd (role_at self.old role).left (λ bytes. buf.new ≡ filled result bytes buf.old) }
     {
         match role {

@@ -1,6 +1,7 @@
-ghost use Rattle.std.specs.Prelude.{◌≡◌, ℕ, length, true, false, drop, option_copied, IfOk, IsSomeAnd, Some, [], unwrap_or, string_bytes};
-ghost use Rattle.hj_base.specs.Outside.{IsOpen, Starts};
-ghost use Rattle.hj_base.specs.MemOutside.{new_role, FailsAtMissing, after_start, read_answer, after_read, filled};
+ghost use Rattle.std.specs.Prelude.{◌≡◌, ◌≤◌, ◌<◌, ℕ, length, true, false, drop, option_copied, IfOk, IsSomeAnd, OnOk, OnErr, Some, [], ◌∷◌, ◌++◌, unwrap_or, string_bytes};
+ghost use Rattle.hj_base.specs.Counts.{one_more};
+ghost use Rattle.hj_base.specs.Outside.{IsOpen, Starts, Reads};
+ghost use Rattle.hj_base.specs.MemOutside.{new_stream, AnswersStart, after_start, read_answer, AnswersRead, after_read, filled};
 ghost use Rattle.hj_base.specs.Stream.{phase_of, left_of, begun_phase};
 ghost use Rattle.hj_base.specs.Unread.{OpenState};
 
@@ -79,40 +80,68 @@ impl Stage {
     }
 }
 
-/// A stream that is read from a copy of its bytes.
+/// A stream that is read from a copy of its bytes, and fails where that was listed.
 #[derive(Debug, Drop)]
 pub struct Stream {
     stage: Stage,
     faults: u64,
+    start_fails: bool,
+    reads: u64,
+    failing: Vec<u64>,
 }
 
 impl Model for Stream {
-    ghost use Rattle.hj_base.specs.Outside.{RoleState};
+    ghost use Rattle.hj_base.specs.MemOutside.{StreamState};
 
-    ghost Value = { RoleState };
+    ghost Value = { StreamState };
 
     ghost use Rattle.hj_base.specs.Stream.{phase_of, left_of};
 
-    ghost view = { λ s. record { phase = phase_of s.stage; faults = s.faults; left = left_of s.stage } };
+    ghost view = { λ s. record {
+      role = record { phase = phase_of s.stage; faults = s.faults; left = left_of s.stage };
+      start_fails = s.start_fails;
+      reads = s.reads;
+      failing = s.failing.items;
+    } };
 }
 
 impl Stream {
-    /// A stream that is not begun.
-    pub fn new() -> Stream
-        ensures { result ≡ new_role }
+    /// A stream that is not begun, and never fails.
+    pub fn new(alloc: Global) -> Stream
+        ensures { result ≡ new_stream }
     {
         Stream {
             stage: Stage::Unbegun,
             faults: 0,
+            start_fails: false,
+            reads: 0,
+            failing: Vec::new(alloc),
         }
+    }
+
+    /// Has the start fail.
+    pub fn fail_start(&mut self)
+        ensures { self.new ≡ record self.old { start_fails = true } }
+    {
+        self.start_fails = true;
+    }
+
+    /// Has the `nth` read fail, counted from 1.
+    pub fn fail_read(&mut self, nth: u64) -> Result<(), Memory>
+        ensures listed { OnOk result (self.new ≡ record self.old { failing = self.old.failing ++ nth ∷ [] }) }
+        ensures refused { OnErr result (self.new ≡ self.old) }
+    {
+        self.failing.push(nth)?;
+        Ok(())
     }
 
     /// Begins the stream under a name with a copy of what was found there.
     pub fn start(&mut self, alloc: Global, name: &str, found: Option<&[u8]>) -> Opened
-        ensures starts { Starts result name.now (Some (unwrap_or (option_copied found.entry) [])) self.old self.new }
-        ensures answer { FailsAtMissing result (option_copied found.entry) }
+        ensures starts { Starts result name.now (Some (unwrap_or (option_copied found.entry) [])) self.old.role self.new.role }
+        ensures answer { AnswersStart result self.old.start_fails (option_copied found.entry) }
         ensures after { self.new ≡ after_start result name.now (option_copied found.entry) self.old }
     {
+        let found = if self.start_fails { None } else { found };
         let Ok(stage) = Stage::begun(alloc, name, found) else {
             return Opened::Memory;
         };
@@ -120,21 +149,36 @@ impl Stream {
         if found.is_some() {
             Opened::Ready
         } else {
-            self.faults = self.faults.saturating_add(1);
+            self.count_fault();
             Opened::Failed
         }
     }
 
-    /// Reads at most a chunk of what is left into the front of a buffer.
+    /// Reads at most a chunk of what is left into the front of a buffer, unless this read fails.
     pub fn read(&mut self, chunk: usize, buf: &mut [u8]) -> Got
-        requires { IsOpen self.old.phase }
-        ensures answer { IsSomeAnd self.old.left (λ bytes. result ≡ read_answer chunk (length buf.old) bytes) }
+        requires open { IsOpen self.old.role.phase }
+        requires chunk { 1 ≤ chunk }
+        requires room { 0 < length buf.old }
+        ensures reads { Reads result buf.new self.old.role self.new.role }
+        ensures answer { IsSomeAnd self.old.role.left (λ bytes. AnswersRead result chunk (length buf.old) bytes self.old) }
         ensures after { self.new ≡ after_read result self.old }
-        ensures filled { IsSomeAnd self.old.left (λ bytes. buf.new ≡ filled result bytes buf.old) }
+        ensures filled { IsSomeAnd self.old.role.left (λ bytes. buf.new ≡ filled result bytes buf.old) }
     {
+        self.reads = self.reads.saturating_add(1);
+        if self.failing.contains(&self.reads) {
+            self.count_fault();
+            return Got::Failed;
+        }
         match &mut self.stage {
             Stage::Opened(unread) => unread.read(chunk, buf),
             Stage::Unbegun | Stage::Refused(_) => unreachable!(),
         }
+    }
+
+    fn count_fault(&mut self)
+        ensures after { self.new ≡ record self.old { role = record self.old.role { faults = one_more self.old.role.faults } } }
+        ensures later { self.old.role.faults ≤ self.new.role.faults }
+    {
+        self.faults = self.faults.saturating_add(1);
     }
 }

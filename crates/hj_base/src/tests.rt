@@ -58,3 +58,22 @@ fn names_the_role_of_a_side(rt: HostRuntime) {
     assert_eq!(rt; Side::Left.role(), Role::Left);
     assert_eq!(rt; Side::Right.role(), Role::Right);
 }
+
+#[test]
+fn fails_where_that_was_listed(rt: HostRuntime) -> Result<(), Fail> {
+    let mut outside = MemOutside::new(rt.alloc(), 1);
+    outside.add("ab.csv", b"ab")?;
+    outside.fail_read(Role::Left, 2)?;
+    outside.fail_read(Role::Left, 4)?;
+    outside.fail_start(Role::Right)?;
+    assert_eq!(rt; outside.start(Role::Left, "ab.csv"), Opened::Ready);
+    assert_eq!(rt; outside.start(Role::Right, "ab.csv"), Opened::Failed);
+    let mut buf = [0; 4];
+    assert_eq!(rt; outside.read(Role::Left, &mut buf), Got::Bytes(1));
+    assert_eq!(rt; outside.read(Role::Left, &mut buf), Got::Failed);
+    assert_eq!(rt; outside.read(Role::Left, &mut buf), Got::Bytes(1));
+    assert_eq!(rt; buf[0], b'b');
+    assert_eq!(rt; outside.read(Role::Left, &mut buf), Got::Failed);
+    assert_eq!(rt; outside.read(Role::Left, &mut buf), Got::End);
+    Ok(())
+}
