@@ -1,5 +1,6 @@
 pub mod Splits
 pub mod Streams
+pub mod CutLemmas
 pub mod Cuttings
 pub mod FieldLemmas
 pub mod Leads

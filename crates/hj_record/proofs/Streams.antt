@@ -98,3 +98,10 @@ pieces_of-end limit front none short within =
     cut_as limit front true front (record { pieces = []; rest = front }) false
     (take_all limit front within) (split_unended front none) (le-ltb limit (length front) within)
     ∙ ap (λ t. cond t (ended (bad fault.TooLong)) last) (le-ltb most_in_piece (length front) short)
+
+-- Where a stream is cut off before the piece ends, its pieces end there.
+pub pieces_of-cut_off : (limit : ℕ) (front : List ℕ) → IsUnended front → length front ≤ most_in_piece → length front ≤ limit → pieces_of limit (record { bytes = front; whole = false }) ≡ ended unread
+pieces_of-cut_off limit front none short within =
+    cut_as limit front false front (record { pieces = []; rest = front }) false
+    (take_all limit front within) (split_unended front none) (le-ltb limit (length front) within)
+    ∙ ap (λ t. cond t (ended (bad fault.TooLong)) (ended unread)) (le-ltb most_in_piece (length front) short)

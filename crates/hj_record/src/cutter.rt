@@ -1,6 +1,7 @@
-ghost use Rattle.std.specs.Prelude.{◌≡◌, ◌≤◌, ◌-◌, ◌%◌, ◌++◌, ◌==◌, false, length, min, OnOk, OnErr};
+ghost use Rattle.std.specs.Prelude.{◌≡◌, ◌≤◌, ◌-◌, ◌%◌, ◌++◌, ◌==◌, ◌↔◌, IsTrue, false, length, min, OnOk, OnErr};
 ghost use Rattle.hj_record.specs.Cutter.{fresh, cleared, Feeds, Ends, Leads, LeadsAtEnd, Takes, Fits};
-ghost use Rattle.hj_record.specs.LineEnd.{Finds};
+ghost use Rattle.hj_record.specs.Cuts.{Cuts, LeadsBy};
+ghost use Rattle.hj_record.specs.LineEnd.{Finds, FindsFor, HasEnd};
 ghost use Rattle.hj_record.specs.Pieces.{IsUnended, quotes, most_in_piece};
 
 use crate::PieceFault;
@@ -19,6 +20,19 @@ pub enum Fed {
     /// All bytes were taken, and the piece goes on. At the end of the stream: nothing is left.
     More,
     /// The piece has its end; so many bytes of the portion were taken.
+    Piece(usize),
+    /// The stream is refused here, and at every later call.
+    Bad(PieceFault),
+}
+
+/// The answer to a portion of bytes of which a whole piece is not copied.
+#[derive(Clone, Copy, Debug, PartialEq, Eq)]
+pub enum Cut {
+    /// All bytes were taken, and the piece goes on.
+    More,
+    /// The piece is the first so many bytes of the portion. The cutter is ready for the next one.
+    Lent(usize),
+    /// The piece that an earlier portion began has its end; so many bytes of this portion were taken.
     Piece(usize),
     /// The stream is refused here, and at every later call.
     Bad(PieceFault),
@@ -100,7 +114,40 @@ impl Cutter {
         if let Some(fault) = self.fault {
             return Fed::Bad(fault);
         }
-        self.take(bytes)
+        let end = self.find(bytes);
+        self.take(bytes, end)
+    }
+
+    /// Takes the next bytes of the stream, up to the end of a piece, and copies none of a piece that lies whole in front
+    /// of them. After an answer `Piece` the bytes of the piece stand in `piece`: call `clear` then. After it and after
+    /// `Lent` go on with the bytes that weren't taken.
+    pub fn cut(&mut self, bytes: &[u8]) -> Cut
+        requires { self.old.whole ≡ false }
+        ensures takes { Cuts result bytes.now self.old self.new }
+        ensures leads { self.old.fault ≡ None → LeadsBy result bytes.now self.old self.new }
+    {
+        if let Some(fault) = self.fault {
+            return Cut::Bad(fault);
+        }
+        let end = self.find(bytes);
+        if let LineEnd::At(at) = end
+            && self.piece.is_empty()
+        {
+            self.room -= at as u64 + 1;
+            return Cut::Lent(at + 1);
+        }
+        match self.take(bytes, end) {
+            Fed::More => Cut::More,
+            Fed::Piece(used) => Cut::Piece(used),
+            Fed::Bad(fault) => Cut::Bad(fault),
+        }
+    }
+
+    /// Whether the piece has its end in these bytes, where they come next.
+    pub fn has_end(&self, bytes: &[u8]) -> bool
+        ensures { IsTrue result ↔ HasEnd bytes.now self.now }
+    {
+        matches!(self.find(bytes), LineEnd::At(_))
     }
 
     /// Comes to the end of the stream: the rest is a piece, or there is none, or it ends inside quotes.
@@ -122,30 +169,37 @@ impl Cutter {
         Fed::Piece(0)
     }
 
-    /// Takes the next bytes of a stream without a fault.
-    fn take(&mut self, bytes: &[u8]) -> Fed
-        requires going { self.old.whole ≡ false }
-        requires sound { self.old.fault ≡ None }
-        ensures { Takes result bytes.now self.old self.new }
+    /// The first line feed outside quotes among the bytes that the piece may still take.
+    fn find(&self, bytes: &[u8]) -> LineEnd
+        ensures { FindsFor result bytes.now self.now }
     {
         let within = &bytes[..self.spare().min(bytes.len())];
-        match find_line_end(within, self.inside) {
+        find_line_end(within, self.inside)
+    }
+
+    /// Takes the next bytes of a stream without a fault, where its first line feed was looked for.
+    fn take(&mut self, bytes: &[u8], end: LineEnd) -> Fed
+        requires going { self.old.whole ≡ false }
+        requires sound { self.old.fault ≡ None }
+        requires found { FindsFor end bytes.now self.old }
+        ensures { Takes result bytes.now self.old self.new }
+    {
+        let room = self.room;
+        match end {
             LineEnd::At(at) => {
                 let taken = at + 1;
-                match self.append(&within[..taken], false, true) {
+                match self.append(&bytes[..taken], false, true) {
                     Ok(()) => Fed::Piece(taken),
                     Err(_) => self.fail(PieceFault::Memory),
                 }
             }
-            LineEnd::Beyond { inside } if within.len() == bytes.len() => {
-                match self.append(within, inside, false) {
+            LineEnd::Beyond { inside } if bytes.len() <= self.spare() => {
+                match self.append(bytes, inside, false) {
                     Ok(()) => Fed::More,
                     Err(_) => self.fail(PieceFault::Memory),
                 }
             }
-            LineEnd::Beyond { .. } if self.room <= MOST_IN_PIECE => {
-                self.fail(PieceFault::StreamLong)
-            }
+            LineEnd::Beyond { .. } if room <= MOST_IN_PIECE => { self.fail(PieceFault::StreamLong) }
             LineEnd::Beyond { .. } => self.fail(PieceFault::TooLong),
         }
     }

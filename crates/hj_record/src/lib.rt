@@ -8,7 +8,7 @@ mod laws;
 mod piece;
 mod plain;
 
-pub use cutter::{Cutter, Fed};
+pub use cutter::{Cut, Cutter, Fed};
 pub use fault::PieceFault;
 pub use fields::Fields;
 pub use laws::cuts_at_line_ends;

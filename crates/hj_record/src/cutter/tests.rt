@@ -107,3 +107,19 @@ fn takes_up_to_the_end_of_a_piece(rt: HostRuntime) {
     cutter.clear();
     assert_eq!(rt; cutter.feed(b"\n"), refused);
 }
+
+#[test]
+fn lends_whole_pieces(rt: HostRuntime) {
+    let mut cutter = Cutter::new(rt.alloc(), 10);
+    let stream = b"1,7\n2,7\n3,7";
+    assert!(rt; cutter.has_end(stream));
+    assert_eq!(rt; cutter.cut(stream), Cut::Lent(4));
+    assert_eq!(rt; cutter.cut(&stream[4..6]), Cut::More);
+    assert!(rt; !cutter.has_end(b"7"));
+    assert_eq!(rt; cutter.cut(&stream[6..]), Cut::Piece(2));
+    assert_eq!(rt; cutter.piece(), b"2,7\n".as_slice());
+    cutter.clear();
+    let refused = Cut::Bad(PieceFault::StreamLong);
+    assert_eq!(rt; cutter.cut(&stream[8..]), refused);
+    assert_eq!(rt; cutter.cut(b"\n"), refused);
+}
