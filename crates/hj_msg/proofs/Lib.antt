@@ -11,6 +11,7 @@ mod Ends
 mod ExampleLemmas
 mod Expiries
 mod Fronts
+pub mod Gathering
 pub mod Growing
 pub mod Joined
 mod Latches
