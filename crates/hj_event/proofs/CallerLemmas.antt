@@ -1,14 +1,33 @@
--- What a caller of a merger knows of the roles.
-use Rattle.std.proofs.Common.{inl, inr, sym, subst}
-use Rattle.hj_base.specs.Outside.{Phase, unbegun, opened, refused, RoleState, IsOpen, at_end}
-use Rattle.hj_event.specs.Merger.{IsReadOn}
+-- What a caller keeps of a merger from call to call: its roles are as it left them.
+use Rattle.std.proofs.Common.{◌≡◌, Bool, false, Option, Some, None, List, ℕ, sym, ap, subst, ◌∙◌}
+use Rattle.hj_base.specs.declared.outside.Role.{Role}
+use Rattle.hj_base.specs.declared.outside.Role.TheVariants as role
+use Rattle.hj_base.specs.Outside.{RoleState, IsOpen, opened, Phase}
+use Rattle.hj_event.specs.declared.merger.Next.{Next}
+use Rattle.hj_event.specs.declared.stop.Last.{Last}
+use Rattle.hj_event.specs.Merger.{Merging, Answers, AnswersFrom}
+use Rattle.hj_event.specs.Roles.{IsInStep, name_of}
 
-IsOpen-at_end : (phase : Phase) → IsOpen phase → IsOpen (at_end phase)
-IsOpen-at_end unbegun h = absurd h
-IsOpen-at_end (opened name ended) h = tt
-IsOpen-at_end (refused name) h = absurd h
+abbrev pub InStep : Merging → (Role → RoleState) → Type 0
+InStep merging roles = IsInStep merging.sides.left.reading.ended (roles role.Left) × IsInStep merging.sides.right.reading.ended (roles role.Right)
 
--- A role that is read on stays open.
-pub IsOpen-read_on : (old new : RoleState) → IsReadOn old new → IsOpen old.phase → IsOpen new.phase
-IsOpen-read_on old new reads h =
-    elim reads.phase [ inl e ↦ subst IsOpen (sym e) h | inr e ↦ subst IsOpen (sym e) (IsOpen-at_end old.phase h) ]
+pub in_step-new : (ended : Bool) (name : List ℕ) (state : RoleState) → ended ≡ false → state.phase ≡ opened name false → IsInStep ended state
+in_step-new ended name state is e = record {
+  phase = e ∙ (ap (λ (n : List ℕ). opened n false) (sym (ap name_of e)) ∙ ap (opened (name_of state.phase)) (sym is));
+  at_end = λ f. cc;
+}
+
+in_step-from : (over : Option Last) (answer : Next) (old new : Merging) (before now : Role → RoleState) → AnswersFrom over answer old new before now → InStep old before → InStep new now
+in_step-from None answer old new before now takes step = (takes.left.in_step, takes.right.in_step)
+in_step-from (Some last) answer old new before now repeats step =
+    subst (λ (m : Merging). InStep m now) (sym repeats.1)
+    (subst (λ (s : RoleState). IsInStep old.sides.left.reading.ended s) (sym (repeats.2 role.Left)) step.0, subst (λ (s : RoleState). IsInStep old.sides.right.reading.ended s) (sym (repeats.2 role.Right)) step.1)
+
+pub in_step-behind : (answer : Next) (old new : Merging) (before now : Role → RoleState) → Answers answer old new before now → InStep old before → InStep new now
+in_step-behind answer old new before now answers step = in_step-from old.over answer old new before now answers step
+
+is_open : (phase : Phase) (name : List ℕ) (ended : Bool) → phase ≡ opened name ended → IsOpen phase
+is_open phase name ended e = subst IsOpen (sym e) tt
+
+pub open-in_step : (ended : Bool) (state : RoleState) → IsInStep ended state → IsOpen state.phase
+open-in_step ended state step = is_open state.phase (name_of state.phase) ended step.phase

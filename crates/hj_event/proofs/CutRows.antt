@@ -1,5 +1,8 @@
 -- The rows, the arrivals and the events of streams that were cut off, beside those of the whole ones.
-use Rattle.std.proofs.Common.{◌≡◌, ℕ, ◌+◌, ◌⊎◌, inl, inr, Bool, true, false, cond, ltb, ℤ, int_le, List, [], ◌∷◌, ◌++◌, length, append_assoc, append-nil, Option, Result, None, Some, Ok, Err, refl, sym, ap, subst, ◌∙◌}
+use Rattle.std.proofs.Common.{◌≡◌, ℕ, ◌+◌, ◌-◌, ◌≤◌, ◌⊎◌, inl, inr, Bool, true, false, cond, ltb, ℤ, int_le, List, [], ◌∷◌, ◌++◌, take, length, length-append, arith, append_assoc, append-nil, Option, Result, None, Some, Ok, Err, refl, sym, ap, subst, ◌∙◌}
+use Rattle.std.proofs.Math.Seq.{take-append-add}
+use Rattle.std.proofs.lemmas.List.{take-append-le}
+use Rattle.std.proofs.lemmas.Bool.{lt-ltb, le-ltb, cases_lt}
 use Rattle.hj_value.specs.declared.column.Column.{Column}
 use Rattle.hj_value.specs.declared.field.Field.{Field}
 use Rattle.hj_value.specs.Row.{time_of}
@@ -7,13 +10,13 @@ use Rattle.hj_base.specs.declared.numbers.Side.{Side}
 use Rattle.hj_base.specs.declared.numbers.Side.TheVariants.{Left, Right}
 use Rattle.hj_base.specs.Journals.{IsPrefix}
 use Rattle.hj_msg.specs.declared.event.Event.{Event}
-use Rattle.hj_msg.specs.declared.event.Event.TheVariants.{Arrive, Expire}
 use Rattle.hj_record.specs.Pieces.{Stream, Pieces, PiecesEnd, pieces_of, unread as pieces_unread}
-use Rattle.hj_query.specs.Keyed.{keyed_columns}
+use Rattle.hj_query.specs.Parts.{Parts}
+use Rattle.hj_window.specs.LiveRows.{LiveRows, arrive}
 use Rattle.hj_event.specs.declared.fault.RecordFault.{RecordFault}
 use Rattle.hj_event.specs.Rows.{Rows, RowsEnd, then_rows, put_row, row_at, rows_from, rows_of, most_in_stream, clean as rows_clean, bad as rows_bad, unread as rows_unread}
-use Rattle.hj_event.specs.Arrivals.{Arrival, Arrivals, unread, no_arrival, then_arrivals, stop_or, right_only, left_among, merge, arrivals_of}
-use Rattle.hj_event.specs.Events.{Live, none_live, of_side, with_side, expire_over, number_from, Numbered, events_of}
+use Rattle.hj_event.specs.Arrivals.{Arrival, Arrivals, Ending, unread, too_many, no_arrival, then_arrivals, stop_or, right_only, left_among, merge, arrivals_of}
+use Rattle.hj_event.specs.Events.{events_at, number_from, none_live, Numbered, numbered, up_to, all_events_of, events_of}
 use Rattle.hj_event.specs.Cut.{IsCutOf}
 use Rattle.hj_event.proofs.CutPieces.{IsPrefix-cons, IsPrefix-nil, PiecesCut, pieces_of-cut}
 
@@ -120,35 +123,50 @@ merge-left_cut cut all right (inr e) = rw (e.0) (rw (e.1.is) (merge-left_front c
 arrivals_of-cut : (cut_left cut_right left right : Rows) → RowsCut cut_left left → RowsCut cut_right right → ArrivalsCut (arrivals_of cut_left cut_right) (arrivals_of left right)
 arrivals_of-cut cut_left cut_right left right h k = ArrivalsCut-trans (arrivals_of cut_left cut_right) (arrivals_of cut_left right) (arrivals_of left right) (merge-right_cut cut_left cut_right right k) (merge-left_cut cut_left left right h)
 
-choice-prefix : {X : Type 0} (test : Bool) (cut all cut' all' : List X) → IsPrefix cut all → IsPrefix cut' all' → IsPrefix (cond test cut cut') (cond test all all')
-choice-prefix true cut all cut' all' h k = h
-choice-prefix false cut all cut' all' h k = k
+IsPrefix-front : {X : Type 0} (front cut all : List X) → IsPrefix cut all → IsPrefix (front ++ cut) (front ++ all)
+IsPrefix-front [] cut all h = h
+IsPrefix-front (x ∷ front) cut all h = IsPrefix-cons x (front ++ cut) (front ++ all) (IsPrefix-front front cut all h)
 
-expire_over-prefix : (window : ℕ) (side : Side) (at : ℕ) (numbers : List ℕ) (cut all : ℕ → List ℕ → List (Event (List Field))) → ((next : ℕ) (rows : List ℕ) → IsPrefix (cut next rows) (all next rows)) → IsPrefix (expire_over window side at numbers cut) (expire_over window side at numbers all)
-expire_over-prefix window side at [] cut all h = h at []
-expire_over-prefix window side at (oldest ∷ others) cut all h = choice-prefix (ltb window (length (oldest ∷ others)))
-    (Expire (record { 0 = at }) side (record { 0 = oldest }) ∷ cut (at + 1) others) (Expire (record { 0 = at }) side (record { 0 = oldest }) ∷ all (at + 1) others) (cut at (oldest ∷ others)) (all at (oldest ∷ others))
-    (IsPrefix-cons (Expire (record { 0 = at }) side (record { 0 = oldest })) (cut (at + 1) others) (all (at + 1) others) (h (at + 1) others)) (h at (oldest ∷ others))
-
-number_from-prefix : (window at : ℕ) (live : Live) (arrivals others : List Arrival) → IsPrefix (number_from window at live arrivals) (number_from window at live (arrivals ++ others))
-number_from-prefix window at live [] others = IsPrefix-nil (number_from window at live others)
-number_from-prefix window at live (arrival ∷ arrivals) others = IsPrefix-cons (Arrive (record { 0 = at }) arrival.side arrival.row) _ _
-    (expire_over-prefix window arrival.side (at + 1) (of_side arrival.side live ++ at ∷ []) (λ next numbers. number_from window next (with_side arrival.side numbers live) arrivals) (λ next numbers. number_from window next (with_side arrival.side numbers live) (arrivals ++ others))
-    (λ next numbers. number_from-prefix window next (with_side arrival.side numbers live) arrivals others))
+number_from-prefix : (at : ℕ) (live : LiveRows) (arrivals others : List Arrival) → IsPrefix (number_from at live arrivals) (number_from at live (arrivals ++ others))
+number_from-prefix at live [] others = IsPrefix-nil (number_from at live others)
+number_from-prefix at live (arrival ∷ arrivals) others =
+    let came = arrive live arrival.side (time_of arrival.row) at in
+    let events = events_at at arrival came in
+    IsPrefix-front events (number_from (at + length events) came.live arrivals) (number_from (at + length events) came.live (arrivals ++ others)) (number_from-prefix (at + length events) came.live arrivals others)
 
 -- The same events with the same ending, or the first of them, up to where a stream was cut off.
 abbrev pub NumberedCut : Numbered → Numbered → Type 0
 NumberedCut cut all = (cut ≡ all) ⊎ (((side : Side) × (cut.ending ≡ unread side)) × IsPrefix cut.events all.events)
 
-abbrev numbered : ℕ → Arrivals → Numbered
-numbered window arrivals = record { events = number_from window 0 none_live arrivals.rows; ending = arrivals.ending }
+numbered-cut : (live : LiveRows) (cut all : Arrivals) → ArrivalsCut cut all → NumberedCut (numbered 0 live cut) (numbered 0 live all)
+numbered-cut live cut all (inl e) = inl (ap (λ arrivals. numbered 0 live arrivals) e)
+numbered-cut live cut all (inr e) = inr (e.0, rw (e.1.is) (number_from-prefix 0 live cut.rows e.1.rest))
 
-numbered-cut : (window : ℕ) (cut all : Arrivals) → ArrivalsCut cut all → NumberedCut (numbered window cut) (numbered window all)
-numbered-cut window cut all (inl e) = inl (ap (λ arrivals. numbered window arrivals) e)
-numbered-cut window cut all (inr e) = inr (e.0, rw (e.1.is) (number_from-prefix window 0 none_live cut.rows e.1.rest))
+-- the events within a limit
+limited : (limit : ℕ) (events rest : List (Event (List Field))) (cut_ending ending : Ending) (side : Side) → cut_ending ≡ unread side → NumberedCut (up_to limit (record { events = events; ending = cut_ending })) (up_to limit (record { events = events ++ rest; ending = ending }))
+limited limit events rest cut_ending ending side is = elim (cases_lt limit (length events)) [
+  | inl over ↦ rw (lt-ltb limit (length events) over) (rw (lt-ltb limit (length (events ++ rest)) (omega (arith, length-append events rest)))
+      (inl (ap (λ (es : List (Event (List Field))). record { events = es; ending = too_many }) (sym (take-append-le limit events rest (omega arith))))))
+  | inr fits ↦ rw (le-ltb limit (length events) fits) (inr ((side, is), within (ltb limit (length (events ++ rest))) fits))
+]
+  where
+    within : (test : Bool) → length events ≤ limit → IsPrefix events (cond {A = Numbered} test (record { events = take limit (events ++ rest); ending = too_many }) (record { events = events ++ rest; ending = ending })).events
+    within true fits = record { rest = take (limit - length events) rest; is = ap (λ (n : ℕ). take n (events ++ rest)) (omega arith) ∙ take-append-add events rest (limit - length events) }
+    within false fits = record { rest = rest; is = refl }
 
-pub events_of-cut : (window : ℕ) (cut_left cut_right left right : Stream) → IsCutOf cut_left left → IsCutOf cut_right right → NumberedCut (events_of window cut_left cut_right) (events_of window left right)
-events_of-cut window cut_left cut_right left right h k = numbered-cut window (arrivals_of (rows_of keyed_columns cut_left) (rows_of keyed_columns cut_right)) (arrivals_of (rows_of keyed_columns left) (rows_of keyed_columns right)) (arrivals_of-cut (rows_of keyed_columns cut_left) (rows_of keyed_columns cut_right) (rows_of keyed_columns left) (rows_of keyed_columns right) (rows_of-cut keyed_columns cut_left left h) (rows_of-cut keyed_columns cut_right right k))
+up_to-cut : (limit : ℕ) (cut all : Numbered) → NumberedCut cut all → NumberedCut (up_to limit cut) (up_to limit all)
+up_to-cut limit cut all (inl e) = inl (ap (up_to limit) e)
+up_to-cut limit cut all (inr e) =
+    subst (λ (events : List (Event (List Field))). NumberedCut (up_to limit cut) (up_to limit (record { events = events; ending = all.ending }))) (sym e.1.is)
+    (limited limit cut.events e.1.rest cut.ending all.ending e.0.0 e.0.1)
+
+pub events_of-cut : (query : Parts) (limit : ℕ) (cut_left cut_right left right : Stream) → IsCutOf cut_left left → IsCutOf cut_right right → NumberedCut (events_of query cut_left cut_right limit) (events_of query left right limit)
+events_of-cut query limit cut_left cut_right left right h k =
+    let one = query.left.columns in
+    let other = query.right.columns in
+    up_to-cut limit (all_events_of query cut_left cut_right) (all_events_of query left right)
+    (numbered-cut (none_live query) (arrivals_of (rows_of one cut_left) (rows_of other cut_right)) (arrivals_of (rows_of one left) (rows_of other right))
+    (arrivals_of-cut (rows_of one cut_left) (rows_of other cut_right) (rows_of one left) (rows_of other right) (rows_of-cut one cut_left left h) (rows_of-cut other cut_right right k)))
 
 pub events-begin : (cut all : Numbered) → NumberedCut cut all → IsPrefix cut.events all.events
 events-begin cut all (inl e) = record { rest = []; is = sym (ap (λ numbered. numbered.events) e) ∙ sym (append-nil cut.events) }

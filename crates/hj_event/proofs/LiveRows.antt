@@ -28,7 +28,7 @@ filter_both-head : {X : Type 0} (other : X → Bool) (x : X) (one : Bool) (kept 
 filter_both-head other x true kept both e = ap (λ ys. cond (other x) (x ∷ ys) ys) e
 filter_both-head other x false kept both e = e
 
-filter_both : {X : Type 0} (one other both : X → Bool) → ((x : X) → both x ≡ (one x && other x)) → (xs : List X) → filter both xs ≡ filter other (filter one xs)
+pub filter_both : {X : Type 0} (one other both : X → Bool) → ((x : X) → both x ≡ (one x && other x)) → (xs : List X) → filter both xs ≡ filter other (filter one xs)
 filter_both one other both is [] = refl
 filter_both one other both is (x ∷ xs) = rw (is x) (filter_both-head other x (one x) (filter one xs) (filter both xs) (filter_both one other both is xs))
 
@@ -64,7 +64,7 @@ or-last : (one other : Bool) → (one || (other || false)) ≡ (one || other)
 or-last one true = refl
 or-last one false = refl
 
-has_expired-push : {P : Type 0} (before : List (Event P)) (event : Event P) (number : ℕ) → has_expired (before ++ event ∷ []) number ≡ (has_expired before number || is_expiry_of number event)
+pub has_expired-push : {P : Type 0} (before : List (Event P)) (event : Event P) (number : ℕ) → has_expired (before ++ event ∷ []) number ≡ (has_expired before number || is_expiry_of number event)
 has_expired-push before event number = list_any-append (is_expiry_of number) before (event ∷ []) ∙ or-last (has_expired before number) (is_expiry_of number event)
 
 or-false : (test : Bool) → (test || false) ≡ test
@@ -92,7 +92,7 @@ not-or true other = refl
 not-or false other = refl
 
 -- an expiry takes out the number that it names
-live_rows-expiry : {P : Type 0} (before : List (Event P)) (at of : EventNo) (side other : Side) → live_rows other (before ++ Expire at side of ∷ []) ≡ filter (λ number. not (of.0 == number)) (live_rows other before)
+pub live_rows-expiry : {P : Type 0} (before : List (Event P)) (at of : EventNo) (side other : Side) → live_rows other (before ++ Expire at side of ∷ []) ≡ filter (λ number. not (of.0 == number)) (live_rows other before)
 live_rows-expiry {P} before at of side other =
     ap (λ numbers. filter (λ number. not (has_expired (before ++ Expire at side of ∷ []) number)) numbers) (arrived-none other before (Expire at side of) (arrival_no-expiry P side other at of))
     ∙ filter_both (λ number. not (has_expired before number)) (λ number. not (of.0 == number)) _

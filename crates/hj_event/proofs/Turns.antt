@@ -1,203 +1,365 @@
--- The events under row windows, moment by moment.
-use Rattle.std.proofs.Common.{◌≡◌, ℕ, ◌+◌, ◌<◌, ◌≤◌, ◌⊎◌, inl, inr, ltb, true, false, List, [], ◌∷◌, ◌++◌, length, length-append, Contains, arith, refl, sym, ap, subst, ◌∙◌}
-use Rattle.std.proofs.lemmas.Bool.{ltb-true, ltb-false, cond_both, false_from_ne_true, false≢true}
-use Rattle.std.proofs.lemmas.List.Elements.{Contains-push_cases}
+-- The events of arrivals, moment by moment.
+use Rattle.std.proofs.Common.{◌≡◌, ℕ, suc, ◌+◌, ◌<◌, ◌≤◌, inl, inr, Bool, true, false, not, cond, ◌&&◌, ◌||◌, ◌==◌, ℤ, pos, ◌-ℤ◌, List, [], ◌∷◌, ◌++◌, length, length-append, map, filter, Contains, Some, None, append_assoc, arith, refl, sym, ap, subst, ◌∙◌}
+use Rattle.std.specs.Prelude.{int_le, nat_lt}
+use Rattle.std.specs.List.{list_any}
+use Rattle.std.specs.Option.{option_to_list}
+use Rattle.std.proofs.lemmas.Bool.{eq-eqb, eqb-true, ne_eqb, ltb-true, ltb-false, false≢true, false_from_ne_true, not-true}
+use Rattle.std.proofs.lemmas.List.{length-map}
+use Rattle.std.proofs.lemmas.List.Elements.{filter_agree}
+use Rattle.std.proofs.lemmas.List.Filters.{length-filter_both}
 use Rattle.hj_value.specs.declared.field.Field.{Field}
+use Rattle.hj_value.specs.Row.{time_of}
 use Rattle.hj_base.specs.declared.numbers.EventNo.{EventNo}
 use Rattle.hj_base.specs.declared.numbers.Side.{Side}
 use Rattle.hj_base.specs.declared.numbers.Side.TheVariants.{Left, Right}
-use Rattle.hj_msg.specs.declared.event.Event.{Event}
+use Rattle.hj_base.specs.declared.numbers.Window.{Window}
+use Rattle.hj_base.specs.declared.numbers.Window.TheVariants.{Rows, Time}
 use Rattle.hj_msg.specs.declared.event.Event.TheVariants.{Arrive, Expire}
-use Rattle.hj_msg.proofs.Members.{Contains-nil, Contains-head, Contains-cons, Ranked, Ranked-push}
+use Rattle.hj_msg.specs.Event.{Arrives}
+use Rattle.hj_msg.proofs.Members.{Contains-nil, Contains-head, Contains-cons, Contains-cons_cases, Contains-map, Contains-from_map, Contains-filter, Contains-from_filter, Ranked, Ranked-filter, any_of, find}
+use Rattle.hj_query.specs.Parts.{Parts}
+use Rattle.hj_window.specs.LiveRows.{LiveRow, LiveRows, Arrived, window_of, is_same_side, of_side, is_gone_at, is_gone, one_too_many, without, arrive}
 use Rattle.hj_event.specs.Arrivals.{Arrival}
-use Rattle.hj_event.specs.Events.{Live, none_live, of_side, with_side, expire_over, number_from}
-use Rattle.hj_event.specs.Windows.{live_rows}
+use Rattle.hj_event.specs.Events.{expiries, events_at, number_from}
+use Rattle.hj_event.specs.Windows.{live_rows, ArrivesNext, window_at, is_aged}
+use Rattle.hj_event.proofs.LiveRows.{cases_side, filter_both}
 use Rattle.hj_event.proofs.Moments.{AtEach}
-use Rattle.hj_event.proofs.LiveRows.{cases_side, has_expired, has_expired-arrival, has_expired-cases, live_rows-arrival, live_rows-other_arrival, live_rows-first, live_rows-absent}
+use Rattle.hj_event.proofs.Stands.{Events, Stands, Stands-none, Stands-arrival, Stands-expiry, no_of, removed, filter_swap, same_self, same_other, of_side-push, of_side-other}
 
--- each number is below all that follow it
-abbrev pub Rising : List ℕ → Type 0
-Rising numbers = Ranked (λ x y. x < y) numbers
+-- No side has more live rows than its window of rows holds.
+abbrev pub Within : Parts → Events → Type 0
+Within query before = (side : Side) (count : ℕ) → window_at query side ≡ Rows count → length (live_rows side before) ≤ count
 
--- The rows of one side change.
-record Changes (side : Side) (this : List ℕ) (old new : Side → List ℕ) : Type 0 where
-  this_side : new side ≡ this
-  other_side : (other : Side) → (other ≡ side → ⊥) → new other ≡ old other
+-- A row arrives next, where no live row is too old for its window of time.
+pub record AtArrival (query : Parts) (before : Events) (at : EventNo) (later : List Field) : Type 0 where
+  pub numbered : at.0 ≡ length before
+  pub within : Within query before
+  pub young : (side : Side) (span came : ℕ) (row : List Field) → window_at query side ≡ Time span → Arrives before side came row → Contains (live_rows side before) came → is_aged span row later ≡ false
 
-each_side : (Q : Side → List ℕ → Type 0) (side : Side) (this : List ℕ) (old new : Side → List ℕ) → Changes side this old new → Q side this → ((other : Side) → (other ≡ side → ⊥) → Q other (old other)) → (other : Side) → Q other (new other)
-each_side Q side this old new c at_this at_others other = elim (cases_side other side) [
-  | inl e ↦ subst (λ s. Q s (new s)) (sym e) (subst (λ numbers. Q side numbers) (sym c.this_side) at_this)
-  | inr differs ↦ subst (λ numbers. Q other numbers) (sym (c.other_side other differs)) (at_others other differs)
+-- A live row expires next: the oldest of a window of rows that has one too many, or one that is too old for its window of time.
+pub record AtExpiry (query : Parts) (before behind : Events) (at : EventNo) (side : Side) (of : EventNo) : Type 0 where
+  pub numbered : at.0 ≡ length before
+  pub is_live : Contains (live_rows side before) of.0
+  pub rest : (other : Side) (count : ℕ) → (other ≡ side → ⊥) → window_at query other ≡ Rows count → length (live_rows other before) ≤ count
+  pub counted : (count : ℕ) → window_at query side ≡ Rows count → (others : List ℕ) × (live_rows side before ≡ of.0 ∷ others) × (length others ≡ count)
+  pub aged : (span : ℕ) (row : List Field) → window_at query side ≡ Time span → Arrives before side of.0 row → (later : List Field) × ArrivesNext behind later × (is_aged span row later ≡ true)
+
+abbrev pub Moment : Parts → Events → Events → Type 0
+Moment query before [] = Within query before
+Moment query before (Arrive at side row ∷ behind) = AtArrival query before at row
+Moment query before (Expire at side of ∷ behind) = AtExpiry query before behind at side of
+
+-- ---- rows by their numbers
+
+abbrev Rising : List LiveRow → Type 0
+Rising rows = Ranked (λ one other. one.no < other.no) rows
+
+-- two tests that agree on the members of a list keep the same ones
+filter_same : {X : Type 0} (p q : X → Bool) (xs : List X) → ((x : X) → Contains xs x → p x ≡ q x) → filter p xs ≡ filter q xs
+filter_same p q [] h = refl
+filter_same {X} p q (x ∷ xs) h =
+    ap (λ (b : Bool). cond b (x ∷ filter p xs) (filter p xs)) (h x (Contains-head x xs))
+    ∙ ap (λ (ys : List X). cond (q x) (x ∷ ys) ys) (filter_same p q xs (λ y k. h y (Contains-cons x y xs k)))
+
+same_row : (rows : List LiveRow) (one other : LiveRow) → Rising rows → Contains rows one → Contains rows other → one.no ≡ other.no → one ≡ other
+same_row [] one other rising h k e = absurd (Contains-nil one h)
+same_row (row ∷ rows) one other rising h k e = elim (Contains-cons_cases row one rows h) [
+  | inl a ↦ elim (Contains-cons_cases row other rows k) [
+    | inl b ↦ sym a ∙ b
+    | inr b ↦ absurd (let l = rising.0 other b in let n : row.no ≡ one.no = ap no_of a in omega arith)
+  ]
+  | inr a ↦ elim (Contains-cons_cases row other rows k) [
+    | inl b ↦ absurd (let l = rising.0 one a in let n : row.no ≡ other.no = ap no_of b in omega arith)
+    | inr b ↦ same_row rows one other rising.1 a b e
+  ]
 ]
 
--- These events are numbered below this number, and these are the live rows of each side.
-pub record Stands {P : Type 0} (before : List (Event P)) (at : ℕ) (rows : Side → List ℕ) : Type 0 where
-  pub count : length before ≡ at
-  pub shown : (side : Side) → live_rows side before ≡ rows side
-  pub below : (side : Side) (number : ℕ) → Contains (rows side) number → number < at
-  pub rising : (side : Side) → Rising (rows side)
-  pub apart : (one other : Side) (number : ℕ) → (one ≡ other → ⊥) → Contains (rows one) number → Contains (rows other) number → ⊥
-  pub expired : (number : ℕ) → has_expired before number ≡ true → number < at
+-- the rows but these
+abbrev without_all : List LiveRow → List LiveRow → List LiveRow
+without_all [] rows = rows
+without_all (one ∷ gone) rows = without_all gone (removed one.no rows)
 
-Stands-arrival : {P : Type 0} (before : List (Event P)) (at : ℕ) (side : Side) (row : P) (old new : Side → List ℕ) → Stands before at old → Changes side (old side ++ at ∷ []) old new → Stands (before ++ Arrive (record { 0 = at }) side row ∷ []) (at + 1) new
-Stands-arrival before at side row old new s c = record {
-  count = omega (arith, length-append before (Arrive (record { 0 = at }) side row ∷ []), s.count);
-  shown = each_side (λ other numbers. live_rows other (before ++ Arrive (record { 0 = at }) side row ∷ []) ≡ numbers) side (old side ++ at ∷ []) old new c
-      (live_rows-arrival before (record { 0 = at }) side row fresh ∙ ap (λ numbers. numbers ++ at ∷ []) (s.shown side))
-      (λ other differs. live_rows-other_arrival before (record { 0 = at }) side other row differs ∙ s.shown other);
-  below = λ other number h. elim (which other number h) [ inl k ↦ (let l = s.below other number k in omega arith) | inr e ↦ omega (arith, e.1) ];
-  rising = each_side (λ other numbers. Rising numbers) side (old side ++ at ∷ []) old new c
-      (Ranked-push (λ x y. x < y) (old side) at (s.rising side) (s.below side)) (λ other differs. s.rising other);
-  apart = λ one other number differs h k. elim (which one number h) [
-    | inl m ↦ elim (which other number k) [ inl n ↦ s.apart one other number differs m n | inr e ↦ omega (arith, s.below one number m, e.1) ]
-    | inr d ↦ elim (which other number k) [ inl n ↦ omega (arith, s.below other number n, d.1) | inr e ↦ differs (d.0 ∙ sym e.0) ]
-  ];
-  expired = λ number h. let l = s.expired number (sym (has_expired-arrival before (record { 0 = at }) side row number) ∙ h) in omega arith;
-}
+abbrev has_number : LiveRow → LiveRow → Bool
+has_number row one = one.no == row.no
+
+not-or : (one other : Bool) → not (one || other) ≡ (not one && not other)
+not-or true other = refl
+not-or false other = refl
+
+not-none : (rows : List LiveRow) → filter (λ (row : LiveRow). not false) rows ≡ rows
+not-none [] = refl
+not-none (row ∷ rows) = ap (λ (others : List LiveRow). row ∷ others) (not-none rows)
+
+without_all-filter : (gone rows : List LiveRow) → without_all gone rows ≡ filter (λ row. not (list_any (has_number row) gone)) rows
+without_all-filter [] rows = sym (not-none rows)
+without_all-filter (one ∷ gone) rows =
+    without_all-filter gone (removed one.no rows)
+    ∙ sym (filter_both (λ (row : LiveRow). not (one.no == row.no)) (λ (row : LiveRow). not (list_any (has_number row) gone)) (λ (row : LiveRow). not (list_any (has_number row) (one ∷ gone)))
+    (λ row. not-or (one.no == row.no) (list_any (has_number row) gone)) rows)
+
+-- a row is among those that a test keeps, by its number, where it passes the test
+found_by_number : (test : LiveRow → Bool) (rows : List LiveRow) (row : LiveRow) → Rising rows → Contains rows row → list_any (has_number row) (filter test rows) ≡ test row
+found_by_number test rows row rising h = by (test row) refl
   where
-    fresh : has_expired before at ≡ false
-    fresh = false_from_ne_true (has_expired before at) (λ e. omega (arith, s.expired at e))
+    by : (b : Bool) → test row ≡ b → list_any (has_number row) (filter test rows) ≡ test row
+    by true e = any_of (has_number row) (filter test rows) row (Contains-filter test rows row h e) (eq-eqb row.no row.no refl) ∙ sym e
+    by false e = false_from_ne_true (list_any (has_number row) (filter test rows)) (λ some.
+        let found = find (has_number row) (filter test rows) some in
+        let kept = Contains-from_filter test rows found.one found.is in
+        let same = same_row rows found.one row rising kept.0 h (eqb-true found.one.no row.no found.passes) in
+        false≢true (sym e ∙ (ap test (sym same) ∙ kept.1))) ∙ sym e
 
-    which : (other : Side) (number : ℕ) → Contains (new other) number → Contains (old other) number ⊎ ((other ≡ side) × (at ≡ number))
-    which = each_side (λ other numbers. (number : ℕ) → Contains numbers number → Contains (old other) number ⊎ ((other ≡ side) × (at ≡ number))) side (old side ++ at ∷ []) old new c
-        (λ number h. elim (Contains-push_cases (old side) at number h) [ inl k ↦ inl k | inr e ↦ inr (refl, e) ])
-        (λ other differs number h. inl h)
+removes_all : (test : LiveRow → Bool) (rows : List LiveRow) → Rising rows → without_all (filter test rows) rows ≡ filter (λ row. not (test row)) rows
+removes_all test rows rising =
+    without_all-filter (filter test rows) rows
+    ∙ filter_same (λ (row : LiveRow). not (list_any (has_number row) (filter test rows))) (λ (row : LiveRow). not (test row)) rows
+    (λ row h. ap not (found_by_number test rows row rising h))
 
-Stands-expiry : {P : Type 0} (before : List (Event P)) (at : ℕ) (side : Side) (of : EventNo) (others : List ℕ) (old new : Side → List ℕ) → Stands before at old → old side ≡ of.0 ∷ others → Changes side others old new → Stands (before ++ Expire (record { 0 = at }) side of ∷ []) (at + 1) new
-Stands-expiry before at side of others old new s first c = record {
-  count = omega (arith, length-append before (Expire (record { 0 = at }) side of ∷ []), s.count);
-  shown = each_side (λ other numbers. live_rows other (before ++ Expire (record { 0 = at }) side of ∷ []) ≡ numbers) side others old new c
-      (live_rows-first before (record { 0 = at }) of side side others (s.shown side ∙ first) (λ number h e. omega (arith, rising.0 number h)))
-      (λ other differs. live_rows-absent before (record { 0 = at }) of side other
-      (λ number h e. s.apart other side number differs (subst (λ numbers. Contains numbers number) (s.shown other) h) (subst (λ n. Contains (old side) n) e oldest)) ∙ s.shown other);
-  below = λ other number h. let l = s.below other number (among other number h) in omega arith;
-  rising = each_side (λ other numbers. Rising numbers) side others old new c rising.1 (λ other differs. s.rising other);
-  apart = λ one other number differs h k. s.apart one other number differs (among one number h) (among other number k);
-  expired = λ number h. elim (has_expired-cases before (record { 0 = at }) of side number h) [
-    | inl e ↦ (let l = s.expired number e in omega arith)
-    | inr e ↦ (let l = s.below side of.0 oldest in omega arith)
-  ];
-}
-  where
-    rising : Rising (of.0 ∷ others)
-    rising = subst Rising first (s.rising side)
+and-side : (side other : Side) (b : Bool) → (b ≡ true → side ≡ other) → (is_same_side side other && b) ≡ b
+and-side side other true same = subst (λ (o : Side). (is_same_side side o && true) ≡ true) (same refl) (ap (λ (t : Bool). t && true) (same_self side))
+and-side Left Left false same = refl
+and-side Left Right false same = refl
+and-side Right Left false same = refl
+and-side Right Right false same = refl
 
-    oldest : Contains (old side) of.0
-    oldest = subst (λ numbers. Contains numbers of.0) (sym first) (Contains-head of.0 others)
+without_one : (one : LiveRow) (rows : List LiveRow) → Rising rows → Contains rows one → without (Some one) rows ≡ removed one.no rows
+without_one one rows rising h =
+    filter_same (λ (row : LiveRow). not (is_same_side one.side row.side && one.no == row.no)) (λ (row : LiveRow). not (one.no == row.no)) rows
+    (λ row k. ap not (and-side one.side row.side (one.no == row.no) (λ e. ap (λ (r : LiveRow). r.side) (same_row rows one row rising h k (eqb-true one.no row.no e)))))
 
-    among : (other : Side) (number : ℕ) → Contains (new other) number → Contains (old other) number
-    among = each_side (λ other numbers. (number : ℕ) → Contains numbers number → Contains (old other) number) side others old new c
-        (λ number h. subst (λ numbers. Contains numbers number) (sym first) (Contains-cons of.0 number others h))
-        (λ other differs number h. h)
+length-filter_most : {X : Type 0} (p : X → Bool) (xs : List X) → length (filter p xs) ≤ length xs
+length-filter_most p xs = omega (arith, length-filter_both p (λ x. not (p x)) (λ x. refl) xs)
 
-abbrev pub rows_of_live : Live → Side → List ℕ
-rows_of_live live side = of_side side live
+side_from : (side other : Side) → is_same_side side other ≡ true → side ≡ other
+side_from Left Left e = refl
+side_from Left Right e = cc
+side_from Right Left e = cc
+side_from Right Right e = refl
 
-of_side-same : (side : Side) (numbers : List ℕ) (live : Live) → of_side side (with_side side numbers live) ≡ numbers
-of_side-same Left numbers live = refl
-of_side-same Right numbers live = refl
+length-expiries : (at : ℕ) (rows : List LiveRow) → length (expiries at rows) ≡ length rows
+length-expiries at [] = refl
+length-expiries at (row ∷ rows) = ap suc (length-expiries (at + 1) rows)
 
-of_side-other : (side other : Side) (numbers : List ℕ) (live : Live) → (other ≡ side → ⊥) → of_side other (with_side side numbers live) ≡ of_side other live
-of_side-other Left Left numbers live h = absurd (h refl)
-of_side-other Left Right numbers live h = refl
-of_side-other Right Left numbers live h = refl
-of_side-other Right Right numbers live h = absurd (h refl)
+arrives_behind : (rows : List LiveRow) (at : ℕ) (tail : Events) (later : List Field) → ArrivesNext tail later → ArrivesNext (expiries at rows ++ tail) later
+arrives_behind [] at tail later h = h
+arrives_behind (row ∷ rows) at tail later h = arrives_behind rows (at + 1) tail later h
 
-changes_live : (side : Side) (numbers : List ℕ) (live : Live) → Changes side numbers (rows_of_live live) (rows_of_live (with_side side numbers live))
-changes_live side numbers live = record { this_side = of_side-same side numbers live; other_side = λ other differs. of_side-other side other numbers live differs }
+-- ---- the moments
 
-changes_again : (side : Side) (first second : List ℕ) (live : Live) → Changes side second (rows_of_live (with_side side first live)) (rows_of_live (with_side side second live))
-changes_again side first second live = record {
-  this_side = of_side-same side second live;
-  other_side = λ other differs. of_side-other side other second live differs ∙ sym (of_side-other side other first live differs);
-}
+module _ (query : Parts) where
+  abbrev lives : List LiveRow → LiveRows
+  lives rows = record { left = query.left_window; right = query.right_window; rows = rows }
 
--- No side has more live rows than its window holds.
-abbrev pub Within : {P : Type 0} → ℕ → List (Event P) → Type 0
-Within window before = (side : Side) → length (live_rows side before) ≤ window
+  -- each side's rows fit in its window
+  abbrev Fit : List LiveRow → Type 0
+  Fit rows = (side : Side) (count : ℕ) → window_at query side ≡ Rows count → length (of_side side rows) ≤ count
 
--- An expiry comes next: of the oldest live row of a side that has one too many.
-pub record AtExpiry {P : Type 0} (window : ℕ) (before : List (Event P)) (at : EventNo) (side : Side) (of : EventNo) : Type 0 where
-  pub numbered : at.0 ≡ length before
-  pub others : List ℕ
-  pub are : live_rows side before ≡ of.0 ∷ others
-  pub full : length others ≡ window
-  pub younger : (number : ℕ) → Contains others number → of.0 < number
-  pub rest : (other : Side) → (other ≡ side → ⊥) → length (live_rows other before) ≤ window
+  within_of : (before : Events) (at : ℕ) (rows : List LiveRow) → Stands before at rows → Fit rows → Within query before
+  within_of before at rows s fit side count is = omega (arith, ap length (s.shown side), length-map (of_side side rows) no_of, fit side count is)
 
-abbrev pub Moment : {P : Type 0} → ℕ → List (Event P) → List (Event P) → Type 0
-Moment window before [] = Within window before
-Moment window before (Arrive at side row ∷ behind) = (at.0 ≡ length before) × Within window before
-Moment window before (Expire at side of ∷ behind) = AtExpiry window before at side of
+  fit_removed : (gone : ℕ) (rows : List LiveRow) → Fit rows → Fit (removed gone rows)
+  fit_removed gone rows fit side count is =
+      omega (arith, fit side count is, ap length (filter_swap (λ (row : LiveRow). is_same_side side row.side) (λ (row : LiveRow). not (gone == row.no)) rows), length-filter_most (λ (row : LiveRow). not (gone == row.no)) (of_side side rows))
 
-abbrev Fit : ℕ → (Side → List ℕ) → Type 0
-Fit window rows = (side : Side) → length (rows side) ≤ window
+  -- gone at this time, by its age
+  abbrev aged_at : ℤ → LiveRow → Bool
+  aged_at now row = is_gone_at (window_at query row.side) (now -ℤ row.time)
 
-within : {P : Type 0} (window at : ℕ) (before : List (Event P)) (rows : Side → List ℕ) → Stands before at rows → Fit window rows → Within window before
-within window at before rows s fit side = subst (λ numbers. length numbers ≤ window) (sym (s.shown side)) (fit side)
+  abbrev Goes : Events → List LiveRow → Events → Type 0
+  Goes next rows tail = AtEach (Moment query) next tail
 
-fit_with : (window : ℕ) (side : Side) (numbers : List ℕ) (old new : Side → List ℕ) → Changes side numbers old new → length numbers ≤ window → ((other : Side) → (other ≡ side → ⊥) → length (old other) ≤ window) → Fit window new
-fit_with window side numbers old new c this_one others = each_side (λ other ns. length ns ≤ window) side numbers old new c this_one others
+  is_shown : (before : Events) (at : ℕ) (rows : List LiveRow) (one : LiveRow) → Stands before at rows → Contains rows one → Contains (live_rows one.side before) one.no
+  is_shown before at rows one s h =
+      subst (λ (numbers : List ℕ). Contains numbers one.no) (sym (s.shown one.side))
+      (Contains-map no_of (of_side one.side rows) one (Contains-filter (λ (row : LiveRow). is_same_side one.side row.side) rows one h (same_self one.side)))
 
-at_expiry : {P : Type 0} (window at : ℕ) (before : List (Event P)) (rows : Side → List ℕ) (side : Side) (oldest : ℕ) (others : List ℕ) → Stands before at rows → rows side ≡ oldest ∷ others → length others ≡ window → ((other : Side) → (other ≡ side → ⊥) → length (rows other) ≤ window) → AtExpiry window before (record { 0 = at }) side (record { 0 = oldest })
-at_expiry window at before rows side oldest others s first full rest = record {
-  numbered = sym s.count;
-  others = others;
-  are = s.shown side ∙ first;
-  full = full;
-  younger = (subst Rising first (s.rising side)).0;
-  rest = λ other differs. subst (λ numbers. length numbers ≤ window) (sym (s.shown other)) (rest other differs);
-}
+  -- Rows that are gone by their age expire one by one, before a row arrives.
+  age_out : (later : List Field) (gone : List LiveRow) (at : ℕ) (rows : List LiveRow) (before tail : Events) → Stands before at rows → Fit rows
+      → ((one : LiveRow) → Contains gone one → Contains rows one × (aged_at (time_of later) one ≡ true)) → Rising gone → ArrivesNext tail later
+      → ((next : Events) (n : ℕ) → n ≡ at + length gone → Stands next n (without_all gone rows) → Fit (without_all gone rows) → AtEach (Moment query) next tail)
+      → AtEach (Moment query) before (expiries at gone ++ tail)
+  age_out later [] at rows before tail s fit among rising arrives goes = goes before at (omega arith) s fit
+  age_out later (one ∷ gone) at rows before tail s fit among rising arrives goes =
+      let this = among one (Contains-head one gone) in
+      let no_count : (count : ℕ) → window_at query one.side ≡ Rows count → ⊥ = λ count e. false≢true (subst (λ (w : Window). is_gone_at w (time_of later -ℤ one.time) ≡ true) e this.1) in (
+        record {
+          numbered = sym s.count;
+          is_live = is_shown before at rows one s this.0;
+          rest = λ other count differs e. within_of before at rows s fit other count e;
+          counted = λ count e. absurd (no_count count e);
+          aged = λ span row e h. (
+            later,
+            arrives_behind gone (at + 1) tail later arrives,
+            ap (λ (t : ℤ). int_le (pos span) (time_of later -ℤ t)) (sym (s.timed one.side one.no row one h this.0 refl)) ∙ subst (λ (w : Window). is_gone_at w (time_of later -ℤ one.time) ≡ true) e this.1,
+          );
+        },
+        age_out later gone (at + 1) (removed one.no rows) (before ++ Expire (record { 0 = at }) one.side (record { 0 = one.no }) ∷ []) tail
+            (Stands-expiry before at one.side (record { 0 = one.no }) rows (s.below one this.0) s)
+            (fit_removed one.no rows fit)
+            (λ other h.
+            let that = among other (Contains-cons one other gone h) in (
+              Contains-filter (λ (row : LiveRow). not (one.no == row.no)) rows other that.0 (ap not (ne_eqb one.no other.no (λ e. let l = rising.0 other h in omega arith))),
+              that.1,
+            ))
+            rising.1 arrives
+            (λ next n e t f. goes next n (omega (arith, e)) t f),
+      )
 
--- the moments from here on, whichever rows of a side are live
-abbrev Goes : ℕ → Side → Live → (ℕ → List ℕ → List (Event (List Field))) → Type 0
-Goes window side live behind = (before : List (Event (List Field))) (at : ℕ) (numbers : List ℕ) → Stands before at (rows_of_live (with_side side numbers live)) → Fit window (rows_of_live (with_side side numbers live)) → AtEach (Moment window) before (behind at numbers)
+  -- An arrival, and the expiry that may follow it, in front of what goes on behind them.
+  module _ (side : Side) (row : List Field) (rest : ℕ → List LiveRow → Events) (goes : (next : Events) (n : ℕ) (rows : List LiveRow) → Stands next n rows → Fit rows → AtEach (Moment query) next (rest n rows)) where
+    abbrev newest : ℕ → LiveRow
+    newest at = record { no = at; side = side; time = time_of row }
 
--- the moments from an arrival on, with the expiry that may follow it
-over : (window at : ℕ) (side : Side) (numbers : List ℕ) (live : Live) (before : List (Event (List Field))) (behind : ℕ → List ℕ → List (Event (List Field))) → Goes window side live behind → Stands before at (rows_of_live (with_side side numbers live)) → length numbers ≤ window + 1 → Fit window (rows_of_live live) → AtEach (Moment window) before (expire_over window side at numbers behind)
-over window at side [] live before behind goes s most fit = goes before at [] s (fit_with window side [] (rows_of_live live) (rows_of_live (with_side side [] live)) (changes_live side [] live) (omega arith) (λ other differs. fit other))
-over window at side (oldest ∷ others) live before behind goes s most fit =
-    cond_both (ltb window (length (oldest ∷ others))) (Expire (record { 0 = at }) side (record { 0 = oldest }) ∷ behind (at + 1) others) (behind at (oldest ∷ others))
-    (λ events. AtEach (Moment window) before events)
-    (λ test. let more = ltb-true window (length (oldest ∷ others)) test in (
-      at_expiry window at before (rows_of_live (with_side side (oldest ∷ others) live)) side oldest others s (of_side-same side (oldest ∷ others) live) (omega arith)
-          (λ other differs. subst (λ numbers. length numbers ≤ window) (sym (of_side-other side other (oldest ∷ others) live differs)) (fit other)),
-      goes (before ++ Expire (record { 0 = at }) side (record { 0 = oldest }) ∷ []) (at + 1) others
-          (Stands-expiry before at side (record { 0 = oldest }) others (rows_of_live (with_side side (oldest ∷ others) live)) (rows_of_live (with_side side others live)) s (of_side-same side (oldest ∷ others) live) (changes_again side (oldest ∷ others) others live))
-          (fit_with window side others (rows_of_live live) (rows_of_live (with_side side others live)) (changes_live side others live) (omega arith) (λ other differs. fit other)),
-    ))
-    (λ test. let fits = ltb-false window (length (oldest ∷ others)) test in
-    goes before at (oldest ∷ others) s (fit_with window side (oldest ∷ others) (rows_of_live live) (rows_of_live (with_side side (oldest ∷ others) live)) (changes_live side (oldest ∷ others) live) fits (λ other differs. fit other)))
+    module _ (before : Events) (no : ℕ) (kept : List LiveRow) (s : Stands before no kept) (fit : Fit kept) where
+      abbrev entered : List LiveRow
+      entered = kept ++ newest no ∷ []
 
-turns_from : (window at : ℕ) (live : Live) (arrivals : List Arrival) (before : List (Event (List Field))) → Stands before at (rows_of_live live) → Fit window (rows_of_live live) → AtEach (Moment window) before (number_from window at live arrivals)
-turns_from window at live [] before s fit = within window at before (rows_of_live live) s fit
-turns_from window at live (arrival ∷ arrivals) before s fit = (
-  (sym s.count, within window at before (rows_of_live live) s fit),
-  over window (at + 1) arrival.side (of_side arrival.side live ++ at ∷ []) live (before ++ Arrive (record { 0 = at }) arrival.side arrival.row ∷ [])
-      (λ next numbers. number_from window next (with_side arrival.side numbers live) arrivals)
-      (λ later next numbers t fits. turns_from window next (with_side arrival.side numbers live) arrivals later t fits)
-      (Stands-arrival before at arrival.side arrival.row (rows_of_live live) (rows_of_live (with_side arrival.side (of_side arrival.side live ++ at ∷ []) live)) s (changes_live arrival.side (of_side arrival.side live ++ at ∷ []) live))
-      (omega (arith, length-append (of_side arrival.side live) (at ∷ []), fit arrival.side))
-      fit,
-)
+      abbrev behind_arrival : Events
+      behind_arrival = before ++ Arrive (record { 0 = no }) side row ∷ []
 
-none : (side : Side) → of_side side none_live ≡ []
-none Left = refl
-none Right = refl
+      stands : Stands behind_arrival (no + 1) entered
+      stands = Stands-arrival before no side row kept s
 
-no_member : (side : Side) (number : ℕ) → Contains (of_side side none_live) number → ⊥
-no_member side number h = Contains-nil number (subst (λ numbers. Contains numbers number) (none side) h)
+      fit_other : (other : Side) (count : ℕ) → (other ≡ side → ⊥) → window_at query other ≡ Rows count → length (of_side other entered) ≤ count
+      fit_other other count differs e = omega (arith, fit other count e, ap length (of_side-other other kept (newest no) (same_other other side differs)))
 
-Stands-none : Stands {P = List Field} [] 0 (rows_of_live none_live)
-Stands-none = record {
-  count = refl;
-  shown = λ side. sym (none side);
-  below = λ side number h. absurd (no_member side number h);
-  rising = λ side. subst Rising (sym (none side)) tt;
-  apart = λ one other number differs h k. no_member one number h;
-  expired = λ number h. absurd (false≢true h);
-}
+      side_length : length (of_side side entered) ≡ length (of_side side kept) + 1
+      side_length = omega (arith, ap length (of_side-push side kept (newest no) (same_self side)), length-append (of_side side kept) (newest no ∷ []))
 
--- the events of any arrivals, at each moment
-pub turns : (window : ℕ) (arrivals : List Arrival) → AtEach (Moment window) [] (number_from window 0 none_live arrivals)
-turns window arrivals = turns_from window 0 none_live arrivals [] Stands-none (λ side. subst (λ numbers. length numbers ≤ window) (sym (none side)) (omega arith))
+      fit_if : (rows : List LiveRow) → ((count : ℕ) → window_at query side ≡ Rows count → length (of_side side rows) ≤ count) → ((other : Side) (count : ℕ) → (other ≡ side → ⊥) → window_at query other ≡ Rows count → length (of_side other rows) ≤ count) → Fit rows
+      fit_if rows this others other count e = elim (cases_side other side) [
+        | inl same ↦ subst (λ (o : Side). length (of_side o rows) ≤ count) (sym same) (this count (subst (λ (o : Side). window_at query o ≡ Rows count) same e))
+        | inr differs ↦ others other count differs e
+      ]
+
+      -- no row expires behind it
+      stays : Fit entered → AtEach (Moment query) behind_arrival (rest (no + 1 + 0) entered)
+      stays fits = goes behind_arrival (no + 1 + 0) entered (subst (λ (n : ℕ). Stands behind_arrival n entered) (omega arith) stands) fits
+
+      module _ (count : ℕ) (is : window_at query side ≡ Rows count) (oldest : LiveRow) (others : List LiveRow) (are : of_side side entered ≡ oldest ∷ others) where
+        among : Contains entered oldest × (is_same_side side oldest.side ≡ true)
+        among = Contains-from_filter (λ (r : LiveRow). is_same_side side r.side) entered oldest (subst (λ (rows : List LiveRow). Contains rows oldest) (sym are) (Contains-head oldest others))
+
+        shown : live_rows side behind_arrival ≡ oldest.no ∷ map no_of others
+        shown = stands.shown side ∙ ap (map no_of) are
+
+        full : count < length (oldest ∷ others) → length others ≡ count
+        full over = omega (arith, over, side_length, ap length are, fit side count is)
+
+        gone_out : of_side side (removed oldest.no entered) ≡ filter (λ (r : LiveRow). not (oldest.no == r.no)) others
+        gone_out =
+            filter_swap (λ (r : LiveRow). is_same_side side r.side) (λ (r : LiveRow). not (oldest.no == r.no)) entered
+            ∙ (ap (λ (rows : List LiveRow). filter (λ (r : LiveRow). not (oldest.no == r.no)) rows) are
+            ∙ ap (λ (b : Bool). cond (not b) (oldest ∷ filter (λ (r : LiveRow). not (oldest.no == r.no)) others) (filter (λ (r : LiveRow). not (oldest.no == r.no)) others)) (eq-eqb oldest.no oldest.no refl))
+
+        expires : count < length (oldest ∷ others) → (behind : Events) → AtExpiry query behind_arrival behind (record { 0 = no + 1 }) side (record { 0 = oldest.no })
+        expires over behind = record {
+          numbered = sym stands.count;
+          is_live = subst (λ (numbers : List ℕ). Contains numbers oldest.no) (sym shown) (Contains-head oldest.no (map no_of others));
+          rest = λ other c differs e. omega (arith, fit_other other c differs e, ap length (stands.shown other), length-map (of_side other entered) no_of);
+          counted = λ c e. let same : count ≡ c = cc in (map no_of others, shown, omega (arith, length-map others no_of, full over));
+          aged = λ span r e h. cc;
+        }
+
+        goes_behind : count < length (oldest ∷ others) → AtEach (Moment query) behind_arrival (expiries (no + 1) (oldest ∷ []) ++ rest (no + 1 + 1) (without (Some oldest) entered))
+        goes_behind over =
+            let of_side_is : side ≡ oldest.side = side_from side oldest.side among.1 in (
+              subst (λ (o : Side). AtExpiry query behind_arrival (rest (no + 1 + 1) (without (Some oldest) entered)) (record { 0 = no + 1 }) o (record { 0 = oldest.no })) of_side_is (expires over (rest (no + 1 + 1) (without (Some oldest) entered))),
+              goes (behind_arrival ++ Expire (record { 0 = no + 1 }) oldest.side (record { 0 = oldest.no }) ∷ []) (no + 1 + 1) (without (Some oldest) entered)
+                  (subst (λ (rows : List LiveRow). Stands (behind_arrival ++ Expire (record { 0 = no + 1 }) oldest.side (record { 0 = oldest.no }) ∷ []) (no + 1 + 1) rows) (sym (without_one oldest entered stands.rising among.0))
+                  (Stands-expiry behind_arrival (no + 1) oldest.side (record { 0 = oldest.no }) entered (stands.below oldest among.0) stands))
+                  (subst (λ (rows : List LiveRow). Fit rows) (sym (without_one oldest entered stands.rising among.0))
+                  (fit_if (removed oldest.no entered)
+                  (λ c e. let same : count ≡ c = cc in omega (arith, ap length gone_out, length-filter_most (λ (r : LiveRow). not (oldest.no == r.no)) others, full over))
+                  (λ other c differs e. omega (arith, fit_other other c differs e, ap length (filter_swap (λ (r : LiveRow). is_same_side other r.side) (λ (r : LiveRow). not (oldest.no == r.no)) entered), length-filter_most (λ (r : LiveRow). not (oldest.no == r.no)) (of_side other entered))))),
+            )
+
+      over : (window : Window) (found : List LiveRow) → window_at query side ≡ window → of_side side entered ≡ found
+          → AtEach (Moment query) behind_arrival (expiries (no + 1) (option_to_list (one_too_many window found)) ++ rest (no + 1 + length (option_to_list (one_too_many window found))) (without (one_too_many window found) entered))
+      over (Time span) found is are = stays (fit_if entered (λ c e. cc) fit_other)
+      over (Rows count) [] is are = stays (fit_if entered (λ c e. omega (arith, ap length are)) fit_other)
+      over (Rows count) (oldest ∷ others) is are = by (nat_lt count (length (oldest ∷ others))) refl
+        where
+          by : (b : Bool) → nat_lt count (length (oldest ∷ others)) ≡ b
+              → AtEach (Moment query) behind_arrival (expiries (no + 1) (option_to_list (cond b (Some oldest) None)) ++ rest (no + 1 + length (option_to_list (cond b (Some oldest) None))) (without (cond b (Some oldest) None) entered))
+          by true e = goes_behind count is oldest others are (ltb-true count (length (oldest ∷ others)) e)
+          by false e = stays (fit_if entered (λ c f. let same : count ≡ c = cc in omega (arith, ap length are, ltb-false count (length (oldest ∷ others)) e)) fit_other)
+
+      pub arrives : ((one : LiveRow) → Contains kept one → aged_at (time_of row) one ≡ false)
+          → AtEach (Moment query) before (Arrive (record { 0 = no }) side row ∷ (expiries (no + 1) (option_to_list (one_too_many (window_at query side) (of_side side entered)))
+          ++ rest (no + 1 + length (option_to_list (one_too_many (window_at query side) (of_side side entered)))) (without (one_too_many (window_at query side) (of_side side entered)) entered)))
+      arrives young = (
+        record {
+          numbered = sym s.count;
+          within = within_of before no kept s fit;
+          young = λ own span came older e h live.
+              let found = Contains-from_map no_of (of_side own kept) came (subst (λ (numbers : List ℕ). Contains numbers came) (s.shown own) live) in
+              let one = Contains-from_filter (λ (r : LiveRow). is_same_side own r.side) kept found.0 found.1 in
+              ap (λ (t : ℤ). int_le (pos span) (time_of row -ℤ t)) (sym (s.timed own came older found.0 h one.0 found.2))
+              ∙ subst (λ (w : Window). is_gone_at w (time_of row -ℤ found.0.time) ≡ false) (ap (window_at query) (sym (side_from own found.0.side one.1)) ∙ e) (young found.0 one.0);
+        },
+        over (window_at query side) (of_side side entered) refl refl,
+      )
+
+  window_same : (rows : List LiveRow) (side : Side) → window_of (lives rows) side ≡ window_at query side
+  window_same rows Left = refl
+  window_same rows Right = refl
+
+  gone_same : (rows : List LiveRow) (now : ℤ) (row : LiveRow) → is_gone (lives rows) now row ≡ aged_at now row
+  gone_same rows now row = ap (λ (w : Window). is_gone_at w (now -ℤ row.time)) (window_same rows row.side)
+
+  abbrev came_of : ℕ → Side → ℤ → List LiveRow → List LiveRow → Window → Arrived
+  came_of at side time gone kept window =
+      let row : LiveRow = record { no = at + length gone; side = side; time = time } in
+      let entered = kept ++ row ∷ [] in
+      let after = one_too_many window (of_side side entered) in
+      record { before = gone; after = after; live = lives (without after entered) }
+
+  abbrev aged_rows : ℤ → List LiveRow → List LiveRow
+  aged_rows now rows = filter (aged_at now) rows
+
+  abbrev kept_rows : ℤ → List LiveRow → List LiveRow
+  kept_rows now rows = filter (λ row. not (aged_at now row)) rows
+
+  arrive_is : (rows : List LiveRow) (side : Side) (time : ℤ) (at : ℕ) → arrive (lives rows) side time at ≡ came_of at side time (aged_rows time rows) (kept_rows time rows) (window_at query side)
+  arrive_is rows side time at =
+      ap (λ (gone : List LiveRow). came_of at side time gone (filter (λ row. not (is_gone (lives rows) time row)) rows) (window_of (lives rows) side)) (filter_agree (is_gone (lives rows) time) (aged_at time) (gone_same rows time) rows)
+      ∙ (ap (λ (kept : List LiveRow). came_of at side time (aged_rows time rows) kept (window_of (lives rows) side))
+      (filter_agree (λ (row : LiveRow). not (is_gone (lives rows) time row)) (λ (row : LiveRow). not (aged_at time row)) (λ row. ap not (gone_same rows time row)) rows)
+      ∙ ap (came_of at side time (aged_rows time rows) (kept_rows time rows)) (window_same rows side))
+
+  abbrev arrived_at : Arrival → ℕ → List LiveRow → Arrived
+  arrived_at arrival at rows = came_of at arrival.side (time_of arrival.row) (aged_rows (time_of arrival.row) rows) (kept_rows (time_of arrival.row) rows) (window_at query arrival.side)
+
+  turn : (arrival : Arrival) (at : ℕ) (rows : List LiveRow) (before : Events) (rest : ℕ → List LiveRow → Events) → ((next : Events) (n : ℕ) (rows : List LiveRow) → Stands next n rows → Fit rows → AtEach (Moment query) next (rest n rows)) → Stands before at rows → Fit rows
+      → AtEach (Moment query) before (events_at at arrival (arrived_at arrival at rows) ++ rest (at + length (events_at at arrival (arrived_at arrival at rows))) (arrived_at arrival at rows).live.rows)
+  turn arrival at rows before rest goes s fit =
+      let side = arrival.side in
+      let row = arrival.row in
+      let gone = aged_rows (time_of row) rows in
+      let kept = kept_rows (time_of row) rows in
+      let n = at + length gone in
+      let came = arrived_at arrival at rows in
+      let behind = Arrive (record { 0 = n }) side row ∷ expiries (n + 1) (option_to_list came.after) in
+      let total = n + 1 + length (option_to_list came.after) in
+      let is : without_all gone rows ≡ kept = removes_all (aged_at (time_of row)) rows s.rising in
+      let count : total ≡ at + length (events_at at arrival came) = omega (arith, length-append (expiries at gone) behind, length-expiries at gone, length-expiries (n + 1) (option_to_list came.after)) in
+      let goes_on : AtEach (Moment query) before (expiries at gone ++ (behind ++ rest total came.live.rows)) =
+      age_out row gone at rows before (behind ++ rest total came.live.rows) s fit (λ one h. Contains-from_filter (aged_at (time_of row)) rows one h)
+      (Ranked-filter (λ one other. one.no < other.no) (aged_at (time_of row)) rows s.rising) refl
+      (λ next m e t f. arrives side row rest goes next n kept
+      (subst (λ (rs : List LiveRow). Stands next n rs) is (subst (λ (k : ℕ). Stands next k (without_all gone rows)) e t))
+      (subst (λ (rs : List LiveRow). Fit rs) is f)
+      (λ one h. not-true (aged_at (time_of row) one) (Contains-from_filter (λ (r : LiveRow). not (aged_at (time_of row) r)) rows one h).1)) in
+      subst (λ (k : ℕ). AtEach (Moment query) before (events_at at arrival came ++ rest k came.live.rows)) count
+      (subst (λ (events : Events). AtEach (Moment query) before events) (sym (append_assoc (expiries at gone) behind (rest total came.live.rows))) goes_on)
+
+  turns_from : (at : ℕ) (rows : List LiveRow) (arrivals : List Arrival) (before : Events) → Stands before at rows → Fit rows → AtEach (Moment query) before (number_from at (lives rows) arrivals)
+  turns_from at rows [] before s fit = within_of before at rows s fit
+  turns_from at rows (arrival ∷ arrivals) before s fit =
+      subst (λ (came : Arrived). AtEach (Moment query) before (events_at at arrival came ++ number_from (at + length (events_at at arrival came)) came.live arrivals)) (sym (arrive_is rows arrival.side (time_of arrival.row) at))
+      (turn arrival at rows before (λ n rs. number_from n (lives rs) arrivals) (λ next n rs t f. turns_from n rs arrivals next t f) s fit)
+
+  -- the events of any arrivals, at each moment
+  pub turns : (arrivals : List Arrival) → AtEach (Moment query) [] (number_from 0 (record { left = query.left_window; right = query.right_window; rows = [] }) arrivals)
+  turns arrivals = turns_from 0 [] arrivals [] Stands-none (λ side count e. omega arith)

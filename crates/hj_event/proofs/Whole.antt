@@ -1,62 +1,111 @@
 -- What follows from the moments of the events for the events as a whole.
-use Rattle.std.proofs.Common.{◌≡◌, ℕ, ◌+◌, ◌<◌, ◌≤◌, inl, inr, List, [], ◌∷◌, ◌++◌, length, length-append, Contains, arith, refl, sym, ap, subst, ◌∙◌}
+use Rattle.std.proofs.Common.{◌≡◌, zero, suc, ℕ, ◌+◌, ◌≤◌, inl, inr, Bool, true, false, cond, ltb, List, [], ◌∷◌, ◌++◌, length, length-append, take, drop, append_assoc, arith, refl, sym, ap, subst, ◌∙◌}
+use Rattle.std.proofs.lemmas.Bool.{false≢true}
+use Rattle.std.proofs.lemmas.List.{take-append-drop}
+use Rattle.hj_value.specs.declared.field.Field.{Field}
 use Rattle.hj_base.specs.declared.numbers.EventNo.{EventNo}
 use Rattle.hj_base.specs.declared.numbers.Side.{Side}
+use Rattle.hj_base.specs.declared.numbers.Window.{Window}
+use Rattle.hj_base.specs.declared.numbers.Window.TheVariants.{Rows, Time}
 use Rattle.hj_msg.specs.declared.event.Event.{Event}
 use Rattle.hj_msg.specs.declared.event.Event.TheVariants.{Arrive, Expire}
-use Rattle.hj_msg.specs.Event.{NumbersFrom, NamesLive, IsWellFormed, Arrives, Expires}
-use Rattle.hj_msg.proofs.Members.{Contains-head, Contains-cons_cases}
-use Rattle.hj_event.specs.Windows.{live_rows, ExpiresNext, RowsExpireInTurn}
+use Rattle.hj_msg.specs.Event.{NumbersFrom, NamesLive, IsWellFormed}
+use Rattle.hj_query.specs.Parts.{Parts}
+use Rattle.hj_record.specs.Pieces.{Stream}
+use Rattle.hj_event.specs.Arrivals.{arrivals_of, too_many}
+use Rattle.hj_event.specs.Events.{Numbered, all_events_of, events_of}
+use Rattle.hj_event.specs.Rows.{rows_of}
+use Rattle.hj_event.specs.Windows.{live_rows, ExpiresNext, window_at, ExpiresByCount, ExpiresByTime, ExpiresBy, RowsExpireInTurn}
 use Rattle.hj_event.proofs.Moments.{AtEach, AtEach-cut}
 use Rattle.hj_event.proofs.LiveRows.{cases_side, live_rows-live, live_rows-rest}
-use Rattle.hj_event.proofs.Turns.{Moment, AtExpiry}
+use Rattle.hj_event.proofs.Stands.{Events}
+use Rattle.hj_event.proofs.Turns.{Moment, AtArrival, AtExpiry, turns}
 
-numbers_from : {P : Type 0} (window first : ℕ) (before events : List (Event P)) → length before ≡ first → AtEach (Moment window) before events → NumbersFrom first events
-numbers_from window first before [] e h = tt
-numbers_from window first before (Arrive at side row ∷ events) e h = (h.0.0 ∙ e, numbers_from window (first + 1) (before ++ Arrive at side row ∷ []) events (omega (arith, length-append before (Arrive at side row ∷ []))) h.1)
-numbers_from window first before (Expire at side of ∷ events) e h = (h.0.numbered ∙ e, numbers_from window (first + 1) (before ++ Expire at side of ∷ []) events (omega (arith, length-append before (Expire at side of ∷ []))) h.1)
+numbers_from : (query : Parts) (first : ℕ) (before events : Events) → length before ≡ first → AtEach (Moment query) before events → NumbersFrom first events
+numbers_from query first before [] e h = tt
+numbers_from query first before (Arrive at side row ∷ events) e h = (h.0.numbered ∙ e, numbers_from query (first + 1) (before ++ Arrive at side row ∷ []) events (omega (arith, length-append before (Arrive at side row ∷ []))) h.1)
+numbers_from query first before (Expire at side of ∷ events) e h = (h.0.numbered ∙ e, numbers_from query (first + 1) (before ++ Expire at side of ∷ []) events (omega (arith, length-append before (Expire at side of ∷ []))) h.1)
 
-names_live : {P : Type 0} (window : ℕ) (before behind : List (Event P)) (event : Event P) → Moment window before (event ∷ behind) → NamesLive before event
-names_live window before behind (Arrive at side row) h = tt
-names_live window before behind (Expire at side of) h = live_rows-live side before of.0 (subst (λ numbers. Contains numbers of.0) (sym h.are) (Contains-head of.0 h.others))
+names_live : (query : Parts) (before behind : Events) (event : Event (List Field)) → Moment query before (event ∷ behind) → NamesLive before event
+names_live query before behind (Arrive at side row) h = tt
+names_live query before behind (Expire at side of) h = live_rows-live side before of.0 h.is_live
 
-pub well_formed : {P : Type 0} (window : ℕ) (events : List (Event P)) → AtEach (Moment window) [] events → IsWellFormed events
-well_formed window events h = record {
-  numbered = numbers_from window 0 [] events refl h;
-  live = λ earlier later event e. names_live window earlier later event (AtEach-cut (Moment window) events earlier (event ∷ later) h e);
+pub well_formed : (query : Parts) (events : Events) → AtEach (Moment query) [] events → IsWellFormed events
+well_formed query events h = record {
+  numbered = numbers_from query 0 [] events refl h;
+  live = λ earlier later event e. names_live query earlier later event (AtEach-cut (Moment query) events earlier (event ∷ later) h e);
 }
 
-length_are : {P : Type 0} (window : ℕ) (before : List (Event P)) (at : EventNo) (side : Side) (of : EventNo) → AtExpiry window before at side of → length (live_rows side before) ≡ window + 1
-length_are window before at side of h = omega (arith, ap length h.are, h.full)
+numbers_first : {P : Type 0} (n first : ℕ) (events : List (Event P)) → NumbersFrom first events → NumbersFrom first (take n events)
+numbers_first zero first events h = tt
+numbers_first (suc n) first [] h = tt
+numbers_first (suc n) first (event ∷ events) h = (h.0, numbers_first n (first + 1) events h.1)
 
-most : {P : Type 0} (window : ℕ) (before behind : List (Event P)) (side : Side) → Moment window before behind → length (live_rows side before) ≤ window + 1
-most window before [] side h = omega (arith, h side)
-most window before (Arrive at other row ∷ behind) side h = omega (arith, h.1 side)
-most window before (Expire at other of ∷ behind) side h = elim (cases_side side other) [
-  | inl e ↦ subst (λ s. length (live_rows s before) ≤ window + 1) (sym e) (omega (arith, length_are window before at other of h))
-  | inr differs ↦ omega (arith, h.rest side differs)
-]
-
-within : {P : Type 0} (window : ℕ) (before behind : List (Event P)) (side : Side) → Moment window before behind → ¬ (ExpiresNext side behind) → length (live_rows side before) ≤ window
-within window before [] side h stays = h side
-within window before (Arrive at other row ∷ behind) side h stays = h.1 side
-within window before (Expire at other of ∷ behind) side h stays = h.rest side (λ e. stays (sym e))
-
-in_turn : {P : Type 0} (window : ℕ) (before : List (Event P)) (at of : EventNo) (side : Side) → AtExpiry window before at side of → (number : ℕ) (row : P) → Arrives before side number row → number < of.0 → (when : ℕ) × Expires before number when
-in_turn window before at of side h number row arrival older = live_rows-rest side before number row arrival
-    (λ k. elim (Contains-cons_cases of.0 number h.others (subst (λ numbers. Contains numbers number) h.are k)) [
-      | inl e ↦ omega arith
-      | inr m ↦ omega (arith, h.younger number m)
-    ])
-
-pub expires_in_turn : {P : Type 0} (window : ℕ) (events : List (Event P)) → AtEach (Moment window) [] events → RowsExpireInTurn window events
-expires_in_turn {P} window events h = record {
-  most = λ before behind side e. most window before behind side (AtEach-cut (Moment window) events before behind h e);
-  within = λ before behind side e stays. within window before behind side (AtEach-cut (Moment window) events before behind h e) stays;
-  full = λ before behind at of side e. length_are window before at side of (expiry before behind at of side e);
-  oldest = λ before behind at of side e. ((expiry before behind at of side e).others, (expiry before behind at of side e).are);
-  in_turn = λ before behind at of side e number row arrival older. in_turn window before at of side (expiry before behind at of side e) number row arrival older;
+-- the first of them are so too
+pub well_formed-first : {P : Type 0} (n : ℕ) (events : List (Event P)) → IsWellFormed events → IsWellFormed (take n events)
+well_formed-first n events h = record {
+  numbered = numbers_first n 0 events h.numbered;
+  live = λ earlier later event e. h.live earlier (later ++ drop n events) event
+      (sym (take-append-drop n events) ∙ (ap (λ es. es ++ drop n events) e ∙ append_assoc earlier (event ∷ later) (drop n events)));
 }
-  where
-    expiry : (before behind : List (Event P)) (at of : EventNo) (side : Side) → events ≡ before ++ Expire at side of ∷ behind → AtExpiry window before at side of
-    expiry before behind at of side e = AtEach-cut (Moment window) events before (Expire at side of ∷ behind) h e
+
+module _ (query : Parts) (events : Events) (h : AtEach (Moment query) [] events) where
+  expiry : (before behind : Events) (at of : EventNo) (side : Side) → events ≡ before ++ Expire at side of ∷ behind → AtExpiry query before behind at side of
+  expiry before behind at of side e = AtEach-cut (Moment query) events before (Expire at side of ∷ behind) h e
+
+  module _ (side : Side) (count : ℕ) (is : window_at query side ≡ Rows count) where
+    full : (before behind : Events) (at of : EventNo) → AtExpiry query before behind at side of → length (live_rows side before) ≡ count + 1
+    full before behind at of x = let found = x.counted count is in omega (arith, ap length found.1, found.2)
+
+    most : (before behind : Events) → Moment query before behind → length (live_rows side before) ≤ count + 1
+    most before [] m = omega (arith, m side count is)
+    most before (Arrive at other row ∷ behind) m = omega (arith, m.within side count is)
+    most before (Expire at other of ∷ behind) m = elim (cases_side side other) [
+      | inl e ↦ omega (arith, full before behind at of (subst (λ (s : Side). AtExpiry query before behind at s of) (sym e) m))
+      | inr differs ↦ omega (arith, m.rest side count differs is)
+    ]
+
+    within : (before behind : Events) → Moment query before behind → ¬ (ExpiresNext side behind) → length (live_rows side before) ≤ count
+    within before [] m stays = m side count is
+    within before (Arrive at other row ∷ behind) m stays = m.within side count is
+    within before (Expire at other of ∷ behind) m stays = m.rest side count (λ e. stays (sym e)) is
+
+    by_count : ExpiresByCount side count events
+    by_count = record {
+      most = λ before behind e. most before behind (AtEach-cut (Moment query) events before behind h e);
+      within = λ before behind e stays. within before behind (AtEach-cut (Moment query) events before behind h e) stays;
+      full = λ before behind at of e. full before behind at of (expiry before behind at of side e);
+      oldest = λ before behind at of e. let found = (expiry before behind at of side e).counted count is in (found.0, found.1);
+    }
+
+  by_time : (side : Side) (span : ℕ) → window_at query side ≡ Time span → ExpiresByTime side span events
+  by_time side span is = record {
+    gone = λ before behind at of_arrival later e came row arrival aged.
+        let moment : AtArrival query before at later = AtEach-cut (Moment query) events before (Arrive at of_arrival later ∷ behind) h e in
+        live_rows-rest side before came row arrival (λ live. false≢true (sym (moment.young side span came row is arrival live) ∙ aged));
+    only_then = λ before behind at of e row arrival. (expiry before behind at of side e).aged span row is arrival;
+  }
+
+  by_window : (side : Side) (window : Window) → window_at query side ≡ window → ExpiresBy window side events
+  by_window side (Rows count) is = by_count side count is
+  by_window side (Time span) is = by_time side span is
+
+  pub expires_in_turn : RowsExpireInTurn query events
+  expires_in_turn = λ side. by_window side (window_at query side) refl
+
+-- ---- of two streams
+
+each_moment : (query : Parts) (left right : Stream) → AtEach (Moment query) [] (all_events_of query left right).events
+each_moment query left right = turns query (arrivals_of (rows_of query.left.columns left) (rows_of query.right.columns right)).rows
+
+first_or_all : (limit : ℕ) (all : Numbered) (over : Bool) → IsWellFormed all.events → IsWellFormed (cond {A = Numbered} over (record { events = take limit all.events; ending = too_many }) all).events
+first_or_all limit all true h = well_formed-first limit all.events h
+first_or_all limit all false h = h
+
+pub are_well_formed : (query : Parts) (left right : Stream) (limit : ℕ) → IsWellFormed (events_of query left right limit).events
+are_well_formed query left right limit =
+    let all = all_events_of query left right in
+    first_or_all limit all (ltb limit (length all.events)) (well_formed query all.events (each_moment query left right))
+
+pub expire_in_turn : (query : Parts) (left right : Stream) → RowsExpireInTurn query (all_events_of query left right).events
+expire_in_turn query left right = expires_in_turn query (all_events_of query left right).events (each_moment query left right)

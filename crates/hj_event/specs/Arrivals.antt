@@ -11,11 +11,13 @@ pub record Arrival : Type 0 where
   pub side : Side
   pub row : List Field
 
--- How the merge ends: with both streams, in a bad record of a side, or where a side was cut off.
+-- How the merge ends: with both streams, in a bad record of a side, where a side was cut off, or where it would give one
+-- event more than its limit.
 pub data Ending : Type 0 where
   clean : Ending
   bad : (side : Side) (record_no : ℕ) → RecordFault → Ending
   unread : (side : Side) → Ending
+  too_many : Ending
 
 pub record Arrivals : Type 0 where
   pub rows : List Arrival

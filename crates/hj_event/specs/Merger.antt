@@ -1,82 +1,114 @@
--- What contracts see of a merger, and what its answers mean.
-use Rattle.std.specs.Prelude.{◌≡◌, ◌≤◌, ◌⊎◌, ℕ, true, List, [], ◌∷◌}
-use Rattle.std.specs.Io.KnownBytes.{Consumes, IsAtEnd}
+-- What contracts see of a merger: a state from which the events to come are a function of the bytes to come.
+use Rattle.std.specs.Prelude.{◌≡◌, ℕ, Bool, true, false, List, None, Some, Ok, Err}
+use Rattle.std.specs.declared.option.Option.{Option}
+use Rattle.std.specs.declared.result.Result.{Result}
 use Rattle.hj_value.specs.declared.field.Field.{Field}
 use Rattle.hj_base.specs.declared.numbers.Side.{Side}
+use Rattle.hj_base.specs.declared.numbers.Side.TheVariants.{Left, Right}
 use Rattle.hj_base.specs.declared.outside.Role.{Role}
 use Rattle.hj_base.specs.declared.outside.Role.TheVariants as role
-use Rattle.hj_base.specs.Counts.{Rose}
-use Rattle.hj_base.specs.Outside.{RoleState, at_end, role_of}
+use Rattle.hj_base.specs.Outside.{RoleState}
 use Rattle.hj_msg.specs.declared.event.Event.{Event}
+use Rattle.hj_query.specs.Parts.{Parts}
+use Rattle.hj_record.specs.Pieces.{Stream}
 use Rattle.hj_event.specs.declared.merger.Next.{Next}
 use Rattle.hj_event.specs.declared.merger.Next.TheVariants as next
-use Rattle.hj_event.specs.Arrivals.{Ending, clean, bad, unread}
+use Rattle.hj_event.specs.declared.stop.Last.{Last}
+use Rattle.hj_event.specs.declared.stop.Last.TheVariants as last
+use Rattle.hj_event.specs.Arrivals.{clean, bad, unread, too_many}
+use Rattle.hj_event.specs.Arriving.{fails_last}
 use Rattle.hj_event.specs.Events.{Numbered, events_of}
+use Rattle.hj_event.specs.Numbering.{NumberingState, numbered_ahead, has_due, no_event, then_event}
+use Rattle.hj_event.specs.Roles.{IsReadOn, IsUnread}
+use Rattle.hj_event.specs.Sides.{Sides, in_front, Follows, arrivals_ahead}
+use Rattle.hj_event.specs.Taking.{IsReadAsNeeded}
 
--- A merger has read nothing yet; or holds the events to come and their ending; or gives one last answer again and again.
-pub data Merging : Type 0 where
-  fresh : (window : ℕ) → Merging
-  holding : Numbered → Merging
-  failed : Side → Merging
-  spent : Merging
+pub record Merging : Type 0 where
+  pub sides : Sides
+  pub numbering : NumberingState
+  -- the answer that every call gives from now on
+  pub over : Option Last
 
--- The answer where no event is left.
-abbrev pub EndsAs : Ending → Next → Type 0
-EndsAs clean answer = answer ≡ next.Done
-EndsAs (bad of at found) answer = answer ≡ next.Bad of at found
-EndsAs (unread of) answer = answer ≡ next.Failed of
+-- The events to come, where these streams come.
+abbrev pub events_from : Merging → Stream → Stream → Numbered
+events_from merging left right = numbered_ahead merging.numbering (arrivals_ahead merging.sides left right)
 
--- The next event of those held, or their ending, which stays.
-abbrev pub StepsFrom : List (Event (List Field)) → Ending → Next → Merging → Type 0
-StepsFrom [] ending answer new = EndsAs ending answer × (new ≡ holding (record { events = []; ending = ending }))
-StepsFrom (event ∷ events) ending answer new = (answer ≡ next.Event event) × (new ≡ holding (record { events = events; ending = ending }))
+abbrev pub answer_of : Last → Next
+answer_of last.Done = next.Done
+answer_of (last.Bad side at why) = next.Bad side at why
+answer_of (last.Failed side) = next.Failed side
+answer_of last.TooMany = next.TooMany
+answer_of last.Memory = next.Memory
 
--- Memory ran out, and is answered from now on.
-abbrev pub RunsOut : Next → Merging → Type 0
-RunsOut answer new = (answer ≡ next.Memory) × (new ≡ spent)
+-- the answer that stays behind this one
+abbrev pub stays_by : Next → Option Last
+stays_by (next.Event event) = None
+stays_by next.Done = Some last.Done
+stays_by (next.Bad side at why) = Some (last.Bad side at why)
+stays_by (next.Failed side) = Some (last.Failed side)
+stays_by next.TooMany = Some last.TooMany
+stays_by next.Memory = Some last.Memory
 
-abbrev pub Steps : Numbered → Next → Merging → Type 0
-Steps held answer new = StepsFrom held.events held.ending answer new ⊎ RunsOut answer new
+-- a read of this side failed
+abbrev pub fails_next : Next → Side → Bool
+fails_next (next.Failed of) side = fails_last (last.Failed of) side
+fails_next answer side = false
 
--- A role was read to its end: these bytes came, and no failed read.
-pub record IsRead (bytes : List ℕ) (old new : RoleState) : Type 0 where
-  pub came : Consumes old.left new.left bytes
-  pub nothing_left : IsAtEnd new.left
-  pub phase : new.phase ≡ at_end old.phase
-  pub faults : new.faults ≡ old.faults
+-- What an answer says of the events to come before it and after it.
+abbrev pub NextLeads : Next → Numbered → Numbered → Type 0
+NextLeads (next.Event event) ahead behind = ahead ≡ then_event event behind
+NextLeads next.Done ahead behind = ahead ≡ no_event clean
+NextLeads (next.Bad side at why) ahead behind = ahead ≡ no_event (bad side at why)
+NextLeads (next.Failed side) ahead behind = ahead ≡ no_event (unread side)
+NextLeads next.TooMany ahead behind = ahead ≡ no_event too_many
+NextLeads next.Memory ahead behind = Unit {0}
 
--- Reading leaves a role open under its name, and its count of faults never falls.
-pub record IsReadOn (old new : RoleState) : Type 0 where
-  pub phase : (new.phase ≡ old.phase) ⊎ (new.phase ≡ at_end old.phase)
-  pub faults : old.faults ≤ new.faults
+-- Both roles have answered their ends where all is done.
+abbrev pub IsAllRead : Next → Bool → Bool → Type 0
+IsAllRead next.Done left right = (left ≡ true) × (right ≡ true)
+IsAllRead answer left right = Unit {0}
 
--- What a call does to the roles: it reads the two sides alone.
-pub record ReadsSides (old new : Role → RoleState) : Type 0 where
-  pub left : IsReadOn (old role.Left) (new role.Left)
-  pub right : IsReadOn (old role.Right) (new role.Right)
-  pub query : new role.Query ≡ old role.Query
-
--- Nothing is read.
-abbrev pub Untouched : (Role → RoleState) → (Role → RoleState) → Type 0
-Untouched old new = (of : Role) → new of ≡ old of
-
--- A first call that read both streams to their ends, and then answered as from their events.
-pub record ReadsBoth (window : ℕ) (answer : Next) (new : Merging) (before now : Role → RoleState) : Type 0 where
+-- A call of a merger that gave no last answer before: these bytes of the two roles were read, and whatever comes behind them,
+-- the answer is what the events to come say.
+pub record TakesNext (answer : Next) (old new : Merging) (before now : Role → RoleState) : Type 0 where
   pub left_bytes : List ℕ
   pub right_bytes : List ℕ
-  pub left : IsRead left_bytes (before role.Left) (now role.Left)
-  pub right : IsRead right_bytes (before role.Right) (now role.Right)
-  pub steps : Steps (events_of window (record { bytes = left_bytes; whole = true }) (record { bytes = right_bytes; whole = true })) answer new
+  pub left : IsReadOn (fails_next answer Left) left_bytes old.sides.left.reading.ended new.sides.left.reading.ended (before role.Left) (now role.Left)
+  pub right : IsReadOn (fails_next answer Right) right_bytes old.sides.right.reading.ended new.sides.right.reading.ended (before role.Right) (now role.Right)
+  pub query : now role.Query ≡ before role.Query
+  pub leads : (l r : Stream) → Follows (fails_next answer Left) new.sides.left.reading.ended l → Follows (fails_next answer Right) new.sides.right.reading.ended r → NextLeads answer (events_from old (in_front left_bytes l) (in_front right_bytes r)) (events_from new l r)
+  pub ended : IsAllRead answer new.sides.left.reading.ended new.sides.right.reading.ended
+  pub stays : new.over ≡ stays_by answer
+  -- where an event is due, nothing is read
+  pub due : has_due old.numbering.due ≡ true → IsUnread left_bytes (before role.Left) (now role.Left) × IsUnread right_bytes (before role.Right) (now role.Right)
+  -- no role is read ahead
+  pub left_needed : IsReadAsNeeded old.sides.left.head old.sides.left.reading left_bytes (before role.Left) (now role.Left)
+  pub right_needed : IsReadAsNeeded old.sides.right.head old.sides.right.reading right_bytes (before role.Right) (now role.Right)
 
--- A first call that met a failed read, of the left stream, or of the right one once the left one was read.
-pub record FailsAt (of : Side) (answer : Next) (new : Merging) (before now : Role → RoleState) : Type 0 where
-  pub answered : answer ≡ next.Failed of
-  pub stays : new ≡ failed of
-  pub rose : Rose (before (role_of of)).faults (now (role_of of)).faults
+-- the answer to a step
+abbrev pub next_of : Result (Event (List Field)) Last → Next
+next_of (Ok event) = next.Event event
+next_of (Err last) = answer_of last
 
--- A call of `next`: from what the merger was to what it is, with what it did to the roles.
-abbrev pub Answers : Merging → Next → Merging → (Role → RoleState) → (Role → RoleState) → Type 0
-Answers (fresh window) answer new before now = ReadsBoth window answer new before now ⊎ (((of : Side) × FailsAt of answer new before now) ⊎ RunsOut answer new)
-Answers (holding held) answer new before now = Steps held answer new × Untouched before now
-Answers (failed of) answer new before now = (answer ≡ next.Failed of) × (new ≡ failed of) × Untouched before now
-Answers spent answer new before now = RunsOut answer new × Untouched before now
+-- A step of a merger is a call of it but for the answer that stays.
+abbrev pub Steps : Result (Event (List Field)) Last → Merging → Merging → (Role → RoleState) → (Role → RoleState) → Type 0
+Steps step old new before now = TakesNext (next_of step) old (record new { over = stays_by (next_of step) }) before now × (new.over ≡ old.over)
+
+-- A last answer is given again, and nothing is read.
+abbrev pub Repeats : Last → Next → Merging → Merging → (Role → RoleState) → (Role → RoleState) → Type 0
+Repeats last answer old new before now = (answer ≡ answer_of last) × (new ≡ old) × ((of : Role) → now of ≡ before of)
+
+abbrev pub AnswersFrom : Option Last → Next → Merging → Merging → (Role → RoleState) → (Role → RoleState) → Type 0
+AnswersFrom None answer old new before now = TakesNext answer old new before now
+AnswersFrom (Some last) answer old new before now = Repeats last answer old new before now
+
+-- A call of `next`.
+abbrev pub Answers : Next → Merging → Merging → (Role → RoleState) → (Role → RoleState) → Type 0
+Answers answer old new before now = AnswersFrom old.over answer old new before now
+
+-- Nothing was read yet, and nothing given.
+pub record IsNew (query : Parts) (limit : ℕ) (merging : Merging) : Type 0 where
+  pub left : merging.sides.left.reading.ended ≡ false
+  pub right : merging.sides.right.reading.ended ≡ false
+  pub over : merging.over ≡ None
+  pub events : (left right : Stream) → events_from merging left right ≡ events_of query left right limit

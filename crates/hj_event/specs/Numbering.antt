@@ -1,28 +1,85 @@
--- What is seen of the numbering of arrivals, and what taking the next event does to it.
-use Rattle.std.specs.Prelude.{◌≡◌, ℕ, ◌+◌, List, [], ◌∷◌, Ok, Err, None, Some}
+-- The numbering of arrivals as far as it came, and what taking the next event does to it.
+use Rattle.std.specs.Prelude.{◌≡◌, ℕ, ◌+◌, ◌-◌, ◌≤◌, Bool, not, ◌==◌, List, [], ◌∷◌, ◌++◌, length, option_to_list, option_map, Ok, Err, None, Some}
 use Rattle.std.specs.declared.option.Option.{Option}
 use Rattle.std.specs.declared.result.Result.{Result}
 use Rattle.hj_value.specs.declared.field.Field.{Field}
+use Rattle.hj_base.specs.declared.numbers.EventNo.{EventNo}
+use Rattle.hj_base.specs.declared.numbers.Side.{Side}
 use Rattle.hj_msg.specs.declared.event.Event.{Event}
-use Rattle.hj_msg.specs.declared.event.Event.TheVariants.{Expire}
-use Rattle.hj_event.specs.declared.numbering.Due.{Due}
+use Rattle.hj_msg.specs.declared.event.Event.TheVariants.{Arrive, Expire}
+use Rattle.hj_window.specs.LiveRows.{LiveRows, AllBelow}
 use Rattle.hj_event.specs.declared.stop.Last.{Last}
 use Rattle.hj_event.specs.declared.stop.Last.TheVariants as last
-use Rattle.hj_event.specs.Arrivals.{Arrival, Arrivals, clean, bad}
-use Rattle.hj_event.specs.Events.{Live, Numbered, number_from}
+use Rattle.hj_event.specs.Arrivals.{Arrivals, Ending, too_many}
+use Rattle.hj_event.specs.Events.{Numbered, numbered, up_to}
 
--- The events to come from this number on: the expiry that is due, and those of the arrivals.
-abbrev pub events_from : ℕ → ℕ → Option Due → Live → List Arrival → List (Event (List Field))
-events_from window next None live arrivals = number_from window next live arrivals
-events_from window next (Some due) live arrivals = Expire (record { 0 = next }) due.side due.of ∷ number_from window (next + 1) live arrivals
+-- What came of an arrival and wasn't given yet: the rows that expire before it, itself, and the row that expires after it.
+pub record DueState : Type 0 where
+  pub before : List (Side × EventNo)
+  pub arrival : Option (Side × List Field)
+  pub after : Option (Side × EventNo)
 
-abbrev pub numbered : ℕ → ℕ → Option Due → Live → Arrivals → Numbered
-numbered window next due live arrivals = record { events = events_from window next due live arrivals.rows; ending = arrivals.ending }
+abbrev pub nothing_due : DueState
+nothing_due = record { before = []; arrival = None; after = None }
 
--- Taking the next event. After an ending nothing is said of the numbering.
-abbrev pub TakesEvent : Result (Event (List Field)) Last → Numbered → Numbered → Type 0
-TakesEvent (Ok event) old new = old ≡ record { events = event ∷ new.events; ending = new.ending }
-TakesEvent (Err last.Done) old new = old ≡ record { events = []; ending = clean }
-TakesEvent (Err (last.Bad side at why)) old new = old ≡ record { events = []; ending = bad side at why }
-TakesEvent (Err (last.Failed side)) old new = ⊥
-TakesEvent (Err last.Memory) old new = Unit {0}
+abbrev pub expiries_of : ℕ → List (Side × EventNo) → List (Event (List Field))
+expiries_of at [] = []
+expiries_of at (row ∷ rows) = Expire (record { 0 = at }) row.0 row.1 ∷ expiries_of (at + 1) rows
+
+abbrev pub arrival_at : ℕ → Option (Side × List Field) → List (Event (List Field))
+arrival_at at None = []
+arrival_at at (Some arrival) = Arrive (record { 0 = at }) arrival.0 arrival.1 ∷ []
+
+-- how many events are due
+abbrev pub due_count : DueState → ℕ
+due_count due = length due.before + length (option_to_list due.arrival) + length (option_to_list due.after)
+
+-- the events that are due, numbered from this number on
+abbrev pub due_events : ℕ → DueState → List (Event (List Field))
+due_events at due =
+    let no = at + length due.before in
+    expiries_of at due.before ++ (arrival_at no due.arrival ++ expiries_of (no + length (option_to_list due.arrival)) (option_to_list due.after))
+
+-- anything is due
+abbrev pub has_due : DueState → Bool
+has_due due = not (due_count due == 0)
+
+-- what is due where a row of a side arrives by which these rows expire
+abbrev pub due_of : Side → List Field → List (Side × EventNo) → Option EventNo → DueState
+due_of side row before after = record { before = before; arrival = Some (side, row); after = option_map (λ of. (side, of)) after }
+
+-- Taking the first event that is due, under this number.
+abbrev pub TakesDue : Option (Event (List Field)) → ℕ → DueState → DueState → Type 0
+TakesDue None at old new = (due_count old ≡ 0) × (new ≡ old)
+TakesDue (Some event) at old new = (due_events at old ≡ event ∷ due_events (at + 1) new) × (due_count old ≡ due_count new + 1)
+
+pub record NumberingState : Type 0 where
+  pub live : LiveRows
+  pub due : DueState
+  -- the number of the next event
+  pub next : ℕ
+  -- how many events there may be
+  pub limit : ℕ
+
+-- The events to come, where these arrivals come.
+abbrev pub numbered_ahead : NumberingState → Arrivals → Numbered
+numbered_ahead state arrivals =
+    let behind = numbered (state.next + due_count state.due) state.live arrivals in
+    up_to (state.limit - state.next) (record { events = due_events state.next state.due ++ behind.events; ending = behind.ending })
+
+abbrev pub no_event : Ending → Numbered
+no_event ending = record { events = []; ending = ending }
+
+abbrev pub then_event : Event (List Field) → Numbered → Numbered
+then_event event others = record { events = event ∷ others.events; ending = others.ending }
+
+-- Giving an event that is due: it, or there are too many.
+abbrev pub Gives : Result (Event (List Field)) Last → Numbered → Numbered → Type 0
+Gives (Ok event) ahead behind = ahead ≡ then_event event behind
+Gives (Err last.TooMany) ahead behind = ahead ≡ no_event too_many
+Gives (Err why) ahead behind = ⊥
+
+-- Each live row has a number below those of the events to come, and those given are within the limit.
+pub record IsCounted (live : LiveRows) (due : DueState) (next limit : ℕ) : Type 0 where
+  pub below : AllBelow (next + due_count due) live.rows
+  pub within : next ≤ limit

@@ -1,4 +1,4 @@
--- The rows of a stream, read by the columns of its schema, whose times never fall.
+-- The rows of a stream by the columns of a schema. Their times never fall.
 use Rattle.std.specs.Prelude.{ℕ, ◌+◌, ◌^◌, ℤ, List, [], ◌∷◌, if◌then◌else◌, int_lt, None, Some, Ok, Err}
 use Rattle.std.specs.declared.option.Option.{Option}
 use Rattle.std.specs.declared.result.Result.{Result}
@@ -6,7 +6,7 @@ use Rattle.hj_value.specs.declared.column.Column.{Column}
 use Rattle.hj_value.specs.declared.field.Field.{Field}
 use Rattle.hj_value.specs.Row.{time_of}
 use Rattle.hj_record.specs.declared.fault.PieceFault.{PieceFault}
-use Rattle.hj_record.specs.Pieces.{Stream, PiecesEnd, pieces_of, clean as pieces_clean, bad as pieces_bad, unread as pieces_unread}
+use Rattle.hj_record.specs.Pieces.{Stream, Pieces, PiecesEnd, pieces_of, clean as pieces_clean, bad as pieces_bad, unread as pieces_unread}
 use Rattle.hj_record.specs.Records.{record_of}
 use Rattle.hj_schema.specs.declared.fault.RowFault.{RowFault}
 use Rattle.hj_schema.specs.Rows.{row_of}
@@ -27,7 +27,7 @@ record_row columns before (Err found) = Err (fault.Piece found)
 record_row columns before (Ok None) = Ok None
 record_row columns before (Ok (Some fields)) = row_in_time before (row_of columns fields)
 
--- The row of a piece, behind a row of this time; None where the piece holds no record.
+-- The row of a piece by these columns, behind a row of this time; None where the piece holds no record.
 abbrev pub row_at : List Column → Option ℤ → List ℕ → Result (Option (List Field)) RecordFault
 row_at columns before piece = record_row columns before (record_of piece)
 
@@ -66,10 +66,13 @@ rows_from columns record_no before [] ending = no_row (end_at record_no ending)
 rows_from columns record_no before (piece ∷ pieces) ending =
     put_row record_no before (row_at columns before piece) (λ next time. rows_from columns next time pieces ending)
 
+abbrev pub rows_in : List Column → ℕ → Option ℤ → Pieces → Rows
+rows_in columns record_no before cut = rows_from columns record_no before cut.pieces cut.ending
+
 -- how many bytes a stream may have
 abbrev pub most_in_stream : ℕ
 most_in_stream = 2 ^ 62
 
--- The rows of a stream, read by these columns.
+-- The rows of a stream by these columns.
 abbrev pub rows_of : List Column → Stream → Rows
-rows_of columns stream = let cut = pieces_of most_in_stream stream in rows_from columns 1 None cut.pieces cut.ending
+rows_of columns stream = rows_in columns 1 None (pieces_of most_in_stream stream)

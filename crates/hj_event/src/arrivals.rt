@@ -1,32 +1,66 @@
-ghost use Rattle.std.specs.Prelude.{◌≡◌, None};
-ghost use Rattle.hj_event.specs.Arrivals.{arrivals_of};
-ghost use Rattle.hj_event.specs.Source.{TakesRow};
-ghost use Rattle.hj_event.specs.Merging.{with_head, last_of, TakesArrival};
+ghost use Rattle.std.specs.Prelude.{◌≡◌, List, ℕ, None, Some};
+ghost use Rattle.hj_base.specs.declared.outside.Role.TheVariants as role;
+ghost use Rattle.hj_base.specs.Outside.{role_of, ChangesOnly};
+ghost use Rattle.hj_event.specs.Arriving.{last_of, TakesArrival};
+ghost use Rattle.hj_event.specs.Roles.{IsInStep};
+ghost use Rattle.hj_event.specs.Sides.{new_side, new_sides};
+ghost use Rattle.hj_event.specs.Taking.{TakesRow};
 
 use crate::source::Source;
 use crate::stop::{Last, Stop};
-use hj_base::Side;
-use hj_value::Row;
+use hj_base::{Outside, Side};
+use hj_value::{Schema, SharedRow};
+use std::alloc::Global;
 use std::marker::Model;
 
 /// The rows of one side, of which the first may have been looked at.
 #[derive(Drop)]
 struct Rows {
     source: Source,
-    head: Option<Row>,
+    head: Option<SharedRow>,
+}
+
+impl Model for Rows {
+    ghost use Rattle.hj_event.specs.Sides.{SideState};
+
+    ghost Value = { SideState };
+
+    ghost view = { λ r. record { head = r.head; reading = r.source } };
 }
 
 impl Rows {
+    fn new(alloc: Global, schema: Schema) -> Self
+        ensures { result ≡ new_side schema.columns }
+    {
+        Rows {
+            source: Source::new(alloc, schema),
+            head: None,
+        }
+    }
+
     /// Takes the first row; None at the end of the stream.
-    fn take(&mut self) -> Result<Option<Row>, Stop>
+    fn take<O: Outside>(&mut self, side: Side, outside: &mut O) -> Result<Option<SharedRow>, Stop>
+        requires { IsInStep self.old.reading.ended (O.state outside.old (role_of side)) }
         ensures head { self.new.head ≡ None }
-        ensures rows { TakesRow result
-            (with_head self.old.head self.old.source.rows) self.new.source.rows }
+        ensures takes { TakesRow result self.old self.new (O.state outside.old (role_of side)) (O.state outside.new (role_of side)) }
+        ensures others { ChangesOnly (role_of side) (O.state outside.old) (O.state outside.new) }
+        ensures names { (name : List ℕ) → O.under outside.new name ≡ O.under outside.old name }
     {
         match self.head.take() {
             Some(row) => Ok(Some(row)),
-            None => self.source.next_row(),
+            None => self.source.next_row(side, outside),
         }
+    }
+
+    /// Puts back the row that was taken last.
+    fn put_back(&mut self, row: SharedRow)
+        ensures { self.new ≡ record self.old { head = Some row } }
+    {
+        self.head = Some(row);
+    }
+
+    fn is_ready(&self) -> bool {
+        self.head.is_some() || self.source.is_ready()
     }
 }
 
@@ -38,41 +72,40 @@ pub(crate) struct Arrivals {
 }
 
 impl Model for Arrivals {
-    ghost use Rattle.hj_event.specs.Arrivals.{Arrivals, arrivals_of};
-    ghost use Rattle.hj_event.specs.Merging.{with_head};
+    ghost use Rattle.hj_event.specs.Sides.{Sides};
 
-    ghost Value = { Arrivals };
+    ghost Value = { Sides };
 
-    ghost view = { λ a. arrivals_of
-        (with_head a.left.head a.left.source.rows) (with_head a.right.head a.right.source.rows) };
+    ghost view = { λ a. record { left = a.left; right = a.right } };
 }
 
 impl Arrivals {
-    /// The arrivals of the rows of two sources.
-    pub(crate) fn new(left: Source, right: Source) -> Self
-        ensures { result ≡ arrivals_of left.rows right.rows }
+    /// The arrivals of two streams of which nothing was read, with rows by these schemas.
+    pub(crate) fn new(alloc: Global, left: Schema, right: Schema) -> Self
+        ensures { result ≡ new_sides left.columns right.columns }
     {
         Arrivals {
-            left: Rows {
-                source: left,
-                head: None,
-            },
-            right: Rows {
-                source: right,
-                head: None,
-            },
+            left: Rows::new(alloc, left),
+            right: Rows::new(alloc, right),
         }
     }
 
-    /// Takes the next arrival: of the heads of both sides the one with the lesser time, on a tie the left one.
-    pub(crate) fn next_arrival(&mut self) -> Result<(Side, Row), Last>
-        ensures { TakesArrival result self.old self.new }
+    /// Takes the next arrival: of the heads of both sides the one with the lesser time, on a tie the left one. The left head
+    /// is looked at first. A role is read only where its side's head isn't known.
+    pub(crate) fn next_arrival<O: Outside>(
+        &mut self,
+        outside: &mut O,
+    ) -> Result<(Side, SharedRow), Last>
+        requires left { IsInStep self.old.left.reading.ended (O.state outside.old role.Left) }
+        requires right { IsInStep self.old.right.reading.ended (O.state outside.old role.Right) }
+        ensures takes { TakesArrival result self.old self.new (O.state outside.old) (O.state outside.new) }
+        ensures names { (name : List ℕ) → O.under outside.new name ≡ O.under outside.old name }
     {
-        let left = match self.left.take() {
+        let left = match self.left.take(Side::Left, outside) {
             Ok(row) => row,
             Err(stop) => return Err(last(Side::Left, stop)),
         };
-        let right = match self.right.take() {
+        let right = match self.right.take(Side::Right, outside) {
             Ok(row) => row,
             Err(stop) => return Err(last(Side::Right, stop)),
         };
@@ -81,15 +114,20 @@ impl Arrivals {
             (Some(left), None) => Ok((Side::Left, left)),
             (None, Some(right)) => Ok((Side::Right, right)),
             (Some(left), Some(right)) => {
-                if left.time() <= right.time() {
-                    self.right.head = Some(right);
+                if left.row().time() <= right.row().time() {
+                    self.right.put_back(right);
                     Ok((Side::Left, left))
                 } else {
-                    self.left.head = Some(left);
+                    self.left.put_back(left);
                     Ok((Side::Right, right))
                 }
             }
         }
+    }
+
+    /// Whether the next arrival can be told without a read.
+    pub(crate) fn is_ready(&self) -> bool {
+        self.left.is_ready() && self.right.is_ready()
     }
 }
 
@@ -99,6 +137,7 @@ fn last(side: Side, stop: Stop) -> Last
 {
     match stop {
         Stop::Bad { at, fault } => Last::Bad { side, at, fault },
+        Stop::Failed => Last::Failed(side),
         Stop::Memory => Last::Memory,
     }
 }

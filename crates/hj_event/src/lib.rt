@@ -2,13 +2,11 @@
 #![tactic(auto)]
 
 mod arrivals;
+mod due;
 mod fault;
 mod laws;
-mod live;
 mod merger;
 mod numbering;
-mod pieces;
-mod reading;
 mod record;
 mod source;
 mod stop;
@@ -16,7 +14,9 @@ mod stop;
 pub use fault::RecordFault;
 pub use hj_msg::{Event, Pair};
 pub use hj_schema::RowFault;
-pub use laws::{cut_stream_gives_prefix, events_are_well_formed, rows_expire_in_turn};
+pub use laws::{
+    calls_give_events, cut_stream_gives_prefix, events_are_well_formed, rows_expire_in_turn,
+};
 pub use merger::{Merger, Next};
 
 #[cfg(test)]

@@ -1,21 +1,16 @@
-ghost use Rattle.std.specs.Prelude.{◌≡◌, ◌≤◌, true, IfOk, List, ℕ};
-ghost use Rattle.hj_base.specs.Outside.{IsOpen};
+ghost use Rattle.std.specs.Prelude.{◌≡◌, IfOk, IsTrue, List, ℕ};
 ghost use Rattle.hj_base.specs.declared.outside.Role.TheVariants as role;
-ghost use Rattle.hj_query.specs.Keyed.{IsKeyed};
-ghost use Rattle.hj_event.specs.Events.{events_by};
-ghost use Rattle.hj_event.specs.Merger.{fresh, Answers, ReadsSides};
-ghost use Rattle.hj_event.specs.Stages.{merging_of, answer_of, Begins};
+ghost use Rattle.hj_event.specs.Merger.{answer_of, Answers, Steps, IsNew};
+ghost use Rattle.hj_event.specs.Roles.{IsInStep};
 
 use crate::RecordFault;
 use crate::arrivals::Arrivals;
 use crate::numbering::Numbering;
-use crate::reading::read_side;
-use crate::source::Source;
 use crate::stop::Last;
 use hj_base::{Memory, Outside, Side};
 use hj_msg::Event;
-use hj_query::{Query, equi};
-use hj_value::Row;
+use hj_query::Query;
+use hj_value::SharedRow;
 use std::alloc::Global;
 use std::marker::Model;
 
@@ -23,7 +18,7 @@ use std::marker::Model;
 #[derive(Drop)]
 pub enum Next {
     /// The next event.
-    Event(Event<Row>),
+    Event(Event<SharedRow>),
     /// Both streams have ended, and every event was given.
     Done,
     /// The record of a side, by its number from 1, is refused; every event before it was given.
@@ -32,138 +27,86 @@ pub enum Next {
         at: u64,
         fault: RecordFault,
     },
-    /// A read of this side failed.
+    /// A read of this side failed; every event before it was given.
     Failed(Side),
+    /// There would be one event more than the limit.
+    TooMany,
     /// Memory ran out.
     Memory,
 }
 
-/// How far a merger came that was asked for an event.
-#[derive(Drop)]
-enum Stage {
-    Running(Numbering),
-    Over(Last),
-}
-
-/// Merges the two streams of a join of rows with equal keys, and numbers their events.
+/// Merges the two streams of a query as it reads them, and numbers their events. It keeps the numbers of the live rows, and of
+/// each side what was read and isn't cut yet, and at most one row.
 #[derive(Drop)]
 pub struct Merger {
-    alloc: Global,
-    /// The query whose streams are merged.
-    query: Query,
-    window: u32,
-    /// None before the first event is asked for.
-    stage: Option<Stage>,
+    arrivals: Arrivals,
+    numbering: Numbering,
+    /// The answer that every call gives from now on.
+    over: Option<Last>,
 }
 
 impl Model for Merger {
     ghost use Rattle.hj_event.specs.Merger.{Merging};
-    ghost use Rattle.hj_event.specs.Stages.{merging};
 
     ghost Value = { Merging };
 
-    ghost view = { λ m. merging m.window m.stage };
-
-    ghost use Rattle.hj_query.specs.Keyed.{IsKeyed};
-
-    ghost invariant = { λ m. IsKeyed m.window m.query };
+    ghost view = { λ m. record { sides = m.arrivals; numbering = m.numbering; over = m.over } };
 }
 
 impl Merger {
-    /// A merger of rows of a time and a key, with windows of `window` rows on each side.
-    pub fn equi(alloc: Global, window: u32) -> Result<Merger, Memory>
-        requires least { 1 ≤ window }
-        requires most { window ≤ 1000000 }
-        ensures { IfOk result (λ merger. merger ≡ fresh window) }
+    /// A merger of the streams of `query`, by its schemas and windows, that gives at most `limit` events.
+    pub fn new(alloc: Global, query: &Query, limit: u64) -> Result<Merger, Memory>
+        ensures { IfOk result (λ merger. IsNew query.now limit merger) }
     {
+        let left = query.schema(Side::Left).copy(alloc)?;
+        let right = query.schema(Side::Right).copy(alloc)?;
+        let windows = (query.window(Side::Left), query.window(Side::Right));
         Ok(Merger {
-            alloc,
-            query: equi(alloc, window)?,
-            window,
-            stage: None,
+            arrivals: Arrivals::new(alloc, left, right),
+            numbering: Numbering::new(alloc, windows.0, windows.1, limit),
+            over: None,
         })
     }
 
-    /// The next event of the two streams, or how they end. The first call reads both, the left one first, each to its end
-    /// or to a failed read. Every answer other than an event is given again by every later call, which reads nothing.
+    /// The next event of the two streams, or how they end. It reads a role only where it doesn't know that side's next row, at
+    /// most 4,096 bytes a read. Every answer other than an event is given again by every later call, which reads nothing.
     pub fn next<O: Outside>(&mut self, outside: &mut O) -> Next
-        requires left { IsOpen (O.state outside.old role.Left).phase }
-        requires right { IsOpen (O.state outside.old role.Right).phase }
-        ensures answers { Answers self.old result self.new (O.state outside.old) (O.state outside.new) }
-        ensures reads { ReadsSides (O.state outside.old) (O.state outside.new) }
+        requires left { IsInStep self.old.sides.left.reading.ended (O.state outside.old role.Left) }
+        requires right { IsInStep self.old.sides.right.reading.ended (O.state outside.old role.Right) }
+        ensures answers { Answers result self.old self.new (O.state outside.old) (O.state outside.new) }
         ensures names { (name : List ℕ) → O.under outside.new name ≡ O.under outside.old name }
     {
-        match &mut self.stage {
-            Some(stage) => stage.next(),
-            None => {
-                let mut stage = begin(self.alloc, &self.query, self.window, outside);
-                let answer = stage.next();
-                self.stage = Some(stage);
-                answer
+        if let Some(last) = self.over {
+            return answer(last);
+        }
+        match self.step(outside) {
+            Ok(event) => Next::Event(event),
+            Err(last) => {
+                self.over = Some(last);
+                answer(last)
             }
         }
     }
-}
 
-impl Stage {
-    ghost use Rattle.hj_event.specs.Stages.{merging_of, Goes};
+    /// Whether the next answer can be given without a read, as far as that can be told without one.
+    pub fn is_ready(&self) -> bool {
+        self.over.is_some() || self.numbering.has_due() || self.arrivals.is_ready()
+    }
 
     /// The next event, or the last answer.
-    fn next(&mut self) -> Next
-        ensures { Goes result (merging_of self.old) (merging_of self.new) }
+    fn step<O: Outside>(&mut self, outside: &mut O) -> Result<Event<SharedRow>, Last>
+        requires left { IsInStep self.old.sides.left.reading.ended (O.state outside.old role.Left) }
+        requires right { IsInStep self.old.sides.right.reading.ended (O.state outside.old role.Right) }
+        ensures steps { Steps result self.old self.new (O.state outside.old) (O.state outside.new) }
+        ensures names { (name : List ℕ) → O.under outside.new name ≡ O.under outside.old name }
     {
-        match self {
-            Stage::Over(last) => answer(*last),
-            Stage::Running(numbering) => match numbering.next_event() {
-                Ok(event) => Next::Event(event),
-                Err(last) => {
-                    *self = Stage::Over(last);
-                    answer(last)
-                }
-            },
+        if self.numbering.has_due() {
+            return self.numbering.give();
         }
+        let (side, row) = self.arrivals.next_arrival(outside)?;
+        self.numbering.arrive(side, row)?;
+        self.numbering.give()
     }
-}
-
-/// Reads both streams, the left one first, each to its end or to a failed read.
-fn begin<O: Outside>(alloc: Global, query: &Query, window: u32, outside: &mut O) -> Stage
-    requires keyed { IsKeyed window query.now }
-    requires left { IsOpen (O.state outside.old role.Left).phase }
-    requires right { IsOpen (O.state outside.old role.Right).phase }
-    ensures begins { Begins window (merging_of result) (O.state outside.old) (O.state outside.new) }
-    ensures reads { ReadsSides (O.state outside.old) (O.state outside.new) }
-    ensures names { (name : List ℕ) → O.under outside.new name ≡ O.under outside.old name }
-{
-    let left = match read_side(alloc, Side::Left, outside) {
-        Ok(bytes) => bytes,
-        Err(last) => return Stage::Over(last),
-    };
-    let right = match read_side(alloc, Side::Right, outside) {
-        Ok(bytes) => bytes,
-        Err(last) => return Stage::Over(last),
-    };
-    match numbering(alloc, query, window, left, right) {
-        Ok(numbering) => Stage::Running(numbering),
-        Err(Memory) => Stage::Over(Last::Memory),
-    }
-}
-
-/// The events of two streams of these bytes, each read by the schema of its side.
-fn numbering(
-    alloc: Global,
-    query: &Query,
-    window: u32,
-    left: Vec<u8>,
-    right: Vec<u8>,
-) -> Result<Numbering, Memory>
-    ensures { IfOk result (λ numbering. numbering
-        ≡ events_by window query.now.left.columns query.now.right.columns
-        (record { bytes = left.items; whole = true })
-        (record { bytes = right.items; whole = true })) }
-{
-    let left = Source::new(alloc, query.schema(Side::Left).copy(alloc)?, left);
-    let right = Source::new(alloc, query.schema(Side::Right).copy(alloc)?, right);
-    Ok(Numbering::new(alloc, window, Arrivals::new(left, right)))
 }
 
 fn answer(last: Last) -> Next
@@ -173,6 +116,7 @@ fn answer(last: Last) -> Next
         Last::Done => Next::Done,
         Last::Bad { side, at, fault } => Next::Bad { side, at, fault },
         Last::Failed(side) => Next::Failed(side),
+        Last::TooMany => Next::TooMany,
         Last::Memory => Next::Memory,
     }
 }

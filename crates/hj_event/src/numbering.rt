@@ -1,87 +1,89 @@
-ghost use Rattle.std.specs.Prelude.{◌≡◌, ◌+◌, None, IfOk};
-ghost use Rattle.hj_event.specs.Events.{none_live};
+ghost use Rattle.std.specs.Prelude.{◌≡◌, OnOk, IfErr, true, false, []};
+ghost use Rattle.hj_event.specs.declared.stop.Last.TheVariants as last;
+ghost use Rattle.hj_event.specs.Arrivals.{Arrivals, then_arrivals};
+ghost use Rattle.hj_event.specs.Numbering.{nothing_due, has_due, numbered_ahead, Gives};
 
-use crate::arrivals::Arrivals;
-use crate::live::Live;
+use crate::due::Due;
 use crate::stop::Last;
-use hj_base::{EventNo, Memory, Side};
+use hj_base::{EventNo, Side, Window};
 use hj_msg::Event;
-use hj_value::Row;
+use hj_value::SharedRow;
+use hj_window::Live;
 use std::alloc::Global;
 use std::marker::Model;
 
-/// The row whose expiry is the next event.
-#[derive(Clone, Copy)]
-struct Due {
-    side: Side,
-    of: EventNo,
-}
+/// No arrival has this number or a higher one.
+const MOST_NUMBERS: u64 = 1 << 63;
 
-/// The numbered events of two streams under row windows.
+/// The numbering of the events of arrivals, up to a limit.
 #[derive(Drop)]
 pub(crate) struct Numbering {
-    window: u32,
+    live: Live,
+    due: Due,
     /// The number of the next event.
     next: u64,
-    due: Option<Due>,
-    live: Live,
-    arrivals: Arrivals,
+    limit: u64,
 }
 
 impl Model for Numbering {
-    ghost use Rattle.hj_event.specs.Events.{Numbered};
-    ghost use Rattle.hj_event.specs.Numbering.{numbered};
+    ghost use Rattle.hj_event.specs.Numbering.{NumberingState, IsCounted};
 
-    ghost Value = { Numbered };
+    ghost Value = { NumberingState };
 
-    ghost view = { λ n. numbered n.window n.next n.due n.live n.arrivals };
+    ghost view = { λ n. record { live = n.live; due = n.due; next = n.next; limit = n.limit } };
+
+    ghost invariant = { λ n. IsCounted n.live n.due n.next n.limit };
 }
 
 impl Numbering {
-    ghost use Rattle.hj_event.specs.Numbering.{numbered, TakesEvent};
-
-    /// The events of these arrivals, with windows of `window` rows.
-    pub(crate) fn new(alloc: Global, window: u32, arrivals: Arrivals) -> Self
-        ensures { result ≡ numbered window 0 None none_live arrivals }
+    /// A numbering that has given nothing, of at most `limit` events.
+    pub(crate) fn new(alloc: Global, left: Window, right: Window, limit: u64) -> Self
+        ensures { result ≡ record { live = record { left = left; right = right; rows = [] }; due = nothing_due; next = 0; limit = limit } }
     {
         Numbering {
-            window,
+            live: Live::new(alloc, left, right),
+            due: Due::new(alloc),
             next: 0,
-            due: None,
-            live: Live::new(alloc),
-            arrivals,
+            limit,
         }
     }
 
-    /// Takes the next event.
-    pub(crate) fn next_event(&mut self) -> Result<Event<Row>, Last>
-        ensures { TakesEvent result self.old self.new }
+    /// Whether an event is due.
+    pub(crate) fn has_due(&self) -> bool
+        ensures { result ≡ has_due self.now.due }
     {
-        if let Some(due) = self.due.take() {
-            let no = take_number(&mut self.next)?;
-            return Ok(Event::Expire {
-                no,
-                side: due.side,
-                of: due.of,
-            });
-        }
-        let (side, row) = self.arrivals.next_arrival()?;
-        let no = take_number(&mut self.next)?;
-        let expired = self.live.enter(self.window, side, no.0)?;
-        self.due = expired.map(|of| Due {
-            side,
-            of: EventNo(of),
-        });
-        Ok(Event::Arrive { no, side, row })
+        self.due.is_some()
     }
-}
 
-/// Takes the next number, if another one can follow it.
-fn take_number(next: &mut u64) -> Result<EventNo, Memory>
-    ensures number { IfOk result (λ no. no.0 ≡ next.old) }
-    ensures following { IfOk result (λ no. next.new ≡ next.old + 1) }
-{
-    let no = *next;
-    *next = no.checked_add(1).ok_or(Memory)?;
-    Ok(EventNo(no))
+    /// Takes a row that arrives on a side, whose events are due then.
+    pub(crate) fn arrive(&mut self, side: Side, row: SharedRow) -> Result<(), Last>
+        requires { has_due self.old.due ≡ false }
+        ensures ok { OnOk result ((arrivals : Arrivals) → numbered_ahead self.old (then_arrivals side row arrivals) ≡ numbered_ahead self.new arrivals) }
+        ensures due { OnOk result (has_due self.new.due ≡ true) }
+        ensures err { IfErr result (λ why. why ≡ last.Memory) }
+    {
+        if self.next >= MOST_NUMBERS {
+            return Err(Last::Memory);
+        }
+        let time = row.row().time();
+        let expired = self.live.arrive(side, time, EventNo(self.next))?;
+        self.due = Due::of_arrival(side, row, expired);
+        Ok(())
+    }
+
+    /// Takes the next event that is due, unless that is one too many.
+    pub(crate) fn give(&mut self) -> Result<Event<SharedRow>, Last>
+        requires { has_due self.old.due ≡ true }
+        ensures { (arrivals : Arrivals) → Gives result (numbered_ahead self.old arrivals) (numbered_ahead self.new arrivals) }
+    {
+        if self.next >= self.limit {
+            return Err(Last::TooMany);
+        }
+        let no = EventNo(self.next);
+        let Some(event) = self.due.take(no) else {
+            unreachable!();
+        };
+        self.next += 1;
+        Ok(event)
+    }
 }

@@ -1,5 +1,5 @@
 ghost use Rattle.std.specs.Prelude.{◌≤◌, length};
-ghost use Rattle.hj_event.specs.RowAnswers.{ReadsPiece, InTime};
+ghost use Rattle.hj_event.specs.Taking.{ReadsPiece, InTime};
 
 use crate::RecordFault;
 use hj_record::{Fields, read_piece_into};
@@ -7,8 +7,8 @@ use hj_schema::read_row;
 use hj_value::{Row, Schema};
 use std::alloc::Global;
 
-/// Reads the row of a piece by a schema, behind a row of the time `before`; None where the piece holds no record. The
-/// fields are read into `fields`, whose memory is used again.
+/// Reads the row of a piece by a schema, behind a row of the time `before`; None where the piece holds no record. The fields
+/// of the record go into `fields`.
 pub(crate) fn read_record(
     alloc: Global,
     schema: &Schema,

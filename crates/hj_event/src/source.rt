@@ -1,24 +1,40 @@
-ghost use Rattle.std.specs.Prelude.{◌≡◌, true};
-ghost use Rattle.hj_event.specs.Rows.{rows_of};
-ghost use Rattle.hj_event.specs.Source.{stop_of, GoesOn, TakesRow};
+ghost use Rattle.std.specs.Prelude.{◌≡◌, List, ℕ, [], true, false};
+ghost use Rattle.hj_base.specs.Outside.{role_of, ChangesOnly};
+ghost use Rattle.hj_record.specs.Cutter.{cleared};
+ghost use Rattle.hj_event.specs.Roles.{IsInStep};
+ghost use Rattle.hj_event.specs.Reads.{Fills};
+ghost use Rattle.hj_event.specs.Sides.{new_reading};
+ghost use Rattle.hj_event.specs.Taking.{stop_of, unseen, ReadsPiece, Holds, Advances, TakesRow};
 
-use crate::pieces::PieceReader;
 use crate::record::read_record;
 use crate::stop::{Found, Stop};
 use crate::{RecordFault, RowFault};
-use hj_record::{Fields, PieceFault};
-use hj_value::{Row, Schema};
+use hj_base::{Got, Outside, Side};
+use hj_record::{Cut, Cutter, Fed, Fields, PieceFault};
+use hj_value::{Row, Schema, SharedRow};
 use std::alloc::Global;
 use std::marker::Model;
 
-/// The rows of a stream, one after another.
+/// How many bytes one read asks for.
+const MOST_IN_READ: usize = 4_096;
+
+/// How many bytes a stream may have.
+const MOST_IN_STREAM: u64 = 1 << 62;
+
+/// The rows of a side, one after another, of which no more is read than is looked at.
 #[derive(Drop)]
 pub(crate) struct Source {
     alloc: Global,
     schema: Schema,
-    /// The fields of the record that was read last; their memory is used again for the next one.
+    /// What the last read gave: of its first `filled` bytes the first `taken` were looked at.
+    portion: [u8; MOST_IN_READ],
+    taken: usize,
+    filled: usize,
+    /// A read answered the end.
+    ended: bool,
+    cutter: Cutter,
+    /// The fields of the record that was read last.
     fields: Fields,
-    pieces: PieceReader,
     /// The number that the next record has.
     record_no: u64,
     /// The time of the row before.
@@ -26,70 +42,179 @@ pub(crate) struct Source {
 }
 
 impl Model for Source {
-    ghost use Rattle.hj_event.specs.Source.{Coming, coming};
+    ghost use Rattle.hj_event.specs.Sides.{Reading};
+    ghost use Rattle.hj_event.specs.Reads.{reading, IsReadable};
 
-    ghost Value = { Coming };
+    ghost Value = { Reading };
 
-    ghost view = { λ s. coming s.schema.columns s.record_no s.before s.pieces };
+    ghost view = { λ s. reading s.schema.columns s.cutter s.portion s.taken s.filled s.ended s.record_no s.before };
+
+    ghost invariant = { λ s. IsReadable s.cutter s.taken s.filled };
 }
 
 impl Source {
-    /// A source of the rows of these bytes, by this schema.
-    pub(crate) fn new(alloc: Global, schema: Schema, bytes: Vec<u8>) -> Self
-        ensures { result.rows
-            ≡ rows_of schema.columns (record { bytes = bytes.items; whole = true }) }
+    /// A source of which nothing was read.
+    pub(crate) fn new(alloc: Global, schema: Schema) -> Self
+        ensures { result ≡ new_reading schema.columns }
     {
         Source {
             alloc,
             schema,
+            portion: [0; MOST_IN_READ],
+            taken: 0,
+            filled: 0,
+            ended: false,
+            cutter: Cutter::new(alloc, MOST_IN_STREAM),
             fields: Fields::new(alloc),
-            pieces: PieceReader::new(alloc, bytes),
             record_no: 1,
             before: None,
         }
     }
 
-    /// Takes the next row; None at the end of the stream.
-    pub(crate) fn next_row(&mut self) -> Result<Option<Row>, Stop>
-        ensures { TakesRow result self.old.rows self.new.rows }
+    /// Takes the next row; None at the end of the stream. It reads only where the bytes that were read give no row.
+    pub(crate) fn next_row<O: Outside>(
+        &mut self,
+        side: Side,
+        outside: &mut O,
+    ) -> Result<Option<SharedRow>, Stop>
+        requires { IsInStep self.old.ended (O.state outside.old (role_of side)) }
+        ensures takes { TakesRow result (unseen self.old) (unseen self.new) (O.state outside.old (role_of side)) (O.state outside.new (role_of side)) }
+        ensures others { ChangesOnly (role_of side) (O.state outside.old) (O.state outside.new) }
+        ensures names { (name : List ℕ) → O.under outside.new name ≡ O.under outside.old name }
     {
-        loop {
-            match self.next_record()? {
+        for _ in 0..u64::MAX {
+            match self.advance()? {
                 Found::Row(row) => return Ok(Some(row)),
                 Found::NoRecord => (),
+                Found::More => self.fill(side, outside)?,
                 Found::End => return Ok(None),
             }
         }
+        Err(Stop::Memory)
     }
 
-    /// Goes on by one piece.
-    fn next_record(&mut self) -> Result<Found, Stop>
-        ensures { GoesOn result self.old self.new }
+    /// Whether a row, or the end, can be told without a read.
+    pub(crate) fn is_ready(&self) -> bool {
+        self.ended || self.cutter.has_end(&self.portion[self.taken..self.filled])
+    }
+
+    /// Reads the next bytes, once all that were read are looked at.
+    fn fill<O: Outside>(&mut self, side: Side, outside: &mut O) -> Result<(), Stop>
+        requires in_step { IsInStep false (O.state outside.old (role_of side)) }
+        requires going { self.old.ended ≡ false }
+        requires rest { self.old.rest ≡ [] }
+        ensures fills { Fills result self.old self.new (O.state outside.old (role_of side)) (O.state outside.new (role_of side)) }
+        ensures others { ChangesOnly (role_of side) (O.state outside.old) (O.state outside.new) }
+        ensures names { (name : List ℕ) → O.under outside.new name ≡ O.under outside.old name }
     {
-        match self.pieces.advance() {
-            Ok(true) => (),
-            Ok(false) => return Ok(Found::End),
-            Err(fault) => return Err(stop(self.record_no, RecordFault::Piece(fault))),
+        match outside.read(side.role(), &mut self.portion) {
+            Got::Bytes(count) => {
+                self.taken = 0;
+                self.filled = count;
+                Ok(())
+            }
+            Got::End => {
+                self.ended = true;
+                Ok(())
+            }
+            Got::Failed => Err(Stop::Failed),
         }
-        let read = read_record(
-            self.alloc,
-            &self.schema,
-            self.before,
-            self.pieces.piece(),
-            &mut self.fields,
-        );
-        let row = match read {
+    }
+
+    /// Goes on to the end of the next piece in the bytes that were read.
+    fn advance(&mut self) -> Result<Found, Stop>
+        ensures { Advances result self.old self.new }
+    {
+        let portion: &[u8] = &self.portion;
+        match self.cutter.cut(&portion[self.taken..self.filled]) {
+            Cut::Lent(used) => {
+                let piece = &portion[self.taken..self.taken + used];
+                let row = read_record(
+                    self.alloc,
+                    &self.schema,
+                    self.before,
+                    piece,
+                    &mut self.fields,
+                );
+                self.taken += used;
+                self.hold(row)
+            }
+            Cut::Piece(used) => {
+                self.taken += used;
+                let row = read_kept(
+                    self.alloc,
+                    &self.schema,
+                    self.before,
+                    &mut self.cutter,
+                    &mut self.fields,
+                );
+                self.hold(row)
+            }
+            Cut::More => {
+                self.taken = self.filled;
+                if self.ended {
+                    self.close()
+                } else {
+                    Ok(Found::More)
+                }
+            }
+            Cut::Bad(fault) => Err(stop(self.record_no, RecordFault::Piece(fault))),
+        }
+    }
+
+    /// Comes to the end of the stream, once all its bytes were looked at.
+    fn close(&mut self) -> Result<Found, Stop>
+        requires ended { self.old.ended ≡ true }
+        requires rest { self.old.rest ≡ [] }
+        ensures { Advances result self.old self.new }
+    {
+        match self.cutter.end() {
+            Fed::Piece(_) => {
+                let row = read_kept(
+                    self.alloc,
+                    &self.schema,
+                    self.before,
+                    &mut self.cutter,
+                    &mut self.fields,
+                );
+                self.hold(row)
+            }
+            Fed::More => Ok(Found::End),
+            Fed::Bad(fault) => Err(stop(self.record_no, RecordFault::Piece(fault))),
+        }
+    }
+
+    /// Counts the row of a piece, and gives it to be shared.
+    fn hold(&mut self, row: Result<Option<Row>, RecordFault>) -> Result<Found, Stop>
+        ensures { Holds row result self.old self.new }
+    {
+        let row = match row {
             Ok(Some(row)) => row,
             Ok(None) => return Ok(Found::NoRecord),
             Err(fault) => return Err(stop(self.record_no, fault)),
         };
-        let Some(next) = self.record_no.checked_add(1) else {
-            return Err(Stop::Memory);
-        };
-        self.record_no = next;
-        self.before = Some(row.time());
-        Ok(Found::Row(row))
+        let time = row.time();
+        let shared = SharedRow::new(self.alloc, row)?;
+        self.record_no = self.record_no.checked_add(1).ok_or(Stop::Memory)?;
+        self.before = Some(time);
+        Ok(Found::Row(shared))
     }
+}
+
+/// Reads the row of the piece that a cutter keeps, and makes the cutter ready for the next one.
+fn read_kept(
+    alloc: Global,
+    schema: &Schema,
+    before: Option<i64>,
+    cutter: &mut Cutter,
+    fields: &mut Fields,
+) -> Result<Option<Row>, RecordFault>
+    ensures row { ReadsPiece result schema.now.columns before cutter.old.piece }
+    ensures cleared { cutter.new ≡ cleared cutter.old }
+{
+    let row = read_record(alloc, schema, before, cutter.piece(), fields);
+    cutter.clear();
+    row
 }
 
 /// Why the stream stops at the record of this number.

@@ -1,22 +1,25 @@
 use crate::RecordFault;
 use hj_base::{Memory, Side};
-use hj_value::Row;
-use std::alloc::AllocError;
+use hj_value::SharedRow;
 
-/// Why a stream has no further row before its end.
+/// Why a side has no further row before its end.
 #[derive(Clone, Copy)]
 pub(crate) enum Stop {
     /// The record of this number is refused.
     Bad { at: u64, fault: RecordFault },
+    /// A read failed.
+    Failed,
     /// Memory ran out.
     Memory,
 }
 
-/// What the next piece of a stream holds.
+/// What the bytes of a side that were read give, up to the end of a piece.
 #[derive(Drop)]
 pub(crate) enum Found {
-    Row(Row),
+    Row(SharedRow),
     NoRecord,
+    /// The piece goes on behind them.
+    More,
     /// There is no further piece.
     End,
 }
@@ -34,8 +37,21 @@ pub(crate) enum Last {
     },
     /// A read of this side failed.
     Failed(Side),
+    /// There would be one event more than the limit.
+    TooMany,
     /// Memory ran out.
     Memory,
+}
+
+impl From<Memory> for Stop {
+    ghost use Rattle.std.specs.Prelude.{◌≡◌};
+    ghost use Rattle.hj_event.specs.declared.stop.Stop.TheVariants as stop;
+
+    ghost from_gives = { λ _ e. e ≡ stop.Memory };
+
+    fn from(_: Memory) -> Self {
+        Stop::Memory
+    }
 }
 
 impl From<Memory> for Last {
@@ -45,17 +61,6 @@ impl From<Memory> for Last {
     ghost from_gives = { λ _ e. e ≡ last.Memory };
 
     fn from(_: Memory) -> Self {
-        Last::Memory
-    }
-}
-
-impl From<AllocError> for Last {
-    ghost use Rattle.std.specs.Prelude.{◌≡◌};
-    ghost use Rattle.hj_event.specs.declared.stop.Last.TheVariants as last;
-
-    ghost from_gives = { λ _ e. e ≡ last.Memory };
-
-    fn from(_: AllocError) -> Self {
         Last::Memory
     }
 }

@@ -1,10 +1,5 @@
-use Rattle.hj_query.specs.Keyed.{keyed_columns}
-use Rattle.hj_event.specs.Rows.{rows_of}
-use Rattle.hj_event.specs.Arrivals.{arrivals_of}
-use Rattle.hj_event.specs.Events.{events_of}
-use Rattle.hj_event.proofs.Turns.{turns}
-use Rattle.hj_event.proofs.Whole.{expires_in_turn}
+use Rattle.hj_event.proofs.Whole.{expire_in_turn}
 use Rattle.hj_event.proofs.laws.rows_expire_in_turn.Goals as goal
 
 pub returns : goal.returns
-returns c = λ window left right. expires_in_turn window (events_of window left right).events (turns window (arrivals_of (rows_of keyed_columns left) (rows_of keyed_columns right)).rows)
+returns c = expire_in_turn

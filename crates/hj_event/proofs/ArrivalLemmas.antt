@@ -1,0 +1,235 @@
+-- The arrivals of two sides, by what their heads are.
+use Rattle.std.proofs.Common.{◌≡◌, ℕ, Bool, true, false, List, [], Ok, Err, None, Some, sym, refl, ap, subst, ◌∙◌, cond}
+use Rattle.std.specs.Prelude.{int_le}
+use Rattle.std.specs.declared.option.Option.{Option}
+use Rattle.std.specs.declared.result.Result.{Result}
+use Rattle.hj_value.specs.declared.field.Field.{Field}
+use Rattle.hj_value.specs.Row.{time_of}
+use Rattle.hj_base.specs.declared.numbers.Side.{Side}
+use Rattle.hj_base.specs.declared.numbers.Side.TheVariants.{Left, Right}
+use Rattle.hj_base.specs.declared.outside.Role.{Role}
+use Rattle.hj_base.specs.declared.outside.Role.TheVariants as role
+use Rattle.hj_base.specs.Outside.{RoleState, ChangesOnly}
+use Rattle.hj_record.specs.Pieces.{Stream}
+use Rattle.hj_event.specs.declared.fault.RecordFault.{RecordFault}
+use Rattle.hj_event.specs.declared.stop.Stop.{Stop}
+use Rattle.hj_event.specs.declared.stop.Stop.TheVariants as stop
+use Rattle.hj_event.specs.declared.stop.Last.TheVariants as last
+use Rattle.hj_event.specs.Rows.{Rows, no_row, then_rows, clean, bad, unread}
+use Rattle.hj_event.specs.Arrivals.{Arrivals, arrivals_of, then_arrivals, no_arrival, clean as merge_clean, bad as merge_bad, unread as merge_unread}
+use Rattle.hj_event.specs.Arriving.{last_of, ArrivalLeads, TakesArrival, EndsBoth, fails}
+use Rattle.hj_event.specs.Sides.{Reading, SideState, Sides, with_head, rows_ahead, in_front, Follows, side_ahead, arrivals_ahead}
+use Rattle.hj_event.specs.Roles.{IsReadOn, IsInStep}
+use Rattle.hj_event.specs.Taking.{IsReadAsNeeded, RowLeads, TakesRow, has_failed}
+use Rattle.hj_event.proofs.RoleLemmas.{not_read, not_needed}
+
+-- ---- the merge
+
+left_stops : (why : Stop) (left left_behind right : Rows) (behind : Arrivals) → RowLeads (Err why) left left_behind → ArrivalLeads (Err (last_of Left why)) (arrivals_of left right) behind
+left_stops (stop.Bad at why) left left_behind right behind is = ap (λ (l : Rows). arrivals_of l right) is
+left_stops stop.Failed left left_behind right behind is = ap (λ (l : Rows). arrivals_of l right) is
+left_stops stop.Memory left left_behind right behind is = tt
+
+-- a left side that has a row, or has ended, and a right one that stops
+right_bad : (head : Option (List Field)) (at : ℕ) (why : RecordFault) (left left_behind : Rows) → RowLeads (Ok head) left left_behind → arrivals_of left (no_row (bad at why)) ≡ no_arrival (merge_bad Right at why)
+right_bad None at why left left_behind is = ap (λ (l : Rows). arrivals_of l (no_row (bad at why))) is.0
+right_bad (Some row) at why left left_behind is = ap (λ (l : Rows). arrivals_of l (no_row (bad at why))) is
+
+right_unread : (head : Option (List Field)) (left left_behind : Rows) → RowLeads (Ok head) left left_behind → arrivals_of left (no_row unread) ≡ no_arrival (merge_unread Right)
+right_unread None left left_behind is = ap (λ (l : Rows). arrivals_of l (no_row unread)) is.0
+right_unread (Some row) left left_behind is = ap (λ (l : Rows). arrivals_of l (no_row unread)) is
+
+right_stops : (head : Option (List Field)) (why : Stop) (left left_behind right right_behind : Rows) (behind : Arrivals) → RowLeads (Ok head) left left_behind → RowLeads (Err why) right right_behind → ArrivalLeads (Err (last_of Right why)) (arrivals_of left right) behind
+right_stops head (stop.Bad at why) left left_behind right right_behind behind is other = ap (arrivals_of left) other ∙ right_bad head at why left left_behind is
+right_stops head stop.Failed left left_behind right right_behind behind is other = ap (arrivals_of left) other ∙ right_unread head left left_behind is
+right_stops head stop.Memory left left_behind right right_behind behind is other = tt
+
+module _ (left left_behind right right_behind : Rows) where
+  both_end : RowLeads (Ok None) left left_behind → RowLeads (Ok None) right right_behind → arrivals_of left right ≡ no_arrival merge_clean
+  both_end is other = ap (λ (l : Rows). arrivals_of l right) is.0 ∙ ap (arrivals_of (no_row clean)) other.0
+
+  left_alone : (row : List Field) → RowLeads (Ok (Some row)) left left_behind → RowLeads (Ok None) right right_behind → arrivals_of left right ≡ then_arrivals Left row (arrivals_of left_behind right_behind)
+  left_alone row is other =
+      ap (λ (l : Rows). arrivals_of l right) is
+      ∙ (ap (arrivals_of (then_rows row left_behind)) other.0
+      ∙ ap (λ (r : Rows). then_arrivals Left row (arrivals_of left_behind r)) (sym other.1))
+
+  right_alone : (row : List Field) → RowLeads (Ok None) left left_behind → RowLeads (Ok (Some row)) right right_behind → arrivals_of left right ≡ then_arrivals Right row (arrivals_of left_behind right_behind)
+  right_alone row is other =
+      ap (λ (l : Rows). arrivals_of l right) is.0
+      ∙ (ap (arrivals_of (no_row clean)) other
+      ∙ ap (λ (l : Rows). then_arrivals Right row (arrivals_of l right_behind)) (sym is.1))
+
+  -- both sides have a row
+  both_have : (one other : List Field) → RowLeads (Ok (Some one)) left left_behind → RowLeads (Ok (Some other)) right right_behind
+      → arrivals_of left right ≡ cond (int_le (time_of one) (time_of other)) (then_arrivals Left one (arrivals_of left_behind (then_rows other right_behind))) (then_arrivals Right other (arrivals_of (then_rows one left_behind) right_behind))
+  both_have one other is are = ap (λ (l : Rows). arrivals_of l right) is ∙ ap (arrivals_of (then_rows one left_behind)) are
+
+  left_first : (one other : List Field) → int_le (time_of one) (time_of other) ≡ true → RowLeads (Ok (Some one)) left left_behind → RowLeads (Ok (Some other)) right right_behind → arrivals_of left right ≡ then_arrivals Left one (arrivals_of left_behind (then_rows other right_behind))
+  left_first one other le is are = both_have one other is are ∙ ap (λ (t : Bool). cond t (then_arrivals Left one (arrivals_of left_behind (then_rows other right_behind))) (then_arrivals Right other (arrivals_of (then_rows one left_behind) right_behind))) le
+
+  right_first : (one other : List Field) → int_le (time_of one) (time_of other) ≡ false → RowLeads (Ok (Some one)) left left_behind → RowLeads (Ok (Some other)) right right_behind → arrivals_of left right ≡ then_arrivals Right other (arrivals_of (then_rows one left_behind) right_behind)
+  right_first one other lt is are = both_have one other is are ∙ ap (λ (t : Bool). cond t (then_arrivals Left one (arrivals_of left_behind (then_rows other right_behind))) (then_arrivals Right other (arrivals_of (then_rows one left_behind) right_behind))) lt
+
+-- ---- the roles
+
+read_as : (failed other : Bool) (bytes : List ℕ) (was ended : Bool) (before now : RoleState) → failed ≡ other → IsReadOn failed bytes was ended before now → IsReadOn other bytes was ended before now
+read_as failed other bytes was ended before now e reads = subst (λ (f : Bool). IsReadOn f bytes was ended before now) e reads
+
+abbrev pub Roles : Type 0
+Roles = Role → RoleState
+
+-- what the stop of a side says of its failures
+stop_fails_left : (why : Stop) → has_failed {T = Option (List Field)} (Err why) ≡ fails (Err (last_of Left why)) Left
+stop_fails_left (stop.Bad at why) = refl
+stop_fails_left stop.Failed = refl
+stop_fails_left stop.Memory = refl
+
+stop_fails_left_other : (why : Stop) → false ≡ fails (Err (last_of Left why)) Right
+stop_fails_left_other (stop.Bad at why) = refl
+stop_fails_left_other stop.Failed = refl
+stop_fails_left_other stop.Memory = refl
+
+stop_fails_right : (why : Stop) → has_failed {T = Option (List Field)} (Err why) ≡ fails (Err (last_of Right why)) Right
+stop_fails_right (stop.Bad at why) = refl
+stop_fails_right stop.Failed = refl
+stop_fails_right stop.Memory = refl
+
+stop_fails_right_other : (why : Stop) → false ≡ fails (Err (last_of Right why)) Left
+stop_fails_right_other (stop.Bad at why) = refl
+stop_fails_right_other stop.Failed = refl
+stop_fails_right_other stop.Memory = refl
+
+follows_as : (one other ended : Bool) (stream : Stream) → one ≡ other → Follows other ended stream → Follows one ended stream
+follows_as one other ended stream e follows = subst (λ (f : Bool). Follows f ended stream) (sym e) follows
+
+stop_ends : (side : Side) (why : Stop) (left right : Bool) → EndsBoth (Err (last_of side why)) left right
+stop_ends side (stop.Bad at why) left right = tt
+stop_ends side stop.Failed left right = tt
+stop_ends side stop.Memory left right = tt
+
+-- ---- a call
+
+-- The left side stops, and the right one isn't looked at.
+pub stops_left : (why : Stop) (old : Sides) (left : SideState) (before now : Roles) → TakesRow (Err why) old.left left (before role.Left) (now role.Left) → ChangesOnly role.Left before now → IsInStep old.right.reading.ended (before role.Right)
+    → TakesArrival (Err (last_of Left why)) old (record { left = left; right = old.right }) before now
+stops_left why old left before now takes others step = record {
+  left_bytes = takes.bytes;
+  right_bytes = [];
+  left = read_as (has_failed {T = Option (List Field)} (Err why)) (fails (Err (last_of Left why)) Left) takes.bytes old.left.reading.ended left.reading.ended (before role.Left) (now role.Left) (stop_fails_left why) takes.reads;
+  right = read_as false (fails (Err (last_of Left why)) Right) [] old.right.reading.ended old.right.reading.ended (before role.Right) (now role.Right) (stop_fails_left_other why)
+      (subst (λ (s : RoleState). IsReadOn false [] old.right.reading.ended old.right.reading.ended (before role.Right) s) (sym (others role.Right (λ e. cc))) (not_read old.right.reading.ended (before role.Right) step));
+  query = others role.Query (λ e. cc);
+  leads = λ l r l_follows r_follows. left_stops why (side_ahead old.left (in_front takes.bytes l)) (side_ahead left l) (side_ahead old.right (in_front [] r)) (arrivals_ahead (record { left = left; right = old.right }) l r)
+      (takes.leads l (follows_as (has_failed {T = Option (List Field)} (Err why)) (fails (Err (last_of Left why)) Left) left.reading.ended l (stop_fails_left why) l_follows));
+  ended = stop_ends Left why left.reading.ended old.right.reading.ended;
+  left_needed = takes.needed;
+  right_needed = not_needed old.right.head old.right.reading (before role.Right) (now role.Right) (others role.Right (λ e. cc));
+}
+
+-- What both sides did, where the left one gave its head.
+pub record BothTaken (head : Option (List Field)) (answer : Result (Option (List Field)) Stop) (old new : Sides) (before between now : Roles) : Type 0 where
+  pub left : TakesRow (Ok head) old.left new.left (before role.Left) (between role.Left)
+  pub left_others : ChangesOnly role.Left before between
+  pub right : TakesRow answer old.right new.right (between role.Right) (now role.Right)
+  pub right_others : ChangesOnly role.Right between now
+
+module _ (head : Option (List Field)) (answer : Result (Option (List Field)) Stop) (old new : Sides) (before between now : Roles) (both : BothTaken head answer old new before between now) where
+  left_read : IsReadOn false both.left.bytes old.left.reading.ended new.left.reading.ended (before role.Left) (now role.Left)
+  left_read = subst (λ (s : RoleState). IsReadOn false both.left.bytes old.left.reading.ended new.left.reading.ended (before role.Left) s) (sym (both.right_others role.Left (λ e. cc))) both.left.reads
+
+  right_read : IsReadOn (has_failed answer) both.right.bytes old.right.reading.ended new.right.reading.ended (before role.Right) (now role.Right)
+  right_read = subst (λ (s : RoleState). IsReadOn (has_failed answer) both.right.bytes old.right.reading.ended new.right.reading.ended s (now role.Right)) (both.left_others role.Right (λ e. cc)) both.right.reads
+
+  left_needs : IsReadAsNeeded old.left.head old.left.reading both.left.bytes (before role.Left) (now role.Left)
+  left_needs = subst (λ (s : RoleState). IsReadAsNeeded old.left.head old.left.reading both.left.bytes (before role.Left) s) (sym (both.right_others role.Left (λ e. cc))) both.left.needed
+
+  right_needs : IsReadAsNeeded old.right.head old.right.reading both.right.bytes (before role.Right) (now role.Right)
+  right_needs = subst (λ (s : RoleState). IsReadAsNeeded old.right.head old.right.reading both.right.bytes s (now role.Right)) (both.left_others role.Right (λ e. cc)) both.right.needed
+
+  query_stays : now role.Query ≡ before role.Query
+  query_stays = both.right_others role.Query (λ e. cc) ∙ both.left_others role.Query (λ e. cc)
+
+-- The right side stops.
+pub stops_right : (head : Option (List Field)) (why : Stop) (old new : Sides) (before between now : Roles) → BothTaken head (Err why) old new before between now → TakesArrival (Err (last_of Right why)) old new before now
+stops_right head why old new before between now both = record {
+  left_bytes = both.left.bytes;
+  right_bytes = both.right.bytes;
+  left = read_as false (fails (Err (last_of Right why)) Left) both.left.bytes old.left.reading.ended new.left.reading.ended (before role.Left) (now role.Left) (stop_fails_right_other why) (left_read head (Err why) old new before between now both);
+  right = read_as (has_failed {T = Option (List Field)} (Err why)) (fails (Err (last_of Right why)) Right) both.right.bytes old.right.reading.ended new.right.reading.ended (before role.Right) (now role.Right) (stop_fails_right why) (right_read head (Err why) old new before between now both);
+  query = query_stays head (Err why) old new before between now both;
+  leads = λ l r l_follows r_follows. right_stops head why (side_ahead old.left (in_front both.left.bytes l)) (side_ahead new.left l) (side_ahead old.right (in_front both.right.bytes r)) (side_ahead new.right r) (arrivals_ahead new l r)
+      (both.left.leads l (follows_as false (fails (Err (last_of Right why)) Left) new.left.reading.ended l (stop_fails_right_other why) l_follows))
+      (both.right.leads r (follows_as (has_failed {T = Option (List Field)} (Err why)) (fails (Err (last_of Right why)) Right) new.right.reading.ended r (stop_fails_right why) r_follows));
+  ended = stop_ends Right why new.left.reading.ended new.right.reading.ended;
+  left_needed = left_needs head (Err why) old new before between now both;
+  right_needed = right_needs head (Err why) old new before between now both;
+}
+
+-- Both sides have ended.
+pub takes_done : (old new : Sides) (before between now : Roles) → BothTaken None (Ok None) old new before between now → TakesArrival (Err last.Done) old new before now
+takes_done old new before between now both = record {
+  left_bytes = both.left.bytes;
+  right_bytes = both.right.bytes;
+  left = left_read None (Ok None) old new before between now both;
+  right = right_read None (Ok None) old new before between now both;
+  query = query_stays None (Ok None) old new before between now both;
+  leads = λ l r l_follows r_follows. both_end (side_ahead old.left (in_front both.left.bytes l)) (side_ahead new.left l) (side_ahead old.right (in_front both.right.bytes r)) (side_ahead new.right r) (both.left.leads l l_follows) (both.right.leads r r_follows);
+  ended = (both.left.ended, both.right.ended);
+  left_needed = left_needs None (Ok None) old new before between now both;
+  right_needed = right_needs None (Ok None) old new before between now both;
+}
+
+-- A side whose head was put back.
+abbrev pub put_back : List Field → SideState → SideState
+put_back row side = record side { head = Some row }
+
+put_back_ahead : (row : List Field) (side : SideState) (stream : Stream) → side.head ≡ None → side_ahead (put_back row side) stream ≡ then_rows row (side_ahead side stream)
+put_back_ahead row side stream none = ap (λ (h : Option (List Field)). then_rows row (with_head h (rows_ahead side.reading stream))) (sym none)
+
+-- An arrival, where the sides behind it have these rows.
+module _ (head : Option (List Field)) (answer : Option (List Field)) (old mid new : Sides) (before between now : Roles) (both : BothTaken head (Ok answer) old mid before between now) (left_same : new.left.reading ≡ mid.left.reading) (right_same : new.right.reading ≡ mid.right.reading) where
+  left_ended : mid.left.reading.ended ≡ new.left.reading.ended
+  left_ended = ap (λ (r : Reading). r.ended) (sym left_same)
+
+  right_ended : mid.right.reading.ended ≡ new.right.reading.ended
+  right_ended = ap (λ (r : Reading). r.ended) (sym right_same)
+
+  arrives : (side : Side) (row : List Field)
+      → ((l r : Stream) → RowLeads (Ok head) (side_ahead old.left (in_front both.left.bytes l)) (side_ahead mid.left l) → RowLeads (Ok answer) (side_ahead old.right (in_front both.right.bytes r)) (side_ahead mid.right r)
+      → arrivals_ahead old (in_front both.left.bytes l) (in_front both.right.bytes r) ≡ then_arrivals side row (arrivals_ahead new l r))
+      → TakesArrival (Ok (side, row)) old new before now
+  arrives side row is = record {
+    left_bytes = both.left.bytes;
+    right_bytes = both.right.bytes;
+    left = subst (λ (e : Bool). IsReadOn false both.left.bytes old.left.reading.ended e (before role.Left) (now role.Left)) left_ended (left_read head (Ok answer) old mid before between now both);
+    right = subst (λ (e : Bool). IsReadOn false both.right.bytes old.right.reading.ended e (before role.Right) (now role.Right)) right_ended (right_read head (Ok answer) old mid before between now both);
+    query = query_stays head (Ok answer) old mid before between now both;
+    leads = λ l r l_follows r_follows. is l r
+        (both.left.leads l (subst (λ (e : Bool). Follows false e l) (sym left_ended) l_follows))
+        (both.right.leads r (subst (λ (e : Bool). Follows false e r) (sym right_ended) r_follows));
+    ended = tt;
+    left_needed = left_needs head (Ok answer) old mid before between now both;
+    right_needed = right_needs head (Ok answer) old mid before between now both;
+  }
+
+module _ (old mid : Sides) (before between now : Roles) where
+  pub takes_left : (row : List Field) → BothTaken (Some row) (Ok None) old mid before between now → TakesArrival (Ok (Left, row)) old mid before now
+  takes_left row both = arrives (Some row) None old mid mid before between now both refl refl Left row
+      (λ l r one other. left_alone (side_ahead old.left (in_front both.left.bytes l)) (side_ahead mid.left l) (side_ahead old.right (in_front both.right.bytes r)) (side_ahead mid.right r) row one other)
+
+  pub takes_right : (row : List Field) → BothTaken None (Ok (Some row)) old mid before between now → TakesArrival (Ok (Right, row)) old mid before now
+  takes_right row both = arrives None (Some row) old mid mid before between now both refl refl Right row
+      (λ l r one other. right_alone (side_ahead old.left (in_front both.left.bytes l)) (side_ahead mid.left l) (side_ahead old.right (in_front both.right.bytes r)) (side_ahead mid.right r) row one other)
+
+  pub takes_left_first : (one other : List Field) → int_le (time_of one) (time_of other) ≡ true → mid.right.head ≡ None → BothTaken (Some one) (Ok (Some other)) old mid before between now
+      → TakesArrival (Ok (Left, one)) old (record { left = mid.left; right = put_back other mid.right }) before now
+  takes_left_first one other le none both = arrives (Some one) (Some other) old mid (record { left = mid.left; right = put_back other mid.right }) before between now both refl refl Left one
+      (λ l r is are. left_first (side_ahead old.left (in_front both.left.bytes l)) (side_ahead mid.left l) (side_ahead old.right (in_front both.right.bytes r)) (side_ahead mid.right r) one other le is are
+      ∙ ap (λ (rows : Rows). then_arrivals Left one (arrivals_of (side_ahead mid.left l) rows)) (sym (put_back_ahead other mid.right r none)))
+
+  pub takes_right_first : (one other : List Field) → int_le (time_of one) (time_of other) ≡ false → mid.left.head ≡ None → BothTaken (Some one) (Ok (Some other)) old mid before between now
+      → TakesArrival (Ok (Right, other)) old (record { left = put_back one mid.left; right = mid.right }) before now
+  takes_right_first one other lt none both = arrives (Some one) (Some other) old mid (record { left = put_back one mid.left; right = mid.right }) before between now both refl refl Right other
+      (λ l r is are. right_first (side_ahead old.left (in_front both.left.bytes l)) (side_ahead mid.left l) (side_ahead old.right (in_front both.right.bytes r)) (side_ahead mid.right r) one other lt is are
+      ∙ ap (λ (rows : Rows). then_arrivals Right other (arrivals_of rows (side_ahead mid.right r))) (sym (put_back_ahead one mid.left l none)))

@@ -1,0 +1,61 @@
+-- What taking the next arrival of two sides says of the arrivals to come, and of their roles.
+use Rattle.std.specs.Prelude.{◌≡◌, ℕ, Bool, true, false, List, Ok, Err}
+use Rattle.std.specs.declared.result.Result.{Result}
+use Rattle.hj_value.specs.declared.field.Field.{Field}
+use Rattle.hj_base.specs.declared.numbers.Side.{Side}
+use Rattle.hj_base.specs.declared.numbers.Side.TheVariants.{Left, Right}
+use Rattle.hj_base.specs.declared.outside.Role.{Role}
+use Rattle.hj_base.specs.declared.outside.Role.TheVariants as role
+use Rattle.hj_base.specs.Outside.{RoleState}
+use Rattle.hj_record.specs.Pieces.{Stream}
+use Rattle.hj_window.specs.LiveRows.{is_same_side}
+use Rattle.hj_event.specs.declared.stop.Stop.{Stop}
+use Rattle.hj_event.specs.declared.stop.Stop.TheVariants as stop
+use Rattle.hj_event.specs.declared.stop.Last.{Last}
+use Rattle.hj_event.specs.declared.stop.Last.TheVariants as last
+use Rattle.hj_event.specs.Arrivals.{Arrivals, then_arrivals, no_arrival, clean, bad, unread}
+use Rattle.hj_event.specs.Sides.{Sides, in_front, Follows, arrivals_ahead}
+use Rattle.hj_event.specs.Roles.{IsReadOn}
+use Rattle.hj_event.specs.Taking.{IsReadAsNeeded}
+
+-- how the merge ends where a side stops
+abbrev pub last_of : Side → Stop → Last
+last_of side (stop.Bad at why) = last.Bad side at why
+last_of side stop.Failed = last.Failed side
+last_of side stop.Memory = last.Memory
+
+-- Taking the next arrival. After an ending nothing is said of the arrivals behind it.
+abbrev pub ArrivalLeads : Result (Side × List Field) Last → Arrivals → Arrivals → Type 0
+ArrivalLeads (Ok arrival) ahead behind = ahead ≡ then_arrivals arrival.0 arrival.1 behind
+ArrivalLeads (Err last.Done) ahead behind = ahead ≡ no_arrival clean
+ArrivalLeads (Err (last.Bad side at why)) ahead behind = ahead ≡ no_arrival (bad side at why)
+ArrivalLeads (Err (last.Failed side)) ahead behind = ahead ≡ no_arrival (unread side)
+ArrivalLeads (Err last.TooMany) ahead behind = ⊥
+ArrivalLeads (Err last.Memory) ahead behind = Unit {0}
+
+-- a read of this side failed
+abbrev pub fails_last : Last → Side → Bool
+fails_last last.Done side = false
+fails_last (last.Bad of at why) side = false
+fails_last (last.Failed of) side = is_same_side of side
+fails_last last.TooMany side = false
+fails_last last.Memory side = false
+
+abbrev pub fails : Result (Side × List Field) Last → Side → Bool
+fails (Ok arrival) side = false
+fails (Err why) side = fails_last why side
+
+abbrev pub EndsBoth : Result (Side × List Field) Last → Bool → Bool → Type 0
+EndsBoth (Err last.Done) left right = (left ≡ true) × (right ≡ true)
+EndsBoth answer left right = Unit {0}
+
+pub record TakesArrival (answer : Result (Side × List Field) Last) (old new : Sides) (before now : Role → RoleState) : Type 0 where
+  pub left_bytes : List ℕ
+  pub right_bytes : List ℕ
+  pub left : IsReadOn (fails answer Left) left_bytes old.left.reading.ended new.left.reading.ended (before role.Left) (now role.Left)
+  pub right : IsReadOn (fails answer Right) right_bytes old.right.reading.ended new.right.reading.ended (before role.Right) (now role.Right)
+  pub query : now role.Query ≡ before role.Query
+  pub leads : (l r : Stream) → Follows (fails answer Left) new.left.reading.ended l → Follows (fails answer Right) new.right.reading.ended r → ArrivalLeads answer (arrivals_ahead old (in_front left_bytes l) (in_front right_bytes r)) (arrivals_ahead new l r)
+  pub ended : EndsBoth answer new.left.reading.ended new.right.reading.ended
+  pub left_needed : IsReadAsNeeded old.left.head old.left.reading left_bytes (before role.Left) (now role.Left)
+  pub right_needed : IsReadAsNeeded old.right.head old.right.reading right_bytes (before role.Right) (now role.Right)

@@ -1,0 +1,37 @@
+-- What is seen of a source of rows, and what its reads do.
+use Rattle.std.specs.Prelude.{◌≡◌, ℕ, ◌≤◌, Bool, false, ℤ, List, [], length, IfErr, slice_range}
+use Rattle.std.specs.declared.option.Option.{Option}
+use Rattle.std.specs.declared.result.Result.{Result}
+use Rattle.hj_value.specs.declared.column.Column.{Column}
+use Rattle.hj_base.specs.Outside.{RoleState}
+use Rattle.hj_record.specs.Cutter.{Cutting}
+use Rattle.hj_event.specs.declared.stop.Stop.{Stop}
+use Rattle.hj_event.specs.declared.stop.Stop.TheVariants as stop
+use Rattle.hj_event.specs.Sides.{Reading}
+use Rattle.hj_event.specs.Roles.{IsReadOn}
+use Rattle.hj_event.specs.Taking.{has_failed}
+
+abbrev pub reading : List Column → Cutting → List ℕ → ℕ → ℕ → Bool → ℕ → Option ℤ → Reading
+reading columns cutting portion taken filled ended record_no time = record {
+  columns = columns;
+  room = cutting.room;
+  part = cutting.piece;
+  rest = slice_range portion taken filled;
+  fault = cutting.fault;
+  ended = ended;
+  record_no = record_no;
+  time = time;
+}
+
+pub record IsReadable (cutting : Cutting) (taken filled : ℕ) : Type 0 where
+  pub within : taken ≤ filled
+  pub room : filled ≤ 4096
+  pub going : cutting.whole ≡ false
+
+-- A read: these bytes came, or the end, or it failed.
+pub record Fills {T : Type 0} (answer : Result T Stop) (old new : Reading) (before now : RoleState) : Type 0 where
+  pub bytes : List ℕ
+  pub reads : IsReadOn (has_failed answer) bytes false new.ended before now
+  pub same : new ≡ record old { rest = bytes; ended = new.ended }
+  pub within : length bytes ≤ 4096
+  pub failed : IfErr answer (λ why. (why ≡ stop.Failed) × (bytes ≡ []))

@@ -1,0 +1,113 @@
+-- What taking the next row of a side says of the rows to come, and of its role.
+use Rattle.std.specs.Prelude.{◌≡◌, ◌⊎◌, ℕ, ◌+◌, ◌≤◌, Bool, true, false, ℤ, List, [], ◌++◌, length, Ok, Err, None, Some}
+use Rattle.std.specs.declared.option.Option.{Option}
+use Rattle.std.specs.declared.result.Result.{Result}
+use Rattle.hj_value.specs.declared.column.Column.{Column}
+use Rattle.hj_value.specs.declared.field.Field.{Field}
+use Rattle.hj_value.specs.Row.{time_of}
+use Rattle.hj_base.specs.Outside.{RoleState}
+use Rattle.hj_record.specs.declared.fault.PieceFault.TheVariants as piece_fault
+use Rattle.hj_record.specs.Pieces.{Stream}
+use Rattle.hj_schema.specs.declared.fault.RowFault.TheVariants as row_fault
+use Rattle.hj_event.specs.declared.fault.RecordFault.{RecordFault}
+use Rattle.hj_event.specs.declared.fault.RecordFault.TheVariants as fault
+use Rattle.hj_event.specs.declared.stop.Stop.{Stop}
+use Rattle.hj_event.specs.declared.stop.Stop.TheVariants as stop
+use Rattle.hj_event.specs.declared.stop.Found.{Found}
+use Rattle.hj_event.specs.declared.stop.Found.TheVariants as found
+use Rattle.hj_event.specs.Rows.{Rows, no_row, then_rows, row_at, in_time, clean, bad, unread}
+use Rattle.hj_event.specs.Sides.{Reading, SideState, in_front, cut_off, MayFollow, Follows, rows_ahead, side_ahead}
+use Rattle.hj_event.specs.Roles.{IsReadOn, IsUnread}
+
+-- The row of a piece, behind a row of this time, unless memory ran out.
+abbrev pub ReadsPiece : Result (Option (List Field)) RecordFault → List Column → Option ℤ → List ℕ → Type 0
+ReadsPiece (Ok row) columns before piece = row_at columns before piece ≡ Ok row
+ReadsPiece (Err (fault.Piece piece_fault.Memory)) columns before piece = Unit {0}
+ReadsPiece (Err (fault.Row row_fault.Memory)) columns before piece = Unit {0}
+ReadsPiece (Err why) columns before piece = row_at columns before piece ≡ Err why
+
+-- A row behind one of this time.
+abbrev pub InTime : Result (List Field) RecordFault → Option ℤ → List Field → Type 0
+InTime (Ok same) before row = (same ≡ row) × (in_time before row ≡ Ok (Some row))
+InTime (Err (fault.TimeBack above below)) before row = in_time before row ≡ Err (fault.TimeBack above below)
+InTime (Err why) before row = ⊥
+
+-- why the stream stops at the record of this number
+abbrev pub stop_of : ℕ → RecordFault → Stop
+stop_of at (fault.Piece piece_fault.Memory) = stop.Memory
+stop_of at (fault.Row row_fault.Memory) = stop.Memory
+stop_of at why = stop.Bad at why
+
+-- the side behind a row
+abbrev pub counted : List Field → Reading → Reading
+counted row side = record side { record_no = side.record_no + 1; time = Some (time_of row) }
+
+-- What a piece that was read holds.
+abbrev pub Holds : Result (Option (List Field)) RecordFault → Result Found Stop → Reading → Reading → Type 0
+Holds (Ok None) answer old new = (answer ≡ Ok found.NoRecord) × (new ≡ old)
+Holds (Ok (Some row)) answer old new = ((answer ≡ Err stop.Memory) × (new ≡ old)) ⊎ ((answer ≡ Ok (found.Row row)) × (new ≡ counted row old))
+Holds (Err why) answer old new = (answer ≡ Err (stop_of old.record_no why)) × (new ≡ old)
+
+-- Looking at the bytes that were read, up to the end of a piece: of the rows to come before and after. After a stop nothing
+-- is said of those after.
+abbrev pub FoundLeads : Result Found Stop → Rows → Rows → Type 0
+FoundLeads (Ok (found.Row row)) ahead behind = ahead ≡ then_rows row behind
+FoundLeads (Ok found.NoRecord) ahead behind = ahead ≡ behind
+FoundLeads (Ok found.More) ahead behind = ahead ≡ behind
+FoundLeads (Ok found.End) ahead behind = (ahead ≡ no_row clean) × (behind ≡ no_row clean)
+FoundLeads (Err (stop.Bad at why)) ahead behind = ahead ≡ no_row (bad at why)
+FoundLeads (Err stop.Failed) ahead behind = ⊥
+FoundLeads (Err stop.Memory) ahead behind = Unit {0}
+
+-- More bytes are wanted only before the end: nothing is left to look at, and a stream that is cut off here has no more rows.
+abbrev pub Wants : Result Found Stop → Reading → Type 0
+Wants (Ok found.More) side = (side.ended ≡ false) × (side.rest ≡ []) × (rows_ahead side cut_off ≡ no_row unread)
+Wants (Ok found.End) side = side.ended ≡ true
+Wants answer side = Unit {0}
+
+pub record Advances (answer : Result Found Stop) (old new : Reading) : Type 0 where
+  pub ended : new.ended ≡ old.ended
+  pub leads : (stream : Stream) → MayFollow new.ended stream → FoundLeads answer (rows_ahead old stream) (rows_ahead new stream)
+  pub wants : Wants answer new
+
+-- Taking the next row, or coming to the end.
+abbrev pub RowLeads : Result (Option (List Field)) Stop → Rows → Rows → Type 0
+RowLeads (Ok (Some row)) ahead behind = ahead ≡ then_rows row behind
+RowLeads (Ok None) ahead behind = (ahead ≡ no_row clean) × (behind ≡ no_row clean)
+RowLeads (Err (stop.Bad at why)) ahead behind = ahead ≡ no_row (bad at why)
+RowLeads (Err stop.Failed) ahead behind = ahead ≡ no_row unread
+RowLeads (Err stop.Memory) ahead behind = Unit {0}
+
+abbrev pub has_failed : {T : Type 0} → Result T Stop → Bool
+has_failed (Ok x) = false
+has_failed (Err (stop.Bad at why)) = false
+has_failed (Err stop.Failed) = true
+has_failed (Err stop.Memory) = false
+
+abbrev pub EndsSide : Result (Option (List Field)) Stop → Bool → Type 0
+EndsSide (Ok None) ended = ended ≡ true
+EndsSide answer ended = Unit {0}
+
+-- These bytes were needed: without the last ones, of at most one read, what was read of the side gives no row.
+pub record IsNeeded (side : Reading) (bytes : List ℕ) : Type 0 where
+  pub earlier : List ℕ
+  pub last : List ℕ
+  pub is : bytes ≡ earlier ++ last
+  pub one_read : length last ≤ 4096
+  pub missing : rows_ahead side (in_front earlier cut_off) ≡ no_row unread
+
+-- A side whose head is known isn't read. Else it is read only as far as the next row needs it.
+abbrev pub IsReadAsNeeded : Option (List Field) → Reading → List ℕ → RoleState → RoleState → Type 0
+IsReadAsNeeded (Some row) side bytes before now = IsUnread bytes before now
+IsReadAsNeeded None side bytes before now = IsUnread bytes before now ⊎ IsNeeded side bytes
+
+pub record TakesRow (answer : Result (Option (List Field)) Stop) (old new : SideState) (before now : RoleState) : Type 0 where
+  pub bytes : List ℕ
+  pub reads : IsReadOn (has_failed answer) bytes old.reading.ended new.reading.ended before now
+  pub leads : (stream : Stream) → Follows (has_failed answer) new.reading.ended stream → RowLeads answer (side_ahead old (in_front bytes stream)) (side_ahead new stream)
+  pub ended : EndsSide answer new.reading.ended
+  pub needed : IsReadAsNeeded old.head old.reading bytes before now
+
+-- a side of which no row was looked at
+abbrev pub unseen : Reading → SideState
+unseen reading = record { head = None; reading = reading }

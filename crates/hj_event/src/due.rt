@@ -1,0 +1,80 @@
+ghost use Rattle.std.specs.Prelude.{◌≡◌};
+ghost use Rattle.hj_event.specs.Numbering.{nothing_due, has_due, due_of, TakesDue};
+
+use hj_base::{EventNo, Side};
+use hj_msg::Event;
+use hj_value::SharedRow;
+use hj_window::{Expired, Numbers};
+use std::alloc::Global;
+use std::marker::Model;
+
+/// What came of an arrival and wasn't given yet.
+#[derive(Drop)]
+pub(crate) struct Due {
+    /// The rows that expire before it, of which the first `given` were given.
+    before: Numbers,
+    given: usize,
+    arrival: Option<(Side, SharedRow)>,
+    /// The row that expires after it.
+    after: Option<(Side, EventNo)>,
+}
+
+impl Model for Due {
+    ghost use Rattle.std.specs.Prelude.{drop};
+    ghost use Rattle.hj_event.specs.Numbering.{DueState};
+
+    ghost Value = { DueState };
+
+    ghost view = { λ d. record { before = drop d.given d.before; arrival = d.arrival; after = d.after } };
+}
+
+impl Due {
+    /// Nothing is due.
+    pub(crate) fn new(alloc: Global) -> Self
+        ensures { result ≡ nothing_due }
+    {
+        Due {
+            before: Numbers::new(alloc),
+            given: 0,
+            arrival: None,
+            after: None,
+        }
+    }
+
+    /// What comes of the arrival of a row by which these rows expire.
+    pub(crate) fn of_arrival(side: Side, row: SharedRow, expired: Expired) -> Self
+        ensures { result ≡ due_of side row expired.before expired.after }
+    {
+        Due {
+            before: expired.before,
+            given: 0,
+            arrival: Some((side, row)),
+            after: expired.after.map(|of| (side, of)),
+        }
+    }
+
+    /// Whether anything is due.
+    pub(crate) fn is_some(&self) -> bool
+        ensures { result ≡ has_due self.now }
+    {
+        self.given < self.before.len() || self.arrival.is_some() || self.after.is_some()
+    }
+
+    /// Takes the first event that is due, under the number `no`.
+    pub(crate) fn take(&mut self, no: EventNo) -> Option<Event<SharedRow>>
+        ensures { TakesDue result no.0 self.old self.new }
+    {
+        if self.given < self.before.len() {
+            let Some(&(side, of)) = self.before.get(self.given) else {
+                unreachable!();
+            };
+            self.given += 1;
+            return Some(Event::Expire { no, side, of });
+        }
+        if let Some((side, row)) = self.arrival.take() {
+            return Some(Event::Arrive { no, side, row });
+        }
+        let (side, of) = self.after.take()?;
+        Some(Event::Expire { no, side, of })
+    }
+}
