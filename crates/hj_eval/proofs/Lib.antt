@@ -1,2 +1,4 @@
 mod Comparing
+mod EqualKeys
+mod Needing
 mod Totals

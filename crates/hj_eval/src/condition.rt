@@ -3,8 +3,8 @@ ghost use Rattle.hj_query.specs.declared.pred.Pred.{Compare, Within};
 ghost use Rattle.hj_eval.specs.Holds.{holds, pred_holds};
 ghost use Rattle.hj_eval.specs.Values.{value_in};
 
-use crate::rows::{Rows, sum_value};
-use crate::value::{compares, is_within};
+use crate::rows::{Rows, lone_number, sum_value};
+use crate::value::{accepts, compares, is_within};
 use hj_query::{Op, Pred, Query, Sum};
 use hj_value::Row;
 
@@ -35,6 +35,17 @@ fn pred_holds<'a>(rows: &Rows<'a>, pred: &'a Pred) -> bool
 fn comparison_holds<'a>(rows: &Rows<'a>, op: Op, left: &'a Sum, right: &'a Sum) -> bool
     ensures { result ≡ pred_holds (value_in rows.now) (Compare op left.now right.now) }
 {
+    // Most comparisons are of two numbers that stand alone, which need no wider ones.
+    match (lone_number(rows, left), lone_number(rows, right)) {
+        (Some(left), Some(right)) => accepts(op, left.cmp(&right)),
+        _ => values_compare(rows, op, left, right),
+    }
+}
+
+/// Whether the values of two sums compare so.
+fn values_compare<'a>(rows: &Rows<'a>, op: Op, left: &'a Sum, right: &'a Sum) -> bool
+    ensures { result ≡ pred_holds (value_in rows.now) (Compare op left.now right.now) }
+{
     let Some(left) = sum_value(rows, left) else {
         return false;
     };
@@ -46,6 +57,16 @@ fn comparison_holds<'a>(rows: &Rows<'a>, op: Op, left: &'a Sum, right: &'a Sum) 
 
 /// Whether two sums are numbers that differ by at most so much.
 fn distance_holds<'a>(rows: &Rows<'a>, distance: u64, left: &'a Sum, right: &'a Sum) -> bool
+    ensures { result ≡ pred_holds (value_in rows.now) (Within distance left.now right.now) }
+{
+    match (lone_number(rows, left), lone_number(rows, right)) {
+        (Some(left), Some(right)) => left.abs_diff(right) <= distance,
+        _ => values_are_within(rows, distance, left, right),
+    }
+}
+
+/// Whether the values of two sums are numbers that differ by at most so much.
+fn values_are_within<'a>(rows: &Rows<'a>, distance: u64, left: &'a Sum, right: &'a Sum) -> bool
     ensures { result ≡ pred_holds (value_in rows.now) (Within distance left.now right.now) }
 {
     let Some(left) = sum_value(rows, left) else {

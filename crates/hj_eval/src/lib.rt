@@ -2,10 +2,15 @@
 #![tactic(auto)]
 
 mod condition;
+mod keys;
+mod needed;
+mod ready;
 mod rows;
 mod value;
 
 pub use condition::holds;
+pub use keys::KeyColumn;
+pub use ready::Condition;
 
 #[cfg(test)]
 mod tests;

@@ -19,6 +19,23 @@ pub struct Rows<'a> {
     pub right: &'a Row,
 }
 
+/// The number of a sum that is one term; None where it is none, or has further terms.
+pub fn lone_number<'a>(rows: &Rows<'a>, sum: &'a Sum) -> Option<i64>
+    ensures { IfSome result (λ number. sum_value (value_in rows.now) sum.now ≡ Some (field.Int number)) }
+{
+    if sum.rest.len() != 0 {
+        return None;
+    }
+    match &sum.first {
+        Term::Column(side, at) => match column_value(rows, *side, usize::from(*at))? {
+            Field::Int(number) => Some(number),
+            Field::Text(_) => None,
+        },
+        Term::Number(number) => Some(*number),
+        Term::Text(_) => None,
+    }
+}
+
 /// The value of a sum; None where a term has none, and where a text is one of several terms.
 pub fn sum_value<'a>(rows: &Rows<'a>, sum: &'a Sum) -> Option<Value<'a>>
     ensures { option_map field_of result ≡ sum_value (value_in rows.now) sum.now }

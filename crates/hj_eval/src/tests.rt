@@ -1,4 +1,4 @@
-use crate::holds;
+use crate::{Condition, holds};
 use hj_base::Memory;
 use hj_query::{Query, parse};
 use hj_value::{Field, Row, Text};
@@ -119,6 +119,9 @@ fn evaluates_conditions(rt: HostRuntime) -> Result<(), Fail> {
         ("r.s = 'b' and not l.s = 'b'", 1, 2, true),
         ("l.k = 1 and r.k = 1", 1, 2, false),
         ("l.k = 1 or r.k = 1", 1, 2, true),
+        ("r.k > l.k and l.k <= r.k", 1, 2, true),
+        ("l.k <= r.k and r.k < l.k", 1, 2, false),
+        ("r.s > l.s", 1, 2, true),
     ];
     for (condition, left, right, want) in table {
         let query = query(rt.alloc(), condition)?;
@@ -128,6 +131,11 @@ fn evaluates_conditions(rt: HostRuntime) -> Result<(), Fail> {
             holds(&query, &left_row, &right_row),
             want,
             "{condition} at {left} and {right}"
+        );
+        assert_eq!(rt;
+            Condition::new(&query).holds(&left_row, &right_row),
+            want,
+            "{condition} at {left} and {right}, made ready"
         );
     }
     Ok(())

@@ -25,7 +25,7 @@ pub fn compares(op: Op, left: Value<'_>, right: Value<'_>) -> bool
 }
 
 /// Whether the bytes of two texts compare so.
-fn texts_compare(op: Op, left: &[u8], right: &[u8]) -> bool
+pub fn texts_compare(op: Op, left: &[u8], right: &[u8]) -> bool
     ensures { result ≡ compares op (Some (field.Text left.now)) (Some (field.Text right.now)) }
 {
     match op {
@@ -36,7 +36,7 @@ fn texts_compare(op: Op, left: &[u8], right: &[u8]) -> bool
 }
 
 /// Whether two values in this order compare so.
-fn accepts(op: Op, order: Ordering) -> bool
+pub fn accepts(op: Op, order: Ordering) -> bool
     ensures { result ≡ accepts op order }
 {
     match op {

@@ -1,0 +1,68 @@
+ghost use Rattle.std.specs.Prelude.{◌≡◌};
+ghost use Rattle.hj_eval.specs.Holds.{holds};
+ghost use Rattle.hj_eval.specs.Keys.{TellsApart};
+
+use crate::condition::holds;
+use crate::keys::KeyColumn;
+use crate::needed::{Comparison, needed_by};
+use hj_query::Query;
+use hj_value::Row;
+use std::marker::Model;
+
+/// The condition of a query, made ready for many rows: most of those that it doesn't hold for are told by one comparison
+/// of two fields.
+#[derive(Drop)]
+pub struct Condition<'a> {
+    query: &'a Query,
+    needed: Option<Comparison>,
+}
+
+impl<'a> Model for Condition<'a> {
+    ghost use Rattle.std.specs.Prelude.{IfSome};
+    ghost use Rattle.hj_query.specs.Parts.{Parts};
+    ghost use Rattle.hj_query.specs.contracts.pred.Pred as e;
+    ghost use Rattle.std.specs.Coded.{codes};
+    ghost use Rattle.hj_eval.specs.Needed.{IsNeeded};
+
+    ghost Value = { Parts };
+
+    ghost coded = { Prim.hlevel (codes, e.the_row.coded) };
+
+    ghost view = { λ c. c.query.now };
+
+    ghost invariant = { λ c. IfSome c.needed (IsNeeded c.query.now.pred) };
+}
+
+impl<'a> Condition<'a> {
+    /// The condition of `query`.
+    pub fn new(query: &'a Query) -> Self
+        ensures { result ≡ query.now }
+    {
+        Condition {
+            query,
+            needed: needed_by(query.pred()),
+        }
+    }
+
+    /// Whether it holds for a left and a right row, as `holds` tells.
+    pub fn holds(&self, left: &Row, right: &Row) -> bool
+        ensures { result ≡ holds self.now left.now right.now }
+    {
+        if let Some(needed) = &self.needed
+            && !needed.holds(left, right)
+        {
+            return false;
+        }
+        holds(self.query, left, right)
+    }
+
+    /// The columns of the left and of the right rows by which rows are told apart for which it doesn't hold.
+    pub fn key_columns(&self) -> (KeyColumn, KeyColumn)
+        ensures { TellsApart self.now result.0.at result.1.at }
+    {
+        match &self.needed {
+            Some(needed) => needed.key_columns(),
+            None => (KeyColumn { at: None }, KeyColumn { at: None }),
+        }
+    }
+}
