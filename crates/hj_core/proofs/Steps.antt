@@ -1,9 +1,9 @@
 -- What is kept of a row, by what was made ready for it.
-use Rattle.std.proofs.Common.{◌≡◌, ℕ, Bool, true, false, List, None, Some, Option, MatchOption, sym, ap, subst, ◌∙◌}
+use Rattle.std.proofs.Common.{◌≡◌, ℕ, Bool, true, false, List, None, Some, Option, MatchOption, subst}
 use Rattle.std.specs.Option.{ForSome}
 use Rattle.std.proofs.lemmas.Option.{MatchOption-at_some, MatchOption-at_none}
-use Rattle.hj_msg.specs.Store.{Resting, with_entry, with_element}
-use Rattle.hj_msg.specs.Core.{InFlight, with_home_row}
+use Rattle.hj_msg.specs.Store.{Resting, with_entry}
+use Rattle.hj_msg.specs.Core.{with_home_row}
 use Rattle.hj_core.specs.Ready.{IsReady}
 
 module _ {P : Type 0} where

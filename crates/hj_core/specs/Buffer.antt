@@ -1,5 +1,5 @@
 -- The right rows that were sent on and aren't acknowledged yet, with the room for more of them.
-use Rattle.std.specs.Prelude.{ℕ, ◌≢◌, ◌≤◌, ◌-◌, List, map, All, AllPairs}
+use Rattle.std.specs.Prelude.{ℕ, ◌≢◌, ◌≤◌, List, map, All, AllPairs}
 use Rattle.hj_msg.specs.Core.{InFlight}
 use Rattle.hj_core.specs.declared.flying.Flying.{Flying}
 

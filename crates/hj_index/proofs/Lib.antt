@@ -1,4 +1,3 @@
 mod Probes
 mod Rows
 mod SortedProbes
-pub mod Sorting

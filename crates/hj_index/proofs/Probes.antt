@@ -6,7 +6,7 @@ use Rattle.hj_msg.specs.Store.{by_number, settled_partners}
 use Rattle.hj_index.specs.declared.place.Rest.{Rest}
 use Rattle.hj_index.specs.ListStore.{joining, rows_of}
 use Rattle.hj_index.proofs.Rows.{Places}
-use Rattle.hj_index.proofs.Sorting.{gather, insert_after, insert_after-last, gather-sorted}
+use Rattle.hj_msg.proofs.Gathering.{gather, insert_after, insert_after-last, gather-sorted}
 
 abbrev pub number : {P : Type 0} → Partner P → ℕ
 number partner = partner.no.0

@@ -11,7 +11,7 @@ use Rattle.hj_msg.specs.declared.partner.Partner.{Partner}
 use Rattle.hj_index.specs.declared.place.Rest.{Rest}
 use Rattle.hj_index.specs.ListStore.{joining, rows_of}
 use Rattle.hj_index.proofs.Rows.{Places, none-tail, past-head, flipped}
-use Rattle.hj_index.proofs.Sorting.{insert_after}
+use Rattle.hj_msg.proofs.Gathering.{insert_after}
 use Rattle.hj_index.proofs.Probes.{number, partner, partner_of, Finds, finds-joined, finds-nothing, finds-passed}
 use Rattle.hj_msg.specs.Store.{by_number, settled_partners}
 

@@ -3,6 +3,7 @@ use Rattle.std.specs.Prelude.{ℕ, Bool, true, false, ◌&&◌, List, None, Some
 use Rattle.std.specs.List.{filter_map}
 use Rattle.std.specs.declared.option.Option.{Option}
 use Rattle.hj_msg.specs.Store.{Resting}
+use Rattle.hj_index.specs.declared.list_store.ListStore.{ListStore}
 use Rattle.hj_index.specs.declared.place.Rest.{Rest}
 
 -- the row of a place, under its number
@@ -13,6 +14,10 @@ resting number (Some rest) = Some (record { no = number; row = rest.row; settled
 -- the rows of the places that aren't empty, in order
 abbrev pub rows_of : {P : Type 0} → List (ℕ × Option (Rest P)) → List (Resting P)
 rows_of places = filter_map (λ place. resting place.0 place.1) places
+
+-- the rows of a store
+abbrev pub resting_rows : {P : Type 0} → ListStore P → List (Resting P)
+resting_rows store = rows_of store.places.entries
 
 -- a place, with its row settled
 abbrev pub settled_place : {P : Type 0} → Option (Rest P) → Option (Rest P)

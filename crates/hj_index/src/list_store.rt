@@ -2,7 +2,7 @@ ghost use Rattle.std.specs.Prelude.{◌≡◌, ◌<◌, [], nat_eq, IfOk, IfSome
 ghost use Rattle.std.specs.Option.{option_copied};
 ghost use Rattle.indexmap.specs.IndexMap.{get, spare, insert_entry, shift_remove_entry, IsUnique};
 ghost use Rattle.hj_msg.specs.Store.{joins, settled_matches};
-ghost use Rattle.hj_index.specs.ListStore.{joining, rows_of};
+ghost use Rattle.hj_index.specs.ListStore.{joining, resting_rows, rows_of};
 
 use crate::place::{Rest, settle_place, was_empty};
 use hj_base::{EventNo, Memory, Share, Side};
@@ -25,7 +25,7 @@ pub struct ListStore<P> {
 impl<P> ListStore<P> {
     /// A store with no rows.
     pub fn new(alloc: Global) -> Self
-        ensures { rows_of result.places.entries ≡ [] }
+        ensures { resting_rows result ≡ [] }
     {
         ListStore {
             alloc,

@@ -2,7 +2,7 @@ use Rattle.std.proofs.Common.{◌≡◌, ◌≤◌, All}
 use Rattle.hj_msg.specs.Store.{joins, settled_partners, settled_matches}
 use Rattle.hj_index.specs.ListStore.{rows_of}
 use Rattle.hj_index.proofs.Probes.{number}
-use Rattle.hj_index.proofs.Sorting.{gather}
+use Rattle.hj_msg.proofs.Gathering.{gather}
 use Rattle.hj_index.proofs.list_store.ListStoreStore.probe.Given as goal
 
 -- what is found, with what will be found, is all that joins; and what is found isn't above the last number
