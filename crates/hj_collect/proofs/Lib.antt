@@ -1,0 +1,5 @@
+mod Following
+mod LeastMarks
+mod MarkOrder
+mod PairLists
+mod Replacing

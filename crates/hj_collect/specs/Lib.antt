@@ -1,0 +1,5 @@
+pub mod Collector
+pub mod Least
+pub mod Marks
+pub mod Pairs
+pub mod StandsFor

@@ -1,0 +1,37 @@
+-- Marks of cores, and the least of them.
+use Rattle.std.specs.Prelude.{ℕ, Bool, true, false, ◌==◌, List, fold, slice_set, slice_index_or, None, Some}
+use Rattle.std.specs.declared.option.Option.{Option}
+use Rattle.hj_msg.specs.Punctuation.{Mark as Meaning, up_to, all, lesser}
+use Rattle.hj_collect.specs.declared.mark.Mark.{Mark}
+use Rattle.hj_collect.specs.declared.mark.Mark.TheVariants.{UpTo, All}
+
+-- what a mark says
+abbrev pub meaning : Mark → Meaning
+meaning (UpTo at) = up_to at.0
+meaning All = all
+
+abbrev pub meaning_of : Option Mark → Option Meaning
+meaning_of None = None
+meaning_of (Some mark) = Some (meaning mark)
+
+-- The least of the marks, absent where one is absent.
+abbrev pub least_of : List (Option Meaning) → Option Meaning
+least_of marks = fold lesser (Some all) marks
+
+abbrev pub is_same : Option Meaning → Option Meaning → Bool
+is_same None None = true
+is_same (Some (up_to a)) (Some (up_to b)) = a == b
+is_same (Some all) (Some all) = true
+is_same mark other = false
+
+-- a core's mark after it reported an arrival: its end counts as past every number
+abbrev pub after_arrival : ℕ → Option Meaning → Option Meaning
+after_arrival number (Some all) = Some all
+after_arrival number mark = Some (up_to number)
+
+-- the marks after a core reported an arrival, or its end
+abbrev pub with_arrival : ℕ → ℕ → List (Option Meaning) → List (Option Meaning)
+with_arrival core number marks = slice_set marks core (after_arrival number (slice_index_or marks core None))
+
+abbrev pub with_end : ℕ → List (Option Meaning) → List (Option Meaning)
+with_end core marks = slice_set marks core (Some all)

@@ -1,0 +1,113 @@
+ghost use Rattle.std.specs.Prelude.{◌≡◌, ◌<◌, ◌++◌, ◌∷◌, [], List, length, IfOk, OnOk, OnErr, IsTrue, ◌↔◌};
+ghost use Rattle.hj_msg.specs.declared.message.Report.{Report};
+ghost use Rattle.hj_msg.specs.Met.{pairs_of};
+ghost use Rattle.hj_collect.specs.Marks.{meaning_of};
+ghost use Rattle.hj_collect.specs.Collector.{after_report, first_stopped, has_ended, least_mark, nothing_taken};
+ghost use Rattle.hj_collect.specs.StandsFor.{StandsFor, with_report};
+
+use crate::Mark;
+use crate::marks::Marks;
+use crate::pairs::pairs_of;
+use hj_base::{CoreNo, Memory, Share, Side};
+use hj_msg::{Pair, Report};
+use std::alloc::Global;
+use std::marker::Model;
+
+/// How far the cores have come, by the reports that were taken of them.
+#[derive(Debug, Drop)]
+pub struct Collector {
+    alloc: Global,
+    left: Marks,
+    right: Marks,
+    stopped: Option<CoreNo>,
+}
+
+impl Model for Collector {
+    ghost use Rattle.std.specs.Prelude.{◌≡◌, length};
+    ghost use Rattle.hj_collect.specs.Collector.{CollectorState};
+
+    ghost Value = { CollectorState };
+
+    ghost view = { λ c. record { left = c.left; right = c.right; stopped = c.stopped } };
+
+    ghost invariant = { λ c. length c.left ≡ length c.right };
+}
+
+impl Collector {
+    /// The collector of so many cores, of which no report was taken.
+    pub fn new(alloc: Global, cores: u16) -> Result<Self, Memory>
+        ensures { IfOk result (λ collector. collector ≡ nothing_taken cores) }
+    {
+        Ok(Collector {
+            alloc,
+            left: Marks::new(alloc, cores)?,
+            right: Marks::new(alloc, cores)?,
+            stopped: None,
+        })
+    }
+
+    /// Takes the next report of a core, and gives its pairs. A report without partners takes no memory. After a refusal
+    /// the report isn't taken.
+    pub fn take<P: Share + Drop>(
+        &mut self,
+        core: CoreNo,
+        report: &Report<P>,
+    ) -> Result<Vec<Pair<P>>, Memory>
+        requires { core.0 < length self.old.left }
+        ensures pairs { IfOk result (λ pairs. pairs.items ≡ pairs_of report.now) }
+        ensures taken { OnOk result ((lists : List (List (Report P))) → StandsFor self.old lists → StandsFor self.new (with_report core.0 report.now lists)) }
+        ensures stopped { OnOk result (self.new.stopped ≡ first_stopped self.old.stopped core report.now) }
+        ensures cores { length self.new.left ≡ length self.old.left }
+        ensures err { OnErr result (self.new ≡ self.old) }
+    {
+        let pairs = pairs_of(self.alloc, report)?;
+        self.note(core, report);
+        Ok(pairs)
+    }
+
+    /// Takes note of a report: of the marks that it gives, or that a core stopped.
+    fn note<P>(&mut self, core: CoreNo, report: &Report<P>)
+        requires { core.0 < length self.old.left }
+        ensures { self.new ≡ after_report core report.now self.old }
+    {
+        let at = usize::from(core.0);
+        match report {
+            Report::Handled {
+                no,
+                side: Side::Left,
+                ..
+            } => self.left.arrive(at, *no),
+            Report::Handled {
+                no,
+                side: Side::Right,
+                ..
+            } => self.right.arrive(at, *no),
+            Report::Ended => {
+                self.left.end(at);
+                self.right.end(at);
+            }
+            Report::NoMemory => self.stopped = self.stopped.or(Some(core)),
+        }
+    }
+
+    /// Up to which number all pairs have come: None where some core that hasn't ended hasn't reported both sides.
+    pub fn punctuation(&self) -> Option<Mark>
+        ensures { meaning_of result ≡ least_mark self.now }
+    {
+        self.left.least().min(self.right.least())
+    }
+
+    /// Whether every core reported its end.
+    pub fn ended(&self) -> bool
+        ensures { result ≡ has_ended self.now }
+    {
+        self.punctuation() == Some(Mark::All)
+    }
+
+    /// The first core that reported that memory ran out.
+    pub fn stopped(&self) -> Option<CoreNo>
+        ensures { result ≡ self.now.stopped }
+    {
+        self.stopped
+    }
+}

@@ -1,0 +1,78 @@
+ghost use Rattle.std.specs.Prelude.{◌≡◌, ◌<◌, length, replicate, slice_set, IfOk, None};
+ghost use Rattle.hj_collect.specs.Marks.{meaning_of, least_of, with_arrival, with_end};
+
+use crate::Mark;
+use crate::least::Least;
+use hj_base::{EventNo, Memory};
+use std::alloc::Global;
+use std::marker::Model;
+use std::mem;
+
+/// The marks of all cores for one side, with the least of them. A core that reported nothing has none.
+#[derive(Debug, Drop)]
+pub(crate) struct Marks {
+    of_cores: Vec<Option<Mark>>,
+    least: Least,
+}
+
+impl Model for Marks {
+    ghost use Rattle.std.specs.Prelude.{List, map};
+    ghost use Rattle.std.specs.declared.option.Option.{Option};
+    ghost use Rattle.hj_msg.specs.Punctuation.{Mark as Meaning};
+    ghost use Rattle.hj_collect.specs.Marks.{meaning_of};
+    ghost use Rattle.hj_collect.specs.Least.{IsLeast};
+
+    ghost Value = { List (Option Meaning) };
+
+    ghost view = { λ marks. map meaning_of marks.of_cores.items };
+
+    ghost invariant = { λ marks. IsLeast marks.least (map meaning_of marks.of_cores.items) };
+}
+
+impl Marks {
+    /// No mark, for each of so many cores.
+    pub(crate) fn new(alloc: Global, cores: u16) -> Result<Self, Memory>
+        ensures { IfOk result (λ marks. marks ≡ replicate cores None) }
+    {
+        let of_cores = vec![in alloc; None; usize::from(cores)]?;
+        let least = Least::of(&of_cores);
+        Ok(Marks { of_cores, least })
+    }
+
+    /// The least mark; None where a core has none.
+    pub(crate) fn least(&self) -> Option<Mark>
+        ensures { meaning_of result ≡ least_of self.now }
+    {
+        self.least.mark
+    }
+
+    /// A core reported an arrival. Where it has ended, its mark stays past every number.
+    pub(crate) fn arrive(&mut self, core: usize, no: EventNo)
+        requires { core < length self.old }
+        ensures { self.new ≡ with_arrival core no.0 self.old }
+    {
+        if self.of_cores[core] != Some(Mark::All) {
+            self.set(core, Mark::UpTo(no));
+        }
+    }
+
+    /// A core reported its end.
+    pub(crate) fn end(&mut self, core: usize)
+        requires { core < length self.old }
+        ensures { self.new ≡ with_end core self.old }
+    {
+        self.set(core, Mark::All);
+    }
+
+    /// Gives a core another mark. Where its last one was the least alone, the least is looked for anew.
+    fn set(&mut self, core: usize, mark: Mark)
+        requires { core < length self.old }
+        ensures { self.new ≡ slice_set self.old core (meaning_of (Some mark)) }
+    {
+        let before = mem::replace(&mut self.of_cores[core], Some(mark));
+        self.least = match self.least.without(before) {
+            Some(least) => least.with(Some(mark)),
+            None => Least::of(&self.of_cores),
+        };
+    }
+}

@@ -1,0 +1,60 @@
+ghost use Rattle.std.specs.Prelude.{◌≡◌, IfOk};
+ghost use Rattle.hj_msg.specs.Met.{pairs_of};
+ghost use Rattle.hj_collect.specs.Pairs.{pair_of};
+
+use hj_base::{EventNo, Memory, Share, Side};
+use hj_msg::{Pair, Partner, Report};
+use std::alloc::Global;
+
+/// The pairs of a report, each with rows of its own. Takes memory only where there are some.
+pub(crate) fn pairs_of<P: Share + Drop>(
+    alloc: Global,
+    report: &Report<P>,
+) -> Result<Vec<Pair<P>>, Memory>
+    ensures { IfOk result (λ pairs. pairs.items ≡ pairs_of report.now) }
+{
+    let Report::Handled {
+        no,
+        side,
+        row,
+        partners,
+    } = report
+    else {
+        return Ok(Vec::new(alloc));
+    };
+    let mut pairs = Vec::with_capacity(alloc, partners.len())?;
+    for at in 0..partners.len() {
+        let Some(partner) = partners.get(at) else {
+            unreachable!()
+        };
+        pairs.push(pair_of(*no, *side, row, partner)?)?;
+    }
+    Ok(pairs)
+}
+
+/// The pair of a row of a side and of a partner.
+fn pair_of<P: Share + Drop>(
+    no: EventNo,
+    side: Side,
+    row: &P,
+    partner: &Partner<P>,
+) -> Result<Pair<P>, Memory>
+    ensures { IfOk result (λ pair. pair ≡ pair_of side no row.now partner.now) }
+{
+    let row = row.share()?;
+    let other = partner.row.share()?;
+    Ok(match side {
+        Side::Left => Pair {
+            left_no: no,
+            right_no: partner.no,
+            left: row,
+            right: other,
+        },
+        Side::Right => Pair {
+            left_no: partner.no,
+            right_no: no,
+            left: other,
+            right: row,
+        },
+    })
+}
