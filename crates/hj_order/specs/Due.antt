@@ -1,0 +1,15 @@
+-- Which of two pairs is due first.
+use Rattle.std.specs.Prelude.{List, map}
+use Rattle.std.specs.declared.cmp.Ordering.{Ordering}
+use Rattle.std.specs.Ordering.{nat_cmp, on, flip_args, then_cmp}
+use Rattle.hj_msg.specs.declared.event.Pair.{Pair}
+use Rattle.hj_msg.specs.Valid.{later, earlier}
+use Rattle.hj_order.specs.declared.kept.Kept.{Kept}
+
+-- The greater one is due first: that of the lesser later number, then that of the lesser earlier one.
+abbrev pub due_cmp : {P : Type 0} → Kept P → Kept P → Ordering
+due_cmp = flip_args (then_cmp (on (λ kept. later kept.pair) nat_cmp) (on (λ kept. earlier kept.pair) nat_cmp))
+
+-- the pairs that are kept
+abbrev pub pairs_in : {P : Type 0} → List (Kept P) → List (Pair P)
+pairs_in kept = map (λ one. one.pair) kept

@@ -1,0 +1,95 @@
+ghost use Rattle.std.specs.Prelude.{◌≡◌, ◌+◌, ◌≤◌, ◌↔◌, ◌++◌, ◌∷◌, [], List, All, map, true, false, vec_len, IsNone, IfSome, IfNone, OnOk, OnErr, Some, IsPermutation};
+ghost use Rattle.std.specs.BinaryHeap.{heap_items, heap_len, heap_capacity, KeepsHeap};
+ghost use Rattle.hj_msg.specs.Emission.{comes_before, is_within};
+ghost use Rattle.hj_msg.specs.Valid.{later};
+ghost use Rattle.hj_collect.specs.Marks.{meaning};
+ghost use Rattle.hj_order.specs.Due.{due_cmp, pairs_in};
+
+use crate::kept::Kept;
+use hj_base::Memory;
+use hj_collect::Mark;
+use hj_msg::Pair;
+use std::alloc::Global;
+use std::collections::BinaryHeap;
+use std::marker::Model;
+
+/// Pairs that were met and are kept until they are due, seen as a list of them in no order.
+#[derive(Debug, Drop)]
+pub struct Ordered<P> {
+    pairs: BinaryHeap<Kept<P>>,
+}
+
+impl<P> Model for Ordered<P> {
+    ghost use Rattle.std.specs.Prelude.{List};
+    ghost use Rattle.std.specs.BinaryHeap.{heap_items, IsHeap};
+    ghost use Rattle.hj_msg.specs.declared.event.Pair.{Pair};
+    ghost use Rattle.hj_order.specs.Due.{due_cmp, pairs_in};
+
+    ghost Value = { List (Pair P) };
+
+    ghost view = { λ ordered. pairs_in (heap_items ordered.pairs) };
+
+    ghost invariant = { λ ordered. IsHeap due_cmp (heap_items ordered.pairs) };
+}
+
+impl<P> Ordered<P> {
+    /// No pairs.
+    pub fn new(alloc: Global) -> Self
+        ensures { result ≡ [] }
+    {
+        Ordered {
+            pairs: BinaryHeap::new(alloc),
+        }
+    }
+}
+
+impl<P: Drop> Ordered<P> {
+    /// Keeps these pairs too. After a refusal nothing changed, and the pairs are dropped.
+    pub fn add(&mut self, pairs: Vec<Pair<P>>) -> Result<(), Memory>
+        ensures ok { OnOk result (IsPermutation (self.old ++ pairs.items) self.new) }
+        ensures err { OnErr result (self.new ≡ self.old) }
+    {
+        self.pairs.reserve(pairs.len())?;
+        push_all(&mut self.pairs, pairs);
+        Ok(())
+    }
+
+    /// Takes out a pair that is due: one whose later number is within the mark, and before which no kept pair comes by its
+    /// later number and then by its earlier one. None where no later number is within the mark.
+    pub fn release(&mut self, up_to: Mark) -> Option<Pair<P>>
+        ensures kept { IfSome result (λ pair. IsPermutation self.old (pair ∷ self.new)) }
+        ensures first { IfSome result (λ pair. All (λ other. comes_before other pair ≡ false) self.old) }
+        ensures within { IfSome result (λ pair. is_within (Some (meaning up_to)) (later pair) ≡ true) }
+        ensures none { IsNone result ↔ All (λ pair. is_within (Some (meaning up_to)) (later pair) ≡ false) self.old }
+        ensures unchanged { IfNone result (self.new ≡ self.old) }
+    {
+        if !is_within(self.pairs.peek()?.later(), up_to) {
+            return None;
+        }
+        let kept = self.pairs.pop()?;
+        Some(kept.pair)
+    }
+}
+
+/// Puts pairs into a heap that has room for them.
+fn push_all<P: Drop>(heap: &mut BinaryHeap<Kept<P>>, pairs: Vec<Pair<P>>)
+    requires { heap_len heap.old + vec_len pairs ≤ heap_capacity heap.old }
+    ensures pairs { IsPermutation (pairs_in (heap_items heap.old) ++ pairs.items) (pairs_in (heap_items heap.new)) }
+    ensures order { KeepsHeap due_cmp (heap_items heap.old) (heap_items heap.new) }
+{
+    for pair in pairs {
+        if let Err(_) = heap.push(Kept { pair }) {
+            unreachable!()
+        }
+    }
+}
+
+/// Whether a number is within a mark.
+fn is_within(number: u64, mark: Mark) -> bool
+    ensures { result ≡ is_within (Some (meaning mark)) number }
+{
+    match mark {
+        Mark::UpTo(last) => number <= last.0,
+        Mark::All => true,
+    }
+}
