@@ -1,0 +1,138 @@
+-- What was read of both streams while a join runs, and which events this gave.
+use Rattle.std.proofs.Common.{◌≡◌, ℕ, ◌≤◌, Bool, true, false, cond, ltb, List, [], ◌∷◌, ◌++◌, length, take, None, refl, sym, ap, subst, ◌∙◌, append_assoc, arith}
+use Rattle.std.proofs.lemmas.List.{length-append, length-take}
+use Rattle.std.proofs.lemmas.Bool.Decides.{nat_tests}
+use Rattle.std.specs.declared.option.Option.{Option}
+use Rattle.hj_value.specs.declared.field.Field.{Field}
+use Rattle.hj_base.specs.declared.numbers.Side.TheVariants.{Left, Right}
+use Rattle.hj_base.specs.declared.outside.Role.{Role}
+use Rattle.hj_base.specs.declared.outside.Role.TheVariants as role
+use Rattle.hj_base.specs.Outside.{RoleState}
+use Rattle.hj_msg.specs.declared.event.Event.{Event}
+use Rattle.hj_msg.specs.Event.{number, IsWellFormed}
+use Rattle.hj_msg.specs.Kang.{windows_after}
+use Rattle.hj_msg.proofs.Numbered.{front_is_well_formed, number-last}
+use Rattle.hj_query.specs.Parts.{Parts}
+use Rattle.hj_record.specs.Pieces.{Stream}
+use Rattle.hj_event.specs.declared.merger.Next.{Next}
+use Rattle.hj_event.specs.declared.merger.Next.TheVariants as next
+use Rattle.hj_event.specs.declared.stop.Last.{Last}
+use Rattle.hj_event.specs.Arrivals.{too_many}
+use Rattle.hj_event.specs.Events.{Numbered, events_of, all_events_of}
+use Rattle.hj_event.specs.Merger.{Merging, IsNew, Answers, AnswersFrom, TakesNext, events_from, fails_next}
+use Rattle.hj_event.specs.Roles.{IsInStep, IsReadOn}
+use Rattle.hj_event.specs.Sides.{in_front, at_its_end, MayFollow, Follows}
+use Rattle.hj_event.specs.Calls.{HasGiven, then_events}
+use Rattle.hj_event.proofs.CallLemmas.{begins, goes_on}
+use Rattle.hj_event.proofs.RoleLemmas.{not_read, read_more}
+use Rattle.hj_event.proofs.Whole.{are_well_formed}
+use Rattle.hj_engine.specs.Windows.{AreBelow}
+use Rattle.hj_engine.proofs.Numbering.{newest}
+
+-- These events were given, of these bytes.
+pub record Reads (query : Parts) (limit : ℕ) (events : List (Event (List Field))) (merger : Merging) (before now : Role → RoleState) : Type 0 where
+  pub left_bytes : List ℕ
+  pub right_bytes : List ℕ
+  pub given : HasGiven query limit left_bytes right_bytes events merger
+  pub going : merger.over ≡ None
+  pub left : IsReadOn false left_bytes false merger.sides.left.reading.ended (before role.Left) (now role.Left)
+  pub right : IsReadOn false right_bytes false merger.sides.right.reading.ended (before role.Right) (now role.Right)
+  pub query_role : now role.Query ≡ before role.Query
+
+-- nothing is read of a role that is open
+pub unread : (ended : Bool) (state : RoleState) → ended ≡ false → IsInStep false state → IsReadOn false [] false ended state state
+unread ended state is step = subst (λ (e : Bool). IsReadOn false [] false e state state) (sym is) (not_read false state step)
+
+-- a merger that is new has given nothing
+pub reads_begin : (query : Parts) (limit : ℕ) (merger : Merging) (now : Role → RoleState) → IsNew query limit merger → IsInStep false (now role.Left) → IsInStep false (now role.Right) → Reads query limit [] merger now now
+reads_begin query limit merger now new left right = record {
+  left_bytes = [];
+  right_bytes = [];
+  given = begins query limit merger new;
+  going = new.over;
+  left = unread merger.sides.left.reading.ended (now role.Left) new.left left;
+  right = unread merger.sides.right.reading.ended (now role.Right) new.right right;
+  query_role = refl;
+}
+
+-- a merger that gave only events goes on
+pub taking : (answer : Next) (old new : Merging) (before now : Role → RoleState) → old.over ≡ None → Answers answer old new before now → TakesNext answer old new before now
+taking answer old new before now going answers = subst (λ (over : Option Last). AnswersFrom over answer old new before now) going answers
+
+-- one event more
+pub reads_more : (query : Parts) (limit : ℕ) (events : List (Event (List Field))) (event : Event (List Field)) (old new : Merging) (before mid now : Role → RoleState) → Reads query limit events old before mid → TakesNext (next.Event event) old new mid now
+    → Reads query limit (events ++ event ∷ []) new before now
+reads_more query limit events event old new before mid now reads takes = record {
+  left_bytes = reads.left_bytes ++ takes.left_bytes;
+  right_bytes = reads.right_bytes ++ takes.right_bytes;
+  given = goes_on query limit reads.left_bytes reads.right_bytes events event old new mid now reads.given takes;
+  going = takes.stays;
+  left = read_more false reads.left_bytes takes.left_bytes false old.sides.left.reading.ended new.sides.left.reading.ended (before role.Left) (mid role.Left) (now role.Left) reads.left takes.left;
+  right = read_more false reads.right_bytes takes.right_bytes false old.sides.right.reading.ended new.sides.right.reading.ended (before role.Right) (mid role.Right) (now role.Right) reads.right takes.right;
+  query_role = takes.query ∙ reads.query_role;
+}
+
+-- what may come behind the bytes of a call may come behind those before it
+follows_before : (failed : Bool) (bytes : List ℕ) (was ended : Bool) (before now : RoleState) (stream : Stream) → IsReadOn failed bytes was ended before now → Follows failed ended stream → MayFollow was (in_front bytes stream)
+follows_before failed bytes false ended before now stream reads follows = tt
+follows_before failed bytes true ended before now stream reads follows =
+    let none = reads.no_more refl in
+    let at_end : MayFollow ended stream = subst (λ (f : Bool). Follows f ended stream) none.2 follows in
+    let is : stream ≡ at_its_end = subst (λ (e : Bool). MayFollow e stream) none.0 at_end in
+    ap (λ (s : Stream). in_front bytes s) is ∙ ap (λ (xs : List ℕ). in_front xs at_its_end) none.1
+
+both_in_front : (xs ys : List ℕ) (stream : Stream) → in_front (xs ++ ys) stream ≡ in_front xs (in_front ys stream)
+both_in_front xs ys stream = ap (λ (bytes : List ℕ). record { bytes = bytes; whole = stream.whole }) (append_assoc xs ys stream.bytes)
+
+-- after any call, the events of both streams are those given before it, and then those that were to come
+pub before_call : (query : Parts) (limit : ℕ) (left right : List ℕ) (events : List (Event (List Field))) (answer : Next) (old new : Merging) (before now : Role → RoleState) → HasGiven query limit left right events old → (takes : TakesNext answer old new before now) → (l r : Stream)
+    → Follows (fails_next answer Left) new.sides.left.reading.ended l → Follows (fails_next answer Right) new.sides.right.reading.ended r
+    → events_of query (in_front (left ++ takes.left_bytes) l) (in_front (right ++ takes.right_bytes) r) limit ≡ then_events events (events_from old (in_front takes.left_bytes l) (in_front takes.right_bytes r))
+before_call query limit left right events answer old new before now given takes l r l_follows r_follows =
+    ap (λ (s : Stream). events_of query s (in_front (right ++ takes.right_bytes) r) limit) (both_in_front left takes.left_bytes l)
+    ∙ (ap (λ (s : Stream). events_of query (in_front left (in_front takes.left_bytes l)) s limit) (both_in_front right takes.right_bytes r)
+    ∙ given (in_front takes.left_bytes l) (in_front takes.right_bytes r)
+    (follows_before (fails_next answer Left) takes.left_bytes old.sides.left.reading.ended new.sides.left.reading.ended (before role.Left) (now role.Left) l takes.left l_follows)
+    (follows_before (fails_next answer Right) takes.right_bytes old.sides.right.reading.ended new.sides.right.reading.ended (before role.Right) (now role.Right) r takes.right r_follows))
+
+-- the end may come at any time
+end_follows : (ended : Bool) → MayFollow ended at_its_end
+end_follows true = refl
+end_follows false = tt
+
+-- the events given begin those of some streams
+pub some_events : (query : Parts) (limit : ℕ) (events : List (Event (List Field))) (merger : Merging) (before now : Role → RoleState) → (reads : Reads query limit events merger before now)
+    → events_of query (in_front reads.left_bytes at_its_end) (in_front reads.right_bytes at_its_end) limit ≡ then_events events (events_from merger at_its_end at_its_end)
+some_events query limit events merger before now reads =
+    reads.given at_its_end at_its_end (end_follows merger.sides.left.reading.ended) (end_follows merger.sides.right.reading.ended)
+
+up_to_within : (limit : ℕ) (all : Numbered) (over : Bool) → ltb limit (length all.events) ≡ over → length (cond {A = Numbered} over (record { events = take limit all.events; ending = too_many }) all).events ≤ limit
+up_to_within limit all true is = omega (arith, length-take limit all.events)
+up_to_within limit all false is = grind (arith, nat_tests)
+
+front_within : (limit : ℕ) (front rest whole : List (Event (List Field))) → whole ≡ front ++ rest → length whole ≤ limit → length front ≤ limit
+front_within limit front rest whole is within = omega (arith, length-append front rest, ap length is)
+
+-- no more events are given than the limit
+pub within_limit : (query : Parts) (limit : ℕ) (events : List (Event (List Field))) (merger : Merging) (before now : Role → RoleState) → Reads query limit events merger before now → length events ≤ limit
+within_limit query limit events merger before now reads =
+    let left = in_front reads.left_bytes at_its_end in
+    let right = in_front reads.right_bytes at_its_end in
+    let all = all_events_of query left right in
+    front_within limit events (events_from merger at_its_end at_its_end).events (events_of query left right limit).events
+    (ap (λ (n : Numbered). n.events) (some_events query limit events merger before now reads))
+    (up_to_within limit all (ltb limit (length all.events)) refl)
+
+-- the events given are numbered from 0
+pub well_formed : (query : Parts) (limit : ℕ) (events : List (Event (List Field))) (merger : Merging) (before now : Role → RoleState) → Reads query limit events merger before now → IsWellFormed events
+well_formed query limit events merger before now reads =
+    let left = in_front reads.left_bytes at_its_end in
+    let right = in_front reads.right_bytes at_its_end in
+    front_is_well_formed events (events_from merger at_its_end at_its_end).events
+    (subst (λ (n : Numbered). IsWellFormed n.events) (some_events query limit events merger before now reads) (are_well_formed query left right limit))
+
+-- the last event given is newer than the rows held after the others
+pub newest_given : (query : Parts) (limit : ℕ) (events : List (Event (List Field))) (event : Event (List Field)) (merger : Merging) (before now : Role → RoleState) → Reads query limit (events ++ event ∷ []) merger before now → AreBelow (number event) (windows_after events)
+newest_given query limit events event merger before now reads =
+    let formed = well_formed query limit (events ++ event ∷ []) merger before now reads in
+    newest events event (front_is_well_formed events (event ∷ []) formed).numbered (number-last events event formed)

@@ -1,0 +1,5 @@
+pub mod Joining
+pub mod JoinText
+pub mod Output
+pub mod Windows
+pub mod WindowView
