@@ -1,0 +1,5 @@
+pub mod Answers
+pub mod Collected
+pub mod RealOutside
+pub mod Roles
+pub mod Source

@@ -1,0 +1,86 @@
+ghost use Rattle.std.specs.Prelude.{◌≡◌, ◌↔◌, [], false, IsTrue, IsErr, IfOk, OnOk};
+ghost use Rattle.std.specs.Io.{WritesAtMost};
+ghost use Rattle.std.specs.Io.KnownBytes.{Keeps, WriteAppends};
+
+use hj_base::Memory;
+use std::alloc::Global;
+use std::io;
+use std::io::{BufWriter, ErrorKind, Write};
+
+/// A writer that collects some kilobytes before it hands them on to the writer behind it, each byte once and in order.
+/// Once that one has refused some, every call fails, and nothing more is handed on.
+pub struct Collected<W: Write + Drop> {
+    buffered: BufWriter<W>,
+    is_refused: bool,
+}
+
+impl<W: Write + Drop> Collected<W> {
+    ghost use Rattle.hj_net.specs.Collected.{handed_on, has_refused, waiting};
+
+    /// A writer with nothing collected. No later call takes memory.
+    pub fn new(alloc: Global, writer: W) -> Result<Collected<W>, Memory>
+        ensures handed_on { IfOk result (λ c. handed_on W.contents c ≡ W.contents writer) }
+        ensures waiting { IfOk result (λ c. waiting c ≡ []) }
+        ensures open { IfOk result (λ c. has_refused c ≡ false) }
+    {
+        let buffered = BufWriter::new(alloc, writer).map_err(|_| Memory)?;
+        Ok(Collected {
+            buffered,
+            is_refused: false,
+        })
+    }
+
+    fn check_open(&self) -> io::Result<()>
+        ensures { IsErr result ↔ IsTrue (has_refused self.now) }
+    {
+        if self.is_refused {
+            return Err(io::Error::from(ErrorKind::BrokenPipe));
+        }
+        Ok(())
+    }
+}
+
+impl<W: Write + Drop> Write for Collected<W> {
+    ghost use Rattle.hj_net.specs.Collected.{has_refused, taken, waiting};
+
+    ghost contents = { taken W.contents };
+
+    /// Takes a front of the piece.
+    fn write(&mut self, piece: &[u8]) -> io::Result<usize>
+        ensures bound { WritesAtMost result piece.now }
+        ensures bytes { WriteAppends (taken W.contents self.old) (taken W.contents self.new) result piece.now }
+        ensures kept { IsTrue (has_refused self.new) ↔ IsErr result }
+        ensures refused { IsTrue (has_refused self.old) → IsErr result × (self.new ≡ self.old) }
+    {
+        self.check_open()?;
+        let written = self.buffered.write(piece);
+        self.is_refused = written.is_err();
+        written
+    }
+
+    /// Hands on all that waits. Where nothing does, the writer behind isn't asked to write.
+    fn flush(&mut self) -> io::Result<()>
+        ensures bytes { Keeps (taken W.contents self.old) (taken W.contents self.new) }
+        ensures all { OnOk result (waiting self.new ≡ []) }
+        ensures kept { IsTrue (has_refused self.new) ↔ IsErr result }
+        ensures refused { IsTrue (has_refused self.old) → IsErr result × (self.new ≡ self.old) }
+    {
+        self.check_open()?;
+        let flushed = self.buffered.flush();
+        self.is_refused = flushed.is_err();
+        flushed
+    }
+}
+
+impl<W: Write + Drop> Drop for Collected<W> {
+    /// Hands on what waits, unless some was refused before.
+    fn drop(self) {
+        let Collected {
+            buffered,
+            is_refused,
+        } = self;
+        if is_refused {
+            let (_writer, _waiting) = buffered.into_parts();
+        }
+    }
+}

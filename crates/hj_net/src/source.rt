@@ -1,0 +1,87 @@
+ghost use Rattle.std.specs.Prelude.{◌≡◌, ◌<◌, ◌↔◌, length, string_bytes, IsSome, IfSome, None};
+ghost use Rattle.std.specs.Io.KnownBytes.{ReadConsumes};
+ghost use Rattle.hj_base.specs.Outside.{IsOpen, Starts, Reads};
+ghost use Rattle.hj_net.specs.Answers.{as_read};
+
+use hj_base::{Got, Opened};
+use std::io::Read;
+
+/// How far a role has come.
+#[derive(Drop)]
+enum Stage<S> {
+    Unbegun,
+    Opened {
+        name: String,
+        ended: bool,
+        stream: S,
+    },
+    Refused(String),
+}
+
+/// A role, and the stream that it reads.
+#[derive(Drop)]
+pub struct Source<S: Read + Drop> {
+    stage: Stage<S>,
+    faults: u64,
+}
+
+impl<S: Read + Drop> Source<S> {
+    ghost use Rattle.hj_net.specs.Roles.{new_role};
+    ghost use Rattle.hj_net.specs.Source.{remaining, role_of};
+
+    /// A role that is not begun.
+    pub fn new() -> Source<S>
+        ensures { role_of result ≡ new_role }
+    {
+        Source {
+            stage: Stage::Unbegun,
+            faults: 0,
+        }
+    }
+
+    /// Begins under a name with the stream that was opened for it, if one was.
+    pub fn begin(&mut self, name: String, opened: Option<S>) -> Opened
+        ensures starts { Starts result (string_bytes name) None (role_of self.old) (role_of self.new) }
+        ensures ready { (result ≡ Opened.Ready) ↔ IsSome opened }
+        ensures unread { IfSome opened (λ stream. remaining S.remaining self.new ≡ S.remaining stream) }
+    {
+        match opened {
+            Some(stream) => {
+                self.stage = Stage::Opened {
+                    name,
+                    ended: false,
+                    stream,
+                };
+                Opened::Ready
+            }
+            None => {
+                self.stage = Stage::Refused(name);
+                self.faults = self.faults.saturating_add(1);
+                Opened::Failed
+            }
+        }
+    }
+
+    /// Reads the next bytes of the stream into the front of a buffer.
+    pub fn read(&mut self, buf: &mut [u8]) -> Got
+        requires open { IsOpen (role_of self.old).phase }
+        requires room { 0 < length buf.old }
+        ensures reads { Reads result buf.new (role_of self.old) (role_of self.new) }
+        ensures bytes { ReadConsumes (remaining S.remaining self.old) (remaining S.remaining self.new) (as_read result) buf.new }
+    {
+        let Stage::Opened { stream, ended, .. } = &mut self.stage else {
+            unreachable!();
+        };
+        match stream.read(buf) {
+            Ok(0) => {
+                *ended = true;
+                Got::End
+            }
+            Ok(count) => Got::Bytes(count),
+            Err(_) => {
+                self.faults = self.faults.saturating_add(1);
+                Got::Failed
+            }
+        }
+    }
+}
