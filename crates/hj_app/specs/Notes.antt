@@ -20,7 +20,7 @@ use Rattle.hj_event.specs.declared.fault.RecordFault.{RecordFault}
 use Rattle.hj_event.specs.declared.fault.RecordFault.TheVariants as fault
 
 abbrev pub usage_note : List ℕ
-usage_note = codes "usage: equi W LEFT RIGHT | check QUERY\n"
+usage_note = codes "usage: equi W LEFT RIGHT | join QUERY LEFT RIGHT | check QUERY\n"
 
 abbrev pub side_name : Side → List ℕ
 side_name side.Left = codes "left"
@@ -39,6 +39,10 @@ sink_note = codes "sink\n"
 
 abbrev pub memory_note : List ℕ
 memory_note = codes "memory\n"
+
+-- There would be one event more than the limit.
+abbrev pub events_note : ℕ → List ℕ
+events_note limit = codes "events: limit " ++ decimal limit ++ codes "\n"
 
 abbrev pub piece_text : PieceFault → List ℕ
 piece_text piece.OpenQuote = codes "OpenQuote"

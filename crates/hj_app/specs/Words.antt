@@ -4,15 +4,20 @@ use Rattle.std.specs.Str.{all_ascii_digits, bytes_eq}
 use Rattle.std.specs.Str.Parse.{digits_value}
 use Rattle.std.specs.declared.option.Option.{Option}
 
--- `equi W LEFT RIGHT`: two streams joined on equal keys, over windows of W rows on each side.
-pub record Equi : Type 0 where
-  pub window : ℕ
+-- Where the query of a join comes from: it is that of `equi W`, or it is read under a name.
+pub data Source : Type 0 where
+  keyed : (rows : ℕ) → Source
+  named : (name : List ℕ) → Source
+
+-- the names of the two streams of a join
+pub record Names : Type 0 where
   pub left : List ℕ
   pub right : List ℕ
 
--- What the words order: a join on equal keys, or `check QUERY`, the canonical text of the query under this name.
+-- What the words order: `equi W LEFT RIGHT` and `join QUERY LEFT RIGHT` join two streams under a query, and `check QUERY`
+-- writes the canonical text of the query under this name.
 pub data Order : Type 0 where
-  join_equal : Equi → Order
+  join_streams : Source → Names → Order
   check_query : (name : List ℕ) → Order
 
 -- 1 to 20 decimal digits of a value from 1 to 1000000
@@ -28,9 +33,17 @@ is_name word = nat_lt 0 (length word) && not (slice_index word 0 == 45)
 abbrev pub equi_of : List (List ℕ) → Option Order
 equi_of (window ∷ left ∷ right ∷ []) =
     if is_window window && is_name left && is_name right
-    then Some (join_equal (record { window = digits_value 10 window; left = left; right = right }))
+    then Some (join_streams (keyed (digits_value 10 window)) (record { left = left; right = right }))
     else None
 equi_of words = None
+
+-- the words behind `join`
+abbrev pub join_of : List (List ℕ) → Option Order
+join_of (query ∷ left ∷ right ∷ []) =
+    if is_name query && is_name left && is_name right
+    then Some (join_streams (named query) (record { left = left; right = right }))
+    else None
+join_of words = None
 
 -- the words behind `check`
 abbrev pub check_of : List (List ℕ) → Option Order
@@ -41,6 +54,7 @@ check_of words = None
 abbrev pub order_of : List (List ℕ) → Option Order
 order_of (command ∷ words) =
     if bytes_eq command (codes "equi") then equi_of words
+    else if bytes_eq command (codes "join") then join_of words
     else if bytes_eq command (codes "check") then check_of words
     else None
 order_of [] = None

@@ -1,20 +1,18 @@
-//! Joins two streams of rows, and writes each pair once, in one order; and writes the canonical text of a query.
+//! Joins two streams of rows under a query, and writes each pair once, in one order; and writes the canonical text of a query.
 #![tactic(auto)]
 
 mod check;
-mod edge;
-mod join;
-mod line;
+mod keyed;
 mod notes;
-mod output;
+mod query;
 mod serve;
+mod streams;
 #[cfg(test)]
 mod tests;
-mod windows;
 mod words;
 
-use edge::{RealOutside, RealSink};
 use hj_base::OpenGate;
+use hj_net::{Output, RealOutside, RealSink};
 use notes::{Note, write_note};
 use serve::serve;
 use std::env;
@@ -23,19 +21,29 @@ use std::process::ExitCode;
 
 /// Serves the words after the program's name, over files, standard output and standard error.
 fn main(rt: HostRuntime) -> ExitCode {
-    let alloc = rt.alloc();
-    let mut out = RealSink::new(rt.stdout());
-    let mut notes = RealSink::new(rt.stderr());
-    let words = match words_after_name(&rt) {
-        Ok(words) => words,
+    let mut errors = RealSink::new(rt.stderr());
+    let status = match run(rt) {
+        Ok(status) => status,
         Err(note) => {
-            write_note(&mut notes, &note);
-            return ExitCode::from(note.status());
+            write_note(&mut errors, &note);
+            note.status()
         }
     };
-    let mut outside = RealOutside::new(rt, alloc);
-    let status = serve(alloc, &words, &mut outside, &mut out, &mut notes, &OpenGate);
     ExitCode::from(status)
+}
+
+/// Serves the words and hands on the output; the status, or a note that wasn't written yet.
+fn run(rt: HostRuntime) -> Result<u8, Note> {
+    let alloc = rt.alloc();
+    let words = words_after_name(&rt)?;
+    let output = Output::new(alloc, rt.stdout())?;
+    let mut out = RealSink::output(&output);
+    let mut notes = RealSink::errors(&output, rt.stderr());
+    let mut outside = RealOutside::new(rt, alloc, &output);
+    let status = serve(alloc, &words, &mut outside, &mut out, &mut notes, &OpenGate);
+    // Where output was refused, no note was written behind it.
+    output.hand_on().map_err(|_| Note::Sink)?;
+    Ok(status)
 }
 
 /// The words after the program's name, or the note that says why they couldn't be read.

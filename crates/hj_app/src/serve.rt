@@ -1,27 +1,38 @@
-ghost use Rattle.std.specs.Prelude.{◌≡◌, ◌≢◌, ◌≤◌, ◌↔◌, IfSome, None, map, string_bytes};
+ghost use Rattle.std.specs.Prelude.{◌≡◌, ◌≢◌, ◌≤◌, ◌⊎◌, ◌↔◌, IfSome, None, map, string_bytes};
 ghost use Rattle.hj_base.specs.declared.outside.Role.{Role};
 ghost use Rattle.hj_base.specs.Counts.{Rose};
 ghost use Rattle.hj_base.specs.Outside.{unbegun};
-ghost use Rattle.hj_app.specs.Orders.{equi_seen};
-ghost use Rattle.hj_app.specs.Words.{order_of};
-ghost use Rattle.hj_app.specs.Serve.{Begins, BeginsInOrder, FailsSource, IsDone, IsStatus, IsUnfailed, NoneFails, Notes, RefusesQuery, RefusesRecord, Writes, WritesFront};
-ghost use Rattle.hj_app.specs.Run.{end_of, RunsJoin};
+ghost use Rattle.hj_event.specs.Arrivals.{too_many};
+ghost use Rattle.hj_query.specs.declared.fault.QueryFault.{QueryFault};
+ghost use Rattle.hj_app.specs.Calls.{call};
+ghost use Rattle.hj_app.specs.Orders.{names_seen, source_seen};
+ghost use Rattle.hj_app.specs.Words.{join_streams, order_of};
+ghost use Rattle.hj_app.specs.Serve.{Begins, FailsSource, IsBad, IsDecided, IsDone, JoinsAll, Notes, RefusesQuery, Writes};
+ghost use Rattle.hj_app.specs.Streams.{NoneFails};
+ghost use Rattle.hj_app.specs.Run.{Runs, RunsOrder};
 ghost use Rattle.hj_app.specs.NoteText.{status_of_end, text_of_end};
 ghost use Rattle.hj_app.specs.NoteWritten.{NoteWritten};
 
 use crate::check::check;
-use crate::join::{Outcome, join};
 use crate::notes::{Note, write_note};
-use crate::words::{Equi, Order, read_words};
-use hj_base::{Gate, Opened, Outside, Role, Sink};
+use crate::query::query_of;
+use crate::streams::join_streams;
+use crate::words::{Names, Order, Source, read_words};
+use hj_base::{Gate, Outside, Sink};
 use std::alloc::Global;
+
+/// How many events a join numbers at most.
+const MOST_EVENTS: u64 = 4_294_967_295;
 
 /// Does what the words after the program's name say, and answers the exit status.
 ///
-/// `equi W LEFT RIGHT` joins two streams of rows, each a time and a key, on equal keys, over windows of the last W rows of
-/// each side. `check QUERY` writes the canonical text of a query. `outside` opens and reads the streams, `out` gets the joined
-/// lines or the text, and `notes` a line that says why a run ended otherwise than well. The statuses: 0 done, 1 the words are
-/// no order, 2 the text is no query, 3 a bad record, 4 a stream couldn't be opened or read, 5 `out` failed, 6 memory ran out.
+/// `join QUERY LEFT RIGHT` joins two streams of rows under the query whose text stands under the first name, and
+/// `equi W LEFT RIGHT` joins two streams of rows, each a time and a key, on equal keys, over windows of the last W rows of each
+/// side. `check QUERY` writes the canonical text of a query. `outside` opens and reads the streams, `out` gets the joined lines
+/// or the text, and `notes` a line that says why a run ended otherwise than well. The statuses: 0 done, 1 the words are no
+/// order, 2 the text is no query, 3 a bad record, 4 a stream couldn't be opened or read, 5 `out` failed, 6 memory ran out,
+/// 7 more events than 4,294,967,295. The lines are those of the pairs of the sequential sliding-window join (Kang, Naughton and
+/// Viglas, ICDE 2003) over the streams' numbered events, each once, in its order.
 pub fn serve<O: Outside, K: Sink, N: Sink, G: Gate + Sync>(
     alloc: Global,
     words: &[String],
@@ -32,84 +43,80 @@ pub fn serve<O: Outside, K: Sink, N: Sink, G: Gate + Sync>(
 ) -> u8
     requires { (of : Role) → (O.state outside.old of).phase ≡ unbegun }
 
-    // Each status comes with its cause.
-    ensures statuses { IsStatus result }
+    // Whatever the status, a front of the text of the streams' pairs was written; and all of it with status 0.
+    ensures front { Writes (order_of (map string_bytes words.now))
+        (call (O.under outside.old) (O.state outside.old) (O.state outside.new) (K.told out.old) (K.told out.new)) }
+    ensures done { result ≡ 0 → IfSome (order_of (map string_bytes words.now)) (λ order. IsDone order
+        (call (O.under outside.old) (O.state outside.old) (O.state outside.new) (K.told out.old) (K.told out.new))) }
+
+    // Each other status comes with its cause.
+    ensures statuses { result ≤ 7 }
     ensures usage { (result ≡ 1) ↔ (order_of (map string_bytes words.now) ≡ None) }
-    ensures done { result ≡ 0 → IfSome (order_of (map string_bytes words.now))
-        (λ order. IsDone order (O.under outside.old) (O.state outside.old) (O.state outside.new) (K.told out.old) (K.told out.new)) }
-    ensures bad_query { result ≡ 2 → IfSome (order_of (map string_bytes words.now))
-        (λ order. RefusesQuery order (O.under outside.old) (O.state outside.old) (O.state outside.new) (K.told out.old) (K.told out.new)) }
-    ensures bad_record { result ≡ 3 → IfSome (order_of (map string_bytes words.now))
-        (λ order. RefusesRecord order (O.under outside.old) (O.state outside.old) (O.state outside.new) (K.told out.old) (K.told out.new)) }
-    ensures failed_source { result ≡ 4 → IfSome (order_of (map string_bytes words.now))
-        (λ order. FailsSource order (O.state outside.old) (O.state outside.new) (K.told out.old) (K.told out.new)) }
+    ensures bad_query { result ≡ 2 → IfSome (order_of (map string_bytes words.now)) (λ order. (found : QueryFault) × RefusesQuery found order
+        (call (O.under outside.old) (O.state outside.old) (O.state outside.new) (K.told out.old) (K.told out.new))) }
+    ensures bad_record { result ≡ 3 → IfSome (order_of (map string_bytes words.now)) (λ order. JoinsAll IsBad order
+        (call (O.under outside.old) (O.state outside.old) (O.state outside.new) (K.told out.old) (K.told out.new))) }
+    ensures failed_source { result ≡ 4 → IfSome (order_of (map string_bytes words.now)) (λ order. (of : Role) × FailsSource of order
+        (call (O.under outside.old) (O.state outside.old) (O.state outside.new) (K.told out.old) (K.told out.new))) }
     ensures failed_sink { result ≡ 5 → Rose (K.faults out.old) (K.faults out.new) }
+    ensures events { result ≡ 7 → IfSome (order_of (map string_bytes words.now)) (λ order. JoinsAll (λ ending. ending ≡ too_many) order
+        (call (O.under outside.old) (O.state outside.old) (O.state outside.new) (K.told out.old) (K.told out.new))) }
 
-    // Where nothing failed, the run is done, or its input is refused, or memory ran out.
-    ensures complete { IfSome (order_of (map string_bytes words.now))
-        (λ order. NoneFails order (O.state outside.old) (O.state outside.new)
-        → ¬ (Rose (K.faults out.old) (K.faults out.new)) → IsUnfailed order result) }
+    // A fault of the sink is told as such.
+    ensures sink { result ≢ 5 → result ≢ 6 → K.faults out.new ≡ K.faults out.old }
 
-    // What was written, begun and noted.
-    ensures front { Writes (order_of (map string_bytes words.now)) (O.under outside.old) (O.state outside.old) (O.state outside.new) (K.told out.old) (K.told out.new) }
-    ensures roles { Begins (order_of (map string_bytes words.now)) (O.state outside.new) }
-    ensures note { Notes result (order_of (map string_bytes words.now)) (O.under outside.old) (O.state outside.old) (O.state outside.new)
+    // Where nothing failed, the query and the ending of the events decide the status, or memory ran out.
+    ensures complete { IfSome (order_of (map string_bytes words.now)) (λ order. NoneFails (O.state outside.old) (O.state outside.new)
+        → ¬ (Rose (K.faults out.old) (K.faults out.new)) → (result ≡ 6) ⊎ IsDecided result order
+        (call (O.under outside.old) (O.state outside.old) (O.state outside.new) (K.told out.old) (K.told out.new))) }
+
+    // What was begun and noted.
+    ensures roles { Begins (order_of (map string_bytes words.now))
+        (call (O.under outside.old) (O.state outside.old) (O.state outside.new) (K.told out.old) (K.told out.new)) }
+    ensures note { Notes result (order_of (map string_bytes words.now))
+        (call (O.under outside.old) (O.state outside.old) (O.state outside.new) (K.told out.old) (K.told out.new))
         (N.told notes.old) (N.told notes.new) (N.refusals notes.old) (N.refusals notes.new) }
 {
     // The gate is passed by the cores of a chain, of which this join has none.
     let _ = gate;
-    match read_words(words) {
-        Some(Order::Equi(order)) => {
-            let ended = join_named(alloc, order, outside, out);
-            report(notes, ended)
-        }
-        Some(Order::Check(name)) => {
-            let ended = check(alloc, name, outside, out);
-            report(notes, ended)
-        }
-        None => report(notes, Err(Note::Usage)),
-    }
+    let ended = run(alloc, words, outside, out);
+    report(notes, ended)
 }
 
-/// Opens both streams of an order, the left one first, and joins them.
-fn join_named<O: Outside, K: Sink>(
+/// Runs the order that the words spell, if they spell one.
+fn run<O: Outside, K: Sink>(
     alloc: Global,
-    order: Equi<'_>,
+    words: &[String],
     outside: &mut O,
     out: &mut K,
 ) -> Result<(), Note>
-    requires unbegun { (of : Role) → (O.state outside.old of).phase ≡ unbegun }
-    requires least { 1 ≤ order.window }
-    requires most { order.window ≤ 1000000 }
-    ensures ends { RunsJoin result (equi_seen order.entry) (O.under outside.old) (O.state outside.old) (O.state outside.new)
-        (K.told out.old) (K.told out.new) (K.faults out.old) (K.faults out.new) }
-    ensures front { WritesFront (equi_seen order.entry) (O.under outside.old) (O.state outside.old) (O.state outside.new) (K.told out.old) (K.told out.new) }
-    ensures roles { BeginsInOrder (equi_seen order.entry) (O.state outside.new) }
+    requires { (of : Role) → (O.state outside.old of).phase ≡ unbegun }
+    ensures { Runs result (order_of (map string_bytes words.now))
+        (call (O.under outside.old) (O.state outside.old) (O.state outside.new) (K.told out.old) (K.told out.new))
+        (K.faults out.old) (K.faults out.new) }
 {
-    match outside.start(Role::Left, order.left) {
-        Opened::Ready => (),
-        Opened::Failed => return Err(Note::Source(Role::Left)),
-        Opened::Memory => return Err(Note::Memory),
+    match read_words(words) {
+        Some(Order::Join(source, names)) => run_join(alloc, source, names, outside, out),
+        Some(Order::Check(name)) => check(alloc, name, outside, out),
+        None => Err(Note::Usage),
     }
-    match outside.start(Role::Right, order.right) {
-        Opened::Ready => (),
-        Opened::Failed => return Err(Note::Source(Role::Right)),
-        Opened::Memory => return Err(Note::Memory),
-    }
-    end_of(join(alloc, order.window, outside, out))
 }
 
-/// The ending of a run whose join ended so.
-fn end_of(outcome: Outcome) -> Result<(), Note>
-    ensures { result ≡ end_of outcome }
+/// Gets the query of a join, opens its streams, and joins them.
+fn run_join<O: Outside, K: Sink>(
+    alloc: Global,
+    source: Source<'_>,
+    names: Names<'_>,
+    outside: &mut O,
+    out: &mut K,
+) -> Result<(), Note>
+    requires { (of : Role) → (O.state outside.old of).phase ≡ unbegun }
+    ensures { RunsOrder result (join_streams (source_seen source.entry) (names_seen names.entry))
+        (call (O.under outside.old) (O.state outside.old) (O.state outside.new) (K.told out.old) (K.told out.new))
+        (K.faults out.old) (K.faults out.new) }
 {
-    match outcome {
-        Outcome::Done => Ok(()),
-        Outcome::BadRecord { side, at, fault } => Err(Note::BadRecord { side, at, fault }),
-        Outcome::SourceFault(side) => Err(Note::Source(side.role())),
-        Outcome::SinkFault => Err(Note::Sink),
-        Outcome::Memory => Err(Note::Memory),
-    }
+    let query = query_of(alloc, source, outside)?;
+    join_streams(alloc, &query, MOST_EVENTS, names, outside, out)
 }
 
 /// Writes the note of an ending, and answers its status.

@@ -1,346 +1,411 @@
-//! Whole runs through `serve`, over streams and sinks in memory.
-ghost use Rattle.std.specs.Prelude.{◌≤◌};
+//! Whole runs through `serve`, over streams and sinks in memory. A line of a table is a case: what fails, what stands under
+//! `query`, `left` and `right`, what is written, the notes, and the status, with `;` between them. `/` stands for a line feed
+//! and `~` for a carriage return, and a stream that is `?` isn't there. A query that begins with `on` is one of rows of two
+//! numbers over windows of ten rows.
+ghost use Rattle.std.specs.Prelude.{◌≡◌, ◌≤◌};
+ghost use Rattle.hj_base.specs.declared.outside.Role.{Role};
+ghost use Rattle.hj_base.specs.MemOutside.{role_at};
+ghost use Rattle.hj_base.specs.Outside.{unbegun};
 
 use crate::serve::serve;
-use hj_base::{MemOutside, MemSink, Memory, OpenGate};
+use hj_base::{MemOutside, MemSink, OpenGate, Role};
 use std::alloc::Global;
 use std::process::Abort;
-use std::test::Fail;
 
-/// A run: its words, with blanks between them, what stands under `query`, `left` and `right`, and what comes of it.
+const EQUI: &str = "equi 10 left right";
+
+const JOIN: &str = "join query left right";
+
+/// How much a read gives and a write takes.
+#[derive(Clone, Copy)]
+struct Chunks {
+    read: usize,
+    write: usize,
+    ghost some_read: { 1 ≤ read },
+    ghost some_write: { 1 ≤ write },
+}
+
+/// A line of a table.
 #[derive(Clone, Copy)]
 struct Case<'a> {
-    words: &'a str,
-    query: Option<&'a str>,
-    left: Option<&'a str>,
-    right: Option<&'a str>,
-    out: &'a str,
-    notes: &'a str,
-    status: u8,
-}
-
-/// What fails in a run at its second write.
-#[derive(Clone, Copy)]
-enum Failing {
-    Nothing,
-    Output,
-    Notes,
-}
-
-const USAGE: &str = "usage: equi W LEFT RIGHT | check QUERY\n";
-
-const TEN: &str = "equi 10 left right";
-
-/// A join of two streams that are there.
-fn join<'a>(
-    words: &'a str,
+    failing: &'a str,
+    query: &'a str,
     left: &'a str,
     right: &'a str,
     out: &'a str,
     notes: &'a str,
-    status: u8,
-) -> Case<'a> {
+    status: &'a str,
+}
+
+fn case_of<'a>(rt: &impl Abort, line: &'a str) -> Case<'a> {
+    let mut fields = line.split(';');
     Case {
-        words,
-        query: None,
-        left: Some(left),
-        right: Some(right),
-        out,
-        notes,
-        status,
+        failing: fields.next().expect(rt, "what fails"),
+        query: fields.next().expect(rt, "the query"),
+        left: fields.next().expect(rt, "the left stream"),
+        right: fields.next().expect(rt, "the right stream"),
+        out: fields.next().expect(rt, "the output"),
+        notes: fields.next().expect(rt, "the notes"),
+        status: fields.next().expect(rt, "the status"),
     }
 }
 
-/// A check of a query.
-fn check<'a>(query: &'a str, out: &'a str, notes: &'a str, status: u8) -> Case<'a> {
-    Case {
-        words: "check query",
-        query: Some(query),
-        left: None,
-        right: None,
-        out,
-        notes,
-        status,
+/// A text of a table, as it is meant.
+fn unescaped(rt: &impl Abort, alloc: Global, text: &str) -> String {
+    let mut whole = String::new(alloc);
+    if text.starts_with("on ") {
+        let columns = "left (ts int, k int) right (ts int, k int) ";
+        whole.push_str(columns).expect(rt, "memory");
+        let windows = "window left rows 10 window right rows 10 ";
+        whole.push_str(windows).expect(rt, "memory");
+    }
+    whole.push_str(text).expect(rt, "memory");
+    let lines = whole.replace(alloc, '/', "\n").expect(rt, "memory");
+    lines.replace(alloc, '~', "\r").expect(rt, "memory")
+}
+
+/// What fails in a run.
+#[derive(Clone, Copy)]
+enum Failing {
+    Start(Role),
+    Read(Role, u64),
+    Write(u64),
+    Note(u64),
+}
+
+/// `start ROLE`, `read ROLE N`, `write N` or `note N`.
+fn failing_of(rt: &impl Abort, text: &str) -> Failing {
+    let (kind, what) = text.split_once(' ').expect(rt, "a failure");
+    match kind {
+        "start" => Failing::Start(role_of(what)),
+        "read" => {
+            let (role, nth) = what.split_once(' ').expect(rt, "a read");
+            Failing::Read(role_of(role), number(rt, nth))
+        }
+        "write" => Failing::Write(number(rt, what)),
+        _ => Failing::Note(number(rt, what)),
     }
 }
 
-/// Words that are no order.
-fn refused(words: &str) -> Case<'_> {
-    Case {
-        words,
-        query: None,
-        left: None,
-        right: None,
-        out: "",
-        notes: USAGE,
-        status: 1,
+fn role_of(name: &str) -> Role {
+    match name {
+        "query" => Role::Query,
+        "left" => Role::Left,
+        _ => Role::Right,
     }
 }
 
-fn words_of(alloc: Global, text: &str) -> Result<Vec<String>, Fail> {
-    let mut words = Vec::new(alloc);
-    for word in text.split_whitespace() {
-        words.push(String::from_str(alloc, word)?)?;
-    }
-    Ok(words)
+fn number(rt: &impl Abort, text: &str) -> u64 {
+    text.parse::<u64>().expect(rt, "a number")
 }
 
-/// A sink that takes at most `chunk` bytes a write, and may fail at its second one.
-fn sink_of(alloc: Global, chunk: usize, fails: bool) -> Result<MemSink, Memory>
-    requires { 1 ≤ chunk }
-{
-    let mut sink = MemSink::new(alloc, chunk);
-    if fails {
-        sink.fail_write(2)?;
-    }
-    Ok(sink)
+/// The outside of a run.
+#[derive(Drop)]
+struct World {
+    outside: MemOutside,
+    out: MemSink,
+    notes: MemSink,
 }
 
-/// Runs a case with reads and writes of at most `chunk` bytes.
-fn run(
-    rt: &impl Abort,
-    alloc: Global,
-    case: &Case<'_>,
-    chunk: usize,
-    failing: Failing,
-) -> Result<(), Fail>
-    requires { 1 ≤ chunk }
-{
-    let mut outside = MemOutside::new(alloc, chunk);
-    if let Some(query) = case.query {
-        outside.add("query", query.as_bytes())?;
-    }
-    if let Some(left) = case.left {
-        outside.add("left", left.as_bytes())?;
-    }
-    if let Some(right) = case.right {
-        outside.add("right", right.as_bytes())?;
-    }
-    let name = case.words;
-    let words = words_of(alloc, name)?;
-    let mut out = sink_of(alloc, chunk, matches!(failing, Failing::Output))?;
-    let mut notes = sink_of(alloc, chunk, matches!(failing, Failing::Notes))?;
-    let status = serve(alloc, &words, &mut outside, &mut out, &mut notes, &OpenGate);
-    assert_eq!(rt; out.bytes(), case.out.as_bytes(), "output of {name}");
-    assert_eq!(rt; notes.bytes(), case.notes.as_bytes(), "notes of {name}");
-    assert_eq!(rt; status, case.status, "status of {name}");
-    Ok(())
-}
-
-fn run_all(rt: &impl Abort, alloc: Global, cases: &[Case<'_>]) -> Result<(), Fail> {
-    for case in cases {
-        for chunk in [1, 3, 4096] {
-            run(rt, alloc, case, chunk, Failing::Nothing)?;
+impl World {
+    fn new(alloc: Global, chunks: Chunks) -> World
+        ensures { (of : Role) → (role_at result.outside of).phase ≡ unbegun }
+    {
+        World {
+            outside: MemOutside::new(alloc, chunks.read),
+            out: MemSink::new(alloc, chunks.write),
+            notes: MemSink::new(alloc, chunks.write),
         }
     }
-    Ok(())
-}
 
-#[test]
-fn joins(rt: HostRuntime) -> Result<(), Fail> {
-    let cases = [
-        join(TEN, "1,7\n3,7\n", "2,7\n", "1,7,2,7\n3,7,2,7\n", "", 0),
-        join(TEN, "", "", "", "", 0),
-        join(
-            "equi 1 left right",
-            "1,7\n2,7\n",
-            "3,7\n",
-            "2,7,3,7\n",
-            "",
-            0,
-        ),
-        join(
-            "equi 2 left right",
-            "1,7\n2,7\n",
-            "3,7\n",
-            "1,7,3,7\n2,7,3,7\n",
-            "",
-            0,
-        ),
-        join(TEN, "5,1\n", "5,1\n", "5,1,5,1\n", "", 0),
-        join(TEN, "-2,+007\n", "-1,7", "-2,7,-1,7\n", "", 0),
-        join("equi 1000000 left right", "1,7\n", "2,8\n", "", "", 0),
-    ];
-    run_all(&rt, rt.alloc(), &cases)
-}
-
-#[test]
-fn bad_records_end_a_run(rt: HostRuntime) -> Result<(), Fail> {
-    let cases = [
-        join(
-            TEN,
-            "1,7\nx,7\n",
-            "2,7\n",
-            "",
-            "left record 2: NotNumber column 1\n",
-            3,
-        ),
-        join(
-            TEN,
-            "1,7\n2,\"7",
-            "0,7\n",
-            "1,7,0,7\n",
-            "left record 2: OpenQuote\n",
-            3,
-        ),
-        join(
-            TEN,
-            "",
-            "5,7\n4,7\n",
-            "",
-            "right record 2: TimeBack 5 4\n",
-            3,
-        ),
-        join(
-            TEN,
-            "1,7\n\n2,7,9\n",
-            "",
-            "",
-            "left record 2: FieldCount 3\n",
-            3,
-        ),
-        join(
-            TEN,
-            "1,7\n",
-            "0,9223372036854775808\n",
-            "",
-            "right record 1: NumberRange column 2\n",
-            3,
-        ),
-        join(TEN, "\u{feff}\"1\",7\r\n", "2,\"7\"", "1,7,2,7\n", "", 0),
-        join(TEN, "5,7\n5,7\n", "5,7\n", "5,7,5,7\n5,7,5,7\n", "", 0),
-    ];
-    run_all(&rt, rt.alloc(), &cases)
-}
-
-#[test]
-fn missing_streams_and_faulty_words(rt: HostRuntime) -> Result<(), Fail> {
-    let cases = [
-        Case {
-            right: None,
-            notes: "source: right\n",
-            status: 4,
-            ..join(TEN, "1,7\n", "", "", "", 0)
-        },
-        Case {
-            left: None,
-            notes: "source: left\n",
-            status: 4,
-            ..join(TEN, "", "1,7\n", "", "", 0)
-        },
-        refused(""),
-        refused("equi 0 a b"),
-        refused("equi 1000001 a b"),
-        refused("equi 1 a"),
-        refused("equi -1 a b"),
-        refused("equi 1 -a b"),
-        refused("equi 000000000000000000001 a b"),
-        refused("equi 99999999999999999999 a b"),
-        refused("join 1 a b"),
-        refused("check"),
-        refused("check a b"),
-        refused("check -a"),
-        refused("check --cores=2 a"),
-    ];
-    run_all(&rt, rt.alloc(), &cases)
-}
-
-#[test]
-fn a_failing_output_ends_a_run(rt: HostRuntime) -> Result<(), Fail> {
-    let case = join(TEN, "1,7\n3,7\n", "2,7\n", "1,7,2,7\n", "sink\n", 5);
-    run(&rt, rt.alloc(), &case, 100, Failing::Output)
-}
-
-#[test]
-fn failing_notes_change_nothing_else(rt: HostRuntime) -> Result<(), Fail> {
-    let case = join(TEN, "1,7\n3,x\n", "0,7\n", "1,7,0,7\n", "left", 3);
-    run(&rt, rt.alloc(), &case, 100, Failing::Notes)
-}
-
-#[test]
-fn checks_queries(rt: HostRuntime) -> Result<(), Fail> {
-    let cases = [
-        check(
-            "left (ts int, k int) right (ts int, k int) window left rows 1 window right rows 1 on (l.k=r.k)",
-            "left (ts int, k int)\nright (ts int, k int)\nwindow left rows 1\nwindow right rows 1\non l.k = r.k\n",
-            "",
-            0,
-        ),
-        check(
-            "left (ts int, k int) right (ts int, k int) window left rows 1 window right time 5000 on l.k=r.k and not(l.k<3 or r.k>-1)",
-            "left (ts int, k int)\nright (ts int, k int)\nwindow left rows 1\nwindow right time 5000\non l.k = r.k and not (l.k < 3 or r.k > -1)\n",
-            "",
-            0,
-        ),
-        check(
-            "left (ts int, k int) right (ts int, k int) window left rows 1 window right rows 1 on l.k + 1 = r.k",
-            "left (ts int, k int)\nright (ts int, k int)\nwindow left rows 1\nwindow right rows 1\non l.k + 1 = r.k\n",
-            "",
-            0,
-        ),
-    ];
-    run_all(&rt, rt.alloc(), &cases)
-}
-
-#[test]
-fn refuses_queries(rt: HostRuntime) -> Result<(), Fail> {
-    let cases = [
-        check("", "", "query: Expected LeftWord at 0\n", 2),
-        check(
-            "left (ts int, ts int)",
-            "",
-            "query: DoubleColumn at 14\n",
-            2,
-        ),
-        check("left (k int)", "", "query: FirstColumn at 6\n", 2),
-        check("12ab", "", "query: BadByte at 2\n", 2),
-        check(
-            "left (ts int, k int) right (ts int, k int) window left rows 1 window right rows 1 on l.k = r.z",
-            "",
-            "query: UnknownColumn at 93\n",
-            2,
-        ),
-        check(
-            "left (ts int, k int) right (ts int, k int) window left rows 1 window right rows 1 on l.k = 'a'",
-            "",
-            "query: Types at 85\n",
-            2,
-        ),
-        Case {
-            query: None,
-            ..check("", "", "source: query\n", 4)
-        },
-    ];
-    run_all(&rt, rt.alloc(), &cases)
-}
-
-/// Checks a query of so many blanks.
-fn check_blanks(rt: &impl Abort, alloc: Global, count: usize, notes: &str) -> Result<(), Fail> {
-    let blanks = " ".repeat(alloc, count)?;
-    let case = check(blanks.as_str(), "", notes, 2);
-    run(rt, alloc, &case, 1000, Failing::Nothing)
-}
-
-#[test]
-fn bounds_the_text_of_a_query(rt: HostRuntime) -> Result<(), Fail> {
-    let table = [
-        (65_536, "query: Expected LeftWord at 65536\n"),
-        (65_537, "query: TooLong\n"),
-        (70_000, "query: TooLong\n"),
-    ];
-    for (count, notes) in table {
-        check_blanks(&rt, rt.alloc(), count, notes)?;
+    /// Puts a text under a name.
+    fn put(&mut self, rt: &impl Abort, alloc: Global, name: &str, text: &str)
+        requires { (of : Role) → (role_at self.old.outside of).phase ≡ unbegun }
+        ensures { (of : Role) → (role_at self.new.outside of).phase ≡ unbegun }
+    {
+        if text != "?" {
+            let text = unescaped(rt, alloc, text);
+            self.outside.add(name, text.as_bytes()).expect(rt, "memory");
+        }
     }
-    Ok(())
+
+    /// Has a start, a read or a write fail.
+    fn fail(&mut self, rt: &impl Abort, failing: Failing)
+        requires { (of : Role) → (role_at self.old.outside of).phase ≡ unbegun }
+        ensures { (of : Role) → (role_at self.new.outside of).phase ≡ unbegun }
+    {
+        match failing {
+            Failing::Start(role) => self.outside.fail_start(role).expect(rt, "memory"),
+            Failing::Read(role, nth) => self
+                .outside
+                .fail_read(role, nth.clamp(1, 9))
+                .expect(rt, "memory"),
+            Failing::Write(nth) => self.out.fail_write(nth.clamp(1, 9)).expect(rt, "memory"),
+            Failing::Note(nth) => self.notes.fail_write(nth.clamp(1, 9)).expect(rt, "memory"),
+        }
+    }
+
+    /// Serves words, and answers the status.
+    fn serve(&mut self, alloc: Global, words: &[String]) -> u8
+        requires { (of : Role) → (role_at self.old.outside of).phase ≡ unbegun }
+    {
+        serve(
+            alloc,
+            words,
+            &mut self.outside,
+            &mut self.out,
+            &mut self.notes,
+            &OpenGate,
+        )
+    }
+}
+
+/// The outside of a case.
+fn world_of(rt: &impl Abort, alloc: Global, case: Case<'_>, chunks: Chunks) -> World
+    ensures { (of : Role) → (role_at result.outside of).phase ≡ unbegun }
+{
+    let mut world = World::new(alloc, chunks);
+    world.put(rt, alloc, "query", case.query);
+    world.put(rt, alloc, "left", case.left);
+    world.put(rt, alloc, "right", case.right);
+    for what in case.failing.split_terminator(',') {
+        world.fail(rt, failing_of(rt, what));
+    }
+    world
+}
+
+fn words_of(rt: &impl Abort, alloc: Global, text: &str) -> Vec<String> {
+    let mut words = Vec::new(alloc);
+    for word in text.split_whitespace() {
+        let word = String::from_str(alloc, word).expect(rt, "memory");
+        words.push(word).expect(rt, "memory");
+    }
+    words
+}
+
+/// Compares bytes with a text of a table.
+fn assert_written(rt: &impl Abort, alloc: Global, found: &[u8], wanted: &str, line: &str) {
+    let wanted = unescaped(rt, alloc, wanted);
+    assert!(rt; found == wanted.as_bytes(), "at {line}");
+}
+
+/// Serves the words of a command over the outside of a case, and compares what comes of it.
+fn run(rt: &impl Abort, alloc: Global, command: &str, line: &str, chunks: Chunks) {
+    let case = case_of(rt, line);
+    let words = words_of(rt, alloc, command);
+    let mut world = world_of(rt, alloc, case, chunks);
+    let status = world.serve(alloc, &words);
+    assert_written(rt, alloc, world.out.bytes(), case.out, line);
+    assert_written(rt, alloc, world.notes.bytes(), case.notes, line);
+    assert_eq!(rt; u64::from(status), number(rt, case.status), "at {line}");
+}
+
+/// Runs each case of a table by some commands, in small portions and in large ones.
+fn run_all(rt: &impl Abort, alloc: Global, commands: &[&str], table: &str) {
+    for case in table.lines() {
+        for command in commands {
+            for size in [1, 3, 4_096] {
+                let chunks = Chunks {
+                    read: size,
+                    write: size,
+                };
+                run(rt, alloc, command, case, chunks);
+            }
+        }
+    }
+}
+
+/// Runs each case of a table by some commands, with reads of 4 bytes and writes of 100.
+fn run_once(rt: &impl Abort, alloc: Global, commands: &[&str], table: &str) {
+    for case in table.lines() {
+        for command in commands {
+            let chunks = Chunks {
+                read: 4,
+                write: 100,
+            };
+            run(rt, alloc, command, case, chunks);
+        }
+    }
+}
+
+/// Joins on equal keys.
+const KEYED: &str = "\
+;on l.k = r.k;1,7/3,7/;2,7/;1,7,2,7/3,7,2,7/;;0
+;on l.k = r.k;;;;;0
+;on l.k = r.k;5,1/;5,1/;5,1,5,1/;;0
+;on l.k = r.k;-2,+007/;-1,7;-2,7,-1,7/;;0
+;on l.k = r.k;1,7/x,7/;2,7/;;left record 2: NotNumber column 1/;3
+;on l.k = r.k;1,7/2,\"7;0,7/;1,7,0,7/;left record 2: OpenQuote/;3
+;on l.k = r.k;;5,7/4,7/;;right record 2: TimeBack 5 4/;3
+;on l.k = r.k;1,7//2,7,9/;;;left record 2: FieldCount 3/;3
+;on l.k = r.k;1,7/;0,9223372036854775808;;right record 1: NumberRange column 2/;3
+;on l.k = r.k;1,7/;?;;source: right/;4
+;on l.k = r.k;?;1,7/;;source: left/;4";
+
+#[test]
+fn joins_on_equal_keys(rt: HostRuntime) {
+    run_all(&rt, rt.alloc(), &[EQUI, JOIN], KEYED);
 }
 
 #[test]
-fn a_failing_output_ends_a_check(rt: HostRuntime) -> Result<(), Fail> {
-    let case = check(
-        "left(ts int)right(ts int)window left rows 1 window right rows 1 on l.ts=r.ts",
-        "left (ts ",
-        "sink\n",
-        5,
+fn expires_rows_by_the_window(rt: HostRuntime) {
+    run_all(
+        &rt,
+        rt.alloc(),
+        &["equi 1 left right"],
+        ";?;1,7/2,7/;3,7/;2,7,3,7/;;0",
     );
-    run(&rt, rt.alloc(), &case, 9, Failing::Output)
+    run_all(
+        &rt,
+        rt.alloc(),
+        &["equi 2 left right"],
+        ";?;1,7/2,7/;3,7/;1,7,3,7/2,7,3,7/;;0",
+    );
+}
+
+/// Joins under queries of their own.
+const QUERIES: &str = "\
+;left (ts int, k int) right (ts int, k int) window left time 5 window right rows 10 on l.k = r.k;0,7/;4,7/5,7/;0,7,4,7/;;0
+;on l.k within 10 of r.k;1,-9223372036854775808/;2,9223372036854775807/;;;0
+;left (ts int, name text) right (ts int, name text) window left rows 10 window right rows 10 on l.name = r.name;\
+1,\"a,b\"~/2,\"say \"\"x\"\"\";3,\"a,b\"~/4,\"say \"\"x\"\"\";1,\"a,b\",3,\"a,b\"/2,\"say \"\"x\"\"\",4,\"say \"\"x\"\"\"/;;0
+;left (ts int, t text) right (ts int, t text) window left rows 10 window right rows 10 on l.t = r.t;1,a\"b\"/;;;;0
+;left (ts int, t text) right (ts int, t text) window left rows 10 window right rows 10 on l.t = r.t;1,a\"b/;;;left record 1: OpenQuote/;3
+;left (ts int, t text) right (ts int, t text) window left rows 10 window right rows 10 on l.t = r.t;1,a~2,b/;;;left record 1: NotOneRecord/;3
+;left (ts int, t text) right (ts int, t text) window left rows 10 window right rows 10 on l.t = r.t;\u{feff}1,a/;2,a/;1,a,2,a/;;0
+;left (ts int, sym text, px int, qty int) right (ts int, sym text, bid int, size int) window left rows 100 window right time 5000 \
+on l.sym = r.sym and l.px within 10 of r.bid and not l.qty < r.size;\
+1000,AB,100,50/1500,CD,200,10/2000,AB,105,30/3000,AB,120,80/4000,CD,195,40/6000,AB,98,60/7000,CD,207,25/9000,AB,111,90/;\
+1000,AB,101,40/1200,CD,205,20/2500,AB,108,30/3500,CD,190,40/5000,AB,110,70/6000,AB,99,60/7500,CD,200,20/9000,AB,115,50/;\
+1000,AB,100,50,1000,AB,101,40/1000,AB,100,50,2500,AB,108,30/2000,AB,105,30,2500,AB,108,30/4000,CD,195,40,1200,CD,205,20/\
+4000,CD,195,40,3500,CD,190,40/3000,AB,120,80,5000,AB,110,70/6000,AB,98,60,2500,AB,108,30/6000,AB,98,60,6000,AB,99,60/\
+4000,CD,195,40,7500,CD,200,20/7000,CD,207,25,7500,CD,200,20/9000,AB,111,90,5000,AB,110,70/3000,AB,120,80,9000,AB,115,50/\
+9000,AB,111,90,9000,AB,115,50/;;0
+;12ab;1,7/;1,7/;;query: BadByte at 2/;2
+;left (ts int, ts int);1,7/;1,7/;;query: DoubleColumn at 14/;2
+;?;1,7/;1,7/;;source: query/;4";
+
+#[test]
+fn joins_under_queries(rt: HostRuntime) {
+    run_all(&rt, rt.alloc(), &[JOIN], QUERIES);
+}
+
+/// Starts, reads and writes that fail.
+const FAILURES: &str = "\
+start left;on l.k = r.k;1,7/3,7/;2,7/;;source: left/;4
+start right;on l.k = r.k;1,7/3,7/;2,7/;;source: right/;4
+read left 1;on l.k = r.k;1,7/3,7/;2,7/;;source: left/;4
+read left 2;on l.k = r.k;1,7/3,7/;2,7/;;source: left/;4
+read left 3;on l.k = r.k;1,7/3,7/;2,7/;1,7,2,7/3,7,2,7/;source: left/;4
+read right 1;on l.k = r.k;1,7/3,7/;2,7/;;source: right/;4
+read right 2;on l.k = r.k;1,7/3,7/;2,7/;1,7,2,7/;source: right/;4
+write 1;on l.k = r.k;1,7/3,7/;2,7/;;sink/;5
+write 2;on l.k = r.k;1,7/3,7/;2,7/;1,7,2,7/;sink/;5
+write 2,read left 3;on l.k = r.k;1,7/3,7/;2,7/;1,7,2,7/;sink/;5
+write 3;on l.k = r.k;1,7/3,7/;2,7/;1,7,2,7/3,7,2,7/;;0
+note 1,read left 3;on l.k = r.k;1,7/3,7/;2,7/;1,7,2,7/3,7,2,7/;;4
+;on l.k = r.k;;2,7/;;;0
+;on l.k = r.k;1;2,7/;;left record 1: FieldCount 1/;3
+;on l.k = r.k;1,;2,7/;;left record 1: NotNumber column 2/;3
+;on l.k = r.k;1,7;2,7/;1,7,2,7/;;0
+;on l.k = r.k;1,7/;2,7/;1,7,2,7/;;0
+;on l.k = r.k;1,7/3;2,7/;;left record 2: FieldCount 1/;3
+;on l.k = r.k;1,7/3,;2,7/;;left record 2: NotNumber column 2/;3
+;on l.k = r.k;1,7/3,7;2,7/;1,7,2,7/3,7,2,7/;;0";
+
+#[test]
+fn ends_where_the_outside_fails(rt: HostRuntime) {
+    run_once(&rt, rt.alloc(), &[EQUI, JOIN], FAILURES);
+    let query = "start query;on l.k = r.k;1,7/3,7/;2,7/;;source: query/;4";
+    run_once(&rt, rt.alloc(), &[JOIN], query);
+}
+
+/// Records as long as may be, and longer ones; `LONG` stands for 65,533 letters.
+const RECORDS: &str = "\
+;left (ts int, t text) right (ts int, t text) window left rows 10 window right rows 10 on l.t = r.t;1,LONG/;;;;0
+;left (ts int, t text) right (ts int, t text) window left rows 10 window right rows 10 on l.t = r.t;1,xLONG/;;;\
+left record 1: TooLong/;3";
+
+#[test]
+fn bounds_a_record(rt: HostRuntime) {
+    let long = "x".repeat(rt.alloc(), 65_533).expect(&rt, "memory");
+    let records = RECORDS.replace(rt.alloc(), "LONG", &long);
+    run_all(&rt, rt.alloc(), &[JOIN], &records.expect(&rt, "memory"));
+}
+
+/// Queries that are checked.
+const CHECKS: &str = "\
+;left (ts int, k int) right (ts int, k int) window left rows 1 window right rows 1 on (l.k=r.k);?;?;\
+left (ts int, k int)/right (ts int, k int)/window left rows 1/window right rows 1/on l.k = r.k/;;0
+;left (ts int, k int) right (ts int, k int) window left rows 1 window right rows 1 on l.k + 1 = r.k;?;?;\
+left (ts int, k int)/right (ts int, k int)/window left rows 1/window right rows 1/on l.k + 1 = r.k/;;0
+;left (ts int, k int) right (ts int, k int) window left rows 1 window right rows 1 on l.k = r.z;?;?;;\
+query: UnknownColumn at 93/;2
+;left (ts int, k int) right (ts int, k int) window left rows 1 window right rows 1 on l.k = 'a';?;?;;\
+query: Types at 85/;2
+;left (ts int, ts int);?;?;;query: DoubleColumn at 14/;2
+;left (k int);?;?;;query: FirstColumn at 6/;2
+;12ab;?;?;;query: BadByte at 2/;2
+;?;?;?;;source: query/;4
+read query 1;12ab;?;?;;source: query/;4";
+
+/// What a query has to go on with, and faults of its tokens.
+const WANTED: &str = "\
+;;?;?;;query: Expected LeftWord at 0/;2
+;left;?;?;;query: Expected OpenParen at 4/;2
+;left (;?;?;;query: Expected ColumnName at 6/;2
+;left (ts;?;?;;query: Expected ColumnKind at 8/;2
+;left (ts int;?;?;;query: Expected CommaOrClose at 12/;2
+;left (ts int);?;?;;query: Expected RightWord at 13/;2
+;left (ts int) right (ts int);?;?;;query: Expected WindowWord at 28/;2
+;left (ts int) right (ts int) window;?;?;;query: Expected WindowSide at 35/;2
+;left (ts int) right (ts int) window left;?;?;;query: Expected WindowKind at 40/;2
+;left (ts int) right (ts int) window left rows;?;?;;query: Expected Number at 45/;2
+;left (ts int) right (ts int) window left rows 1 window right rows 1;?;?;;query: Expected OnWord at 67/;2
+;left (ts int) right (ts int) window left rows 1 window right rows 1 on;?;?;;query: Expected Term at 70/;2
+;left (ts int) right (ts int) window left rows 1 window right rows 1 on l;?;?;;query: Expected Dot at 72/;2
+;left (ts int) right (ts int) window left rows 1 window right rows 1 on l.ts;?;?;;query: Expected Comparison at 75/;2
+;left (ts int) right (ts int) window left rows 1 window right rows 1 on l.ts within 1;?;?;;\
+query: Expected OfWord at 84/;2
+;left (ts int) right (ts int) window left rows 1 window right rows 1 on (l.ts = 1;?;?;;\
+query: Expected CloseParen at 80/;2
+;left (ts int) right (ts int) window left rows 1 window right rows 1 on l.ts = 1 );?;?;;query: Expected End at 80/;2
+;left (ts int) right (ts int) window left rows 1 window right rows 1 on l.ts = 'a;?;?;;query: OpenText at 78/;2
+;left (ts int) right (ts int) window left rows 0;?;?;;query: WindowRange at 46/;2
+;99999999999999999999;?;?;;query: NumberRange at 0/;2";
+
+#[test]
+fn checks_queries(rt: HostRuntime) {
+    run_all(&rt, rt.alloc(), &["check query"], CHECKS);
+    run_once(&rt, rt.alloc(), &["check query"], WANTED);
+}
+
+/// Texts as long as a query may be, and longer ones; `LONG` stands for 65,536 blanks.
+const TEXTS: &str = "\
+;LONG;;;;query: Expected LeftWord at 65536/;2
+;LONG ;;;;query: TooLong/;2";
+
+#[test]
+fn bounds_the_text_of_a_query(rt: HostRuntime) {
+    let long = " ".repeat(rt.alloc(), 65_536).expect(&rt, "memory");
+    let texts = TEXTS
+        .replace(rt.alloc(), "LONG", &long)
+        .expect(&rt, "memory");
+    run_once(&rt, rt.alloc(), &["check query", JOIN], &texts);
+}
+
+#[test]
+fn refuses_words(rt: HostRuntime) {
+    let refused = [
+        "",
+        "equi 0 left right",
+        "equi 1 left",
+        "join query left",
+        "join --cores=2 query left right",
+        "check -a",
+        "gen 1 1 1 1",
+    ];
+    let usage =
+        ";12ab;1,7/;1,7/;;usage: equi W LEFT RIGHT | join QUERY LEFT RIGHT | check QUERY/;1";
+    run_once(&rt, rt.alloc(), &refused, usage);
 }

@@ -2,25 +2,32 @@ ghost use Rattle.std.specs.Prelude.{◌≡◌, ◌≤◌, List, ℕ, map, string
 ghost use Rattle.std.specs.Option.{option_map};
 ghost use Rattle.std.specs.Str.{all_ascii_digits};
 ghost use Rattle.std.specs.Str.Parse.{digits_value};
-ghost use Rattle.hj_app.specs.Orders.{order_seen};
-ghost use Rattle.hj_app.specs.Words.{check_of, equi_of, order_of, is_window, is_name};
+ghost use Rattle.hj_app.specs.Orders.{order_seen, rows_seen};
+ghost use Rattle.hj_app.specs.Words.{check_of, equi_of, join_of, order_of, is_window, is_name};
 
-/// The order `equi W LEFT RIGHT`: two streams joined on equal keys, over windows of so many rows on each side.
+use crate::keyed::Keyed;
+
+/// Where the query of a join comes from.
 #[derive(Clone, Copy, Debug)]
-pub struct Equi<'a> {
-    /// How many rows of a side are live, from 1 to 1,000,000.
-    pub window: u32,
-    /// The name of the left stream.
+pub enum Source<'a> {
+    /// `equi W`: rows of equal keys, over windows of so many rows.
+    Keyed(Keyed),
+    /// `join QUERY`: the text under this name.
+    Named(&'a str),
+}
+
+/// The names of the two streams of a join.
+#[derive(Clone, Copy, Debug)]
+pub struct Names<'a> {
     pub left: &'a str,
-    /// The name of the right stream.
     pub right: &'a str,
 }
 
 /// What the words order.
 #[derive(Clone, Copy, Debug)]
 pub enum Order<'a> {
-    /// `equi W LEFT RIGHT`.
-    Equi(Equi<'a>),
+    /// `equi W LEFT RIGHT` or `join QUERY LEFT RIGHT`: the join of two streams under a query.
+    Join(Source<'a>, Names<'a>),
     /// `check QUERY`: the canonical text of the query under this name.
     Check(&'a str),
 }
@@ -38,6 +45,7 @@ pub fn read_words(words: &[String]) -> Option<Order<'_>>
     };
     match command.as_str() {
         "equi" => read_equi(rest),
+        "join" => read_join(rest),
         "check" => read_check(rest),
         _ => None,
     }
@@ -54,12 +62,22 @@ fn read_equi(words: &[String]) -> Option<Order<'_>>
     if !is_name(left) || !is_name(right) {
         return None;
     }
-    let window = read_window(window.as_str())?;
-    Some(Order::Equi(Equi {
-        window,
-        left,
-        right,
-    }))
+    let keyed = read_window(window.as_str())?;
+    Some(Order::Join(Source::Keyed(keyed), Names { left, right }))
+}
+
+/// The order of the words behind `join`.
+fn read_join(words: &[String]) -> Option<Order<'_>>
+    ensures { option_map order_seen result ≡ join_of (map string_bytes words.now) }
+{
+    let [query, left, right] = words else {
+        return None;
+    };
+    let (query, left, right) = (query.as_str(), left.as_str(), right.as_str());
+    if !is_name(query) || !is_name(left) || !is_name(right) {
+        return None;
+    }
+    Some(Order::Join(Source::Named(query), Names { left, right }))
 }
 
 /// The order of the words behind `check`.
@@ -74,8 +92,8 @@ fn read_check(words: &[String]) -> Option<Order<'_>>
 }
 
 /// A window: 1 to 20 digits, of a value from 1 to 1,000,000.
-fn read_window(word: &str) -> Option<u32>
-    ensures { result ≡ (if is_window word.now then Some (digits_value 10 word.now) else None) }
+fn read_window(word: &str) -> Option<Keyed>
+    ensures { option_map rows_seen result ≡ (if is_window word.now then Some (digits_value 10 word.now) else None) }
 {
     if word.is_empty() || word.len() > MOST_DIGITS || !are_digits(word) {
         return None;
@@ -84,7 +102,7 @@ fn read_window(word: &str) -> Option<u32>
     if rows < 1 || rows > MOST_ROWS {
         return None;
     }
-    Some(rows)
+    Some(Keyed { rows })
 }
 
 /// Whether each byte is a digit 0 to 9.
@@ -107,70 +125,54 @@ mod tests {
     use std::alloc::Global;
     use std::test::Fail;
 
-    /// The words of a line, with one blank between any two.
-    fn words_of(alloc: Global, line: &str) -> Result<Vec<String>, Fail> {
-        let mut words = Vec::new(alloc);
-        for word in line.split(' ') {
-            words.push(String::from_str(alloc, word)?)?;
+    /// What is left of an order when its names are left out.
+    fn kind(order: Option<Order<'_>>) -> &'static str {
+        match order {
+            Some(Order::Join(Source::Keyed(_), _)) => "equi",
+            Some(Order::Join(Source::Named(_), _)) => "join",
+            Some(Order::Check(_)) => "check",
+            None => "none",
         }
-        Ok(words)
     }
 
-    #[test]
-    fn reads_windows(rt: HostRuntime) -> Result<(), Fail> {
-        let table = [
-            ("equi 10 left.csv right.csv", Some(10)),
-            ("equi 1 a b", Some(1)),
-            ("equi 1000000 a b", Some(1_000_000)),
-            ("equi 00000000000000000010 a b", Some(10)),
-            ("equi 000000000000000000010 a b", None),
-            ("equi 99999999999999999999 a b", None),
-            ("equi 1000001 a b", None),
-            ("equi 0 a b", None),
-            ("equi +1 a b", None),
-            ("equi -1 a b", None),
-            ("equi  a b", None),
-            ("equi 1 - b", None),
-            ("equi 1 a -b", None),
-            ("equi 1 a- b-", Some(1)),
-            ("equi 1  b", None),
-            ("equi 1 a ", None),
-            ("equi 1 a", None),
-            ("equi 1 a b c", None),
-            ("join 1 a b", None),
-            ("Equi 1 a b", None),
-            ("", None),
-        ];
-        for (line, window) in table {
-            let words = words_of(rt.alloc(), line)?;
-            let found = match read_words(&words) {
-                Some(Order::Equi(order)) => Some(order.window),
-                _ => None,
-            };
-            assert_eq!(rt; found, window, "at {line}");
-        }
-        Ok(())
-    }
+    /// Each line: the order that the words behind it spell.
+    const LINES: &str = "\
+equi equi 10 left.csv right.csv
+equi equi 1 a- b-
+equi equi 1000000 a b
+equi equi 00000000000000000010 a b
+none equi 000000000000000000010 a b
+none equi 99999999999999999999 a b
+none equi 1000001 a b
+none equi 0 a b
+none equi +1 a b
+none equi -1 a b
+none equi  a b
+none equi 1 - b
+none equi 1 a -b
+none equi 1  b
+none equi 1 a
+none equi 1 a b c
+join join q a b
+none join -q a b
+none join q a
+none join --cores=2 q a b
+check check a-
+none check -a
+none check
+none check a b
+none Equi 1 a b
+none ";
 
     #[test]
-    fn reads_names_of_queries(rt: HostRuntime) -> Result<(), Fail> {
-        let table = [
-            ("check a", Some("a")),
-            ("check a-", Some("a-")),
-            ("check -a", None),
-            ("check -", None),
-            ("check ", None),
-            ("check", None),
-            ("check a b", None),
-            ("Check a", None),
-        ];
-        for (line, name) in table {
-            let words = words_of(rt.alloc(), line)?;
-            let found = match read_words(&words) {
-                Some(Order::Check(name)) => Some(name),
-                _ => None,
-            };
-            assert_eq!(rt; found, name, "at {line}");
+    fn reads_words(rt: HostRuntime) -> Result<(), Fail> {
+        for line in LINES.lines() {
+            let mut words = Vec::new(rt.alloc());
+            for word in line.split(' ').skip(1) {
+                words.push(String::from_str(rt.alloc(), word)?)?;
+            }
+            let kind = kind(read_words(&words));
+            assert!(rt; line.starts_with(kind), "at {line}");
         }
         Ok(())
     }

@@ -1,27 +1,44 @@
-use Rattle.std.proofs.Common.{refl, sym, ◌∙◌}
-use Rattle.hj_app.specs.Notes.{usage_note}
-use Rattle.hj_app.specs.Serve.{usage}
-use Rattle.hj_app.proofs.Noting.{caused_check, caused_join, note_caused, notes_of, record_caused, unfailed_caused}
+use Rattle.hj_app.specs.Calls.{call}
+use Rattle.hj_app.specs.Words.{order_of}
+use Rattle.std.specs.Prelude.{map, string_bytes}
+use Rattle.hj_app.proofs.Serving.{bad_query, bad_record, begins, complete, done, events, failed_sink, failed_source, kept_sink, notes_of, statuses, usage, writes}
 use Rattle.hj_app.proofs.serve.serve.Goals as goal
 
-pub returns-in-Some-Equi-clause-bad_record : goal.returns-in-Some-Equi-clause-bad_record
-returns-in-Some-Equi-clause-bad_record g c =
-    λ e. rw (← c.in-Some-Equi.ensures, c.in-Some-Equi.field-0-is) (record_caused _ _ _ _ _ _ _ _ _ _ (caused_join _ _ _ _ _ _ _ _ c.join_named-ended.result c.join_named-ended.ensures.ends) (sym c.report.ensures.status ∙ e))
+pub returns-clause-front : goal.returns-clause-front
+returns-clause-front g c = writes (call (g.O.Outside.under c.args.outside.now) (g.O.Outside.state c.args.outside.now) (g.O.Outside.state c.run-ended.new.outside) (g.K.Sink.told c.args.out.now) (g.K.Sink.told c.run-ended.new.out)) (g.K.Sink.faults c.args.out.now) (g.K.Sink.faults c.run-ended.new.out) c.report.result c.run-ended.result c.report.ensures.status (order_of (map string_bytes c.args.words.now)) c.run-ended.ensures
 
-pub returns-in-Some-Equi-clause-complete : goal.returns-in-Some-Equi-clause-complete
-returns-in-Some-Equi-clause-complete g c =
-    rw (← c.in-Some-Equi.ensures, c.in-Some-Equi.field-0-is, c.report.ensures.status) (unfailed_caused _ _ _ _ _ _ _ _ _ _ (caused_join _ _ _ _ _ _ _ _ c.join_named-ended.result c.join_named-ended.ensures.ends))
+pub returns-clause-done : goal.returns-clause-done
+returns-clause-done g c = done (call (g.O.Outside.under c.args.outside.now) (g.O.Outside.state c.args.outside.now) (g.O.Outside.state c.run-ended.new.outside) (g.K.Sink.told c.args.out.now) (g.K.Sink.told c.run-ended.new.out)) (g.K.Sink.faults c.args.out.now) (g.K.Sink.faults c.run-ended.new.out) c.report.result c.run-ended.result c.report.ensures.status (order_of (map string_bytes c.args.words.now)) c.run-ended.ensures
 
-pub returns-in-Some-Equi-clause-note : goal.returns-in-Some-Equi-clause-note
-returns-in-Some-Equi-clause-note g c =
-    let is = note_caused _ _ _ _ _ _ _ _ _ _ (caused_join _ _ _ _ _ _ _ _ c.join_named-ended.result c.join_named-ended.ensures.ends) in
-    rw (← c.in-Some-Equi.ensures, c.in-Some-Equi.field-0-is, c.report.ensures.status) (notes_of _ _ _ _ _ _ _ _ _ _ is c.report.ensures.note)
+pub returns-clause-usage : goal.returns-clause-usage
+returns-clause-usage g c = usage (call (g.O.Outside.under c.args.outside.now) (g.O.Outside.state c.args.outside.now) (g.O.Outside.state c.run-ended.new.outside) (g.K.Sink.told c.args.out.now) (g.K.Sink.told c.run-ended.new.out)) (g.K.Sink.faults c.args.out.now) (g.K.Sink.faults c.run-ended.new.out) c.report.result c.run-ended.result c.report.ensures.status (order_of (map string_bytes c.args.words.now)) c.run-ended.ensures
 
-pub returns-in-Some-Check-clause-note : goal.returns-in-Some-Check-clause-note
-returns-in-Some-Check-clause-note g c =
-    let is = note_caused _ _ _ _ _ _ _ _ _ _ (caused_check _ _ _ _ _ _ _ _ c.check-ended.result c.check-ended.ensures.ends) in
-    rw (← c.in-Some-Check.ensures, c.in-Some-Check.field-0-is, c.report-in-Some-Check.ensures.status) (notes_of _ _ _ _ _ _ _ _ _ _ is c.report-in-Some-Check.ensures.note)
+pub returns-clause-bad_query : goal.returns-clause-bad_query
+returns-clause-bad_query g c = bad_query (call (g.O.Outside.under c.args.outside.now) (g.O.Outside.state c.args.outside.now) (g.O.Outside.state c.run-ended.new.outside) (g.K.Sink.told c.args.out.now) (g.K.Sink.told c.run-ended.new.out)) (g.K.Sink.faults c.args.out.now) (g.K.Sink.faults c.run-ended.new.out) c.report.result c.run-ended.result c.report.ensures.status (order_of (map string_bytes c.args.words.now)) c.run-ended.ensures
 
-pub returns-in-None-clause-note : goal.returns-in-None-clause-note
-returns-in-None-clause-note g c =
-    rw (c.report-in-None.ensures.status) (notes_of _ _ _ _ _ _ _ _ 1 usage_note (usage refl refl) c.report-in-None.ensures.note)
+pub returns-clause-bad_record : goal.returns-clause-bad_record
+returns-clause-bad_record g c = bad_record (call (g.O.Outside.under c.args.outside.now) (g.O.Outside.state c.args.outside.now) (g.O.Outside.state c.run-ended.new.outside) (g.K.Sink.told c.args.out.now) (g.K.Sink.told c.run-ended.new.out)) (g.K.Sink.faults c.args.out.now) (g.K.Sink.faults c.run-ended.new.out) c.report.result c.run-ended.result c.report.ensures.status (order_of (map string_bytes c.args.words.now)) c.run-ended.ensures
+
+pub returns-clause-failed_source : goal.returns-clause-failed_source
+returns-clause-failed_source g c = failed_source (call (g.O.Outside.under c.args.outside.now) (g.O.Outside.state c.args.outside.now) (g.O.Outside.state c.run-ended.new.outside) (g.K.Sink.told c.args.out.now) (g.K.Sink.told c.run-ended.new.out)) (g.K.Sink.faults c.args.out.now) (g.K.Sink.faults c.run-ended.new.out) c.report.result c.run-ended.result c.report.ensures.status (order_of (map string_bytes c.args.words.now)) c.run-ended.ensures
+
+pub returns-clause-failed_sink : goal.returns-clause-failed_sink
+returns-clause-failed_sink g c = failed_sink (call (g.O.Outside.under c.args.outside.now) (g.O.Outside.state c.args.outside.now) (g.O.Outside.state c.run-ended.new.outside) (g.K.Sink.told c.args.out.now) (g.K.Sink.told c.run-ended.new.out)) (g.K.Sink.faults c.args.out.now) (g.K.Sink.faults c.run-ended.new.out) c.report.result c.run-ended.result c.report.ensures.status (order_of (map string_bytes c.args.words.now)) c.run-ended.ensures
+
+pub returns-clause-events : goal.returns-clause-events
+returns-clause-events g c = events (call (g.O.Outside.under c.args.outside.now) (g.O.Outside.state c.args.outside.now) (g.O.Outside.state c.run-ended.new.outside) (g.K.Sink.told c.args.out.now) (g.K.Sink.told c.run-ended.new.out)) (g.K.Sink.faults c.args.out.now) (g.K.Sink.faults c.run-ended.new.out) c.report.result c.run-ended.result c.report.ensures.status (order_of (map string_bytes c.args.words.now)) c.run-ended.ensures
+
+pub returns-clause-complete : goal.returns-clause-complete
+returns-clause-complete g c = complete (call (g.O.Outside.under c.args.outside.now) (g.O.Outside.state c.args.outside.now) (g.O.Outside.state c.run-ended.new.outside) (g.K.Sink.told c.args.out.now) (g.K.Sink.told c.run-ended.new.out)) (g.K.Sink.faults c.args.out.now) (g.K.Sink.faults c.run-ended.new.out) c.report.result c.run-ended.result c.report.ensures.status (order_of (map string_bytes c.args.words.now)) c.run-ended.ensures
+
+pub returns-clause-roles : goal.returns-clause-roles
+returns-clause-roles g c = begins (call (g.O.Outside.under c.args.outside.now) (g.O.Outside.state c.args.outside.now) (g.O.Outside.state c.run-ended.new.outside) (g.K.Sink.told c.args.out.now) (g.K.Sink.told c.run-ended.new.out)) (g.K.Sink.faults c.args.out.now) (g.K.Sink.faults c.run-ended.new.out) c.report.result c.run-ended.result c.report.ensures.status (order_of (map string_bytes c.args.words.now)) c.run-ended.ensures
+
+pub returns-clause-statuses : goal.returns-clause-statuses
+returns-clause-statuses g c = statuses c.report.result c.run-ended.result c.report.ensures.status
+
+pub returns-clause-sink : goal.returns-clause-sink
+returns-clause-sink g c = λ other memory. kept_sink (call (g.O.Outside.under c.args.outside.now) (g.O.Outside.state c.args.outside.now) (g.O.Outside.state c.run-ended.new.outside) (g.K.Sink.told c.args.out.now) (g.K.Sink.told c.run-ended.new.out)) (g.K.Sink.faults c.args.out.now) (g.K.Sink.faults c.run-ended.new.out) c.report.result c.run-ended.result c.report.ensures.status (order_of (map string_bytes c.args.words.now)) c.run-ended.ensures other
+
+pub returns-clause-note : goal.returns-clause-note
+returns-clause-note g c = notes_of (call (g.O.Outside.under c.args.outside.now) (g.O.Outside.state c.args.outside.now) (g.O.Outside.state c.run-ended.new.outside) (g.K.Sink.told c.args.out.now) (g.K.Sink.told c.run-ended.new.out)) (g.K.Sink.faults c.args.out.now) (g.K.Sink.faults c.run-ended.new.out) c.report.result c.run-ended.result c.report.ensures.status (order_of (map string_bytes c.args.words.now)) (g.N.Sink.told c.args.notes.now) (g.N.Sink.told c.report.new.notes) (g.N.Sink.refusals c.args.notes.now) (g.N.Sink.refusals c.report.new.notes) c.run-ended.ensures c.report.ensures.note
