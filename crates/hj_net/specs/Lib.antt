@@ -1,4 +1,6 @@
+pub mod Address
 pub mod Answers
+pub mod Channel
 pub mod Collected
 pub mod RealOutside
 pub mod Roles

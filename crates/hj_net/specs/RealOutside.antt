@@ -4,17 +4,25 @@ use Rattle.std.specs.declared.option.Option.{Option}
 use Rattle.hj_base.specs.declared.outside.Role.{Role}
 use Rattle.hj_base.specs.declared.outside.Role.TheVariants.{Query, Left, Right}
 use Rattle.hj_base.specs.Outside.{RoleState}
+use Rattle.hj_net.specs.declared.channel.Channel.{Channel}
 use Rattle.hj_net.specs.declared.outside.RealOutside.{RealOutside}
 use Rattle.hj_net.specs.declared.source.Source.{Source}
-use Rattle.hj_net.specs.Source.{role_of, remaining}
+use Rattle.hj_net.specs.Channel.{left_of}
+use Rattle.hj_net.specs.Source.{role_of, remaining, stream_of}
 
-abbrev pub source_at : {R W F D : Type 0} → RealOutside R W F D → Role → Source F
-source_at outside Query = outside.query
-source_at outside Left = outside.left
-source_at outside Right = outside.right
+module _ {R W F D S L : Type 0} where
+  abbrev pub source_at : RealOutside R W F D S L → Role → Source (Channel F L S)
+  source_at outside Query = outside.query
+  source_at outside Left = outside.left
+  source_at outside Right = outside.right
 
-abbrev pub role_at : {R W F D : Type 0} → RealOutside R W F D → Role → RoleState
-role_at outside role = role_of (source_at outside role)
+  abbrev pub role_at : RealOutside R W F D S L → Role → RoleState
+  role_at outside role = role_of (source_at outside role)
 
-abbrev pub remaining_at : {R W F D : Type 0} → (F → Option (List ℕ)) → RealOutside R W F D → Role → Option (List ℕ)
-remaining_at left outside role = remaining left (source_at outside role)
+  -- the channel of an open role
+  abbrev pub channel_at : RealOutside R W F D S L → Role → Option (Channel F L S)
+  channel_at outside role = stream_of (source_at outside role)
+
+  -- the bytes that the channel of an open role has left, where it tells them
+  abbrev pub remaining_at : (F → Option (List ℕ)) → (S → Option (List ℕ)) → RealOutside R W F D S L → Role → Option (List ℕ)
+  remaining_at in_file in_stream outside role = remaining (left_of in_file in_stream) (source_at outside role)

@@ -1,6 +1,8 @@
 //! The real edge: streams that are read from files, and standard output and standard error as sinks.
 #![tactic(auto)]
 
+mod address;
+mod channel;
 mod collected;
 mod output;
 mod outside;

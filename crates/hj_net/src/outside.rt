@@ -1,33 +1,33 @@
-ghost use Rattle.std.specs.Prelude.{◌≡◌, ◌≢◌, ◌<◌, length, codes, nat_eq, IsNone, IsTrue, None};
-ghost use Rattle.std.specs.List.{starts_with};
+ghost use Rattle.std.specs.Prelude.{◌≡◌, ◌<◌, length, IsSomeAnd, None};
 ghost use Rattle.std.specs.Io.KnownBytes.{ReadConsumes};
 ghost use Rattle.hj_base.specs.Outside.{unbegun, IsOpen, Starts, Reads, ChangesOnly};
 ghost use Rattle.hj_net.specs.Answers.{as_read};
 
 use crate::Output;
+use crate::channel::{Channel, open};
 use crate::source::Source;
 use hj_base::{Got, Opened, Outside, Role};
 use std::alloc::Global;
-use std::fs;
-use std::fs::OpenFile;
 use std::io::Write;
+use std::net::Net;
 use std::rt::Files;
 
-const LISTEN: &str = "listen:";
+/// The stream of a role.
+type RealSource<R> = Source<Channel<<R as Files>::File, <R as Net>::Listener, <R as Net>::Stream>>;
 
 /// The streams of the system: each name is a file's. It counts the faults of each role, and tells no bytes. Before each
 /// read it hands on the output, so that all that was written is seen before the program waits for input.
 #[derive(Drop)]
-pub struct RealOutside<'a, R: Files + Drop, W: Write + Drop> {
+pub struct RealOutside<'a, R: Files + Net + Drop, W: Write + Drop> {
     rt: R,
     alloc: Global,
     output: &'a Output<W>,
-    query: Source<R::File>,
-    left: Source<R::File>,
-    right: Source<R::File>,
+    query: RealSource<R>,
+    left: RealSource<R>,
+    right: RealSource<R>,
 }
 
-impl<'a, R: Files + Drop, W: Write + Drop> RealOutside<'a, R, W> {
+impl<'a, R: Files + Net + Drop, W: Write + Drop> RealOutside<'a, R, W> {
     ghost use Rattle.hj_net.specs.Roles.{new_role};
     ghost use Rattle.hj_net.specs.RealOutside.{role_at};
     ghost use Rattle.hj_base.specs.declared.outside.Role.{Role};
@@ -47,8 +47,10 @@ impl<'a, R: Files + Drop, W: Write + Drop> RealOutside<'a, R, W> {
     }
 }
 
-impl<R: Files + Drop, W: Write + Drop> Outside for RealOutside<'_, R, W> {
-    ghost use Rattle.hj_net.specs.RealOutside.{role_at, remaining_at};
+impl<R: Files + Net + Drop, W: Write + Drop> Outside for RealOutside<'_, R, W> {
+    ghost use Rattle.hj_net.specs.Address.{address_of};
+    ghost use Rattle.hj_net.specs.Channel.{IsOpenedFor};
+    ghost use Rattle.hj_net.specs.RealOutside.{channel_at, role_at, remaining_at};
 
     ghost state = { role_at };
 
@@ -58,7 +60,7 @@ impl<R: Files + Drop, W: Write + Drop> Outside for RealOutside<'_, R, W> {
         requires { (role_at self.old role).phase ≡ unbegun }
         ensures starts { Starts result name.now None (role_at self.old role) (role_at self.new role) }
         ensures others { ChangesOnly role (role_at self.old) (role_at self.new) }
-        ensures listening { IsTrue (starts_with nat_eq name.now (codes "listen:")) → result ≢ Opened.Ready }
+        ensures channel { result ≡ Opened.Ready → IsSomeAnd (channel_at self.new role) (IsOpenedFor (address_of name.now)) }
     {
         let Ok(kept) = String::from_str(self.alloc, name) else {
             return Opened::Memory;
@@ -76,7 +78,7 @@ impl<R: Files + Drop, W: Write + Drop> Outside for RealOutside<'_, R, W> {
         requires room { 0 < length buf.old }
         ensures reads { Reads result buf.new (role_at self.old role) (role_at self.new role) }
         ensures others { ChangesOnly role (role_at self.old) (role_at self.new) }
-        ensures bytes { ReadConsumes (remaining_at R.File.remaining self.old role) (remaining_at R.File.remaining self.new role)
+        ensures bytes { ReadConsumes (remaining_at R.File.remaining R.Stream.remaining self.old role) (remaining_at R.File.remaining R.Stream.remaining self.new role)
             (as_read result) buf.new }
     {
         // A refusal is kept: the output's next write answers it, and the end of the run sees it.
@@ -87,16 +89,4 @@ impl<R: Files + Drop, W: Write + Drop> Outside for RealOutside<'_, R, W> {
             Role::Right => self.right.read(buf),
         }
     }
-}
-
-/// The file of a name. A name that asks for a connection has none, and neither has a folder's.
-fn open<R: Files>(rt: &R, name: &str) -> Option<R::File>
-    ensures { IsTrue (starts_with nat_eq name.now (codes "listen:")) → IsNone result }
-{
-    if name.starts_with(LISTEN) {
-        return None;
-    }
-    let file = fs::open(rt, name).ok()?;
-    let is_folder = file.metadata().ok()?.is_dir();
-    (!is_folder).then_some(file)
 }

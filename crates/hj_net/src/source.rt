@@ -1,4 +1,4 @@
-ghost use Rattle.std.specs.Prelude.{◌≡◌, ◌<◌, ◌↔◌, length, string_bytes, IsSome, IfSome, None};
+ghost use Rattle.std.specs.Prelude.{◌≡◌, ◌<◌, ◌↔◌, length, string_bytes, IsSome, IfSome, None, Some};
 ghost use Rattle.std.specs.Io.KnownBytes.{ReadConsumes};
 ghost use Rattle.hj_base.specs.Outside.{IsOpen, Starts, Reads};
 ghost use Rattle.hj_net.specs.Answers.{as_read};
@@ -27,7 +27,7 @@ pub struct Source<S: Read + Drop> {
 
 impl<S: Read + Drop> Source<S> {
     ghost use Rattle.hj_net.specs.Roles.{new_role};
-    ghost use Rattle.hj_net.specs.Source.{remaining, role_of};
+    ghost use Rattle.hj_net.specs.Source.{remaining, role_of, stream_of};
 
     /// A role that is not begun.
     pub fn new() -> Source<S>
@@ -43,7 +43,7 @@ impl<S: Read + Drop> Source<S> {
     pub fn begin(&mut self, name: String, opened: Option<S>) -> Opened
         ensures starts { Starts result (string_bytes name) None (role_of self.old) (role_of self.new) }
         ensures ready { (result ≡ Opened.Ready) ↔ IsSome opened }
-        ensures unread { IfSome opened (λ stream. remaining S.remaining self.new ≡ S.remaining stream) }
+        ensures stream { IfSome opened (λ stream. stream_of self.new ≡ Some stream) }
     {
         match opened {
             Some(stream) => {

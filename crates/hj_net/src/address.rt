@@ -1,0 +1,42 @@
+ghost use Rattle.std.specs.Prelude.{◌≡◌};
+ghost use Rattle.std.specs.Str.{all_ascii_digits};
+ghost use Rattle.hj_net.specs.Address.{address_of, port_of};
+
+const LISTEN: &str = "listen:";
+
+/// What a stream's name asks for.
+#[derive(Clone, Copy, Debug, PartialEq, Eq)]
+pub enum Address {
+    /// The file of this name.
+    File,
+    /// A connection that comes to this port of this machine.
+    Port(u16),
+}
+
+/// The address that a name spells. A name that begins with `listen:` spells a port, in digits, or nothing.
+pub fn address_of(name: &str) -> Option<Address>
+    ensures { result ≡ address_of name.now }
+{
+    match name.strip_prefix(LISTEN) {
+        Some(digits) => read_port(digits).map(Address::Port),
+        None => Some(Address::File),
+    }
+}
+
+/// The port from 1 to 65535 that digits spell.
+fn read_port(digits: &str) -> Option<u16>
+    ensures { result ≡ port_of digits.now }
+{
+    if !are_digits(digits) {
+        return None;
+    }
+    let port = digits.parse::<u16>().ok()?;
+    (port > 0).then_some(port)
+}
+
+/// Whether each byte is a digit 0 to 9.
+fn are_digits(word: &str) -> bool
+    ensures { result ≡ all_ascii_digits word.now }
+{
+    word.bytes().all(|b| b.is_ascii_digit())
+}
