@@ -1,4 +1,4 @@
-ghost use Rattle.std.specs.Prelude.{◌≡◌, ◌+◌, ◌≤◌, ◌↔◌, ◌++◌, ◌∷◌, [], List, All, map, true, false, vec_len, IsNone, IfSome, IfNone, OnOk, OnErr, Some, IsPermutation};
+ghost use Rattle.std.specs.Prelude.{◌≡◌, ◌+◌, ◌≤◌, ◌↔◌, ◌++◌, ◌∷◌, [], List, All, true, false, vec_len, IsNone, IfSome, IfNone, OnOk, OnErr, Some, IsPermutation};
 ghost use Rattle.std.specs.BinaryHeap.{heap_items, heap_len, heap_capacity, KeepsHeap};
 ghost use Rattle.hj_msg.specs.Emission.{comes_before, is_within};
 ghost use Rattle.hj_msg.specs.Valid.{later};
@@ -13,7 +13,7 @@ use std::alloc::Global;
 use std::collections::BinaryHeap;
 use std::marker::Model;
 
-/// Pairs that were met and are kept until they are due, seen as a list of them in no order.
+/// Pairs that were met and are kept until they are due. Clauses see them in no order.
 #[derive(Debug, Drop)]
 pub struct Ordered<P> {
     pairs: BinaryHeap<Kept<P>>,

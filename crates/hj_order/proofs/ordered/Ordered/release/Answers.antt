@@ -34,6 +34,6 @@ returns-clause-none g c =
     let mark = meaning c.args.up_to in
     let due : is_within (Some mark) (later first.pair) ≡ true = sym (c.is_within.ensures ∙ ap (is_within (Some mark)) c.later.ensures) ∙ c.if-not-is_within.false in
     let past : All (λ pair. is_within (Some mark) (later pair) ≡ false) c.args.self.now → is_within (Some mark) (later first.pair) ≡ false
-    = λ none. first_is first (heap_items c.self.inside.pairs) (omega (arith, c.in_ok-peek.ensures.variant.0 refl, c.self.inside.pairs.data.ok)) c.in_ok-peek.ensures.lookup
+    = λ none. first_is first (heap_items c.self.inside.pairs) (omega (arith, c.in_ok-peek.ensures.variant.0 (refl {a = true}), c.self.inside.pairs.data.ok)) c.in_ok-peek.ensures.lookup
     (λ pair. is_within (Some mark) (later pair) ≡ false) (subst (All (λ pair. is_within (Some mark) (later pair) ≡ false)) (sym c.self.view_is) none) in
     (λ not. absurd (true≢false not), λ none. absurd (true≢false (sym due ∙ past none)))
