@@ -1,13 +1,9 @@
 use super::*;
-use crate::QueryFault::{
-    DoubleColumn, Expected, FirstColumn, Lex, TooDeep, TooLong, TooManyColumns, Types,
-    UnknownColumn, WindowRange,
-};
 use crate::{Op, Pred, Term, equi};
 use hj_base::{Side, Window};
-use hj_lex::LexFault;
 use hj_value::ColumnType;
-use std::alloc::{AllocError, Global};
+use std::alloc::Global;
+use std::process::Abort;
 use std::test::Fail;
 
 const HEAD: &str =
@@ -25,422 +21,370 @@ const WHOLE: &str =
 /// Takes what may go to other threads and be read by them.
 fn crosses<T: Send + Sync + Drop>(_value: T) {}
 
-fn joined(alloc: Global, parts: &[&str]) -> Result<String, AllocError> {
+fn joined(rt: &impl Abort, alloc: Global, parts: &[&str]) -> String {
     let mut text = String::new(alloc);
     for part in parts {
-        text.push_str(part)?;
+        text.push_str(part).expect(rt, "memory");
     }
-    Ok(text)
+    text
 }
 
-// The fault of the text that is these parts, one behind the other.
-fn fault_of(alloc: Global, parts: &[&str]) -> Result<Option<QueryFault>, AllocError> {
-    let text = joined(alloc, parts)?;
-    Ok(parse(alloc, text.as_bytes()).err())
-}
-
-fn repeated(alloc: Global, part: &str, count: usize) -> Result<String, AllocError> {
+fn repeated(rt: &impl Abort, alloc: Global, part: &str, count: usize) -> String {
     let mut text = String::new(alloc);
     for _ in 0..count {
-        text.push_str(part)?;
+        text.push_str(part).expect(rt, "memory");
     }
-    Ok(text)
+    text
 }
 
-// What is wanted behind each token of the whole text, and nothing where it ends a query.
-#[test]
-fn asks_for_more(rt: HostRuntime) -> Result<(), Fail> {
-    let table: [(usize, Option<Wanted>); 44] = [
-        (0, Some(Wanted::LeftWord)),
-        (4, Some(Wanted::OpenParen)),
-        (6, Some(Wanted::ColumnName)),
-        (8, Some(Wanted::ColumnKind)),
-        (12, Some(Wanted::CommaOrClose)),
-        (13, Some(Wanted::ColumnName)),
-        (15, Some(Wanted::ColumnKind)),
-        (20, Some(Wanted::CommaOrClose)),
-        (21, Some(Wanted::RightWord)),
-        (27, Some(Wanted::OpenParen)),
-        (29, Some(Wanted::ColumnName)),
-        (31, Some(Wanted::ColumnKind)),
-        (35, Some(Wanted::CommaOrClose)),
-        (36, Some(Wanted::WindowWord)),
-        (43, Some(Wanted::WindowSide)),
-        (48, Some(Wanted::WindowKind)),
-        (53, Some(Wanted::Number)),
-        (55, Some(Wanted::WindowWord)),
-        (62, Some(Wanted::WindowSide)),
-        (68, Some(Wanted::WindowKind)),
-        (73, Some(Wanted::Number)),
-        (75, Some(Wanted::OnWord)),
-        (78, Some(Wanted::Term)),
-        (82, Some(Wanted::Term)),
-        (84, Some(Wanted::Term)),
-        (85, Some(Wanted::Dot)),
-        (86, Some(Wanted::ColumnName)),
-        (88, Some(Wanted::Comparison)),
-        (90, Some(Wanted::Term)),
-        (92, Some(Wanted::Number)),
-        (93, Some(Wanted::Comparison)),
-        (100, Some(Wanted::Number)),
-        (102, Some(Wanted::OfWord)),
-        (105, Some(Wanted::Term)),
-        (107, Some(Wanted::Dot)),
-        (108, Some(Wanted::ColumnName)),
-        (110, Some(Wanted::CloseParen)),
-        (111, None),
-        (115, Some(Wanted::Term)),
-        (117, Some(Wanted::Dot)),
-        (118, Some(Wanted::ColumnName)),
-        (119, Some(Wanted::Comparison)),
-        (121, Some(Wanted::Term)),
-        (125, None),
-    ];
-    for (length, wanted) in table {
-        let front = WHOLE.as_bytes().get(..length).ok_or("short")?;
-        let fault = wanted.map(|wanted| Expected(wanted, length));
-        assert_eq!(rt; parse(rt.alloc(), front).err(), fault, "at {length}");
+/// What a text is: a query, or its first fault as it is printed.
+fn judgement(rt: &impl Abort, alloc: Global, text: &[u8]) -> String {
+    match parse(alloc, text) {
+        Ok(_) => String::from_str(alloc, "a query").expect(rt, "memory"),
+        Err(fault) => fault.to_string(alloc).expect(rt, "memory"),
     }
-    Ok(())
+}
+
+/// Judges the text that is these parts, one behind the other.
+fn judge(rt: &impl Abort, alloc: Global, parts: &[&str], want: &str) {
+    let text = joined(rt, alloc, parts);
+    let found = judgement(rt, alloc, text.as_bytes());
+    assert_eq!(rt; found.as_str(), want, "of {text}");
+}
+
+/// Judges each text of a table behind a front. A line of a table is a text and, behind a bar, what it is.
+fn judge_all(rt: &impl Abort, alloc: Global, front: &str, table: &str) {
+    for line in table.lines() {
+        let (text, want) = line.split_once(" | ").expect(rt, "a case");
+        judge(rt, alloc, &[front, text], want);
+    }
+}
+
+/// What each front of the whole text is, by its length.
+const FRONTS: &str = "\
+0 | expected LeftWord at 0
+4 | expected OpenParen at 4
+6 | expected ColumnName at 6
+8 | expected ColumnKind at 8
+12 | expected CommaOrClose at 12
+13 | expected ColumnName at 13
+15 | expected ColumnKind at 15
+20 | expected CommaOrClose at 20
+21 | expected RightWord at 21
+27 | expected OpenParen at 27
+29 | expected ColumnName at 29
+31 | expected ColumnKind at 31
+35 | expected CommaOrClose at 35
+36 | expected WindowWord at 36
+43 | expected WindowSide at 43
+48 | expected WindowKind at 48
+53 | expected Number at 53
+55 | expected WindowWord at 55
+62 | expected WindowSide at 62
+68 | expected WindowKind at 68
+73 | expected Number at 73
+75 | expected OnWord at 75
+78 | expected Term at 78
+82 | expected Term at 82
+84 | expected Term at 84
+85 | expected Dot at 85
+86 | expected ColumnName at 86
+88 | expected Comparison at 88
+90 | expected Term at 90
+92 | expected Number at 92
+93 | expected Comparison at 93
+100 | expected Number at 100
+102 | expected OfWord at 102
+105 | expected Term at 105
+107 | expected Dot at 107
+108 | expected ColumnName at 108
+110 | expected CloseParen at 110
+111 | a query
+115 | expected Term at 115
+117 | expected Dot at 117
+118 | expected ColumnName at 118
+119 | expected Comparison at 119
+121 | expected Term at 121
+125 | a query";
+
+#[test]
+fn asks_for_more(rt: HostRuntime) {
+    for line in FRONTS.lines() {
+        let (length, want) = line.split_once(" | ").expect(&rt, "a case");
+        let length = length.parse::<usize>().expect(&rt, "a length");
+        let front = WHOLE.as_bytes().get(..length).expect(&rt, "a front");
+        let found = judgement(&rt, rt.alloc(), front);
+        assert_eq!(rt; found.as_str(), want, "at {length}");
+    }
+}
+
+const TEXTS_THAT_BREAK_OFF: &str = "\
+right (ts int) | expected LeftWord at 0
+ ( | expected LeftWord at 1
+left x | expected OpenParen at 5
+left (1 | expected ColumnName at 6
+left (ts int, 1 | expected ColumnName at 14
+left (ts foo | expected ColumnKind at 9
+left (k foo | expected ColumnKind at 8
+left (ts int, ts foo | expected ColumnKind at 17
+left (ts int . | expected CommaOrClose at 13
+left (ts int) left | expected RightWord at 14
+left (ts int) right (ts int) on | expected WindowWord at 29
+left (ts int) right (ts int) window right | expected WindowSide at 36
+left (ts int) right (ts int) window left 1 | expected WindowKind at 41
+left (ts int) right (ts int) window left rows on | expected Number at 46
+left (ts int) right (ts int) window left time ( | expected Number at 46
+left (ts int) right (ts int) window left rows -1 | expected Number at 46
+left (ts int) right (ts int) window left rows 1 on | expected WindowWord at 48
+left (ts int) right (ts int) window left rows 1 window left | expected WindowSide at 55
+left (ts int) right (ts int) window left rows 1 window right time 1 of | expected OnWord at 68";
+
+#[test]
+fn names_what_is_wanted(rt: HostRuntime) {
+    judge_all(&rt, rt.alloc(), "", TEXTS_THAT_BREAK_OFF);
+}
+
+const FIRST_FAULTS: &str = "\
+left (ts int, ts int) | double column at 14
+left(ts int,ts int | double column at 12
+left (ts int, a int, b text, a text ; | bad byte at 36
+left (ts int, a int, b text, a text | double column at 29
+left (ts int) right (ts int, ts int) | double column at 29
+left (k int) | wrong first column at 6
+left(k int | wrong first column at 5
+left (ts text) | wrong first column at 6
+left (Ts int) | wrong first column at 6
+left (ts int) right (k int) | wrong first column at 21
+12ab | bad byte at 2
+; | bad byte at 0
+left (ts int, ts int) ; | bad byte at 22
+' | open text at 0
+left 'a | open text at 5
+left (ts int, ts int) ' | open text at 22
+9223372036854775807 | expected LeftWord at 0
+9223372036854775808 | number out of range at 0
+99999999999999999999a | number out of range at 0";
+
+#[test]
+fn names_the_first_fault(rt: HostRuntime) {
+    judge_all(&rt, rt.alloc(), "", FIRST_FAULTS);
+}
+
+const CONDITIONS: &str = "\
+on (l.k=r.k) | a query
+on l.k = r.k | a query
+on l.k = r.z | unknown column at 93
+on l.z = 'a' | unknown column at 87
+on l.ts = r.k or l.z = 'a' | unknown column at 101
+on l.k = 1 and not (1 = r.z) | unknown column at 108
+on l.k = 'a' | wrong types at 85
+on l.k = 'a' ) | wrong types at 85
+on l.k = 'a' + | expected Term at 96
+on l.k = 1 or 1 = 'a' and | wrong types at 96
+on l.k = 1 and not (l.k = 'a') | wrong types at 102
+on 'a' + 'b' = 'c' | wrong types at 85
+on l.k - 'a' = 1 | wrong types at 85
+on 1 = l.k + 'a' | wrong types at 85
+on 'a' = 'it''s' | a query
+on 'a' within 1 of 'b' | wrong types at 85
+on 'a' within 1 of l.k | wrong types at 85
+on l.k within 1 of 'b' | wrong types at 85
+on l.k within 0 of r.k - -1 + 2 | a query
+on not l.k != 1 and l.k < 2 or l.k <= 3 and (l.k > 4 or l.k >= 5) | a query
+on l.k of 1 | expected Comparison at 89
+on (l.k) = 1 | expected Comparison at 89
+on (l.k = 1 and 2 | expected Comparison at 99
+on l.k = 1 2 | expected End at 93
+on l.k = 1) | expected End at 92
+on l.k = 1 = 2 | expected End at 93
+on l.k = 1 within 2 of 3 | expected End at 93
+on (l.k = 1) + 2 = 3 | expected End at 95
+on (l.k = 1 left | expected CloseParen at 94
+on not and | expected Term at 89
+on () = 1 | expected Term at 86
+on k.k = 1 | expected Term at 85
+on +1 = l.k | expected Term at 85
+on l.k == 1 | expected Term at 90
+on l.k = 1 and ) | expected Term at 97
+on l k | expected Dot at 87
+on l.1 | expected ColumnName at 87
+on l.k = --1 | expected Number at 92
+on 1 within - | expected Number at 94
+on 1 within 2 or | expected OfWord at 96
+on l.k = 9223372036854775807 | a query
+on l.k = -9223372036854775807 | a query
+on l.k = 9223372036854775808 | number out of range at 91
+on l.k = -9223372036854775808 | number out of range at 92
+on 1 = r.k + l.k | a query";
+
+#[test]
+fn judges_conditions(rt: HostRuntime) {
+    judge_all(&rt, rt.alloc(), HEAD, CONDITIONS);
+}
+
+const CONDITIONS_ON_TEXTS: &str = "\
+l.t = r.t | a query
+l.t < 'b' | a query
+'b' >= r.t | a query
+l.t = 1 | wrong types at 87
+l.t + 1 = 2 | wrong types at 87
+l.ts = r.t | wrong types at 87
+1 within 2 of r.t | wrong types at 87";
+
+/// Each side has its own columns.
+const CONDITIONS_BY_SIDE: &str = "\
+l.a = r.ts | a query
+r.b = 'x' | a query
+l.b = 1 | unknown column at 88
+r.a = 1 | unknown column at 88
+l.a = r.b | wrong types at 86";
+
+#[test]
+fn judges_texts_and_sides(rt: HostRuntime) {
+    judge_all(&rt, rt.alloc(), TEXTS, CONDITIONS_ON_TEXTS);
+    judge_all(&rt, rt.alloc(), SIDES, CONDITIONS_BY_SIDE);
+}
+
+const SPANS: &str = "\
+left rows 0 window right rows 1 on l.ts = r.ts | window out of range at 46
+left rows 1 window right rows 0 on l.ts = r.ts | window out of range at 66
+left rows 1 window right rows 1 on l.ts = r.ts | a query
+left rows 1 window right rows 1 on l.ts = r.ts | a query
+left rows 1000000 window right rows 1 on l.ts = r.ts | a query
+left rows 1 window right rows 1000000 on l.ts = r.ts | a query
+left rows 1000001 window right rows 1 on l.ts = r.ts | window out of range at 46
+left rows 1 window right rows 1000001 on l.ts = r.ts | window out of range at 66
+left time 0 window right rows 1 on l.ts = r.ts | window out of range at 46
+left rows 1 window right time 0 on l.ts = r.ts | window out of range at 66
+left time 1 window right rows 1 on l.ts = r.ts | a query
+left rows 1 window right time 1 on l.ts = r.ts | a query
+left time 4611686018427387904 window right rows 1 on l.ts = r.ts | a query
+left rows 1 window right time 4611686018427387904 on l.ts = r.ts | a query
+left time 4611686018427387905 window right rows 1 on l.ts = r.ts | window out of range at 46
+left rows 1 window right time 4611686018427387905 on l.ts = r.ts | window out of range at 66";
+
+#[test]
+fn bounds_the_numbers(rt: HostRuntime) {
+    judge_all(
+        &rt,
+        rt.alloc(),
+        "left (ts int) right (ts int) window ",
+        SPANS,
+    );
+}
+
+/// Judges a condition that stands inside so many openings.
+fn judge_nested(rt: &impl Abort, alloc: Global, around: (&str, &str), count: usize, want: &str) {
+    let open = repeated(rt, alloc, around.0, count);
+    let close = repeated(rt, alloc, around.1, count);
+    judge(rt, alloc, &[HEAD, "on ", &open, "l.k = r.k", &close], want);
 }
 
 #[test]
-fn names_what_is_wanted(rt: HostRuntime) -> Result<(), Fail> {
-    let table: [(&str, Wanted, usize); 19] = [
-        (" (", Wanted::LeftWord, 1),
-        ("right (ts int)", Wanted::LeftWord, 0),
-        ("left x", Wanted::OpenParen, 5),
-        ("left (1", Wanted::ColumnName, 6),
-        ("left (ts int, 1", Wanted::ColumnName, 14),
-        ("left (ts foo", Wanted::ColumnKind, 9),
-        ("left (k foo", Wanted::ColumnKind, 8),
-        ("left (ts int, ts foo", Wanted::ColumnKind, 17),
-        ("left (ts int .", Wanted::CommaOrClose, 13),
-        ("left (ts int) left", Wanted::RightWord, 14),
-        ("left (ts int) right (ts int) on", Wanted::WindowWord, 29),
-        (
-            "left (ts int) right (ts int) window right",
-            Wanted::WindowSide,
-            36,
-        ),
-        (
-            "left (ts int) right (ts int) window left 1",
-            Wanted::WindowKind,
-            41,
-        ),
-        (
-            "left (ts int) right (ts int) window left rows on",
-            Wanted::Number,
-            46,
-        ),
-        (
-            "left (ts int) right (ts int) window left time (",
-            Wanted::Number,
-            46,
-        ),
-        (
-            "left (ts int) right (ts int) window left rows -1",
-            Wanted::Number,
-            46,
-        ),
-        (
-            "left (ts int) right (ts int) window left rows 1 on",
-            Wanted::WindowWord,
-            48,
-        ),
-        (
-            "left (ts int) right (ts int) window left rows 1 window left",
-            Wanted::WindowSide,
-            55,
-        ),
-        (
-            "left (ts int) right (ts int) window left rows 1 window right time 1 of",
-            Wanted::OnWord,
-            68,
-        ),
-    ];
-    for (text, wanted, at) in table {
-        let fault = Expected(wanted, at);
-        assert_eq!(rt; fault_of(rt.alloc(), &[text])?, Some(fault), "{text}");
+fn bounds_the_depth(rt: HostRuntime) {
+    for (around, count, want) in [
+        (("(", ")"), 64, "a query"),
+        (("(", ")"), 65, "too deep at 149"),
+        (("not ", ""), 64, "a query"),
+        (("not ", ""), 65, "too deep at 341"),
+        (("not (", ")"), 32, "a query"),
+        (("not (", ")"), 33, "too deep at 245"),
+    ] {
+        judge_nested(&rt, rt.alloc(), around, count, want);
     }
-    Ok(())
-}
-
-#[test]
-fn names_the_first_fault(rt: HostRuntime) -> Result<(), Fail> {
-    let table: [(&str, QueryFault); 19] = [
-        ("left (ts int, ts int)", DoubleColumn(14)),
-        ("left(ts int,ts int", DoubleColumn(12)),
-        (
-            "left (ts int, a int, b text, a text ;",
-            Lex(LexFault::BadByte(36)),
-        ),
-        ("left (ts int, a int, b text, a text", DoubleColumn(29)),
-        ("left (ts int) right (ts int, ts int)", DoubleColumn(29)),
-        ("left (k int)", FirstColumn(6)),
-        ("left(k int", FirstColumn(5)),
-        ("left (ts text)", FirstColumn(6)),
-        ("left (Ts int)", FirstColumn(6)),
-        ("left (ts int) right (k int)", FirstColumn(21)),
-        ("12ab", Lex(LexFault::BadByte(2))),
-        (";", Lex(LexFault::BadByte(0))),
-        ("left (ts int, ts int) ;", Lex(LexFault::BadByte(22))),
-        ("'", Lex(LexFault::OpenText(0))),
-        ("left 'a", Lex(LexFault::OpenText(5))),
-        ("left (ts int, ts int) '", Lex(LexFault::OpenText(22))),
-        ("9223372036854775807", Expected(Wanted::LeftWord, 0)),
-        ("9223372036854775808", Lex(LexFault::NumberRange(0))),
-        ("99999999999999999999a", Lex(LexFault::NumberRange(0))),
-    ];
-    for (text, fault) in table {
-        assert_eq!(rt; fault_of(rt.alloc(), &[text])?, Some(fault), "{text}");
-    }
-    Ok(())
-}
-
-#[test]
-fn judges_conditions(rt: HostRuntime) -> Result<(), Fail> {
-    let table: [(&str, Option<QueryFault>); 45] = [
-        ("on (l.k=r.k)", None),
-        ("on l.k = r.k", None),
-        ("on l.k = r.z", Some(UnknownColumn(93))),
-        ("on l.z = 'a'", Some(UnknownColumn(87))),
-        ("on l.ts = r.k or l.z = 'a'", Some(UnknownColumn(101))),
-        ("on l.k = 1 and not (1 = r.z)", Some(UnknownColumn(108))),
-        ("on l.k = 'a'", Some(Types(85))),
-        ("on l.k = 'a' )", Some(Types(85))),
-        ("on l.k = 'a' +", Some(Expected(Wanted::Term, 96))),
-        ("on l.k = 1 or 1 = 'a' and", Some(Types(96))),
-        ("on l.k = 1 and not (l.k = 'a')", Some(Types(102))),
-        ("on 'a' + 'b' = 'c'", Some(Types(85))),
-        ("on l.k - 'a' = 1", Some(Types(85))),
-        ("on 1 = l.k + 'a'", Some(Types(85))),
-        ("on 'a' = 'it''s'", None),
-        ("on 'a' within 1 of 'b'", Some(Types(85))),
-        ("on 'a' within 1 of l.k", Some(Types(85))),
-        ("on l.k within 1 of 'b'", Some(Types(85))),
-        ("on l.k within 0 of r.k - -1 + 2", None),
-        (
-            "on not l.k != 1 and l.k < 2 or l.k <= 3 and (l.k > 4 or l.k >= 5)",
-            None,
-        ),
-        ("on l.k of 1", Some(Expected(Wanted::Comparison, 89))),
-        ("on (l.k) = 1", Some(Expected(Wanted::Comparison, 89))),
-        ("on (l.k = 1 and 2", Some(Expected(Wanted::Comparison, 99))),
-        ("on l.k = 1 2", Some(Expected(Wanted::End, 93))),
-        ("on l.k = 1)", Some(Expected(Wanted::End, 92))),
-        ("on l.k = 1 = 2", Some(Expected(Wanted::End, 93))),
-        ("on l.k = 1 within 2 of 3", Some(Expected(Wanted::End, 93))),
-        ("on (l.k = 1) + 2 = 3", Some(Expected(Wanted::End, 95))),
-        ("on (l.k = 1 left", Some(Expected(Wanted::CloseParen, 94))),
-        ("on not and", Some(Expected(Wanted::Term, 89))),
-        ("on () = 1", Some(Expected(Wanted::Term, 86))),
-        ("on k.k = 1", Some(Expected(Wanted::Term, 85))),
-        ("on +1 = l.k", Some(Expected(Wanted::Term, 85))),
-        ("on l.k == 1", Some(Expected(Wanted::Term, 90))),
-        ("on l.k = 1 and )", Some(Expected(Wanted::Term, 97))),
-        ("on l k", Some(Expected(Wanted::Dot, 87))),
-        ("on l.1", Some(Expected(Wanted::ColumnName, 87))),
-        ("on l.k = --1", Some(Expected(Wanted::Number, 92))),
-        ("on 1 within -", Some(Expected(Wanted::Number, 94))),
-        ("on 1 within 2 or", Some(Expected(Wanted::OfWord, 96))),
-        ("on l.k = 9223372036854775807", None),
-        ("on l.k = -9223372036854775807", None),
-        (
-            "on l.k = 9223372036854775808",
-            Some(Lex(LexFault::NumberRange(91))),
-        ),
-        (
-            "on l.k = -9223372036854775808",
-            Some(Lex(LexFault::NumberRange(92))),
-        ),
-        ("on 1 = r.k + l.k", None),
-    ];
-    for (end, fault) in table {
-        assert_eq!(rt; fault_of(rt.alloc(), &[HEAD, end])?, fault, "{end}");
-    }
-    Ok(())
-}
-
-#[test]
-fn judges_texts_and_sides(rt: HostRuntime) -> Result<(), Fail> {
-    for end in ["l.t = r.t", "l.t < 'b'", "'b' >= r.t"] {
-        assert_eq!(rt; fault_of(rt.alloc(), &[TEXTS, end])?, None);
-    }
-    for end in ["l.t = 1", "l.t + 1 = 2", "l.ts = r.t", "1 within 2 of r.t"] {
-        assert_eq!(rt; fault_of(rt.alloc(), &[TEXTS, end])?, Some(Types(87)));
-    }
-    // Each side has its own columns.
-    let table: [(&str, Option<QueryFault>); 5] = [
-        ("l.a = r.ts", None),
-        ("r.b = 'x'", None),
-        ("l.b = 1", Some(UnknownColumn(88))),
-        ("r.a = 1", Some(UnknownColumn(88))),
-        ("l.a = r.b", Some(Types(86))),
-    ];
-    for (end, fault) in table {
-        assert_eq!(rt; fault_of(rt.alloc(), &[SIDES, end])?, fault, "{end}");
-    }
-    Ok(())
-}
-
-#[test]
-fn bounds_the_depth(rt: HostRuntime) -> Result<(), Fail> {
-    let table = [
-        ("(", ")", 64, None),
-        ("(", ")", 65, Some(TooDeep(149))),
-        ("not ", "", 64, None),
-        ("not ", "", 65, Some(TooDeep(341))),
-        ("not (", ")", 32, None),
-        ("not (", ")", 33, Some(TooDeep(245))),
-    ];
-    for (open, close, count, fault) in table {
-        let front = repeated(rt.alloc(), open, count)?;
-        let end = repeated(rt.alloc(), close, count)?;
-        assert_eq!(rt;
-            fault_of(rt.alloc(), &[HEAD, "on ", &front, "l.k = r.k", &end])?,
-            fault,
-            "{count} of {open}"
-        );
-    }
-    Ok(())
 }
 
 // Behind what was closed the depth is what it was.
 #[test]
-fn depth_ends_where_it_is_closed(rt: HostRuntime) -> Result<(), Fail> {
-    let open = repeated(rt.alloc(), "(", 64)?;
-    let close = repeated(rt.alloc(), ")", 64)?;
-    for (count, fault) in [(64, None), (65, Some(TooDeep(291)))] {
-        let front = repeated(rt.alloc(), "(", count)?;
-        let end = repeated(rt.alloc(), ")", count)?;
-        let parts = [
-            HEAD,
-            "on ",
-            &open,
-            "l.k = r.k",
-            &close,
-            " and ",
-            &front,
-            "1=1",
-            &end,
-        ];
-        assert_eq!(rt; fault_of(rt.alloc(), &parts)?, fault);
-    }
-    Ok(())
+fn depth_ends_where_it_is_closed(rt: HostRuntime) {
+    let open = repeated(&rt, rt.alloc(), "(", 64);
+    let close = repeated(&rt, rt.alloc(), ")", 64);
+    let front = joined(
+        &rt,
+        rt.alloc(),
+        &[HEAD, "on ", &open, "l.k = r.k", &close, " and "],
+    );
+    judge(&rt, rt.alloc(), &[&front, &open, "1=1", &close], "a query");
+    judge(
+        &rt,
+        rt.alloc(),
+        &[&front, "(", &open, "1=1", &close, ")"],
+        "too deep at 291",
+    );
 }
 
 // What isn't nested may be as long as the text.
 #[test]
-fn length_is_no_depth(rt: HostRuntime) -> Result<(), Fail> {
-    let operands = repeated(rt.alloc(), "1=1 or 1=1 and ", 4000)?;
-    assert_eq!(rt;
-        fault_of(rt.alloc(), &[HEAD, "on ", &operands, "1=1"])?,
-        None
-    );
-    let terms = repeated(rt.alloc(), "+1", 30000)?;
-    assert_eq!(rt; fault_of(rt.alloc(), &[HEAD, "on 1", &terms, "=1"])?, None);
-    Ok(())
+fn length_is_no_depth(rt: HostRuntime) {
+    let operands = repeated(&rt, rt.alloc(), "1=1 or 1=1 and ", 4000);
+    judge(&rt, rt.alloc(), &[HEAD, "on ", &operands, "1=1"], "a query");
+    let terms = repeated(&rt, rt.alloc(), "+1", 30000);
+    judge(&rt, rt.alloc(), &[HEAD, "on 1", &terms, "=1"], "a query");
 }
 
-#[test]
-fn bounds_the_numbers(rt: HostRuntime) -> Result<(), Fail> {
-    let table: [(&str, bool); 8] = [
-        ("rows 0", false),
-        ("rows 1", true),
-        ("rows 1000000", true),
-        ("rows 1000001", false),
-        ("time 0", false),
-        ("time 1", true),
-        ("time 4611686018427387904", true),
-        ("time 4611686018427387905", false),
-    ];
-    for (span, taken) in table {
-        let start = "left (ts int) right (ts int) window left ";
-        let end = " window right rows 1 on l.ts = r.ts";
-        let fault = (!taken).then_some(WindowRange(46));
-        assert_eq!(rt;
-            fault_of(rt.alloc(), &[start, span, end])?,
-            fault,
-            "left {span}"
-        );
-        let start = "left (ts int) right (ts int) window left rows 1 window right ";
-        let fault = (!taken).then_some(WindowRange(66));
-        assert_eq!(rt;
-            fault_of(rt.alloc(), &[start, span, " on l.ts = r.ts"])?,
-            fault,
-            "right {span}"
-        );
-    }
-    Ok(())
-}
-
-// So many columns of a schema behind its word.
-fn columns_behind(alloc: Global, word: &str, count: usize) -> Result<String, AllocError> {
-    let mut text = String::from_str(alloc, word)?;
-    text.push_str(" (ts int")?;
+/// So many columns of a schema behind its word.
+fn columns_behind(rt: &impl Abort, alloc: Global, word: &str, count: usize) -> String {
+    let mut text = joined(rt, alloc, &[word, " (ts int"]);
     for number in 1..count {
-        text.push_str(", c")?;
-        text.push_str(&number.to_string(alloc)?)?;
-        text.push_str(" text")?;
+        let digits = number.to_string(alloc).expect(rt, "memory");
+        text.push_str(", c").expect(rt, "memory");
+        text.push_str(&digits).expect(rt, "memory");
+        text.push_str(" text").expect(rt, "memory");
     }
-    Ok(text)
+    text
 }
 
 #[test]
-fn bounds_the_columns(rt: HostRuntime) -> Result<(), Fail> {
-    let left = columns_behind(rt.alloc(), "left", 256)?;
-    let right = columns_behind(rt.alloc(), ") right", 256)?;
+fn takes_256_columns(rt: HostRuntime) {
+    let left = columns_behind(&rt, rt.alloc(), "left", 256);
+    let right = columns_behind(&rt, rt.alloc(), ") right", 256);
     let end = ") window left rows 1 window right rows 1 on l.ts = r.ts";
-    assert_eq!(rt; fault_of(rt.alloc(), &[&left, &right, end])?, None);
-    for word in ["left", "left (ts int) right"] {
-        let front = columns_behind(rt.alloc(), word, 256)?;
-        let place = front.len() + 2;
-        let fault = TooManyColumns(place);
-        assert_eq!(rt;
-            fault_of(rt.alloc(), &[&front, ", c256 text)"])?,
-            Some(fault)
-        );
-        assert_eq!(rt; fault_of(rt.alloc(), &[&front, ", ts 1"])?, Some(fault));
-        let fault = Expected(Wanted::ColumnName, place);
-        assert_eq!(rt; fault_of(rt.alloc(), &[&front, ", 1"])?, Some(fault));
-        let fault = Expected(Wanted::CommaOrClose, place - 1);
-        assert_eq!(rt; fault_of(rt.alloc(), &[&front, " 1"])?, Some(fault));
-    }
+    judge(&rt, rt.alloc(), &[&left, &right, end], "a query");
     // The name of the 256th column stands before it.
-    let front = columns_behind(rt.alloc(), "left", 255)?;
-    let fault = DoubleColumn(front.len() + 2);
-    assert_eq!(rt; fault_of(rt.alloc(), &[&front, ", c254 int"])?, Some(fault));
-    Ok(())
+    let front = columns_behind(&rt, rt.alloc(), "left", 255);
+    judge(
+        &rt,
+        rt.alloc(),
+        &[&front, ", c254 int"],
+        "double column at 2700",
+    );
+}
+
+/// What comes behind 256 columns of the left schema.
+const BEHIND_MOST_COLUMNS: &str = "\
+, c256 text) | too many columns at 2711
+, ts 1 | too many columns at 2711
+, 1 | expected ColumnName at 2711
+ 1 | expected CommaOrClose at 2710";
+
+#[test]
+fn refuses_more_columns(rt: HostRuntime) {
+    let front = columns_behind(&rt, rt.alloc(), "left", 256);
+    judge_all(&rt, rt.alloc(), &front, BEHIND_MOST_COLUMNS);
+    let front = columns_behind(&rt, rt.alloc(), "left (ts int) right", 256);
+    judge(
+        &rt,
+        rt.alloc(),
+        &[&front, ", c256 text)"],
+        "too many columns at 2726",
+    );
 }
 
 #[test]
-fn bounds_the_text(rt: HostRuntime) -> Result<(), Fail> {
-    let blanks = repeated(rt.alloc(), " ", 65536)?;
-    assert_eq!(rt;
-        parse(rt.alloc(), blanks.as_bytes()).err(),
-        Some(Expected(Wanted::LeftWord, 65536))
-    );
-    let longer = repeated(rt.alloc(), "'", 65537)?;
-    assert_eq!(rt; parse(rt.alloc(), longer.as_bytes()).err(), Some(TooLong));
-    let blanks = repeated(rt.alloc(), " ", 65411)?;
-    assert_eq!(rt; fault_of(rt.alloc(), &[WHOLE, &blanks])?, None);
-    assert_eq!(rt;
-        fault_of(rt.alloc(), &[WHOLE, &blanks, " "])?,
-        Some(TooLong)
-    );
-    Ok(())
+fn bounds_the_text(rt: HostRuntime) {
+    let blanks = repeated(&rt, rt.alloc(), " ", 65536);
+    judge(&rt, rt.alloc(), &[&blanks], "expected LeftWord at 65536");
+    let longer = repeated(&rt, rt.alloc(), "'", 65537);
+    judge(&rt, rt.alloc(), &[&longer], "text too long");
+    let blanks = repeated(&rt, rt.alloc(), " ", 65411);
+    judge(&rt, rt.alloc(), &[WHOLE, &blanks], "a query");
+    judge(&rt, rt.alloc(), &[WHOLE, &blanks, " "], "text too long");
 }
 
 #[test]
 fn makes_the_tree(rt: HostRuntime) -> Result<(), Fail> {
-    let text = joined(
-        rt.alloc(),
-        &[
-            HEAD,
-            "on 1=1 or 2=2 or 3=3 and 4=4 and not l.k - 5 + r.ts < -6",
-        ],
-    )?;
+    let condition = "on 1=1 or 2=2 or 3=3 and 4=4 and not l.k - 5 + r.ts < -6";
+    let text = joined(&rt, rt.alloc(), &[HEAD, condition]);
     let query = parse(rt.alloc(), text.as_bytes())?;
     let Pred::Or(ors, ands) = query.pred() else {
         return Err("no or".into());
