@@ -1,5 +1,6 @@
 pub mod Counts
 pub mod Journals
+pub mod Lcg
 pub mod Link
 pub mod MemOutside
 pub mod MemSink

@@ -1,7 +1,9 @@
 //! Numbers, sides, and the outside: the traits through which streams are read and results are written, with fakes in memory.
 #![tactic(auto)]
 
+mod bytes;
 mod gate;
+mod lcg;
 mod mem_outside;
 mod mem_sink;
 mod numbers;
@@ -9,14 +11,18 @@ mod outside;
 mod share;
 mod sink;
 mod stream;
+mod text;
 
+pub use bytes::Bytes;
 pub use gate::{Gate, OpenGate};
+pub use lcg::Lcg;
 pub use mem_outside::MemOutside;
 pub use mem_sink::MemSink;
-pub use numbers::{CoreNo, EventNo, Memory, Side, Window};
+pub use numbers::{CoreNo, EventNo, Memory, Setup, Side, Window};
 pub use outside::{Got, Opened, Outside, Role};
 pub use share::Share;
 pub use sink::{Put, Sink};
+pub use text::{TextBytes, TextBytes as Name};
 
 #[cfg(test)]
 mod tests;

@@ -41,6 +41,17 @@ pub enum Window {
     Time(u64),
 }
 
+/// How a join is spread out.
+#[derive(Clone, Copy, Debug, PartialEq, Eq)]
+pub struct Setup {
+    /// How many cores the chain has, from 1 to 64.
+    pub cores: u16,
+    /// How many threads turn them, from 0 to 64; 0 is the calling thread alone.
+    pub threads: u16,
+    /// How many events are outstanding at most, from 1 to 256.
+    pub flight: u16,
+}
+
 /// Memory ran out.
 #[derive(Clone, Copy, Debug, PartialEq, Eq, Error)]
 #[error("out of memory")]

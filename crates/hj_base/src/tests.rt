@@ -77,3 +77,22 @@ fn fails_where_that_was_listed(rt: HostRuntime) -> Result<(), Fail> {
     assert_eq!(rt; outside.read(Role::Left, &mut buf), Got::End);
     Ok(())
 }
+
+#[test]
+fn draws_by_the_seed(rt: HostRuntime) {
+    for (seed, first) in [(1, 908_834_774), (2, 1_649_717_740)] {
+        assert_eq!(rt; Lcg::new(seed).draw(), first);
+    }
+}
+
+#[test]
+fn keeps_bytes(rt: HostRuntime) -> Result<(), Fail> {
+    let mut digits = Bytes::new(rt.alloc());
+    digits.push(b'4')?;
+    digits.push(b'2')?;
+    assert_eq!(rt; digits.bytes(), b"42".as_slice());
+    assert_eq!(rt; digits.len(), 2);
+    assert_eq!(rt; digits.get(1), Some(&b'2'));
+    assert_eq!(rt; digits.get(2), None);
+    Ok(())
+}

@@ -5,20 +5,19 @@ ghost use Rattle.hj_emit.specs.Cells.{cells};
 ghost use Rattle.hj_value.specs.declared.field.Field.{Field};
 ghost use Rattle.hj_emit.specs.Line.{field_bytes, line_of};
 
-use crate::LineBytes;
 use hj_base::Memory;
 use hj_value::{Field, Row};
 use itoa::Buffer;
 
 /// Makes a line that of two joined rows, as `line` gives it, in place of what it held. Memory is taken for its growth
 /// alone; after a refusal it holds a part of the line.
-pub fn fill_line(line: &mut LineBytes, left: &Row, right: &Row) -> Result<(), Memory>
-    ensures { OnOk result (line.new ≡ line_of left.now right.now) }
+pub fn fill_line(line: &mut Vec<u8>, left: &Row, right: &Row) -> Result<(), Memory>
+    ensures { OnOk result (line.new.items ≡ line_of left.now right.now) }
 {
-    line.bytes.clear();
-    push_row(&mut line.bytes, left)?;
-    push_row(&mut line.bytes, right)?;
-    end_line(&mut line.bytes)
+    line.clear();
+    push_row(line, left)?;
+    push_row(line, right)?;
+    end_line(line)
 }
 
 /// Adds a row's fields, with a comma behind each.

@@ -43,14 +43,14 @@ fn writes_lines(rt: HostRuntime) -> Result<(), Fail> {
         (0, Some("\r"), -1, Some("a\nb"), "0,\"\r\",-1,\"a\nb\"\n"),
         (10, Some(""), 0, Some(" a\u{fc};'"), "10,,0, a\u{fc};'\n"),
     ];
-    let mut filled = LineBytes::new(rt.alloc());
+    let mut filled = Vec::new(rt.alloc());
     for (left, left_text, right, right_text, want) in table {
         let left = row(rt.alloc(), left, left_text)?;
         let right = row(rt.alloc(), right, right_text)?;
         let written = line(rt.alloc(), &left, &right)?;
         assert_eq!(rt; written.bytes(), want.as_bytes());
         fill_line(&mut filled, &left, &right)?;
-        assert_eq!(rt; filled.bytes(), want.as_bytes());
+        assert_eq!(rt; filled.as_slice(), want.as_bytes());
     }
     Ok(())
 }
@@ -60,25 +60,14 @@ fn writes_a_record_of_no_bytes(rt: HostRuntime) -> Result<(), Fail> {
     let none = Row::new(rt.alloc());
     let mut empty = Row::new(rt.alloc());
     empty.push(field(""))?;
-    let mut filled = LineBytes::new(rt.alloc());
+    let mut filled = Vec::new(rt.alloc());
     for left in [&none, &empty] {
         let written = line(rt.alloc(), left, &none)?;
         assert_eq!(rt; written.bytes(), b"\"\"\n".as_slice());
         fill_line(&mut filled, left, &none)?;
-        assert_eq!(rt; filled.bytes(), b"\"\"\n".as_slice());
+        assert_eq!(rt; filled.as_slice(), b"\"\"\n".as_slice());
     }
     fill_line(&mut filled, &empty, &empty)?;
-    assert_eq!(rt; filled.bytes(), b",\n".as_slice());
-    Ok(())
-}
-
-#[test]
-fn keeps_bytes(rt: HostRuntime) -> Result<(), Fail> {
-    let mut bytes = LineBytes::new(rt.alloc());
-    bytes.push(b'4')?;
-    bytes.push(b'\n')?;
-    assert_eq!(rt; bytes.len(), 2);
-    assert_eq!(rt; bytes.get(0), Some(&b'4'));
-    assert_eq!(rt; bytes.get(2), None);
+    assert_eq!(rt; filled.as_slice(), b",\n".as_slice());
     Ok(())
 }

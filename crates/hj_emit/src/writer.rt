@@ -19,9 +19,7 @@ pub fn line(alloc: Global, left: &Row, right: &Row) -> Result<LineBytes, Memory>
     let mut fields = ByteRecord::new(alloc);
     push_row(&mut fields, left)?;
     push_row(&mut fields, right)?;
-    Ok(LineBytes {
-        bytes: record_text(alloc, &fields)?,
-    })
+    Ok(LineBytes::from_vec(record_text(alloc, &fields)?))
 }
 
 /// The text of a record.

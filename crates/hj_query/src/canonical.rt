@@ -9,68 +9,12 @@ mod nodes;
 mod pieces;
 mod terms;
 
-use crate::Query;
+use crate::{Query, QueryText};
 use hj_base::{Memory, Side, Window};
 use hj_value::{Column, ColumnType, Columns};
 use nodes::push_pred;
 use pieces::{push_bytes, push_count};
 use std::alloc::Global;
-use std::marker::Model;
-
-/// The text of a query, seen as the list of its bytes.
-#[derive(Debug, Drop)]
-pub struct QueryText {
-    bytes: Vec<u8>,
-}
-
-impl Model for QueryText {
-    ghost use Rattle.std.specs.Prelude.{List, ℕ};
-
-    ghost Value = { List ℕ };
-
-    ghost view = { λ t. t.bytes.items };
-}
-
-impl QueryText {
-    /// No bytes.
-    pub fn new(alloc: Global) -> Self
-        ensures { result ≡ [] }
-    {
-        QueryText {
-            bytes: Vec::new(alloc),
-        }
-    }
-
-    /// How many bytes the text has.
-    pub fn len(&self) -> usize
-        ensures { result ≡ length self.now }
-    {
-        self.bytes.len()
-    }
-
-    /// The byte at a place, counted from 0; None exactly at or past the length.
-    pub fn get(&self, at: usize) -> Option<&u8>
-        ensures { option_copied result ≡ slice_get self.now at }
-    {
-        self.bytes.get(at)
-    }
-
-    /// The bytes of the text.
-    pub fn bytes(&self) -> &[u8]
-        ensures { result.now ≡ self.now }
-    {
-        &self.bytes
-    }
-
-    /// Adds a byte at the end. After a refusal nothing changed.
-    pub fn push(&mut self, byte: u8) -> Result<(), Memory>
-        ensures ok { OnOk result (self.new ≡ self.old ++ byte ∷ []) }
-        ensures err { OnErr result (self.new ≡ self.old) }
-    {
-        self.bytes.push(byte)?;
-        Ok(())
-    }
-}
 
 /// The canonical text of a query: a line for each schema and each window, and one for the condition, with one blank between
 /// words, signs and numbers, and parentheses only where the tree needs them.
@@ -89,7 +33,7 @@ pub fn print(alloc: Global, query: &Query) -> Result<QueryText, Memory>
     push_bytes(&mut bytes, b"on ")?;
     push_pred(alloc, &mut bytes, query, query.pred())?;
     push_bytes(&mut bytes, b"\n")?;
-    Ok(QueryText { bytes })
+    Ok(QueryText::from_vec(bytes))
 }
 
 /// Adds the line of a schema to a text.

@@ -17,8 +17,9 @@ mod text;
 mod types;
 mod window;
 
-pub use canonical::{QueryText, print};
+pub use canonical::print;
 pub use fault::{QueryFault, Wanted};
+pub use hj_base::Bytes as QueryText;
 pub use keyed::equi;
 pub use laws::text_is_query_or_fault;
 pub use pred::{Op, Pred};

@@ -9,17 +9,16 @@ mod number;
 mod row;
 mod schema;
 mod shared_row;
-mod text;
 
 pub use borrowed::Text;
 pub use column::{Column, ColumnType};
 pub use columns::Columns;
 pub use field::{Field, compare};
-pub use number::{IntFault, IntText, print_int, read_int};
+pub use hj_base::{Bytes as IntText, TextBytes};
+pub use number::{IntFault, print_int, read_int};
 pub use row::Row;
 pub use schema::Schema;
 pub use shared_row::SharedRow;
-pub use text::TextBytes;
 
 #[cfg(test)]
 mod tests;

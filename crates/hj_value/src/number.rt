@@ -5,10 +5,10 @@ ghost use Rattle.std.specs.Str.Parse.{starts_with_minus, without_leading_sign};
 ghost use Rattle.hj_value.specs.Magnitude.{magnitude_of, signed_of, IsUpTo};
 ghost use Rattle.hj_value.specs.Number.{int_of};
 
+use crate::IntText;
 use hj_base::Memory;
 use itoa::Buffer;
 use std::alloc::Global;
-use std::marker::Model;
 use thiserror::Error;
 
 /// Why the bytes of a field are no whole number.
@@ -20,61 +20,6 @@ pub enum IntFault {
     /// They are, and the value is outside 64 bits with sign.
     #[error("number out of range")]
     NumberRange,
-}
-
-/// The text of a number, seen as the list of its bytes.
-#[derive(Debug, Drop)]
-pub struct IntText {
-    bytes: Vec<u8>,
-}
-
-impl Model for IntText {
-    ghost use Rattle.std.specs.Prelude.{List, ℕ};
-
-    ghost Value = { List ℕ };
-
-    ghost view = { λ t. t.bytes.items };
-}
-
-impl IntText {
-    /// A text of no bytes.
-    pub fn new(alloc: Global) -> Self
-        ensures { result ≡ [] }
-    {
-        IntText {
-            bytes: Vec::new(alloc),
-        }
-    }
-
-    /// How many bytes it has.
-    pub fn len(&self) -> usize
-        ensures { result ≡ length self.now }
-    {
-        self.bytes.len()
-    }
-
-    /// The byte at a place, counted from 0; None exactly at or past the length.
-    pub fn get(&self, at: usize) -> Option<&u8>
-        ensures { option_copied result ≡ slice_get self.now at }
-    {
-        self.bytes.get(at)
-    }
-
-    /// Adds a byte at the end. After a refusal nothing changed.
-    pub fn push(&mut self, byte: u8) -> Result<(), Memory>
-        ensures ok { OnOk result (self.new ≡ self.old ++ byte ∷ []) }
-        ensures err { OnErr result (self.new ≡ self.old) }
-    {
-        self.bytes.push(byte)?;
-        Ok(())
-    }
-
-    /// The bytes of the text.
-    pub fn bytes(&self) -> &[u8]
-        ensures { result.now ≡ self.now }
-    {
-        &self.bytes
-    }
 }
 
 /// Reads a whole number in decimal.
@@ -159,9 +104,8 @@ pub fn print_int(alloc: Global, value: i64) -> Result<IntText, Memory>
     ensures { IfOk result (λ text. text ≡ signed_decimal value) }
 {
     let mut buffer = Buffer::new();
-    Ok(IntText {
-        bytes: Vec::from_slice(alloc, buffer.format(value).as_bytes())?,
-    })
+    let digits = Vec::from_slice(alloc, buffer.format(value).as_bytes())?;
+    Ok(IntText::from_vec(digits))
 }
 
 #[cfg(test)]

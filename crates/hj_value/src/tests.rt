@@ -77,15 +77,3 @@ fn compares_fields(rt: HostRuntime) {
         }
     }
 }
-
-#[test]
-fn keeps_digits(rt: HostRuntime) -> Result<(), Fail> {
-    let mut digits = IntText::new(rt.alloc());
-    digits.push(b'4')?;
-    digits.push(b'2')?;
-    assert_eq!(rt; digits.bytes(), b"42".as_slice());
-    assert_eq!(rt; digits.len(), 2);
-    assert_eq!(rt; digits.get(1), Some(&b'2'));
-    assert_eq!(rt; digits.get(2), None);
-    Ok(())
-}

@@ -137,16 +137,3 @@ fn prints_the_longest_conditions(rt: HostRuntime) -> Result<(), Fail> {
     }
     Ok(())
 }
-
-#[test]
-fn keeps_each_byte(rt: HostRuntime) -> Result<(), Fail> {
-    let mut text = QueryText::new(rt.alloc());
-    for byte in *b"on" {
-        text.push(byte)?;
-    }
-    assert_eq!(rt; text.bytes(), b"on".as_slice());
-    assert_eq!(rt; text.len(), 2);
-    assert_eq!(rt; text.get(1), Some(&b'n'));
-    assert_eq!(rt; text.get(2), None);
-    Ok(())
-}

@@ -1,35 +1,42 @@
 ghost use Rattle.std.specs.Prelude.{◌≡◌, ◌++◌, [], ◌∷◌, length, slice_get, OnOk, OnErr};
 ghost use Rattle.std.specs.Option.{option_copied};
 
-use hj_base::Memory;
+use crate::Memory;
 use std::alloc::Global;
 use std::marker::Model;
 
-/// The text of a line, seen as the list of its bytes.
+/// A text that was made, seen as the list of its bytes.
 #[derive(Debug, Drop)]
-pub struct LineBytes {
-    pub(crate) bytes: Vec<u8>,
+pub struct Bytes {
+    bytes: Vec<u8>,
 }
 
-impl Model for LineBytes {
+impl Model for Bytes {
     ghost use Rattle.std.specs.Prelude.{List, ℕ};
 
     ghost Value = { List ℕ };
 
-    ghost view = { λ l. l.bytes.items };
+    ghost view = { λ b. b.bytes.items };
 }
 
-impl LineBytes {
-    /// A line of no bytes.
+impl Bytes {
+    /// No bytes.
     pub fn new(alloc: Global) -> Self
         ensures { result ≡ [] }
     {
-        LineBytes {
+        Bytes {
             bytes: Vec::new(alloc),
         }
     }
 
-    /// How many bytes it has.
+    /// These bytes.
+    pub fn from_vec(bytes: Vec<u8>) -> Self
+        ensures { result ≡ bytes.items }
+    {
+        Bytes { bytes }
+    }
+
+    /// How many there are.
     pub fn len(&self) -> usize
         ensures { result ≡ length self.now }
     {
@@ -52,7 +59,7 @@ impl LineBytes {
         Ok(())
     }
 
-    /// Its bytes.
+    /// All of them.
     pub fn bytes(&self) -> &[u8]
         ensures { result.now ≡ self.now }
     {

@@ -2,7 +2,7 @@ ghost use Rattle.std.specs.Prelude.{◌≡◌, length, slice_get, IfOk};
 ghost use Rattle.std.specs.Option.{SomeIff, option_copied};
 ghost use Rattle.std.specs.Str.{IsUtf8};
 
-use hj_base::Memory;
+use crate::Memory;
 use std::alloc::Global;
 use std::marker::Model;
 
@@ -62,6 +62,13 @@ impl TextBytes {
         ensures utf8 { IsUtf8 result.now }
     {
         self.text.as_str().as_bytes()
+    }
+
+    /// The text.
+    pub fn text(&self) -> &str
+        ensures { result.now ≡ self.now }
+    {
+        self.text.as_str()
     }
 }
 
