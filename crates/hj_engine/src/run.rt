@@ -9,7 +9,6 @@ use crate::Outcome;
 use crate::output::Sent;
 use crate::windows::Windows;
 use hj_base::{Outside, Sink};
-use hj_emit::LineBytes;
 use hj_event::{Merger, Next};
 use hj_query::Query;
 use std::alloc::Global;
@@ -38,7 +37,7 @@ pub fn join<O: Outside, K: Sink>(
     let mut joiner = Joiner {
         merger,
         windows: Windows::new(alloc, query),
-        line: LineBytes::new(alloc),
+        line: Vec::new(alloc),
     };
     joiner.run(limit, outside, out)
 }
@@ -49,7 +48,7 @@ struct Joiner<'a> {
     merger: Merger,
     windows: Windows<'a>,
     /// A buffer for the line of a pair.
-    line: LineBytes,
+    line: Vec<u8>,
 }
 
 impl Joiner<'_> {

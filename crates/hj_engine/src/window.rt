@@ -8,8 +8,8 @@ ghost use Rattle.hj_engine.specs.Output.{Sends, CountsFaults};
 
 use crate::output::{Sent, put_all};
 use hj_base::{EventNo, Memory, Side, Sink};
-use hj_emit::{LineBytes, fill_line};
-use hj_eval::{Condition, KeyColumn};
+use hj_emit::fill_line;
+use hj_eval::{KeyColumn, QueryJoin};
 use hj_value::{Row, SharedRow};
 use std::alloc::Global;
 use std::collections::VecDeque;
@@ -101,7 +101,7 @@ impl Window {
         &self,
         probe: &Probe<'_>,
         out: &mut K,
-        line: &mut LineBytes,
+        line: &mut Vec<u8>,
     ) -> Sent
         requires { IsToldBy (holds probe.now.condition.now) probe.now.side probe.now.row.now probe.now.key
             self.now.column }
@@ -126,7 +126,7 @@ impl Window {
 /// A row that arrives on a side, to be joined with rows of the other side.
 #[derive(Drop)]
 pub(crate) struct Probe<'a> {
-    pub(crate) condition: &'a Condition<'a>,
+    pub(crate) condition: &'a QueryJoin<'a>,
     pub(crate) side: Side,
     pub(crate) row: &'a Row,
     pub(crate) key: u64,
@@ -134,7 +134,7 @@ pub(crate) struct Probe<'a> {
 
 impl Probe<'_> {
     /// Sends the line of this row with a row of the other side, if they join.
-    fn send_if_joined<K: Sink>(&self, other: &SharedRow, out: &mut K, line: &mut LineBytes) -> Sent
+    fn send_if_joined<K: Sink>(&self, other: &SharedRow, out: &mut K, line: &mut Vec<u8>) -> Sent
         ensures sends { Sends result
             (line_with (holds self.now.condition.now) self.now.side self.now.row.now other.now)
             (K.told out.old) (K.told out.new) }
@@ -145,7 +145,7 @@ impl Probe<'_> {
             return Sent::Whole;
         }
         match fill_line(line, left, right) {
-            Ok(()) => put_all(out, line.bytes()),
+            Ok(()) => put_all(out, line),
             Err(Memory) => Sent::Memory,
         }
     }

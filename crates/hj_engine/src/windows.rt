@@ -13,8 +13,7 @@ ghost use Rattle.hj_engine.specs.JoinText.{text};
 use crate::output::Sent;
 use crate::window::{Probe, Window};
 use hj_base::{EventNo, Memory, Side, Sink};
-use hj_emit::LineBytes;
-use hj_eval::Condition;
+use hj_eval::QueryJoin;
 use hj_msg::Event;
 use hj_query::Query;
 use hj_value::SharedRow;
@@ -24,7 +23,7 @@ use std::marker::Model;
 /// The windows of both streams, whose rows are joined under a query.
 #[derive(Drop)]
 pub(crate) struct Windows<'a> {
-    condition: Condition<'a>,
+    condition: QueryJoin<'a>,
     left: Window,
     right: Window,
 }
@@ -49,7 +48,7 @@ impl<'a> Windows<'a> {
     pub(crate) fn new(alloc: Global, query: &'a Query) -> Self
         ensures { result ≡ record { query = query.now; held = no_rows } }
     {
-        let condition = Condition::new(query);
+        let condition = QueryJoin::new(query);
         let (left, right) = condition.key_columns();
         Windows {
             condition,
@@ -66,7 +65,7 @@ impl<'a> Windows<'a> {
         &mut self,
         event: Event<SharedRow>,
         out: &mut K,
-        line: &mut LineBytes,
+        line: &mut Vec<u8>,
     ) -> Sent
         requires { AreBelow (number event) self.old.held }
         ensures sends { Sends result (text (listed (holds self.old.query) self.old.held event))
@@ -90,7 +89,7 @@ impl<'a> Windows<'a> {
         side: Side,
         row: SharedRow,
         out: &mut K,
-        line: &mut LineBytes,
+        line: &mut Vec<u8>,
     ) -> Sent
         requires { AreBelow no.0 self.old.held }
         ensures sends { Sends result (text (listed (holds self.old.query) self.old.held (Event.Arrive no side row)))
@@ -133,12 +132,12 @@ impl<'a> Windows<'a> {
 
 /// Sends the lines of an arriving row with the rows of the opposite window, and adds it to its own.
 fn join_and_hold<K: Sink>(
-    condition: &Condition<'_>,
+    condition: &QueryJoin<'_>,
     arrival: (EventNo, Side, SharedRow),
     own: &mut Window,
     opposite: &Window,
     out: &mut K,
-    line: &mut LineBytes,
+    line: &mut Vec<u8>,
 ) -> Sent
     requires below { AllBelow arrival.0.0 own.old.held }
     requires apart { TellsApart condition.now (by_side own.old.column opposite.now.column arrival.1)

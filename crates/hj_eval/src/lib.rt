@@ -2,15 +2,15 @@
 #![tactic(auto)]
 
 mod condition;
+mod join;
 mod keys;
 mod needed;
-mod ready;
 mod rows;
 mod value;
 
 pub use condition::holds;
+pub use join::QueryJoin;
 pub use keys::KeyColumn;
-pub use ready::Condition;
 
 #[cfg(test)]
 mod tests;

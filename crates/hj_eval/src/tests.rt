@@ -1,4 +1,4 @@
-use crate::{Condition, holds};
+use crate::{QueryJoin, holds};
 use hj_base::Memory;
 use hj_query::{Query, parse};
 use hj_value::{Field, Row, Text};
@@ -133,7 +133,7 @@ fn evaluates_conditions(rt: HostRuntime) -> Result<(), Fail> {
             "{condition} at {left} and {right}"
         );
         assert_eq!(rt;
-            Condition::new(&query).holds(&left_row, &right_row),
+            QueryJoin::new(&query).holds(&left_row, &right_row),
             want,
             "{condition} at {left} and {right}, made ready"
         );

@@ -16,8 +16,8 @@ returns-then-not-holds-clause-sends g c =
 
 pub returns-in-Ok-clause-sends : goal.returns-in-Ok-clause-sends
 returns-in-Ok-clause-sends g c =
-    let line : c.bytes.result.now ≡ line_with (holds c.args.self.now.condition.now) c.args.self.now.side c.args.self.now.row.now c.args.other.now =
-    subst (λ (other : List Field). c.bytes.result.now ≡ line_with (holds c.args.self.now.condition.now) c.args.self.now.side c.args.self.now.row.now other) c.row.ensures
-    (a_line (holds c.args.self.now.condition.now) c.args.self.now.side c.args.self.now.row.now c.row.result.now c.left_and_right.result.0.now c.left_and_right.result.1.now c.holds.result c.bytes.result.now
-    c.left_and_right.ensures.left c.left_and_right.ensures.right c.holds.ensures c.if-not-holds.false (c.bytes.ensures ∙ c.in-Ok.ensures)) in
+    let line : c.deref.result.now ≡ line_with (holds c.args.self.now.condition.now) c.args.self.now.side c.args.self.now.row.now c.args.other.now =
+    subst (λ (other : List Field). c.deref.result.now ≡ line_with (holds c.args.self.now.condition.now) c.args.self.now.side c.args.self.now.row.now other) c.row.ensures
+    (a_line (holds c.args.self.now.condition.now) c.args.self.now.side c.args.self.now.row.now c.row.result.now c.left_and_right.result.0.now c.left_and_right.result.1.now c.holds.result c.deref.result.now
+    c.left_and_right.ensures.left c.left_and_right.ensures.right c.holds.ensures c.if-not-holds.false (c.deref.ensures.value ∙ c.in-Ok.ensures)) in
     subst (λ (bytes : List ℕ). Sends c.put_all.result bytes (g.K.Sink.told c.args.out.now) (g.K.Sink.told c.put_all.new.out)) line c.put_all.ensures.sends

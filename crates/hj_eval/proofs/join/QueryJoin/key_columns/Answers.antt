@@ -1,6 +1,6 @@
 use Rattle.std.proofs.Common.{false, refl, sym}
 use Rattle.hj_eval.proofs.Needing.{refused}
-use Rattle.hj_eval.proofs.ready.Condition.key_columns.Goals as goal
+use Rattle.hj_eval.proofs.join.QueryJoin.key_columns.Goals as goal
 
 pub returns-in-Some : goal.returns-in-Some
 returns-in-Some c = λ left right differ.

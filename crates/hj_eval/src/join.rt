@@ -5,19 +5,21 @@ ghost use Rattle.hj_eval.specs.Keys.{TellsApart};
 use crate::condition::holds;
 use crate::keys::KeyColumn;
 use crate::needed::{Comparison, needed_by};
+use hj_base::{Memory, Share};
+use hj_msg::Join;
 use hj_query::Query;
-use hj_value::Row;
+use hj_value::{Row, SharedRow};
 use std::marker::Model;
 
-/// The condition of a query, made ready for many rows: most of those that it doesn't hold for are told by one comparison
-/// of two fields.
+/// The join that a query's condition makes, seen as the query and ready for many rows: most of those for which the condition
+/// doesn't hold are told by one comparison of two fields.
 #[derive(Drop)]
-pub struct Condition<'a> {
+pub struct QueryJoin<'a> {
     query: &'a Query,
     needed: Option<Comparison>,
 }
 
-impl<'a> Model for Condition<'a> {
+impl<'a> Model for QueryJoin<'a> {
     ghost use Rattle.std.specs.Prelude.{IfSome};
     ghost use Rattle.hj_query.specs.Parts.{Parts};
     ghost use Rattle.hj_query.specs.contracts.pred.Pred as e;
@@ -33,18 +35,18 @@ impl<'a> Model for Condition<'a> {
     ghost invariant = { λ c. IfSome c.needed (IsNeeded c.query.now.pred) };
 }
 
-impl<'a> Condition<'a> {
-    /// The condition of `query`.
+impl<'a> QueryJoin<'a> {
+    /// The join by the condition of `query`.
     pub fn new(query: &'a Query) -> Self
         ensures { result ≡ query.now }
     {
-        Condition {
+        QueryJoin {
             query,
             needed: needed_by(query.pred()),
         }
     }
 
-    /// Whether it holds for a left and a right row, as `holds` tells.
+    /// Whether the condition holds for a left and a right row, as `holds` tells.
     pub fn holds(&self, left: &Row, right: &Row) -> bool
         ensures { result ≡ holds self.now left.now right.now }
     {
@@ -64,5 +66,22 @@ impl<'a> Condition<'a> {
             Some(needed) => needed.key_columns(),
             None => (KeyColumn { at: None }, KeyColumn { at: None }),
         }
+    }
+}
+
+impl Share for QueryJoin<'_> {
+    fn share(&self) -> Result<Self, Memory> {
+        Ok(QueryJoin {
+            query: self.query,
+            needed: self.needed,
+        })
+    }
+}
+
+impl Join<SharedRow> for QueryJoin<'_> {
+    ghost predicate = { holds };
+
+    fn matches(&self, left: &SharedRow, right: &SharedRow) -> bool {
+        self.holds(left.row(), right.row())
     }
 }
