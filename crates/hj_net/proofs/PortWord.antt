@@ -1,5 +1,5 @@
 -- A port's word: its digits, and their value where `parse` refuses it.
-use Rattle.std.proofs.Common.{◌&&◌, ◌≡◌, ℕ, ◌<◌, ◌≤◌, ◌^◌, true, false, List, [], ◌∷◌, length, refl, ap, arith, inl, inr, rules, None, Ok, Err, Result}
+use Rattle.std.proofs.Common.{◌&&◌, ◌≡◌, ℕ, ◌^◌, true, List, [], ◌∷◌, refl, ap, arith, inl, inr, None, Ok, Err, Result}
 use Rattle.std.proofs.lemmas.Bool.{cases_lt}
 use Rattle.std.proofs.lemmas.Grind.{common_steps}
 use Rattle.std.proofs.lemmas.Str.Parse.{IsNumeralModel, numerals_by_value, tells_all_ascii_digits, parse_digits}

@@ -12,7 +12,7 @@ left_of in_file in_stream (File file) = in_file file
 left_of in_file in_stream (Listening listener) = None
 left_of in_file in_stream (Connected stream) = in_stream stream
 
--- A file is opened for the address of a file, and a listener for that of a port. There is none for a name with no address.
+-- A file is opened for the address of a file, and a listener for that of a port; nothing is for a name with no address.
 abbrev pub IsOpenedFor : {F L S : Type 0} → Option Address → Channel F L S → Type 0
 IsOpenedFor (Some address.File) (File file) = Unit {0}
 IsOpenedFor (Some address.File) (Listening listener) = ⊥

@@ -3,5 +3,6 @@ pub mod Answers
 pub mod Channel
 pub mod Collected
 pub mod RealOutside
+pub mod RealSink
 pub mod Roles
 pub mod Source

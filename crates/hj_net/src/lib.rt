@@ -1,4 +1,5 @@
-//! The real edge: streams that are read from files, and standard output and standard error as sinks.
+//! The real edge: streams that are read from files and from peers of a port, and output that is collected before it is
+//! handed on.
 #![tactic(auto)]
 
 mod address;

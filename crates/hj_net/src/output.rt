@@ -46,16 +46,20 @@ pub struct BehindOutput<'a, W: Write + Drop, E: Write + Drop> {
 }
 
 impl<'a, W: Write + Drop, E: Write + Drop> BehindOutput<'a, W, E> {
+    ghost use Rattle.hj_net.specs.RealSink.{writer_behind};
+
     /// A writer behind this output.
     pub fn new(output: &'a Output<W>, writer: E) -> BehindOutput<'a, W, E>
-        ensures { result.writer ≡ writer }
+        ensures { writer_behind result ≡ writer }
     {
         BehindOutput { output, writer }
     }
 }
 
 impl<W: Write + Drop, E: Write + Drop> Write for BehindOutput<'_, W, E> {
-    ghost contents = { λ b. E.contents b.writer };
+    ghost use Rattle.hj_net.specs.RealSink.{writer_behind};
+
+    ghost contents = { λ b. E.contents (writer_behind b) };
 
     fn write(&mut self, piece: &[u8]) -> io::Result<usize> {
         self.output.hand_on()?;

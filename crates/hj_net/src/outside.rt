@@ -1,5 +1,6 @@
 ghost use Rattle.std.specs.Prelude.{◌≡◌, ◌<◌, length, IsSomeAnd, None};
 ghost use Rattle.std.specs.Io.KnownBytes.{ReadConsumes};
+ghost use Rattle.hj_base.specs.Counts.{one_more};
 ghost use Rattle.hj_base.specs.Outside.{unbegun, IsOpen, Starts, Reads, ChangesOnly};
 ghost use Rattle.hj_net.specs.Answers.{as_read};
 
@@ -15,8 +16,9 @@ use std::rt::Files;
 /// The stream of a role.
 type RealSource<R> = Source<Channel<<R as Files>::File, <R as Net>::Listener, <R as Net>::Stream>>;
 
-/// The streams of the system: each name is a file's. It counts the faults of each role, and tells no bytes. Before each
-/// read it hands on the output, so that all that was written is seen before the program waits for input.
+/// The streams of the system: each name is a file's, or `listen:PORT`, a port of this machine whose first peer is read. It
+/// counts the faults of each role, and tells no bytes. Before each read it hands on the output, so that all that was
+/// written is seen before the program waits for input.
 #[derive(Drop)]
 pub struct RealOutside<'a, R: Files + Net + Drop, W: Write + Drop> {
     rt: R,
@@ -60,7 +62,10 @@ impl<R: Files + Net + Drop, W: Write + Drop> Outside for RealOutside<'_, R, W> {
         requires { (role_at self.old role).phase ≡ unbegun }
         ensures starts { Starts result name.now None (role_at self.old role) (role_at self.new role) }
         ensures others { ChangesOnly role (role_at self.old) (role_at self.new) }
-        ensures channel { result ≡ Opened.Ready → IsSomeAnd (channel_at self.new role) (IsOpenedFor (address_of name.now)) }
+        ensures fault { result ≡ Opened.Failed
+            → (role_at self.new role).faults ≡ one_more (role_at self.old role).faults }
+        ensures channel { result ≡ Opened.Ready
+            → IsSomeAnd (channel_at self.new role) (IsOpenedFor (address_of name.now)) }
     {
         let Ok(kept) = String::from_str(self.alloc, name) else {
             return Opened::Memory;
@@ -78,8 +83,9 @@ impl<R: Files + Net + Drop, W: Write + Drop> Outside for RealOutside<'_, R, W> {
         requires room { 0 < length buf.old }
         ensures reads { Reads result buf.new (role_at self.old role) (role_at self.new role) }
         ensures others { ChangesOnly role (role_at self.old) (role_at self.new) }
-        ensures bytes { ReadConsumes (remaining_at R.File.remaining R.Stream.remaining self.old role) (remaining_at R.File.remaining R.Stream.remaining self.new role)
-            (as_read result) buf.new }
+        ensures fault { result ≡ Got.Failed → (role_at self.new role).faults ≡ one_more (role_at self.old role).faults }
+        ensures bytes { ReadConsumes (remaining_at R.File.remaining R.Stream.remaining self.old role)
+            (remaining_at R.File.remaining R.Stream.remaining self.new role) (as_read result) buf.new }
     {
         // A refusal is kept: the output's next write answers it, and the end of the run sees it.
         let _ = self.output.hand_on();

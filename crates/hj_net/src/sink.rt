@@ -1,4 +1,4 @@
-ghost use Rattle.std.specs.Prelude.{◌≡◌};
+ghost use Rattle.std.specs.Prelude.{◌≡◌, ◌≢◌, ◌<◌, length};
 
 use crate::{BehindOutput, Output};
 use hj_base::{Put, Sink};
@@ -13,41 +13,60 @@ pub struct RealSink<W: Write + Drop> {
 }
 
 impl<W: Write + Drop> RealSink<W> {
-    /// A sink with no faults.
+    ghost use Rattle.hj_net.specs.RealSink.{faults_of, writer_of};
+
+    /// A sink of this writer with no faults.
     pub fn new(writer: W) -> RealSink<W>
-        ensures writer { result.writer ≡ writer }
-        ensures faults { result.faults ≡ 0 }
+        ensures writer { writer_of result ≡ writer }
+        ensures faults { faults_of result ≡ 0 }
     {
         RealSink { writer, faults: 0 }
     }
 }
 
 impl<'a, W: Write + Drop> RealSink<&'a Output<W>> {
+    ghost use Rattle.hj_net.specs.RealSink.{faults_of, writer_of};
+
     /// The sink of the output.
     pub fn output(output: &'a Output<W>) -> RealSink<&'a Output<W>>
-        ensures { result.faults ≡ 0 }
+        ensures writer { writer_of result ≡ output.entry }
+        ensures faults { faults_of result ≡ 0 }
     {
         RealSink::new(output)
     }
 }
 
 impl<'a, W: Write + Drop, E: Write + Drop> RealSink<BehindOutput<'a, W, E>> {
+    ghost use Rattle.hj_net.specs.RealSink.{faults_of, writer_behind, writer_of};
+
     /// A sink behind the output: it writes only where all of the output was handed on before, and else counts a fault.
     pub fn errors(output: &'a Output<W>, writer: E) -> RealSink<BehindOutput<'a, W, E>>
-        ensures { result.faults ≡ 0 }
+        ensures writer { writer_behind (writer_of result) ≡ writer }
+        ensures faults { faults_of result ≡ 0 }
     {
         RealSink::new(BehindOutput::new(output, writer))
     }
 }
 
 impl<W: Write + Drop> Sink for RealSink<W> {
-    ghost told = { λ s. W.contents s.writer };
+    ghost use Rattle.hj_base.specs.Counts.{one_more};
+    ghost use Rattle.hj_base.specs.Sink.{CountsFault, CountsRefusal, Writes};
+    ghost use Rattle.hj_net.specs.RealSink.{faults_of, writer_of};
 
-    ghost faults = { λ s. s.faults };
+    ghost told = { λ s. W.contents (writer_of s) };
 
-    ghost refusals = { λ s. s.faults };
+    ghost faults = { faults_of };
 
-    fn write(&mut self, piece: &[u8]) -> Put {
+    ghost refusals = { faults_of };
+
+    fn write(&mut self, piece: &[u8]) -> Put
+        requires { 0 < length piece.now }
+        ensures writes { Writes result piece.now (W.contents (writer_of self.old)) (W.contents (writer_of self.new)) }
+        ensures faults { CountsFault result (faults_of self.old) (faults_of self.new) }
+        ensures refusals { CountsRefusal result (faults_of self.old) (faults_of self.new) }
+        ensures fault { result ≡ Put.Failed → faults_of self.new ≡ one_more (faults_of self.old) }
+        ensures memory { result ≢ Put.Memory }
+    {
         match self.writer.write(piece) {
             Ok(count) if count > 0 => Put::Wrote(count),
             _ => {

@@ -1,5 +1,6 @@
 ghost use Rattle.std.specs.Prelude.{◌≡◌, ◌<◌, ◌↔◌, length, string_bytes, IsSome, IfSome, None, Some};
 ghost use Rattle.std.specs.Io.KnownBytes.{ReadConsumes};
+ghost use Rattle.hj_base.specs.Counts.{one_more};
 ghost use Rattle.hj_base.specs.Outside.{IsOpen, Starts, Reads};
 ghost use Rattle.hj_net.specs.Answers.{as_read};
 
@@ -43,6 +44,7 @@ impl<S: Read + Drop> Source<S> {
     pub fn begin(&mut self, name: String, opened: Option<S>) -> Opened
         ensures starts { Starts result (string_bytes name) None (role_of self.old) (role_of self.new) }
         ensures ready { (result ≡ Opened.Ready) ↔ IsSome opened }
+        ensures fault { result ≡ Opened.Failed → (role_of self.new).faults ≡ one_more (role_of self.old).faults }
         ensures stream { IfSome opened (λ stream. stream_of self.new ≡ Some stream) }
     {
         match opened {
@@ -67,7 +69,9 @@ impl<S: Read + Drop> Source<S> {
         requires open { IsOpen (role_of self.old).phase }
         requires room { 0 < length buf.old }
         ensures reads { Reads result buf.new (role_of self.old) (role_of self.new) }
-        ensures bytes { ReadConsumes (remaining S.remaining self.old) (remaining S.remaining self.new) (as_read result) buf.new }
+        ensures bytes { ReadConsumes (remaining S.remaining self.old) (remaining S.remaining self.new)
+            (as_read result) buf.new }
+        ensures fault { result ≡ Got.Failed → (role_of self.new).faults ≡ one_more (role_of self.old).faults }
     {
         let Stage::Opened { stream, ended, .. } = &mut self.stage else {
             unreachable!();
