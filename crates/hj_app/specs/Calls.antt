@@ -14,5 +14,6 @@ pub record Call : Type 0 where
   pub old : Option (List ℕ)
   pub new : Option (List ℕ)
 
-abbrev pub call : (List ℕ → Option (List ℕ)) → (Role → RoleState) → (Role → RoleState) → Option (List ℕ) → Option (List ℕ) → Call
+abbrev pub call : (List ℕ → Option (List ℕ)) → (Role → RoleState) → (Role → RoleState)
+    → Option (List ℕ) → Option (List ℕ) → Call
 call under before now old new = record { under = under; before = before; now = now; old = old; new = new }

@@ -54,7 +54,8 @@ pub record IsReadPast (bytes : List ℕ) (before now : RoleState) : Type 0 where
 -- Reading the text of an open role, as far as it can be that of a query.
 abbrev pub ReadsText : Result (Vec ℕ Global) Note → RoleState → RoleState → Type 0
 ReadsText (Ok text) before now = IsRead text.items before now ⊎ IsReadPast text.items before now
-ReadsText (Err (note.Source failed)) before now = (failed ≡ role.Query) × (now.phase ≡ before.phase) × Rose before.faults now.faults
+ReadsText (Err (note.Source failed)) before now =
+    (failed ≡ role.Query) × (now.phase ≡ before.phase) × Rose before.faults now.faults
 ReadsText (Err note.Memory) before now = now.phase ≡ before.phase
 ReadsText (Err other) before now = ⊥
 
@@ -73,13 +74,16 @@ Parses (Err other) text = ⊥
 -- The query of a join, or why there is none.
 abbrev pub QueryCause : Result Parts Note → Source → (List ℕ → Option (List ℕ)) → RoleState → RoleState → Type 0
 QueryCause (Ok query) source under before now = IsQueryOf source query under before now × (now.faults ≡ before.faults)
-QueryCause (Err (note.BadQuery found)) source under before now = (name : List ℕ) × (name_in source ≡ Some name) × IsRefused found name (under name) before now
-QueryCause (Err (note.Source failed)) source under before now = (name : List ℕ) × (name_in source ≡ Some name) × (failed ≡ role.Query) × Rose before.faults now.faults
+QueryCause (Err (note.BadQuery found)) source under before now =
+    (name : List ℕ) × (name_in source ≡ Some name) × IsRefused found name (under name) before now
+QueryCause (Err (note.Source failed)) source under before now =
+    (name : List ℕ) × (name_in source ≡ Some name) × (failed ≡ role.Query) × Rose before.faults now.faults
 QueryCause (Err note.Memory) source under before now = Unit {0}
 QueryCause (Err other) source under before now = ⊥
 
 -- Getting the query of a join.
-pub record GetsQuery (got : Result Parts Note) (source : Source) (under : List ℕ → Option (List ℕ)) (before now : Role → RoleState) : Type 0 where
+pub record GetsQuery (got : Result Parts Note) (source : Source) (under : List ℕ → Option (List ℕ))
+    (before now : Role → RoleState) : Type 0 where
   pub cause : QueryCause got source under (before role.Query) (now role.Query)
   pub begun : BeginsSource source (now role.Query).phase
   pub others : ChangesOnly role.Query before now

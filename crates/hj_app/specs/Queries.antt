@@ -25,7 +25,8 @@ pub record IsReadTooFar (bytes name : List ℕ) (told : Option (List ℕ)) (befo
 
 -- the text of a query as far as it was read
 abbrev pub IsQueryRead : List ℕ → List ℕ → Option (List ℕ) → RoleState → RoleState → Type 0
-IsQueryRead bytes name told before now = IsReadWhole bytes name told before now ⊎ IsReadTooFar bytes name told before now
+IsQueryRead bytes name told before now =
+    IsReadWhole bytes name told before now ⊎ IsReadTooFar bytes name told before now
 
 -- The text was read whole, and spells this query.
 pub record IsAccepted (query : Parts) (name : List ℕ) (told : Option (List ℕ)) (before now : RoleState) : Type 0 where

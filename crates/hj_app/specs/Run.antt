@@ -27,8 +27,8 @@ CountsSink ended faults_before faults_now = faults_now ≡ faults_before
 
 -- The run of a join from its query on.
 
--- A stream failed: where both are open, the events end in its missing read, and the whole text of these events was written;
--- else nothing was written.
+-- A stream failed: where both are open, the events end in its missing read, and the whole text of these events was
+-- written; else nothing was written.
 pub record FailsStream (of : Role) (query : Parts) (limit : ℕ) (names : Names) (call : Call) : Type 0 where
   pub side : Side
   pub is : of ≡ role_of side
@@ -38,14 +38,17 @@ pub record FailsStream (of : Role) (query : Parts) (limit : ℕ) (names : Names)
 
 abbrev pub JoinCause : Result (Unit {0}) Note → Parts → ℕ → Names → Call → Type 0
 JoinCause (Ok done) query limit names call = WritesWhole query limit names call
-JoinCause (Err (note.BadRecord side at found)) query limit names call = WritesAll (λ ending. ending ≡ bad side at found) query limit names call
+JoinCause (Err (note.BadRecord side at found)) query limit names call =
+    WritesAll (λ ending. ending ≡ bad side at found) query limit names call
 JoinCause (Err (note.Source of)) query limit names call = FailsStream of query limit names call
 JoinCause (Err note.Sink) query limit names call = Unit {0}
 JoinCause (Err note.Memory) query limit names call = Unit {0}
-JoinCause (Err (note.TooManyEvents most)) query limit names call = (most ≡ limit) × WritesAll (λ ending. ending ≡ too_many) query limit names call
+JoinCause (Err (note.TooManyEvents most)) query limit names call =
+    (most ≡ limit) × WritesAll (λ ending. ending ≡ too_many) query limit names call
 JoinCause (Err other) query limit names call = ⊥
 
-pub record JoinsStreams (ended : Result (Unit {0}) Note) (query : Parts) (limit : ℕ) (names : Names) (call : Call) (faults_before faults_now : ℕ) : Type 0 where
+pub record JoinsStreams (ended : Result (Unit {0}) Note) (query : Parts) (limit : ℕ) (names : Names) (call : Call)
+    (faults_before faults_now : ℕ) : Type 0 where
   pub cause : JoinCause ended query limit names call
   pub grown : List ℕ
   pub written : Appends call.old call.new grown
@@ -75,9 +78,11 @@ Cause (Err (note.BadRecord side at found)) order call = JoinsAll (λ ending. end
 Cause (Err (note.Source of)) order call = FailsSource of order call
 Cause (Err note.Sink) order call = Unit {0}
 Cause (Err note.Memory) order call = Unit {0}
-Cause (Err (note.TooManyEvents limit)) order call = (limit ≡ most_events) × JoinsAll (λ ending. ending ≡ too_many) order call
+Cause (Err (note.TooManyEvents limit)) order call =
+    (limit ≡ most_events) × JoinsAll (λ ending. ending ≡ too_many) order call
 
-pub record RunsOrder (ended : Result (Unit {0}) Note) (order : Order) (call : Call) (faults_before faults_now : ℕ) : Type 0 where
+pub record RunsOrder (ended : Result (Unit {0}) Note) (order : Order) (call : Call)
+    (faults_before faults_now : ℕ) : Type 0 where
   pub cause : Cause ended order call
   pub front : WritesFront order call
   pub roles : Begins (Some order) call

@@ -51,12 +51,14 @@ AreOpen now = IsOpen (now role.Left).phase × IsOpen (now role.Right).phase
 
 -- A join under the accepted query, of streams whose events end so; the whole text was written.
 abbrev pub JoinsAll : (Ending → Type 0) → Order → Call → Type 0
-JoinsAll EndsSo (join_streams source names) call = (query : Parts) × Accepts source query call × WritesAll EndsSo query most_events names call
+JoinsAll EndsSo (join_streams source names) call =
+    (query : Parts) × Accepts source query call × WritesAll EndsSo query most_events names call
 JoinsAll EndsSo (check_query name) call = ⊥
 
 -- What was done: a join of streams that ended well wrote the whole text, or a check the canonical text of a query.
 abbrev pub IsDone : Order → Call → Type 0
-IsDone (join_streams source names) call = (query : Parts) × Accepts source query call × WritesWhole query most_events names call
+IsDone (join_streams source names) call =
+    (query : Parts) × Accepts source query call × WritesWhole query most_events names call
 IsDone (check_query name) call = WritesCanonical name call
 
 -- The text of the order's query was read and has this first fault. No stream was begun, and nothing written.
@@ -68,13 +70,14 @@ pub record RefusesQuery (found : QueryFault) (order : Order) (call : Call) : Typ
   pub right : (call.now role.Right).phase ≡ unbegun
   pub nothing : Appends call.old call.new []
 
--- This role of the order failed. Where both streams are open, it is the one in whose missing read the events end, and the
--- whole text of these events was written; else nothing was written.
+-- This role of the order failed. Where both streams are open, it is the one in whose missing read the events end, and
+-- the whole text of these events was written; else nothing was written.
 pub record FailsSource (of : Role) (order : Order) (call : Call) : Type 0 where
   pub has : HasRole order of
   pub fails : Fails of call.before call.now
   pub unopened : ¬ (AreOpen call.now) → Appends call.old call.new []
-  pub opened : AreOpen call.now → (side : Side) × (of ≡ role_of side) × JoinsAll (λ ending. ending ≡ unread side) order call
+  pub opened : AreOpen call.now
+      → (side : Side) × (of ≡ role_of side) × JoinsAll (λ ending. ending ≡ unread side) order call
 
 abbrev pub IsBad : Ending → Type 0
 IsBad ending = (side : Side) × (at : ℕ) × (found : RecordFault) × (ending ≡ bad side at found)
@@ -99,15 +102,18 @@ pub record EndsBy (status : ℕ) (source : Source) (names : Names) (call : Call)
 -- The query is refused, or accepted; and then the ending of the events decides.
 abbrev pub IsDecided : ℕ → Order → Call → Type 0
 IsDecided status (join_streams source names) call =
-    ((status ≡ 2) × ((found : QueryFault) × RefusesQuery found (join_streams source names) call)) ⊎ EndsBy status source names call
+    ((status ≡ 2) × ((found : QueryFault) × RefusesQuery found (join_streams source names) call))
+    ⊎ EndsBy status source names call
 IsDecided status (check_query name) call =
-    ((status ≡ 2) × ((found : QueryFault) × RefusesQuery found (check_query name) call)) ⊎ ((status ≡ 0) × WritesCanonical name call)
+    ((status ≡ 2) × ((found : QueryFault) × RefusesQuery found (check_query name) call))
+    ⊎ ((status ≡ 0) × WritesCanonical name call)
 
 -- What was written, whatever the status.
 
 -- The bytes are a front of the text of the order.
 abbrev pub IsFront : List ℕ → Order → Call → Type 0
-IsFront grown (join_streams source names) call = (query : Parts) × Accepts source query call × BeginsText grown query most_events names call
+IsFront grown (join_streams source names) call =
+    (query : Parts) × Accepts source query call × BeginsText grown query most_events names call
 IsFront grown (check_query name) call = BeginsCanonical grown name call
 
 -- Nothing was written, or a front of the text.
@@ -127,8 +133,8 @@ abbrev pub BeginsSource : Source → Phase → Type 0
 BeginsSource (keyed rows) phase = phase ≡ unbegun
 BeginsSource (named name) phase = IsBegunUnder name phase
 
--- Each role is begun under its own name: the query first, the left stream only once the query is accepted, and the right one
--- only once the left one is open.
+-- Each role is begun under its own name: the query first, the left stream only once the query is accepted, and the right
+-- one only once the left one is open.
 pub record BeginsInOrder (source : Source) (names : Names) (call : Call) : Type 0 where
   pub query : BeginsSource source (call.now role.Query).phase
   pub left : IsBegunUnder names.left (call.now role.Left).phase
@@ -154,16 +160,20 @@ Begins (Some (check_query name)) call = BeginsQuery name call.now
 pub data IsNote (note : List ℕ) (status : ℕ) (order : Option Order) (call : Call) : Type 0 where
   none : status ≡ 0 → note ≡ [] → IsNote note status order call
   usage : status ≡ 1 → note ≡ usage_note → IsNote note status order call
-  query : (known : Order) (found : QueryFault) → status ≡ 2 → order ≡ Some known → RefusesQuery found known call → note ≡ query_note found → IsNote note status order call
+  query : (known : Order) (found : QueryFault) → status ≡ 2 → order ≡ Some known
+      → RefusesQuery found known call → note ≡ query_note found → IsNote note status order call
   bad_record : (known : Order) (side : Side) (at : ℕ) (found : RecordFault) → status ≡ 3 → order ≡ Some known
-      → JoinsAll (λ ending. ending ≡ bad side at found) known call → note ≡ record_note side at found → IsNote note status order call
-  source : (known : Order) (of : Role) → status ≡ 4 → order ≡ Some known → FailsSource of known call → note ≡ source_note of → IsNote note status order call
+      → JoinsAll (λ ending. ending ≡ bad side at found) known call → note ≡ record_note side at found
+      → IsNote note status order call
+  source : (known : Order) (of : Role) → status ≡ 4 → order ≡ Some known
+      → FailsSource of known call → note ≡ source_note of → IsNote note status order call
   sink : status ≡ 5 → note ≡ sink_note → IsNote note status order call
   memory : status ≡ 6 → note ≡ memory_note → IsNote note status order call
   events : status ≡ 7 → note ≡ events_note most_events → IsNote note status order call
 
 -- The notes grew by a front of the note, and by all of it unless a write of them was refused.
-pub record Notes (status : ℕ) (order : Option Order) (call : Call) (old new : Option (List ℕ)) (refused_before refused_now : ℕ) : Type 0 where
+pub record Notes (status : ℕ) (order : Option Order) (call : Call) (old new : Option (List ℕ))
+    (refused_before refused_now : ℕ) : Type 0 where
   pub note : List ℕ
   pub is : IsNote note status order call
   pub grown : List ℕ

@@ -53,6 +53,7 @@ pub record IsStream (told : Option (List ℕ)) (of : Role) (before now : Role �
   pub failed : (failing : Role) → Fails failing before now → IsStreamRead told (now of) stream
 
 -- The streams of a call of a join of these names.
-pub record AreStreams (names : Names) (under : List ℕ → Option (List ℕ)) (before now : Role → RoleState) (left right : Stream) : Type 0 where
+pub record AreStreams (names : Names) (under : List ℕ → Option (List ℕ)) (before now : Role → RoleState)
+    (left right : Stream) : Type 0 where
   pub of_left : IsStream (under names.left) role.Left before now left
   pub of_right : IsStream (under names.right) role.Right before now right

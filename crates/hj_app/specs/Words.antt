@@ -14,8 +14,8 @@ pub record Names : Type 0 where
   pub left : List ℕ
   pub right : List ℕ
 
--- What the words order: `equi W LEFT RIGHT` and `join QUERY LEFT RIGHT` join two streams under a query, and `check QUERY`
--- writes the canonical text of the query under this name.
+-- What the words order: `equi W LEFT RIGHT` and `join QUERY LEFT RIGHT` join two streams under a query, and
+-- `check QUERY` writes the canonical text of the query under this name.
 pub data Order : Type 0 where
   join_streams : Source → Names → Order
   check_query : (name : List ℕ) → Order
