@@ -1,4 +1,4 @@
-mod Following
+pub mod Following
 mod LeastMarks
 mod MarkOrder
 mod PairLists

@@ -60,13 +60,20 @@ impl Collector {
         ensures cores { length self.new.left ≡ length self.old.left }
         ensures err { OnErr result (self.new ≡ self.old) }
     {
-        let pairs = pairs_of(self.alloc, report)?;
+        let pairs = self.pairs(report)?;
         self.note(core, report);
         Ok(pairs)
     }
 
-    /// Takes note of a report: of the marks that it gives, or that a core stopped.
-    fn note<P>(&mut self, core: CoreNo, report: &Report<P>)
+    /// The pairs of a report, each with rows of its own. A report without partners takes no memory.
+    pub fn pairs<P: Share + Drop>(&self, report: &Report<P>) -> Result<Vec<Pair<P>>, Memory>
+        ensures { IfOk result (λ pairs. pairs.items ≡ pairs_of report.now) }
+    {
+        pairs_of(self.alloc, report)
+    }
+
+    /// Takes note of the next report of a core: of the marks that it gives, or that the core stopped.
+    pub fn note<P>(&mut self, core: CoreNo, report: &Report<P>)
         requires { core.0 < length self.old.left }
         ensures { self.new ≡ after_report core report.now self.old }
     {

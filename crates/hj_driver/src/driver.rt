@@ -76,7 +76,8 @@ impl Driver {
 
     /// Why `admit` of this event would answer Wait now; None exactly where it would answer Send.
     pub fn waits<P>(&self, event: &Event<P>) -> Option<Why>
-        ensures { (log : List (DriverTurn P)) → StandsFor self.now log → IsWellFormed (admitted log ++ event.now ∷ []) → result ≡ cause_after self.now.flight event.now log }
+        ensures kept { result ≡ cause_of event.now self.now }
+        ensures log { (log : List (DriverTurn P)) → StandsFor self.now log → IsWellFormed (admitted log ++ event.now ∷ []) → result ≡ cause_after self.now.flight event.now log }
     {
         self.cause(event)
     }
@@ -111,24 +112,33 @@ impl Driver {
         }
     }
 
+    /// What `close` would answer now.
+    pub fn closing(&self) -> Closing
+        ensures { result ≡ closing_of self.now }
+    {
+        if self.closes.are_sent() {
+            return Closing::Already;
+        }
+        match self.outstanding() {
+            0 => Closing::Send,
+            count => Closing::Wait(count),
+        }
+    }
+
     /// Whether both closes are to be put now: where no event is outstanding, and they weren't sent before.
     pub fn close(&mut self) -> Closing
         ensures answer { result ≡ closing_of self.old }
         ensures sent { result ≡ Closing.Send → self.new ≡ closed self.old }
         ensures waits { ¬ (result ≡ Closing.Send) → self.new ≡ self.old }
     {
-        if self.closes.are_sent() {
-            return Closing::Already;
+        let answer = self.closing();
+        if answer == Closing::Send {
+            self.closes = Closes::Sent {
+                left: false,
+                right: false,
+            };
         }
-        let count = self.outstanding();
-        if count > 0 {
-            return Closing::Wait(count);
-        }
-        self.closes = Closes::Sent {
-            left: false,
-            right: false,
-        };
-        Closing::Send
+        answer
     }
 
     /// Why an event waits, if it does.
