@@ -1,0 +1,115 @@
+-- What a driver awaits of its outstanding arrivals and expiries, by the number of the row, where one message is taken.
+use Rattle.std.proofs.Common.{◌≡◌, ℕ, ◌+◌, ◌≤◌, inl, inr, ◌==◌, not, ◌&&◌, Bool, true, false, cond, List, [], ◌∷◌, ◌++◌, Some, None, Option, refl, ap, sym, ◌∙◌, arith}
+use Rattle.std.specs.List.{filter, filter_map}
+use Rattle.std.specs.Option.{option_to_list}
+use Rattle.std.proofs.lemmas.Bool.Decides.{eqb_tells, nat_tests}
+use Rattle.hj_base.specs.declared.numbers.EventNo.{EventNo}
+use Rattle.hj_driver.specs.declared.lane.Part.{Part}
+use Rattle.hj_driver.specs.declared.lane.Part.TheVariants.{Row, End}
+use Rattle.hj_driver.specs.declared.lane.Arrival.{Arrival}
+use Rattle.hj_driver.specs.Lane.{after_part, is_other, is_taken, is_same, with_part, waits_for}
+use Rattle.hj_driver.specs.Driver.{arrival_of}
+use Rattle.hj_chain.proofs.Balance.{count-cons_option, all_stay, none_go}
+use Rattle.hj_chain.proofs.Counts.{count, count-append}
+use Rattle.hj_chain.proofs.Owing.{Fewer}
+
+-- one message
+abbrev pub one : Bool → ℕ
+one b = cond b 1 0
+
+-- a message that is taken leaves no arrival that waits for it, and no more that wait for others
+kept-or-not : {X : Type 0} (p : X → Bool) (kept : Bool) (x : X) → count p (option_to_list (cond kept (Some x) None)) ≤ one (p x)
+kept-or-not p true x = omega arith
+kept-or-not p false x = omega arith
+
+narrower : (one_of other : Bool) → one (one_of && other) ≤ one (one_of && true)
+narrower true true = omega arith
+narrower true false = omega arith
+narrower false other = omega arith
+
+neither : (number : Bool) → one (number && false) ≡ 0
+neither true = refl
+neither false = refl
+
+still-waits : (number : ℕ) (part taken : Part) (same : Bool) (at : EventNo) (before : Option Part)
+    → count (waits_for number part) (option_to_list (cond same (with_part taken (record { no = at; taken = before }) before) (Some (record { no = at; taken = before })))) ≤ one (waits_for number part (record { no = at; taken = before }))
+still-waits number part taken false at before = omega arith
+still-waits number part taken true at None = omega (arith, narrower (number == at.0) (not (is_same taken part)))
+still-waits number part taken true at (Some before) = kept-or-not (waits_for number part) (is_same before taken) (record { no = at; taken = Some before })
+
+waits-take : (number other : ℕ) (part taken : Part) (arrivals : List Arrival) → count (waits_for number part) (filter_map (after_part other taken) arrivals) ≤ count (waits_for number part) arrivals
+waits-take number other part taken [] = omega arith
+waits-take number other part taken (a ∷ later) = omega (
+  arith,
+  still-waits number part taken (other == a.no.0) a.no a.taken,
+  waits-take number other part taken later,
+  count-cons_option (waits_for number part) (after_part other taken a) (filter_map (after_part other taken) later),
+)
+
+waits-not : (number : ℕ) (part : Part) (at : EventNo) (before : Option Part) → count (waits_for number part) (option_to_list (with_part part (record { no = at; taken = before }) before)) ≡ 0
+waits-not number Row at None = omega (arith, neither (number == at.0))
+waits-not number Row at (Some Row) = omega (arith, neither (number == at.0))
+waits-not number Row at (Some End) = refl
+waits-not number End at None = omega (arith, neither (number == at.0))
+waits-not number End at (Some End) = omega (arith, neither (number == at.0))
+waits-not number End at (Some Row) = refl
+
+waits-gone : (number : ℕ) (part : Part) (a : Arrival) → count (waits_for number part) (option_to_list (after_part number part a)) ≡ 0
+waits-gone number part a = elim (eqb_tells number a.no.0) [
+  | inl w ↦ ap (λ b. count (waits_for number part) (option_to_list (cond b (with_part part a a.taken) (Some a)))) w.0 ∙ waits-not number part a.no a.taken
+  | inr w ↦ ap (λ b. count (waits_for number part) (option_to_list (cond b (with_part part a a.taken) (Some a)))) w.0 ∙ ap (λ b. one (b && not (is_taken part a.taken)) + 0) w.0
+]
+
+pub waits-taken : (number : ℕ) (part : Part) (arrivals : List Arrival) → count (waits_for number part) (filter_map (after_part number part) arrivals) ≡ 0
+waits-taken number part [] = refl
+waits-taken number part (a ∷ later) = omega (
+  arith,
+  waits-gone number part a,
+  waits-taken number part later,
+  count-cons_option (waits_for number part) (after_part number part a) (filter_map (after_part number part) later),
+)
+
+waits-same : (number : ℕ) (part : Part) (arrivals : List Arrival) → count (waits_for number part) (filter_map (λ (a : Arrival). Some a) arrivals) ≡ count (waits_for number part) arrivals
+waits-same number part arrivals = ap (count (waits_for number part)) (sym (all_stay arrivals))
+
+-- of arrivals of which one message is taken, by its number
+pub taken-one : (number at : ℕ) (part : Part) (arrivals : List Arrival) → Fewer (count (waits_for number part) (filter_map (after_part at part) arrivals)) (one (at == number)) (count (waits_for number part) arrivals)
+taken-one number at part arrivals = elim (eqb_tells at number) [
+  | inl w ↦ inl (ap (λ i. count (waits_for number part) (filter_map (after_part i part) arrivals)) w.1 ∙ waits-taken number part arrivals)
+  | inr w ↦ inr (omega (arith, waits-take number at part part arrivals, ap one w.0))
+]
+
+-- one more arrival
+pub waits-put : (number : ℕ) (part : Part) (arrivals : List Arrival) (at : EventNo) → count (waits_for number part) (arrivals ++ arrival_of at ∷ []) ≡ count (waits_for number part) arrivals + one (at.0 == number)
+waits-put number part arrivals at = grind (arith, nat_tests, count-append (waits_for number part) arrivals (arrival_of at ∷ []))
+
+pub waits-others : (number at : ℕ) (part taken : Part) (arrivals : List Arrival) (gone : ℕ) → gone ≡ 0 → Fewer (count (waits_for number part) (filter_map (after_part at taken) arrivals)) gone (count (waits_for number part) arrivals)
+waits-others number at part taken arrivals gone none = inr (omega (arith, waits-take number at part taken arrivals, none))
+
+pub waits-still : (number : ℕ) (part : Part) (arrivals : List Arrival) (gone : ℕ) → gone ≡ 0 → Fewer (count (waits_for number part) (filter_map (λ (a : Arrival). Some a) arrivals)) gone (count (waits_for number part) arrivals)
+waits-still number part arrivals gone none = inr (omega (arith, waits-same number part arrivals, none))
+
+-- which expiries are outstanding of a row
+abbrev pub expiries_of : ℕ → List EventNo → ℕ
+expiries_of number expiries = count (λ of. of.0 == number) expiries
+
+expiry-if : (number : ℕ) (stays : Bool) (of : EventNo) (later : List EventNo) → expiries_of number (cond stays (of ∷ later) later) ≡ cond stays (one (of.0 == number)) 0 + expiries_of number later
+expiry-if number true of later = refl
+expiry-if number false of later = omega arith
+
+expiry-others : (number other : ℕ) (expiries : List EventNo) → expiries_of number (filter (is_other other) expiries) ≤ expiries_of number expiries
+expiry-others number other [] = omega arith
+expiry-others number other (of ∷ later) = grind (arith, nat_tests, expiry-others number other later, expiry-if number (is_other other of) of (filter (is_other other) later))
+
+expiry-gone : (number : ℕ) (expiries : List EventNo) → expiries_of number (filter (is_other number) expiries) ≡ 0
+expiry-gone number [] = refl
+expiry-gone number (of ∷ later) = grind (arith, nat_tests, expiry-gone number later, expiry-if number (is_other number of) of (filter (is_other number) later))
+
+pub expiry-taken : (number at : ℕ) (expiries : List EventNo) → Fewer (expiries_of number (filter (is_other at) expiries)) (one (at == number)) (expiries_of number expiries)
+expiry-taken number at expiries = elim (eqb_tells at number) [
+  | inl w ↦ inl (ap (λ i. expiries_of number (filter (is_other i) expiries)) w.1 ∙ expiry-gone number expiries)
+  | inr w ↦ inr (omega (arith, expiry-others number at expiries, ap one w.0))
+]
+
+pub expiry-still : (number : ℕ) (expiries : List EventNo) (gone : ℕ) → gone ≡ 0 → Fewer (expiries_of number (filter (λ (of : EventNo). true) expiries)) gone (expiries_of number expiries)
+expiry-still number expiries gone none = inr (omega (arith, none, ap (expiries_of number) (none_go expiries)))

@@ -1,0 +1,339 @@
+-- What is put in at the ports is outstanding, or came out: how many messages of each kind.
+use Rattle.std.proofs.Common.{◌≡◌, ℕ, ◌+◌, ◌<◌, ◌≤◌, inl, inr, ◌==◌, not, Bool, true, false, cond, List, [], ◌∷◌, ◌++◌, length, Some, None, Option, Contains, refl, ap, sym, ◌∙◌, subst, arith, length-append}
+use Rattle.std.specs.List.{All, filter, filter_map, cons_option}
+use Rattle.std.specs.Option.{option_to_list}
+use Rattle.std.proofs.lemmas.Bool.Decides.{eqb_tells}
+use Rattle.std.proofs.lemmas.List.Elements.{All-weaker}
+use Rattle.hj_base.specs.declared.numbers.EventNo.{EventNo}
+use Rattle.hj_base.specs.declared.numbers.Side.{Side}
+use Rattle.hj_base.specs.declared.numbers.Side.TheVariants.{Left, Right}
+use Rattle.hj_base.specs.Journals.{puts, takes}
+use Rattle.hj_msg.specs.declared.event.Event.{Event}
+use Rattle.hj_msg.specs.declared.event.Event.TheVariants.{Arrive, Expire}
+use Rattle.hj_msg.specs.declared.message.Msg.{Msg}
+use Rattle.hj_msg.specs.declared.message.Msg.TheVariants.{R, EndS, ExpS, S, EndR, ExpR}
+use Rattle.hj_msg.specs.Turns.{only_at}
+use Rattle.hj_msg.specs.Driver.{DriverTurn, admission, receipt, closing}
+use Rattle.hj_msg.specs.Run.{LogEntry, port_journal}
+use Rattle.hj_msg.proofs.Members.{Contains-head, Contains-cons}
+use Rattle.hj_driver.specs.declared.lane.Part.{Part}
+use Rattle.hj_driver.specs.declared.lane.Part.TheVariants.{Row, End}
+use Rattle.hj_driver.specs.declared.lane.Arrival.{Arrival}
+use Rattle.hj_driver.specs.Lane.{after_part, is_other, is_taken, with_part, IsRising, AreDistinct}
+use Rattle.hj_driver.specs.Driver.{DriverState, after_put, after_take, after_message, arrival_of, stays, closed, is_sent, IsNew, new_driver}
+use Rattle.hj_driver.proofs.Arrivals.{filter_map-same, none_changes, rising_after, rising_push, distinct_after, distinct_push}
+use Rattle.hj_chain.proofs.Journals.{puts-append, takes-append, entries, puts-entries, takes-entries, took_at, sent_at, port_journal-push}
+use Rattle.hj_chain.proofs.Counts.{count, count-append}
+use Rattle.hj_chain.proofs.MessageKinds.{a_R, an_S, an_EndR, an_EndS, an_ExpR, an_ExpS, a_CloseL, a_CloseR}
+use Rattle.hj_chain.proofs.Driving.{sent-take}
+
+-- one of the two messages of an arrival is still to be taken
+abbrev pub is_waiting : Part → Arrival → Bool
+is_waiting part arrival = not (is_taken part arrival.taken)
+
+abbrev pub waiting : Part → List Arrival → ℕ
+waiting part arrivals = count (is_waiting part) arrivals
+
+pub count-cons_option : {X : Type 0} (p : X → Bool) (o : Option X) (xs : List X) → count p (cons_option o xs) ≡ count p (option_to_list o) + count p xs
+count-cons_option p None xs = omega arith
+count-cons_option p (Some x) xs = omega arith
+
+absent : (number : ℕ) (a : Arrival) (later : List Arrival) → number ≡ a.no.0 → All (λ (other : Arrival). a.no.0 < other.no.0) later → All (λ (other : Arrival). other.no.0 ≡ number → ⊥) later
+absent number a later is above = All-weaker (λ (other : Arrival). a.no.0 < other.no.0) (λ (other : Arrival). other.no.0 ≡ number → ⊥) (λ other less same. omega (arith, less, same, is)) later above
+
+-- the take of a message leaves at most one arrival the less that waits for such a one
+waiting-take : (number : ℕ) (part : Part) (arrivals : List Arrival) → IsRising arrivals → waiting part arrivals ≤ waiting part (filter_map (after_part number part) arrivals) + 1
+waiting-take number part [] rising = omega arith
+waiting-take number part (a ∷ later) rising = elim (eqb_tells number a.no.0) [
+  | inl w ↦
+      let rest : later ≡ filter_map (after_part number part) later = none_changes later number part (absent number a later w.1 rising.0) in
+      omega (
+        arith,
+        one (is_waiting part a),
+        ap (waiting part) rest,
+        count-cons_option (is_waiting part) (after_part number part a) (filter_map (after_part number part) later),
+      )
+  | inr w ↦
+      omega (
+        arith,
+        waiting-take number part later rising.1,
+        count-cons_option (is_waiting part) (after_part number part a) (filter_map (after_part number part) later),
+        ap (λ b. count (is_waiting part) (option_to_list (cond b (with_part part a a.taken) (Some a)))) w.0,
+      )
+]
+  where
+    one : (b : Bool) → cond {A = ℕ} b 1 0 ≤ 1
+    one true = omega arith
+    one false = omega arith
+
+-- and none that waits for the other one
+still_waits-End : (b : Bool) (at : EventNo) (t : Option Part) → cond {A = ℕ} (not (is_taken End t)) 1 0 ≤ count (is_waiting End) (option_to_list (cond b (with_part Row (record { no = at; taken = t }) t) (Some (record { no = at; taken = t }))))
+still_waits-End true at None = omega arith
+still_waits-End true at (Some Row) = omega arith
+still_waits-End true at (Some End) = omega arith
+still_waits-End false at None = omega arith
+still_waits-End false at (Some Row) = omega arith
+still_waits-End false at (Some End) = omega arith
+
+still_waits-Row : (b : Bool) (at : EventNo) (t : Option Part) → cond {A = ℕ} (not (is_taken Row t)) 1 0 ≤ count (is_waiting Row) (option_to_list (cond b (with_part End (record { no = at; taken = t }) t) (Some (record { no = at; taken = t }))))
+still_waits-Row true at None = omega arith
+still_waits-Row true at (Some Row) = omega arith
+still_waits-Row true at (Some End) = omega arith
+still_waits-Row false at None = omega arith
+still_waits-Row false at (Some Row) = omega arith
+still_waits-Row false at (Some End) = omega arith
+
+waiting-End : (number : ℕ) (arrivals : List Arrival) → waiting End arrivals ≤ waiting End (filter_map (after_part number Row) arrivals)
+waiting-End number [] = omega arith
+waiting-End number (a ∷ later) =
+    omega (arith, still_waits-End (number == a.no.0) a.no a.taken, waiting-End number later, count-cons_option (is_waiting End) (after_part number Row a) (filter_map (after_part number Row) later))
+
+waiting-Row : (number : ℕ) (arrivals : List Arrival) → waiting Row arrivals ≤ waiting Row (filter_map (after_part number End) arrivals)
+waiting-Row number [] = omega arith
+waiting-Row number (a ∷ later) =
+    omega (arith, still_waits-Row (number == a.no.0) a.no a.taken, waiting-Row number later, count-cons_option (is_waiting Row) (after_part number End a) (filter_map (after_part number End) later))
+
+pub all_stay : (arrivals : List Arrival) → arrivals ≡ filter_map (λ (a : Arrival). Some a) arrivals
+all_stay arrivals = sym (filter_map-same (λ (a : Arrival). Some a) arrivals (λ k d low. refl))
+
+same_waiting : (part : Part) (arrivals : List Arrival) (more : ℕ) → waiting part arrivals ≤ waiting part (filter_map (λ (a : Arrival). Some a) arrivals) + more
+same_waiting part arrivals more = omega (arith, ap (waiting part) (all_stay arrivals))
+
+-- Of the arrivals of a side, by the message that is taken at a port.
+module _ {P : Type 0} (arrivals : List Arrival) (rising : IsRising arrivals) where
+  left_rows : (port : Side) (m : Msg P) → waiting Row arrivals ≤ waiting Row (filter_map (after_message Left port m) arrivals) + count a_R (only_at port Right m)
+  left_rows Right (R at row) = omega (arith, waiting-take at.0 Row arrivals rising)
+  left_rows Left (EndR at) = omega (arith, waiting-Row at.0 arrivals)
+  left_rows port m = same_waiting Row arrivals 0
+
+  left_ends : (port : Side) (m : Msg P) → waiting End arrivals ≤ waiting End (filter_map (after_message Left port m) arrivals) + count an_EndR (only_at port Left m)
+  left_ends Right (R at row) = omega (arith, waiting-End at.0 arrivals)
+  left_ends Left (EndR at) = omega (arith, waiting-take at.0 End arrivals rising)
+  left_ends port m = same_waiting End arrivals 0
+
+  left_rising : (port : Side) (m : Msg P) → IsRising (filter_map (after_message Left port m) arrivals)
+  left_rising Right (R at row) = rising_after at.0 Row arrivals rising
+  left_rising Left (EndR at) = rising_after at.0 End arrivals rising
+  left_rising port m = subst IsRising (all_stay arrivals) rising
+
+  right_rows : (port : Side) (m : Msg P) → waiting Row arrivals ≤ waiting Row (filter_map (after_message Right port m) arrivals) + count an_S (only_at port Left m)
+  right_rows Left (S at row) = omega (arith, waiting-take at.0 Row arrivals rising)
+  right_rows Right (EndS at) = omega (arith, waiting-Row at.0 arrivals)
+  right_rows port m = same_waiting Row arrivals 0
+
+  right_ends : (port : Side) (m : Msg P) → waiting End arrivals ≤ waiting End (filter_map (after_message Right port m) arrivals) + count an_EndS (only_at port Right m)
+  right_ends Left (S at row) = omega (arith, waiting-End at.0 arrivals)
+  right_ends Right (EndS at) = omega (arith, waiting-take at.0 End arrivals rising)
+  right_ends port m = same_waiting End arrivals 0
+
+  right_rising : (port : Side) (m : Msg P) → IsRising (filter_map (after_message Right port m) arrivals)
+  right_rising Left (S at row) = rising_after at.0 Row arrivals rising
+  right_rising Right (EndS at) = rising_after at.0 End arrivals rising
+  right_rising port m = subst IsRising (all_stay arrivals) rising
+
+-- the take of an expiry's message leaves at most one expiry the less
+none_leaves : (number : ℕ) (of : EventNo) (later : List EventNo) → number ≡ of.0 → (Contains later of → ⊥) → length later ≤ length (filter (is_other number) later)
+none_leaves number of [] is absent = omega arith
+none_leaves number of (x ∷ later) is absent = elim (eqb_tells number x.0) [
+  | inl w ↦
+      let same : x ≡ of = ap (λ m. record { 0 = m }) (sym w.1 ∙ is) in
+      absurd (absent (subst (λ (y : EventNo). Contains (x ∷ later) y) same (Contains-head x later)))
+  | inr w ↦
+      omega (arith, none_leaves number of later is (λ has. absent (Contains-cons x of later has)), ap (λ b. length (cond (not b) (x ∷ filter (is_other number) later) (filter (is_other number) later))) w.0)
+]
+
+one_leaves : (number : ℕ) (expiries : List EventNo) → AreDistinct expiries → length expiries ≤ length (filter (is_other number) expiries) + 1
+one_leaves number [] distinct = omega arith
+one_leaves number (x ∷ later) distinct = elim (eqb_tells number x.0) [
+  | inl w ↦ omega (arith, none_leaves number x later w.1 distinct.0, ap (λ b. length (cond (not b) (x ∷ filter (is_other number) later) (filter (is_other number) later))) w.0)
+  | inr w ↦ omega (arith, one_leaves number later distinct.1, ap (λ b. length (cond (not b) (x ∷ filter (is_other number) later) (filter (is_other number) later))) w.0)
+]
+
+pub none_go : (expiries : List EventNo) → expiries ≡ filter (λ (x : EventNo). true) expiries
+none_go [] = refl
+none_go (x ∷ later) = ap (λ xs. x ∷ xs) (none_go later)
+
+module _ {P : Type 0} (expiries : List EventNo) (distinct : AreDistinct expiries) where
+  left_expiries : (port : Side) (m : Msg P) → length expiries ≤ length (filter (stays Left port m) expiries) + count an_ExpR (only_at port Left m)
+  left_expiries Left (ExpR of) = omega (arith, one_leaves of.0 expiries distinct)
+  left_expiries port m = omega (arith, ap length (none_go expiries))
+
+  left_distinct : (port : Side) (m : Msg P) → AreDistinct (filter (stays Left port m) expiries)
+  left_distinct Left (ExpR of) = distinct_after expiries of.0 distinct
+  left_distinct port m = subst AreDistinct (none_go expiries) distinct
+
+  right_expiries : (port : Side) (m : Msg P) → length expiries ≤ length (filter (stays Right port m) expiries) + count an_ExpS (only_at port Right m)
+  right_expiries Right (ExpS of) = omega (arith, one_leaves of.0 expiries distinct)
+  right_expiries port m = omega (arith, ap length (none_go expiries))
+
+  right_distinct : (port : Side) (m : Msg P) → AreDistinct (filter (stays Right port m) expiries)
+  right_distinct Right (ExpS of) = distinct_after expiries of.0 distinct
+  right_distinct port m = subst AreDistinct (none_go expiries) distinct
+
+-- how many messages of a kind were put in at a port, and were taken there
+abbrev pub put_in : {P : Type 0} → Side → (Msg P → Bool) → List (LogEntry P) → ℕ
+put_in port p log = count p (puts (port_journal port log))
+
+abbrev pub came_out : {P : Type 0} → Side → (Msg P → Bool) → List (LogEntry P) → ℕ
+came_out port p log = count p (takes (port_journal port log))
+
+-- What was put in and didn't come out is outstanding; and there is one close at each end at most.
+pub record Balanced {P : Type 0} (driver : DriverState) (log : List (LogEntry P)) : Type 0 where
+  pub rows_left : put_in Left a_R log ≤ waiting Row driver.left_arrivals + came_out Right a_R log
+  pub ends_left : put_in Left a_R log ≤ waiting End driver.left_arrivals + came_out Left an_EndR log
+  pub rows_right : put_in Right an_S log ≤ waiting Row driver.right_arrivals + came_out Left an_S log
+  pub ends_right : put_in Right an_S log ≤ waiting End driver.right_arrivals + came_out Right an_EndS log
+  pub expiries_left : put_in Right an_ExpR log ≤ length driver.left_expiries + came_out Left an_ExpR log
+  pub expiries_right : put_in Left an_ExpS log ≤ length driver.right_expiries + came_out Right an_ExpS log
+  pub close_left : put_in Left a_CloseL log ≤ cond (is_sent driver.closes) 1 0
+  pub close_right : put_in Right a_CloseR log ≤ cond (is_sent driver.closes) 1 0
+  pub rising_left : IsRising driver.left_arrivals
+  pub rising_right : IsRising driver.right_arrivals
+  pub distinct_left : AreDistinct driver.left_expiries
+  pub distinct_right : AreDistinct driver.right_expiries
+
+module _ {P : Type 0} (log : List (LogEntry P)) (number : ℕ) (turn : DriverTurn P) where
+  abbrev more : List (LogEntry P)
+  more = log ++ record { number = number; turn = turn } ∷ []
+
+  put_in-more : (port : Side) (p : Msg P → Bool) → put_in port p more ≡ put_in port p log + count p (sent_at port turn)
+  put_in-more port p =
+      ap (λ j. count p (puts j)) (port_journal-push port log number turn)
+      ∙ ap (count p) (puts-append (port_journal port log) (entries number (took_at port turn) (sent_at port turn)) ∙ ap (λ ms. puts (port_journal port log) ++ ms) (puts-entries number (took_at port turn) (sent_at port turn)))
+      ∙ count-append p (puts (port_journal port log)) (sent_at port turn)
+
+  came_out-more : (port : Side) (p : Msg P → Bool) → came_out port p more ≡ came_out port p log + count p (took_at port turn)
+  came_out-more port p =
+      ap (λ j. count p (takes j)) (port_journal-push port log number turn)
+      ∙ ap (count p) (takes-append (port_journal port log) (entries number (took_at port turn) (sent_at port turn)) ∙ ap (λ ms. takes (port_journal port log) ++ ms) (takes-entries number (took_at port turn) (sent_at port turn)))
+      ∙ count-append p (takes (port_journal port log)) (took_at port turn)
+
+waiting-put : (part : Part) (arrivals : List Arrival) (at : EventNo) → waiting part (arrivals ++ arrival_of at ∷ []) ≡ waiting part arrivals + 1
+waiting-put part arrivals at = count-append (is_waiting part) arrivals (arrival_of at ∷ [])
+
+module _ {P : Type 0} (driver : DriverState) (log : List (LogEntry P)) (number : ℕ) (old : Balanced driver log) where
+  pub balanced-receipt : (port : Side) (m : Msg P) → Balanced (after_take port m driver) (log ++ record { number = number; turn = receipt port m } ∷ [])
+  balanced-receipt port m =
+      let put : (at : Side) (p : Msg P → Bool) → put_in at p (log ++ record { number = number; turn = receipt port m } ∷ []) ≡ put_in at p log + 0 = put_in-more log number (receipt port m) in
+      let came : (at : Side) (p : Msg P → Bool) → came_out at p (log ++ record { number = number; turn = receipt port m } ∷ []) ≡ came_out at p log + count p (only_at port at m) = came_out-more log number (receipt port m) in
+      let sent : cond {A = ℕ} (is_sent (after_take port m driver).closes) 1 0 ≡ cond {A = ℕ} (is_sent driver.closes) 1 0 = ap (λ b. cond {A = ℕ} b 1 0) (sent-take port m driver.closes) in
+      record {
+        rows_left = omega (arith, old.rows_left, put Left a_R, came Right a_R, left_rows driver.left_arrivals old.rising_left port m);
+        ends_left = omega (arith, old.ends_left, put Left a_R, came Left an_EndR, left_ends driver.left_arrivals old.rising_left port m);
+        rows_right = omega (arith, old.rows_right, put Right an_S, came Left an_S, right_rows driver.right_arrivals old.rising_right port m);
+        ends_right = omega (arith, old.ends_right, put Right an_S, came Right an_EndS, right_ends driver.right_arrivals old.rising_right port m);
+        expiries_left = omega (arith, old.expiries_left, put Right an_ExpR, came Left an_ExpR, left_expiries driver.left_expiries old.distinct_left port m);
+        expiries_right = omega (arith, old.expiries_right, put Left an_ExpS, came Right an_ExpS, right_expiries driver.right_expiries old.distinct_right port m);
+        close_left = omega (arith, old.close_left, put Left a_CloseL, sent);
+        close_right = omega (arith, old.close_right, put Right a_CloseR, sent);
+        rising_left = left_rising driver.left_arrivals old.rising_left port m;
+        rising_right = right_rising driver.right_arrivals old.rising_right port m;
+        distinct_left = left_distinct driver.left_expiries old.distinct_left port m;
+        distinct_right = right_distinct driver.right_expiries old.distinct_right port m;
+      }
+
+  pub balanced-closing : is_sent driver.closes ≡ false → Balanced (closed driver) (log ++ record { number = number; turn = closing } ∷ [])
+  balanced-closing unsent =
+      let put = put_in-more log number (let turn : DriverTurn P = closing in turn) in
+      let came = came_out-more log number (let turn : DriverTurn P = closing in turn) in
+      let sent : cond {A = ℕ} (is_sent driver.closes) 1 0 ≡ 0 = ap (λ b. cond {A = ℕ} b 1 0) unsent in
+      record {
+        rows_left = omega (arith, old.rows_left, put Left a_R, came Right a_R);
+        ends_left = omega (arith, old.ends_left, put Left a_R, came Left an_EndR);
+        rows_right = omega (arith, old.rows_right, put Right an_S, came Left an_S);
+        ends_right = omega (arith, old.ends_right, put Right an_S, came Right an_EndS);
+        expiries_left = omega (arith, old.expiries_left, put Right an_ExpR, came Left an_ExpR);
+        expiries_right = omega (arith, old.expiries_right, put Left an_ExpS, came Right an_ExpS);
+        close_left = omega (arith, old.close_left, put Left a_CloseL, sent);
+        close_right = omega (arith, old.close_right, put Right a_CloseR, sent);
+        rising_left = old.rising_left;
+        rising_right = old.rising_right;
+        distinct_left = old.distinct_left;
+        distinct_right = old.distinct_right;
+      }
+
+  pub balanced-admission : (event : Event P) → IsNew event driver → Balanced (after_put event driver) (log ++ record { number = number; turn = admission event } ∷ [])
+  balanced-admission (Arrive at Left row) new =
+      let put = put_in-more log number (admission (Arrive at Left row)) in
+      let came = came_out-more log number (admission (Arrive at Left row)) in
+      record {
+        rows_left = omega (arith, old.rows_left, put Left a_R, came Right a_R, waiting-put Row driver.left_arrivals at);
+        ends_left = omega (arith, old.ends_left, put Left a_R, came Left an_EndR, waiting-put End driver.left_arrivals at);
+        rows_right = omega (arith, old.rows_right, put Right an_S, came Left an_S);
+        ends_right = omega (arith, old.ends_right, put Right an_S, came Right an_EndS);
+        expiries_left = omega (arith, old.expiries_left, put Right an_ExpR, came Left an_ExpR);
+        expiries_right = omega (arith, old.expiries_right, put Left an_ExpS, came Right an_ExpS);
+        close_left = omega (arith, old.close_left, put Left a_CloseL);
+        close_right = omega (arith, old.close_right, put Right a_CloseR);
+        rising_left = rising_push driver.left_arrivals (arrival_of at) old.rising_left new;
+        rising_right = old.rising_right;
+        distinct_left = old.distinct_left;
+        distinct_right = old.distinct_right;
+      }
+  balanced-admission (Arrive at Right row) new =
+      let put = put_in-more log number (admission (Arrive at Right row)) in
+      let came = came_out-more log number (admission (Arrive at Right row)) in
+      record {
+        rows_left = omega (arith, old.rows_left, put Left a_R, came Right a_R);
+        ends_left = omega (arith, old.ends_left, put Left a_R, came Left an_EndR);
+        rows_right = omega (arith, old.rows_right, put Right an_S, came Left an_S, waiting-put Row driver.right_arrivals at);
+        ends_right = omega (arith, old.ends_right, put Right an_S, came Right an_EndS, waiting-put End driver.right_arrivals at);
+        expiries_left = omega (arith, old.expiries_left, put Right an_ExpR, came Left an_ExpR);
+        expiries_right = omega (arith, old.expiries_right, put Left an_ExpS, came Right an_ExpS);
+        close_left = omega (arith, old.close_left, put Left a_CloseL);
+        close_right = omega (arith, old.close_right, put Right a_CloseR);
+        rising_left = old.rising_left;
+        rising_right = rising_push driver.right_arrivals (arrival_of at) old.rising_right new;
+        distinct_left = old.distinct_left;
+        distinct_right = old.distinct_right;
+      }
+  balanced-admission (Expire at Left of) new =
+      let put = put_in-more log number (admission (Expire at Left of)) in
+      let came = came_out-more log number (admission (Expire at Left of)) in
+      record {
+        rows_left = omega (arith, old.rows_left, put Left a_R, came Right a_R);
+        ends_left = omega (arith, old.ends_left, put Left a_R, came Left an_EndR);
+        rows_right = omega (arith, old.rows_right, put Right an_S, came Left an_S);
+        ends_right = omega (arith, old.ends_right, put Right an_S, came Right an_EndS);
+        expiries_left = omega (arith, old.expiries_left, put Right an_ExpR, came Left an_ExpR, length-append driver.left_expiries (of ∷ []));
+        expiries_right = omega (arith, old.expiries_right, put Left an_ExpS, came Right an_ExpS);
+        close_left = omega (arith, old.close_left, put Left a_CloseL);
+        close_right = omega (arith, old.close_right, put Right a_CloseR);
+        rising_left = old.rising_left;
+        rising_right = old.rising_right;
+        distinct_left = distinct_push driver.left_expiries of old.distinct_left new;
+        distinct_right = old.distinct_right;
+      }
+  balanced-admission (Expire at Right of) new =
+      let put = put_in-more log number (admission (Expire at Right of)) in
+      let came = came_out-more log number (admission (Expire at Right of)) in
+      record {
+        rows_left = omega (arith, old.rows_left, put Left a_R, came Right a_R);
+        ends_left = omega (arith, old.ends_left, put Left a_R, came Left an_EndR);
+        rows_right = omega (arith, old.rows_right, put Right an_S, came Left an_S);
+        ends_right = omega (arith, old.ends_right, put Right an_S, came Right an_EndS);
+        expiries_left = omega (arith, old.expiries_left, put Right an_ExpR, came Left an_ExpR);
+        expiries_right = omega (arith, old.expiries_right, put Left an_ExpS, came Right an_ExpS, length-append driver.right_expiries (of ∷ []));
+        close_left = omega (arith, old.close_left, put Left a_CloseL);
+        close_right = omega (arith, old.close_right, put Right a_CloseR);
+        rising_left = old.rising_left;
+        rising_right = old.rising_right;
+        distinct_left = old.distinct_left;
+        distinct_right = distinct_push driver.right_expiries of old.distinct_right new;
+      }
+
+pub balanced-begin : (P : Type 0) (flight : ℕ) → Balanced {P = P} (new_driver flight) []
+balanced-begin P flight = record {
+  rows_left = omega arith;
+  ends_left = omega arith;
+  rows_right = omega arith;
+  ends_right = omega arith;
+  expiries_left = omega arith;
+  expiries_right = omega arith;
+  close_left = omega arith;
+  close_right = omega arith;
+  rising_left = tt;
+  rising_right = tt;
+  distinct_left = tt;
+  distinct_right = tt;
+}

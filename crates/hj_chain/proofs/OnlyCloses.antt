@@ -1,0 +1,155 @@
+-- Once the closes were put, no event is outstanding, so that only the closes are under way; and each of them once.
+use Rattle.std.proofs.Common.{◌≡◌, ℕ, suc, ◌+◌, ◌<◌, ◌≤◌, ◌⊎◌, inl, inr, Bool, true, false, cond, List, [], ◌∷◌, ◌++◌, length, Some, refl, ap, sym, ◌∙◌, arith, true≢false}
+use Rattle.std.specs.List.{fold}
+use Rattle.hj_msg.specs.declared.event.Event.{Event}
+use Rattle.hj_msg.specs.declared.feed.Given.{Given}
+use Rattle.hj_msg.specs.declared.message.Msg.{Msg}
+use Rattle.hj_msg.specs.declared.message.Msg.TheVariants.{CloseL}
+use Rattle.hj_msg.specs.Core as core
+use Rattle.hj_msg.specs.Core.{State, empty_state}
+use Rattle.hj_msg.specs.Event.{IsWellFormed}
+use Rattle.hj_driver.specs.declared.lane.Part.TheVariants.{Row, End}
+use Rattle.hj_driver.specs.Driver.{DriverState, count_of, is_sent}
+use Rattle.hj_driver.proofs.ComingOut.{no_cause}
+use Rattle.hj_driver.proofs.MayClose.{may_close}
+use Rattle.hj_chain.specs.declared.actor.Actor.{Actor}
+use Rattle.hj_chain.specs.Chain.{ChainState, Action, after_action, empty_chain}
+use Rattle.hj_chain.specs.Reached.{Reached, History, no_history, recorded, history_of, events_of}
+use Rattle.hj_chain.proofs.Balance.{is_waiting}
+use Rattle.hj_chain.proofs.Carrying.{rights, lefts}
+use Rattle.hj_chain.proofs.Counts.{count}
+use Rattle.hj_chain.proofs.Directed.{directed}
+use Rattle.hj_chain.proofs.Doing.{Doing, admits, shuts, receives, works, gathers, taken_by}
+use Rattle.hj_chain.proofs.Driving.{closes-put, sent-take, count-take}
+use Rattle.hj_chain.proofs.Induction.{by_steps}
+use Rattle.hj_chain.proofs.MessageKinds.{a_CloseL, a_CloseR, right_kinds, left_kinds, CloseL_right, CloseR_left}
+use Rattle.hj_chain.proofs.Outstanding.{balanced}
+use Rattle.hj_chain.proofs.Passing.{few_under_way, few_under_way_back, fewer_sent}
+use Rattle.hj_chain.proofs.Room.{acks, count-length}
+use Rattle.hj_chain.proofs.Shape.{Shape}
+use Rattle.hj_chain.proofs.Turning.{messages, state_at, turned}
+use Rattle.hj_chain.proofs.UnderWay.{way_r, way_l, came_r, came_l, sent_r, sent_l, each_r, comes_right, passes_on, passes_back, CloseL_goes, CloseR_goes, rows_right, expiries_right, ends_right, rows_left, expiries_left, ends_left, sent_last}
+
+-- no event is outstanding once the closes were put
+abbrev AreGone : DriverState → Type 0
+AreGone driver = is_sent driver.closes ≡ true → count_of driver ≡ 0
+
+module _ {P : Type 0} (matches : P → P → Bool) (n most : ℕ) where
+  abbrev Kept : ℕ → List (Event P) → ChainState P → History P → Type 0
+  Kept number events chain history = AreGone chain.driver
+
+  begin : (first : Given P) → Kept 0 (events_of first) (empty_chain n most first) no_history
+  begin first sent = refl
+
+  step : (number : ℕ) (events : List (Event P)) (chain : ChainState P) (history : History P) (action : Action P) (answer : Given P)
+      → Shape n most chain → Doing chain action → Kept number events chain history
+      → Kept (suc number) (events ++ taken_by action answer) (after_action matches chain (Some action) answer) (recorded matches chain number (Some action) history)
+  step number events chain history action answer shape (admits event is free) old sent =
+      absurd (true≢false (sym sent ∙ ap is_sent (closes-put event chain.driver) ∙ (no_cause event chain.driver free).unsent))
+  step number events chain history action answer shape (shuts is free) old sent = (may_close chain.driver free).1
+  step number events chain history action answer shape (receives port message rest is) old sent =
+      omega (arith, count-take port message chain.driver, old (sym (sent-take port message chain.driver.closes) ∙ sent))
+  step number events chain history action answer shape (works place end message rest low is room) old sent = old sent
+  step number events chain history action answer shape (gathers place report rest low is) old sent = old sent
+
+  none_outstanding : {schedule : List Actor} {events : List (Event P)} {chain : ChainState P} → Reached matches n most schedule events chain → AreGone chain.driver
+  none_outstanding reached = by_steps matches n most Kept begin step reached
+
+-- what a close that a core handled leaves
+handled-close : {P : Type 0} (place n : ℕ) (state : State P) (ms : List (Msg P)) → (fold (core.after place n) state ms).closed_left ≡ true → (state.closed_left ≡ true) ⊎ (1 ≤ count a_CloseL ms)
+handled-close place n state [] closed = inl closed
+handled-close {P} place n state (m ∷ ms) closed = elim (handled-close place n (core.after place n state m) ms closed) [
+  | inr later ↦ inr (omega (arith, later))
+  | inl now ↦ one m now
+]
+  where
+    one : (m : Msg P) → (core.after place n state m).closed_left ≡ true → (state.closed_left ≡ true) ⊎ (1 ≤ count a_CloseL (m ∷ ms))
+    one CloseL now = inr (omega arith)
+    one m now = inl now
+
+pub was_sent : (b : Bool) → 1 ≤ cond {A = ℕ} b 1 0 → b ≡ true
+was_sent true some = refl
+was_sent false some = absurd (omega (arith, some))
+
+-- where all of a queue are of one kind
+pub in_front : {P : Type 0} (p : Msg P → Bool) (message : Msg P) (rest : List (Msg P)) → length (message ∷ rest) ≤ count p (message ∷ rest) → p message ≡ true
+in_front {P} p message rest all = tells (p message) (omega (arith, all, count-length p rest))
+  where
+    tells : (b : Bool) → 1 ≤ cond {A = ℕ} b 1 0 → b ≡ true
+    tells true some = refl
+    tells false some = absurd (omega (arith, some))
+
+module _ {P : Type 0} (matches : P → P → Bool) (m most : ℕ) {schedule : List Actor} {events : List (Event P)} {chain : ChainState P} (reached : Reached matches (suc m) most schedule events chain) (well : IsWellFormed events) where
+  pub closes_right : (sent : is_sent chain.driver.closes ≡ true) (k : ℕ) → k ≤ suc m → length (rights chain k) ≤ way_r matches m most reached a_CloseL k
+  closes_right sent k within =
+      let b = balanced matches (suc m) most reached well in
+      omega (
+        arith,
+        none_outstanding matches (suc m) most reached sent,
+        right_kinds (rights chain k),
+        (directed matches (suc m) most reached).rightwards k within,
+        rows_right matches m most reached k within,
+        expiries_right matches m most reached k within,
+        ends_right matches m most reached k within,
+        acks matches m most reached well k within,
+        b.rows_left,
+        b.ends_right,
+        b.expiries_right,
+        count-length (is_waiting Row) chain.driver.left_arrivals,
+        count-length (is_waiting End) chain.driver.right_arrivals,
+      )
+
+  pub closes_left : (sent : is_sent chain.driver.closes ≡ true) (k : ℕ) → k ≤ suc m → length (lefts chain k) ≤ way_l matches m most reached a_CloseR k
+  closes_left sent k within =
+      let b = balanced matches (suc m) most reached well in
+      omega (
+        arith,
+        none_outstanding matches (suc m) most reached sent,
+        left_kinds (lefts chain k),
+        (directed matches (suc m) most reached).leftwards k within,
+        rows_left matches m most reached k within,
+        expiries_left matches m most reached k within,
+        ends_left matches m most reached k within,
+        b.rows_right,
+        b.ends_left,
+        b.expiries_left,
+        count-length (is_waiting Row) chain.driver.right_arrivals,
+        count-length (is_waiting End) chain.driver.left_arrivals,
+      )
+
+  -- one of each was put
+  pub one_right : (k : ℕ) → k ≤ suc m → way_r matches m most reached a_CloseL k + came_r matches m most reached a_CloseL (suc m) ≤ cond (is_sent chain.driver.closes) 1 0
+  one_right k within =
+      let r = reached in
+      omega (
+        arith,
+        few_under_way (sent_r matches m most r a_CloseL) (came_r matches m most r a_CloseL) (way_r matches m most r a_CloseL) (suc m) (passes_on matches m most r a_CloseL (λ j. CloseL_right j (suc m)) CloseL_goes) k within,
+        (balanced matches (suc m) most reached well).close_left,
+      )
+
+  pub one_left : (k : ℕ) → k ≤ suc m → way_l matches m most reached a_CloseR k + came_l matches m most reached a_CloseR 0 ≤ cond (is_sent chain.driver.closes) 1 0
+  one_left k within =
+      let r = reached in
+      omega (
+        arith,
+        few_under_way_back (sent_l matches m most r a_CloseR) (came_l matches m most r a_CloseR) (way_l matches m most r a_CloseR) (suc m) (passes_back matches m most r a_CloseR (λ j. CloseR_left j (suc m)) CloseR_goes) k within,
+        sent_last matches m most r a_CloseR,
+        (balanced matches (suc m) most reached well).close_right,
+      )
+
+  -- a core that handled a close has it from the driver
+  pub closed-sent : (k : ℕ) → k < suc m → (state_at chain k).closed_left ≡ true → is_sent chain.driver.closes ≡ true
+  closed-sent k low closed =
+      let r = reached in
+      let at = turned matches (suc m) most reached k low in
+      elim (handled-close k (suc m) empty_state (messages ((history_of reached).turns k)) (ap (λ (s : State P). s.closed_left) (sym at.keeps) ∙ closed)) [
+        | inl never ↦ absurd (cc)
+        | inr some ↦ was_sent (is_sent chain.driver.closes) (omega (
+          arith,
+          some,
+          comes_right matches m most r a_CloseL k low CloseL_goes,
+          each_r matches m most r a_CloseL k (omega (arith, low)),
+          fewer_sent (sent_r matches m most r a_CloseL) (came_r matches m most r a_CloseL) (way_r matches m most r a_CloseL) (suc m) (passes_on matches m most r a_CloseL (λ j. CloseL_right j (suc m)) CloseL_goes) k (omega (arith, low)),
+          (balanced matches (suc m) most reached well).close_left,
+        ))
+      ]

@@ -1,0 +1,14 @@
+use Rattle.std.proofs.Common.{◌≡◌, ◌+◌, ◌*◌, false, length}
+use Rattle.hj_chain.specs.Serial.{choosing_of}
+use Rattle.hj_chain.proofs.FewSteps.{to_come}
+use Rattle.hj_chain.proofs.SerialRuns.{Running, Settled}
+use Rattle.hj_chain.proofs.chain.Chain.run_serial.Given as goal
+
+abbrev pub invariant-loop-actor : goal.invariant-loop-actor
+invariant-loop-actor g l = record {
+  running : Running g.F.Feed.gives g.D.Drain.takes g.F.Feed.state g.J.Join.predicate l.fn.chooser l.fn.self l.fn.feed l.fn.drain (choosing_of l.rule) l.self l.feed l.drain;
+  settled : l.self.state.over ≡ false → Settled l.self;
+}
+
+abbrev pub decreases-loop-actor : goal.decreases-loop-actor
+decreases-loop-actor g l = to_come (length l.self.state.cores) l.self.state + (4 * length l.self.state.cores + 4) * (g.F.Feed.state l.feed).remaining

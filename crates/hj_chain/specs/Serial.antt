@@ -1,0 +1,138 @@
+-- A serial run: one enabled actor after the other makes its step, each chosen by a rule.
+use Rattle.std.specs.Prelude.{◌≡◌, ℕ, ◌+◌, ◌*◌, ◌≤◌, ◌%◌, Bool, true, false, List, [], ◌∷◌, ◌++◌, drop, filter, is_none, length, map, replicate, slice_get, take, None, Some}
+use Rattle.std.specs.declared.option.Option.{Option}
+use Rattle.std.specs.List.{flat_map, range_with_len}
+use Rattle.hj_base.specs.declared.numbers.CoreNo.{CoreNo}
+use Rattle.hj_base.specs.declared.numbers.Side.TheVariants.{Left, Right}
+use Rattle.hj_base.specs.Lcg as lcg
+use Rattle.hj_msg.specs.declared.drain.Drained.{Drained}
+use Rattle.hj_msg.specs.declared.drain.Drained.TheVariants.{Kept, Refused}
+use Rattle.hj_msg.specs.declared.event.Event.{Event}
+use Rattle.hj_msg.specs.declared.event.Pair.{Pair}
+use Rattle.hj_msg.specs.declared.feed.Given.{Given}
+use Rattle.hj_msg.specs.Drain.{Drainage, TakesAll}
+use Rattle.hj_msg.specs.Emission.{emitted}
+use Rattle.hj_msg.specs.Feed.{GoesOver}
+use Rattle.hj_chain.specs.declared.actor.Actor.{Actor}
+use Rattle.hj_chain.specs.declared.actor.Actor.TheVariants.{Admit, PortLeft, PortRight, Core, Collect}
+use Rattle.hj_chain.specs.declared.actor.Stepped.TheVariants as stepped
+use Rattle.hj_chain.specs.declared.chain.serial.Rule.{Rule}
+use Rattle.hj_chain.specs.declared.chain.serial.Rule.TheVariants.{InTurn, Seeded}
+use Rattle.hj_chain.specs.declared.serial.Chooser.{Chooser}
+use Rattle.hj_chain.specs.declared.serial.Chooser.TheVariants as chooser
+use Rattle.hj_chain.specs.declared.serial.Fin.{Fin}
+use Rattle.hj_chain.specs.declared.serial.Fin.TheVariants as fin
+use Rattle.hj_chain.specs.Chain.{ChainState, Contents, cause}
+use Rattle.hj_chain.specs.Progress.{IsDone}
+use Rattle.hj_chain.specs.Reached.{StandsFor, collected_of, next_pair}
+use Rattle.hj_chain.specs.Steps.{Steps, is_stop}
+
+abbrev pub core_no : ℕ → CoreNo
+core_no place = record { 0 = place }
+
+-- All actors of a chain of n cores, in their order: the driver's put and its ports, the ends of each core, and the collection of
+-- each core's reports.
+abbrev pub actors : ℕ → List Actor
+actors n = Admit ∷ PortLeft ∷ PortRight
+    ∷ (flat_map (λ place. Core (core_no place) Left ∷ Core (core_no place) Right ∷ []) (range_with_len 0 n) ++ map (λ place. Collect (core_no place)) (range_with_len 0 n))
+
+-- the actors that are enabled, in that order
+abbrev pub is_enabled : {P : Type 0} → ChainState P → Actor → Bool
+is_enabled chain actor = is_none (cause chain actor)
+
+abbrev pub enabled : {P : Type 0} → ChainState P → List Actor
+enabled chain = filter (is_enabled chain) (actors (length chain.cores))
+
+-- Where a rule stands: the actors are looked over from this place on, all the way round; or the generator holds this number.
+pub data Choosing : Type 0 where
+  from_place : (place : ℕ) → Choosing
+  by_draw : (held : ℕ) → Choosing
+
+abbrev pub first_choosing : Chooser → Choosing
+first_choosing chooser.InTurn = from_place 0
+first_choosing (chooser.Seeded seed) = by_draw seed
+
+-- the enabled actor that the rule names, if one is enabled
+abbrev pub chosen : {P : Type 0} → Choosing → ChainState P → Option Actor
+chosen (from_place place) chain =
+    let all = actors (length chain.cores) in
+    slice_get (filter (is_enabled chain) (drop place all ++ take place all)) 0
+chosen (by_draw held) chain = slice_get (enabled chain) (lcg.drawn (lcg.next held) % length (enabled chain))
+
+-- the place behind an actor, among those of n cores
+abbrev pub place_behind : ℕ → Actor → ℕ
+place_behind n Admit = 1
+place_behind n PortLeft = 2
+place_behind n PortRight = 3
+place_behind n (Core core Left) = 2 * core.0 + 4
+place_behind n (Core core Right) = 2 * core.0 + 5
+place_behind n (Collect core) = 2 * n + core.0 + 4
+
+-- where the rule stands behind a step of this actor
+abbrev pub choosing_after : ℕ → Actor → Choosing → Choosing
+choosing_after n actor (from_place place) = from_place (place_behind n actor)
+choosing_after n actor (by_draw held) = by_draw (lcg.next held)
+
+-- where a rule stands in the code
+abbrev pub choosing_of : Rule → Choosing
+choosing_of (InTurn place) = from_place place
+choosing_of (Seeded held) = by_draw held
+
+-- the place is one of those of n cores, or the one behind them all
+abbrev pub IsWithin : ℕ → Choosing → Type 0
+IsWithin n (from_place place) = place ≤ length (actors n)
+IsWithin n (by_draw held) = Unit {0}
+
+-- Steps that are made one after another, each of the actor that the rule names then. Where memory runs out in one, none comes
+-- behind it.
+pub data MakesSteps {P F : Type 0} (gives : F → Given P → F → Type 0) (matches : P → P → Bool) (first : Choosing) (old : ChainState P) (from : F)
+    : List Actor → Choosing → ChainState P → F → Type 0 where
+  begins : MakesSteps gives matches first old from [] first old from
+  goes_on : (made : List Actor) (choosing : Choosing) (mid : ChainState P) (between : F) (actor : Actor) (new : ChainState P) (to : F)
+      → MakesSteps gives matches first old from made choosing mid between → chosen choosing mid ≡ Some actor → Steps gives matches actor mid between stepped.Did new to
+      → MakesSteps gives matches first old from (made ++ actor ∷ []) (choosing_after (length old.cores) actor choosing) new to
+  runs_out : (made : List Actor) (choosing : Choosing) (mid : ChainState P) (between : F) (actor : Actor) (new : ChainState P) (to : F)
+      → MakesSteps gives matches first old from made choosing mid between → chosen choosing mid ≡ Some actor → Steps gives matches actor mid between stepped.Memory new to
+      → MakesSteps gives matches first old from made choosing new to
+
+-- How pairs were given: each one kept, and no further pair due; or the last one refused, and each other one kept.
+abbrev pub Gives : {P J : Type 0} {predicate : J → P → P → Bool} {chain : Contents P J} {schedule : List Actor} {events : List (Event P)} {given : ℕ}
+    → Drained → List (Drainage P) → StandsFor predicate chain schedule events given → Type 0
+Gives Kept pairs stands = (map (λ one. one.answer) pairs ≡ replicate (length pairs) Kept) × (next_pair stands ≡ None)
+Gives Refused pairs stands = (kept : ℕ) × (map (λ one. one.answer) pairs ≡ replicate kept Kept ++ Refused ∷ [])
+
+-- Pairs that were given to a drain: the next ones of the emission of what the chain stood for. It stands for the same, with so
+-- many pairs more.
+pub record Releases {P J D : Type 0} (takes : D → Pair P → Drained → D → Type 0) {predicate : J → P → P → Bool} {old : Contents P J} {schedule : List Actor} {events : List (Event P)} {given : ℕ}
+    (stood : StandsFor predicate old schedule events given) (unfilled : D) (answer : Drained) (new : Contents P J) (filled : D) : Type 0 where
+  pub pairs : List (Drainage P)
+  pub drain : TakesAll takes unfilled pairs filled
+  pub stands : StandsFor predicate new schedule events (given + length pairs)
+  pub collected : collected_of stands.reached ≡ collected_of stood.reached
+  pub in_order : map (λ one. one.pair) pairs ≡ take (length pairs) (drop given (emitted (collected_of stands.reached)))
+  pub gives : Gives answer pairs stands
+
+-- How the run ended: with each pair kept, no further pair due, and the chain done, in which memory never ran out and the feed has
+-- stopped; with the last pair refused, and each other one kept; or with memory run out, and each pair kept.
+abbrev pub Ends : {P J : Type 0} {predicate : J → P → P → Bool} {chain : Contents P J} {schedule : List Actor} {events : List (Event P)} {given : ℕ}
+    → Fin → List (Drainage P) → StandsFor predicate chain schedule events given → Type 0
+Ends {chain = chain} fin.Done pairs stands =
+    (map (λ one. one.answer) pairs ≡ replicate (length pairs) Kept) × (next_pair stands ≡ None) × (chain.state.over ≡ false) × (is_stop chain.state.next ≡ true) × IsDone chain.state
+Ends fin.Refused pairs stands = (kept : ℕ) × (map (λ one. one.answer) pairs ≡ replicate kept Kept ++ Refused ∷ [])
+Ends {chain = chain} fin.Memory pairs stands = (map (λ one. one.answer) pairs ≡ replicate (length pairs) Kept) × (chain.state.over ≡ true)
+
+-- A serial run of a chain that stood for a schedule and events, and had given so many pairs: its steps are those that the rule
+-- names; the chain stands for that schedule with them behind it, for the events with those that the feed gave on the way, and
+-- for so many pairs more as the drain took. These are the next ones of the emission.
+pub record RunsSerially {P J F D : Type 0} (gives : F → Given P → F → Type 0) (takes : D → Pair P → Drained → D → Type 0) (predicate : J → P → P → Bool) (rule : Chooser)
+    (schedule : List Actor) (events : List (Event P)) (given : ℕ) (old : Contents P J) (from : F) (unfilled : D) (ended : Fin) (new : Contents P J) (to : F) (filled : D) : Type 0 where
+  pub made : List Actor
+  pub choosing : Choosing
+  pub steps : MakesSteps gives (predicate old.join) (first_choosing rule) old.state from made choosing new.state to
+  pub taken : List (Event P)
+  pub feed : GoesOver gives from taken to
+  pub pairs : List (Drainage P)
+  pub drain : TakesAll takes unfilled pairs filled
+  pub stands : StandsFor predicate new (schedule ++ made) (events ++ taken) (given + length pairs)
+  pub in_order : map (λ one. one.pair) pairs ≡ take (length pairs) (drop given (emitted (collected_of stands.reached)))
+  pub ends : Ends ended pairs stands

@@ -1,0 +1,362 @@
+ghost use Rattle.std.specs.Prelude.{◌≡◌, ◌≢◌, ◌↔◌, true, ◌+◌, ◌^◌, ◌<◌, ◌≤◌, ◌++◌, [], ◌∷◌, ℕ, false, List, length, map, replicate, option_to_list, All, IfOk, IfSome, IfNone, IsPermutation, OnErr};
+ghost use Rattle.hj_base.specs.declared.numbers.Side.{Side as Sides};
+ghost use Rattle.hj_base.specs.declared.numbers.Side.TheVariants.{Left, Right};
+ghost use Rattle.hj_msg.specs.declared.event.Event.{Event};
+ghost use Rattle.hj_chain.specs.declared.actor.Actor.{Actor as Actors};
+ghost use Rattle.hj_msg.specs.Core.{empty_state};
+ghost use Rattle.hj_msg.specs.Feed.{Answers, FeedState};
+ghost use Rattle.hj_core.specs.Contents.{state_of};
+ghost use Rattle.hj_core.specs.Sent.{sent};
+ghost use Rattle.hj_chain.specs.Placed.{ArePlaced};
+ghost use Rattle.hj_chain.specs.Chain.{empty_chain};
+ghost use Rattle.hj_collect.specs.Collector.{nothing_taken};
+ghost use Rattle.hj_chain.specs.Reached.{StandsFor, next_pair};
+ghost use Rattle.hj_chain.specs.Progress.{IsDone};
+ghost use Rattle.hj_chain.specs.Links.{changed_at, link_at, send_out};
+ghost use Rattle.hj_chain.specs.Reports.{queue_at};
+ghost use Rattle.hj_chain.specs.Steps.{at_port, GoesWith, Gathers, HasRoom, IsFresh, IsGoing, Ran, StandsFurther, Steps, StepsTo, was_asked};
+
+use crate::links::Links;
+use crate::reports::Reports;
+use crate::{Actor, NotNow, Stepped};
+use hj_base::{CoreNo, Memory, Share, Side};
+use hj_collect::Collector;
+use hj_core::{Core, Sends};
+use hj_driver::{Admitted, Closing, Driver};
+use hj_msg::{Feed, Given, Join, Msg, Pair, Store};
+use hj_order::Ordered;
+use std::alloc::Global;
+use std::marker::Model;
+use std::mem;
+
+mod serial;
+#[cfg(test)]
+mod tests;
+
+/// A chain of cores, with the driver at its ends. Its actors make their steps one at a time, in whatever order they are asked
+/// to, so that any interleaving of a run can be played.
+#[derive(Drop)]
+pub struct Chain<P, J: Join<P>, L: Store<P, J>, R: Store<P, J>> {
+    join: J,
+    driver: Driver,
+    next: Given<P>,
+    links: Links<P>,
+    cores: Vec<Core<P, J, L, R>>,
+    reports: Reports<P>,
+    collector: Collector,
+    kept: Ordered<P>,
+    over: bool,
+}
+
+impl<P, J: Join<P>, L: Store<P, J>, R: Store<P, J>> Model for Chain<P, J, L, R> {
+    ghost use Rattle.std.specs.Prelude.{◌≡◌, ◌≤◌, length, map};
+    ghost use Rattle.hj_core.specs.Contents.{state_of};
+    ghost use Rattle.hj_chain.specs.Chain.{Contents, capacity};
+    ghost use Rattle.hj_chain.specs.Placed.{ArePlaced};
+
+    ghost Value = { Contents P J };
+
+    ghost view = { λ c. record {
+      join = c.join;
+      state = record {
+        driver = c.driver;
+        next = c.next;
+        links = c.links;
+        cores = map (state_of L.entries R.entries) c.cores.items;
+        reports = c.reports.queues;
+        over = c.over;
+      };
+      collector = c.collector;
+      kept = c.kept;
+    } };
+
+    ghost invariant = { λ c. record {
+      placed : ArePlaced c.join (length c.cores.items) 0 c.cores.items;
+      few : length c.cores.items ≤ 64;
+      flight : 1 ≤ c.driver.flight;
+      capacity : c.reports.capacity ≡ capacity c.driver.flight;
+    } };
+}
+
+impl<P: Share + Drop, J: Join<P> + Drop, L: Store<P, J> + Drop, R: Store<P, J> + Drop> Chain<
+    P,
+    J,
+    L,
+    R,
+> {
+    ghost use Rattle.hj_msg.specs.declared.feed.Given.{Given};
+    ghost use Rattle.hj_chain.specs.Chain.{Contents};
+
+    /// The empty chain of as many cores as there are stores of each stream, with at most `flight` events outstanding, from 1 to
+    /// 256. It asks the feed for the first event. Where memory runs out the feed was not asked.
+    pub fn new<F: Feed<P>>(
+        alloc: Global,
+        join: J,
+        left: Vec<L>,
+        right: Vec<R>,
+        flight: u16,
+        feed: &mut F,
+    ) -> Result<Self, Memory>
+        requires cores { (1 ≤ length left.items) × (length left.items ≤ 64) × (length right.items ≡ length left.items) }
+        requires flight { (1 ≤ flight) × (flight ≤ 256) }
+        requires left_empty { All (λ store. L.entries store ≡ []) left.items }
+        requires right_empty { All (λ store. R.entries store ≡ []) right.items }
+        requires left_suits { All (λ store. L.suits store Left join) left.items }
+        requires right_suits { All (λ store. R.suits store Right join) right.items }
+        requires fresh { IsFresh (F.state feed.old) }
+        ensures begins { IfOk result (λ chain. (first : Given P) × (chain ≡ record { join = join; state = empty_chain (length left.items) flight first; collector = nothing_taken (length left.items); kept = [] }) × F.gives feed.old first feed.new) }
+        ensures goes { IfOk result (λ chain. GoesWith J.predicate chain (F.state feed.new)) }
+        ensures refused { OnErr result (feed.new ≡ feed.old) }
+    {
+        let cores = left.len();
+        let capacity = 2 * usize::from(flight) + 2;
+        let driver = Driver::new(alloc, cores as u16, flight)?;
+        let links = Links::new(alloc, cores, capacity)?;
+        let reports = Reports::new(alloc, cores, capacity)?;
+        let collector = Collector::new(alloc, cores as u16)?;
+        let kept = Ordered::new(alloc);
+        let cores = placed_cores(alloc, &join, left, right)?;
+        Ok(Chain {
+            join,
+            driver,
+            next: feed.next(),
+            links,
+            cores,
+            reports,
+            collector,
+            kept,
+            over: false,
+        })
+    }
+
+    /// Makes a step of an actor, if it is enabled. A step that puts an event into the chain asks the feed for the next one.
+    pub fn step<F: Feed<P>>(&mut self, actor: Actor, feed: &mut F) -> Stepped
+        requires { GoesWith J.predicate self.old (F.state feed.old) }
+        ensures step { Steps F.gives (J.predicate self.old.join) actor self.old.state feed.old result self.new.state feed.new }
+        ensures answers { was_asked actor self.old.state.next result ≡ true → Answers self.new.state.next (F.state feed.old) (F.state feed.new) }
+        ensures join { self.new.join ≡ self.old.join }
+        ensures gathers { Gathers actor self.old result self.new }
+        ensures room { HasRoom self.new.state }
+        ensures goes { GoesWith J.predicate self.new (F.state feed.new) }
+        ensures stands { (schedule : List Actors) (events : List (Event P)) (given : ℕ) → StandsFor J.predicate self.old schedule events given → result ≡ Stepped.Did
+            → StandsFurther F.gives J.predicate (schedule ++ actor ∷ []) events given feed.old self.new feed.new }
+        ensures stays { (schedule : List Actors) (events : List (Event P)) (given : ℕ) → StandsFor J.predicate self.old schedule events given → result ≢ Stepped.Did
+            → StandsFor J.predicate self.new schedule events given }
+    {
+        if self.over {
+            return Stepped::NotEnabled(NotNow::Over);
+        }
+        match actor {
+            Actor::Admit => self.admit(feed),
+            Actor::PortLeft => self.receive(Side::Left),
+            Actor::PortRight => self.receive(Side::Right),
+            Actor::Core(core, end) => self.turn(core, end),
+            Actor::Collect(core) => self.collect(core),
+        }
+    }
+
+    /// Makes the steps of a schedule in their order. An actor that isn't enabled is passed over.
+    pub fn run<F: Feed<P>>(&mut self, schedule: &[Actor], feed: &mut F) -> Stepped
+        requires { GoesWith J.predicate self.old (F.state feed.old) }
+        ensures runs { Ran F.gives J.predicate schedule.now self.old feed.old result self.new feed.new }
+        ensures join { self.new.join ≡ self.old.join }
+        ensures goes { GoesWith J.predicate self.new (F.state feed.new) }
+    {
+        for actor in schedule {
+            if self.step(*actor, feed) == Stepped::Memory {
+                return Stepped::Memory;
+            }
+        }
+        Stepped::Did
+    }
+
+    /// Gives the next pair, in the order of the sequential join: None where none of the pairs that are kept is within the
+    /// punctuation, and where memory ran out in a step. It takes no memory.
+    pub fn pair(&mut self) -> Option<Pair<P>>
+        requires { (feed : FeedState) × GoesWith J.predicate self.old feed }
+        ensures pair { (schedule : List Actors) (events : List (Event P)) (given : ℕ) (stands : StandsFor J.predicate self.old schedule events given) → result ≡ next_pair stands }
+        ensures stands { (schedule : List Actors) (events : List (Event P)) (given : ℕ) → StandsFor J.predicate self.old schedule events given
+            → StandsFor J.predicate self.new schedule events (given + length (option_to_list result)) }
+        ensures goes { (feed : FeedState) → GoesWith J.predicate self.old feed → GoesWith J.predicate self.new feed }
+        ensures kept { IfSome result (λ pair. IsPermutation self.old.kept (pair ∷ self.new.kept)) }
+        ensures others { self.new ≡ record self.old { kept = self.new.kept } }
+        ensures unchanged { IfNone result (self.new ≡ self.old) }
+    {
+        if self.over {
+            return None;
+        }
+        let mark = self.collector.punctuation()?;
+        self.kept.release(mark)
+    }
+
+    /// Whether the chain is done: the driver took both closes, and of each core the report of its end was collected. The run
+    /// is complete then, and where no pair is to be given, all pairs of the sequential join were.
+    pub fn done(&self) -> bool
+        requires { (feed : FeedState) × GoesWith J.predicate self.now feed }
+        ensures { (result ≡ true) ↔ IsDone self.now.state }
+    {
+        self.driver.finished() && self.collector.ended()
+    }
+
+    /// The driver puts the next event, or the closes.
+    fn admit<F: Feed<P>>(&mut self, feed: &mut F) -> Stepped
+        requires goes { GoesWith J.predicate self.old (F.state feed.old) }
+        requires going { self.old.state.over ≡ false }
+        ensures step { Steps F.gives (J.predicate self.old.join) Actor.Admit self.old.state feed.old result self.new.state feed.new }
+        ensures answers { was_asked Actor.Admit self.old.state.next result ≡ true → Answers self.new.state.next (F.state feed.old) (F.state feed.new) }
+        ensures others { self.new ≡ record self.old { state = self.new.state } }
+        ensures goes { GoesWith J.predicate self.new (F.state feed.new) }
+    {
+        let Given::Event(event) = &self.next else {
+            return self.close();
+        };
+        if let Some(why) = self.driver.waits(event) {
+            return Stepped::NotEnabled(NotNow::Waits(why));
+        }
+        let Given::Event(event) = mem::replace(&mut self.next, feed.next()) else {
+            unreachable!()
+        };
+        let Admitted::Send(port, msg) = self.driver.admit(event) else {
+            unreachable!()
+        };
+        self.links.put_in(port, self.cores.len(), msg);
+        Stepped::Did
+    }
+
+    /// The driver puts the closes.
+    fn close(&mut self) -> Stepped
+        requires going { IsGoing J.predicate self.old }
+        requires last { self.old.state.next ≡ Given.Stop }
+        ensures step { (answer : Given P) → StepsTo (J.predicate self.old.join) Actor.Admit answer self.old.state result self.new.state }
+        ensures others { self.new ≡ record self.old { state = self.new.state } }
+    {
+        match self.driver.close() {
+            Closing::Already => Stepped::NotEnabled(NotNow::Closed),
+            Closing::Wait(count) => Stepped::NotEnabled(NotNow::Drains(count)),
+            Closing::Send => {
+                let cores = self.cores.len();
+                self.links.put_in(Side::Left, cores, Msg::CloseL);
+                self.links.put_in(Side::Right, cores, Msg::CloseR);
+                Stepped::Did
+            }
+        }
+    }
+
+    /// The driver takes a message out at a port.
+    fn receive(&mut self, port: Side) -> Stepped
+        requires { IsGoing J.predicate self.old }
+        ensures step { (answer : Given P) → StepsTo (J.predicate self.old.join) (at_port port) answer self.old.state result self.new.state }
+        ensures others { self.new ≡ record self.old { state = self.new.state } }
+    {
+        match self.links.take_out(port, self.cores.len()) {
+            None => Stepped::NotEnabled(NotNow::Empty),
+            Some(msg) => {
+                self.driver.took(port, &msg);
+                Stepped::Did
+            }
+        }
+    }
+
+    /// A core handles the first message that comes in at one of its ends.
+    fn turn(&mut self, core: CoreNo, end: Side) -> Stepped
+        requires { IsGoing J.predicate self.old }
+        ensures step { (answer : Given P) → StepsTo (J.predicate self.old.join) (Actor.Core core end) answer self.old.state result self.new.state }
+        ensures others { self.new ≡ record self.old { state = self.new.state } }
+    {
+        let place = usize::from(core.0);
+        if place >= self.cores.len() {
+            return Stepped::NotEnabled(NotNow::NoSuchCore);
+        }
+        let Some(msg) = self.links.incoming(place, end) else {
+            return Stepped::NotEnabled(NotNow::Empty);
+        };
+        if self.reports.is_full(place) {
+            return Stepped::NotEnabled(NotNow::ReportsFull);
+        }
+        let core = &mut self.cores[place];
+        let Ok(prepared) = core.prepare(msg) else {
+            self.over = true;
+            return Stepped::Memory;
+        };
+        let Some(msg) = self.links.take_in(place, end) else {
+            unreachable!()
+        };
+        let sends = core.commit(msg, prepared);
+        put_sends(&mut self.links, &mut self.reports, place, sends);
+        Stepped::Did
+    }
+
+    /// A core's first report is taken. The queue gives it up only once there is room for its pairs.
+    fn collect(&mut self, core: CoreNo) -> Stepped
+        requires { IsGoing J.predicate self.old }
+        ensures step { (answer : Given P) → StepsTo (J.predicate self.old.join) (Actor.Collect core) answer self.old.state result self.new.state }
+        ensures join { self.new.join ≡ self.old.join }
+        ensures gathers { Gathers (Actor.Collect core) self.old result self.new }
+    {
+        let place = usize::from(core.0);
+        if place >= self.cores.len() {
+            return Stepped::NotEnabled(NotNow::NoSuchCore);
+        }
+        let Some(report) = self.reports.first(place) else {
+            return Stepped::NotEnabled(NotNow::Empty);
+        };
+        let Ok(pairs) = self.collector.pairs(report) else {
+            self.over = true;
+            return Stepped::Memory;
+        };
+        if self.kept.add(pairs).is_err() {
+            self.over = true;
+            return Stepped::Memory;
+        }
+        self.collector.note(core, report);
+        self.reports.drop_first(place);
+        Stepped::Did
+    }
+}
+
+/// Puts what a core sends on its links, and its report into its queue.
+fn put_sends<P: Drop>(links: &mut Links<P>, reports: &mut Reports<P>, place: usize, sends: Sends<P>)
+    requires small { place < 2 ^ 16 }
+    requires in_links { place + 1 < length links.old }
+    requires in_reports { place < length reports.old.queues }
+    requires room_left { length (link_at links.old place).leftwards + 1 ≤ (link_at links.old place).capacity }
+    requires room_right { length (link_at links.old (place + 1)).rightwards + length (sent sends).right ≤ (link_at links.old (place + 1)).capacity }
+    requires room { length (queue_at reports.old.queues place) < reports.old.capacity }
+    ensures links { links.new ≡ send_out place (sent sends).left (sent sends).right links.old }
+    ensures reports { reports.new ≡ record reports.old { queues = changed_at place (λ queue. queue ++ option_to_list sends.entry) reports.old.queues } }
+{
+    links.put_left(place, sends.to_left);
+    links.put_right(place + 1, sends.to_right);
+    links.put_right(place + 1, sends.to_right_then);
+    reports.put(place, sends.entry);
+}
+
+/// A core for each two stores, each at its place. Stores are taken from the ends of their lists, so the last core is made
+/// first.
+fn placed_cores<P: Share + Drop, J: Join<P> + Drop, L: Store<P, J> + Drop, R: Store<P, J> + Drop>(
+    alloc: Global,
+    join: &J,
+    mut left: Vec<L>,
+    mut right: Vec<R>,
+) -> Result<Vec<Core<P, J, L, R>>, Memory>
+    requires few { length left.items ≤ 64 }
+    requires same { length right.items ≡ length left.items }
+    requires left_empty { All (λ store. L.entries store ≡ []) left.items }
+    requires right_empty { All (λ store. R.entries store ≡ []) right.items }
+    requires left_suits { All (λ store. L.suits store Left join.now) left.items }
+    requires right_suits { All (λ store. R.suits store Right join.now) right.items }
+    ensures placed { IfOk result (λ cores. ArePlaced join.now (length left.items) 0 cores.items) }
+    ensures empty { IfOk result (λ cores. map (state_of L.entries R.entries) cores.items ≡ replicate (length left.items) empty_state) }
+{
+    let count = left.len() as u16;
+    let mut cores = Vec::with_capacity(alloc, left.len())?;
+    while let Some(left_store) = left.pop() {
+        let Some(right_store) = right.pop() else {
+            unreachable!()
+        };
+        let place = CoreNo(left.len() as u16);
+        cores.push(Core::new(join.share()?, left_store, right_store, place, count, alloc))?;
+    }
+    cores.reverse();
+    Ok(cores)
+}

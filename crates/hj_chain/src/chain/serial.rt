@@ -1,0 +1,220 @@
+ghost use Rattle.std.specs.Prelude.{◌≡◌, ◌+◌, ◌-◌, ◌*◌, ◌<◌, ◌≤◌, ◌++◌, true, ℕ, List, length, slice_get, is_none, take, drop, filter, IfSome, IfNone};
+ghost use Rattle.hj_msg.specs.declared.event.Event.{Event};
+ghost use Rattle.hj_msg.specs.Feed.{FeedState};
+ghost use Rattle.hj_chain.specs.declared.actor.Actor.{Actor as Actors};
+ghost use Rattle.hj_chain.specs.Chain.{admit_cause};
+ghost use Rattle.hj_chain.specs.Reached.{StandsFor};
+ghost use Rattle.hj_chain.specs.Serial.{Choosing, IsWithin, Releases, RunsSerially, actors, chosen, choosing_after, choosing_of, enabled, first_choosing, is_enabled};
+ghost use Rattle.hj_chain.specs.Steps.{GoesWith};
+
+use crate::{Actor, Chain, Chooser, Fin, Stepped};
+use hj_base::{Gate, Lcg, Share, Side};
+use hj_driver::Closing;
+use hj_msg::{Drain, Drained, Feed, Given, Join, Store};
+
+impl<P: Share + Drop, J: Join<P> + Drop, L: Store<P, J> + Drop, R: Store<P, J> + Drop> Chain<
+    P,
+    J,
+    L,
+    R,
+> {
+    /// How many actors are enabled.
+    pub fn enabled(&self) -> u32
+        ensures { result ≡ length (enabled self.now.state) }
+    {
+        let cores = self.cores.len();
+        let mut count = 0;
+        for place in 0..Actor::count(cores) {
+            if self.is_enabled(Actor::at(place, cores)) {
+                count += 1;
+            }
+        }
+        count
+    }
+
+    /// The enabled actor at a place, counted from 0 in the order of all actors: the driver's put, its left port, its right port,
+    /// the left end and then the right end of each core, and then the collection of each core's reports. None exactly at or past
+    /// the number of enabled ones.
+    pub fn nth(&self, at: u32) -> Option<Actor>
+        ensures { result ≡ slice_get (enabled self.now.state) at }
+    {
+        let cores = self.cores.len();
+        let mut passed = 0;
+        for place in 0..Actor::count(cores) {
+            let actor = Actor::at(place, cores);
+            if self.is_enabled(actor) {
+                if passed == at {
+                    return Some(actor);
+                }
+                passed += 1;
+            }
+        }
+        None
+    }
+
+    /// Makes steps until all is done, one enabled actor after the other, each chosen by a rule. The pairs go to the drain in the
+    /// order of the sequential join, each as soon as it is due; the first one that the drain refuses ends the run. Before each
+    /// step of a core the gate is passed, with the core and the number of steps that this call made before; this number stays
+    /// at 2^64 - 1 once it is there.
+    pub fn run_serial<F: Feed<P>, D: Drain<P>, G: Gate>(
+        &mut self,
+        chooser: Chooser,
+        feed: &mut F,
+        drain: &mut D,
+        gate: &G,
+    ) -> Fin
+        requires { GoesWith J.predicate self.old (F.state feed.old) }
+        ensures runs { (schedule : List Actors) (events : List (Event P)) (given : ℕ) → StandsFor J.predicate self.old schedule events given
+            → RunsSerially F.gives D.takes J.predicate chooser schedule events given self.old feed.old drain.old result self.new feed.new drain.new }
+        ensures join { self.new.join ≡ self.old.join }
+        ensures goes { GoesWith J.predicate self.new (F.state feed.new) }
+    {
+        let mut rule = Rule::new(chooser);
+        let mut made: u64 = 0;
+        if self.release(drain) == Drained::Refused {
+            return Fin::Refused;
+        }
+        while let Some(actor) = rule.next(self) {
+            pass(gate, actor, made);
+            made = made.saturating_add(1);
+            if self.step(actor, feed) == Stepped::Memory {
+                return Fin::Memory;
+            }
+            if let Actor::Collect(_) = actor {
+                if self.release(drain) == Drained::Refused {
+                    return Fin::Refused;
+                }
+            }
+        }
+        if self.over { Fin::Memory } else { Fin::Done }
+    }
+
+    /// Gives the pairs that are due to the drain, one after the other, up to the first one that it refuses.
+    fn release<D: Drain<P>>(&mut self, drain: &mut D) -> Drained
+        requires { (feed : FeedState) × GoesWith J.predicate self.old feed }
+        ensures releases { (schedule : List Actors) (events : List (Event P)) (given : ℕ) (stood : StandsFor J.predicate self.old schedule events given) → Releases D.takes stood drain.old result self.new drain.new }
+        ensures others { self.new ≡ record self.old { kept = self.new.kept } }
+        ensures goes { (feed : FeedState) → GoesWith J.predicate self.old feed → GoesWith J.predicate self.new feed }
+    {
+        while let Some(pair) = self.pair() {
+            if drain.pair(pair) == Drained::Refused {
+                return Drained::Refused;
+            }
+        }
+        Drained::Kept
+    }
+
+    /// Whether an actor is enabled.
+    fn is_enabled(&self, actor: Actor) -> bool
+        ensures { result ≡ is_enabled self.now.state actor }
+    {
+        if self.over {
+            return false;
+        }
+        let cores = self.cores.len();
+        match actor {
+            Actor::Admit => self.may_put(),
+            Actor::PortLeft => self.links.outgoing(Side::Left, cores).is_some(),
+            Actor::PortRight => self.links.outgoing(Side::Right, cores).is_some(),
+            Actor::Core(core, end) => {
+                let place = usize::from(core.0);
+                place < cores
+                    && self.links.incoming(place, end).is_some()
+                    && !self.reports.is_full(place)
+            }
+            Actor::Collect(core) => {
+                let place = usize::from(core.0);
+                place < cores && self.reports.first(place).is_some()
+            }
+        }
+    }
+
+    /// Whether the driver may put the next event, or the closes where none is to come.
+    fn may_put(&self) -> bool
+        ensures { result ≡ is_none (admit_cause self.now.state.driver self.now.state.next) }
+    {
+        match &self.next {
+            Given::Event(event) => self.driver.waits(event).is_none(),
+            Given::Stop => self.driver.closing() == Closing::Send,
+        }
+    }
+
+    /// The first enabled actor from this place on, all the way round.
+    fn first_from(&self, place: usize) -> Option<Actor>
+        requires { place ≤ length (actors (length self.now.state.cores)) }
+        ensures { result ≡ chosen (Choosing.from_place place) self.now.state }
+    {
+        match self.first_enabled(place, Actor::count(self.cores.len())) {
+            None => self.first_enabled(0, place),
+            found => found,
+        }
+    }
+
+    /// The first enabled actor among those from this place on and before that one.
+    fn first_enabled(&self, from: usize, to: usize) -> Option<Actor>
+        requires { to ≤ length (actors (length self.now.state.cores)) }
+        ensures { result ≡ slice_get (filter (is_enabled self.now.state) (take (to - from) (drop from (actors (length self.now.state.cores))))) 0 }
+    {
+        let cores = self.cores.len();
+        for place in from..to {
+            let actor = Actor::at(place, cores);
+            if self.is_enabled(actor) {
+                return Some(actor);
+            }
+        }
+        None
+    }
+}
+
+/// Before a step of a core the gate is passed.
+fn pass<G: Gate>(gate: &G, actor: Actor, made: u64) {
+    if let Actor::Core(core, _) = actor {
+        gate.pass(core, made);
+    }
+}
+
+/// Which actor is looked at first for the next step of a serial run.
+#[derive(Drop)]
+enum Rule {
+    /// The one at this place; then all others, all the way round.
+    InTurn(usize),
+    /// The one that is drawn.
+    Seeded(Lcg),
+}
+
+impl Rule {
+    fn new(chooser: Chooser) -> Self
+        ensures { choosing_of result ≡ first_choosing chooser }
+    {
+        match chooser {
+            Chooser::InTurn => Rule::InTurn(0),
+            Chooser::Seeded(seed) => Rule::Seeded(Lcg::new(seed)),
+        }
+    }
+
+    /// The enabled actor that makes the next step; None where none is enabled.
+    fn next<P: Share + Drop, J: Join<P> + Drop, L: Store<P, J> + Drop, R: Store<P, J> + Drop>(
+        &mut self,
+        chain: &Chain<P, J, L, R>,
+    ) -> Option<Actor>
+        requires within { IsWithin (length chain.now.state.cores) (choosing_of self.old) }
+        ensures actor { result ≡ chosen (choosing_of self.old) chain.now.state }
+        ensures goes_on { IfSome result (λ actor. choosing_of self.new ≡ choosing_after (length chain.now.state.cores) actor (choosing_of self.old)) }
+        ensures still_within { IsWithin (length chain.now.state.cores) (choosing_of self.new) }
+    {
+        match self {
+            Rule::InTurn(place) => {
+                let actor = chain.first_from(*place)?;
+                *place = actor.place_behind(chain.cores.len());
+                Some(actor)
+            }
+            Rule::Seeded(lcg) => {
+                let enabled = chain.enabled();
+                if enabled == 0 {
+                    return None;
+                }
+                chain.nth((lcg.draw() % u64::from(enabled)) as u32)
+            }
+        }
+    }
+}

@@ -1,0 +1,16 @@
+//! The chain of cores on one thread, step by step, in whatever order the steps come.
+#![tactic(auto)]
+
+mod actor;
+mod chain;
+mod laws;
+mod links;
+mod progress;
+mod reports;
+mod serial;
+
+pub use actor::{Actor, NotNow, Stepped};
+pub use chain::Chain;
+pub use laws::{chains_give_the_join, emission_begins_the_join, steps_give_a_run};
+pub use progress::{done_is_complete, some_actor_is_enabled, steps_are_few};
+pub use serial::{Chooser, Fin};

@@ -1,0 +1,126 @@
+ghost use Rattle.std.specs.Prelude.{◌≡◌, ◌+◌, ◌^◌, ◌<◌, ◌≤◌, [], ◌∷◌, length, replicate, option_to_list, IfOk};
+ghost use Rattle.std.specs.Option.{option_copied};
+ghost use Rattle.hj_base.specs.declared.numbers.Side.TheVariants.{Left, Right};
+ghost use Rattle.hj_queue.specs.Queues.{no_messages};
+ghost use Rattle.hj_chain.specs.Chain.{first};
+ghost use Rattle.hj_chain.specs.Links.{link_at, changed_at, put_leftwards, put_rightwards, at_port, HasRoomAt, incoming as incoming_of, put_in, take_out, take_in};
+
+use hj_base::{Memory, Side};
+use hj_msg::Msg;
+use hj_queue::{Full, PlainLink};
+use std::alloc::Global;
+use std::marker::Model;
+
+/// The links of a chain, from its left end to its right end.
+#[derive(Drop)]
+pub struct Links<P> {
+    links: Vec<PlainLink<Msg<P>>>,
+}
+
+impl<P> Model for Links<P> {
+    ghost use Rattle.std.specs.Prelude.{List};
+    ghost use Rattle.hj_msg.specs.declared.message.Msg.{Msg};
+    ghost use Rattle.hj_queue.specs.Queues.{Queues};
+
+    ghost Value = { List (Queues (Msg P)) };
+
+    ghost view = { λ l. l.links.items };
+}
+
+impl<P: Drop> Links<P> {
+    /// The links of so many cores, with nothing under way and with room for `capacity` messages in each direction.
+    pub fn new(alloc: Global, cores: usize, capacity: usize) -> Result<Self, Memory>
+        requires { cores ≤ 64 }
+        ensures { IfOk result (λ links. links ≡ replicate (cores + 1) (no_messages capacity)) }
+    {
+        let mut links = Vec::with_capacity(alloc, cores + 1)?;
+        for _at in 0..cores + 1 {
+            links.push(PlainLink::new(alloc, capacity)?)?;
+        }
+        Ok(Links { links })
+    }
+
+    /// The first message that comes in at an end of a core; None exactly where there is none, as past the last link.
+    pub fn incoming(&self, core: usize, end: Side) -> Option<&Msg<P>>
+        requires { core < 2 ^ 16 }
+        ensures { option_copied result ≡ first (incoming_of end core self.now) }
+    {
+        match end {
+            Side::Left => self.links.get(core)?.look_right(),
+            Side::Right => self.links.get(core + 1)?.look_left(),
+        }
+    }
+
+    /// The first message that comes out at a port of a chain of so many cores; None exactly where there is none, as past the
+    /// last link.
+    pub fn outgoing(&self, port: Side, cores: usize) -> Option<&Msg<P>>
+        ensures { option_copied result ≡ first (at_port port cores self.now) }
+    {
+        match port {
+            Side::Left => self.links.first()?.look_left(),
+            Side::Right => self.links.get(cores)?.look_right(),
+        }
+    }
+
+    /// Takes the first message that comes in at an end of a core.
+    pub fn take_in(&mut self, core: usize, end: Side) -> Option<Msg<P>>
+        requires { core + 1 < length self.old }
+        ensures first { result ≡ first (incoming_of end core self.old) }
+        ensures rest { self.new ≡ take_in end core self.old }
+    {
+        match end {
+            Side::Left => self.links[core].take_right(),
+            Side::Right => self.links[core + 1].take_left(),
+        }
+    }
+
+    /// Puts a message on a link to the right, if there is one.
+    pub fn put_right(&mut self, at: usize, msg: Option<Msg<P>>)
+        requires in_range { at < length self.old }
+        requires room { length (link_at self.old at).rightwards + length (option_to_list msg) ≤ (link_at self.old at).capacity }
+        ensures { self.new ≡ changed_at at (put_rightwards (option_to_list msg)) self.old }
+    {
+        if let Some(msg) = msg {
+            if let Err(Full(_)) = self.links[at].put_right(msg) {
+                unreachable!()
+            }
+        }
+    }
+
+    /// Puts a message on a link to the left, if there is one.
+    pub fn put_left(&mut self, at: usize, msg: Option<Msg<P>>)
+        requires in_range { at < length self.old }
+        requires room { length (link_at self.old at).leftwards + length (option_to_list msg) ≤ (link_at self.old at).capacity }
+        ensures { self.new ≡ changed_at at (put_leftwards (option_to_list msg)) self.old }
+    {
+        if let Some(msg) = msg {
+            if let Err(Full(_)) = self.links[at].put_left(msg) {
+                unreachable!()
+            }
+        }
+    }
+
+    /// Puts a message in at a port of a chain of so many cores.
+    pub fn put_in(&mut self, port: Side, cores: usize, msg: Msg<P>)
+        requires in_range { cores < length self.old }
+        requires room { HasRoomAt port cores self.old }
+        ensures { self.new ≡ put_in port cores msg self.old }
+    {
+        match port {
+            Side::Left => self.put_right(0, Some(msg)),
+            Side::Right => self.put_left(cores, Some(msg)),
+        }
+    }
+
+    /// Takes the first message that comes out at a port of a chain of so many cores.
+    pub fn take_out(&mut self, port: Side, cores: usize) -> Option<Msg<P>>
+        requires { cores < length self.old }
+        ensures first { result ≡ first (at_port port cores self.old) }
+        ensures rest { self.new ≡ take_out port cores self.old }
+    {
+        match port {
+            Side::Left => self.links[0].take_left(),
+            Side::Right => self.links[cores].take_right(),
+        }
+    }
+}

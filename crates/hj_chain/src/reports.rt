@@ -1,0 +1,80 @@
+ghost use Rattle.std.specs.Prelude.{◌≡◌, ◌+◌, ◌==◌, ◌<◌, ◌≤◌, [], ◌∷◌, ◌++◌, drop, length, option_to_list, IfOk};
+ghost use Rattle.std.specs.Option.{option_copied};
+ghost use Rattle.hj_chain.specs.Chain.{first};
+ghost use Rattle.hj_chain.specs.Links.{changed_at};
+ghost use Rattle.hj_chain.specs.Reports.{no_reports, queue_at};
+
+use circular_buffer::HeapCircularBuffer;
+use hj_base::Memory;
+use hj_msg::Report;
+use std::alloc::Global;
+use std::marker::Model;
+
+/// The queues in which the reports of the cores wait.
+#[derive(Drop)]
+pub struct Reports<P> {
+    queues: Vec<HeapCircularBuffer<Report<P>>>,
+    capacity: usize,
+}
+
+impl<P> Model for Reports<P> {
+    ghost use Rattle.std.specs.Prelude.{◌≡◌, All, map};
+    ghost use Rattle.hj_chain.specs.Reports.{ReportQueues};
+
+    ghost Value = { ReportQueues P };
+
+    ghost view = { λ r. record { capacity = r.capacity; queues = map (λ q. q.items) r.queues.items } };
+
+    ghost invariant = { λ r. All (λ q. q.capacity ≡ r.capacity) r.queues.items };
+}
+
+impl<P: Drop> Reports<P> {
+    /// The queues of so many cores, with no reports and with room for `capacity` in each.
+    pub fn new(alloc: Global, cores: usize, capacity: usize) -> Result<Self, Memory>
+        ensures { IfOk result (λ reports. reports ≡ no_reports cores capacity) }
+    {
+        let mut queues = Vec::with_capacity(alloc, cores)?;
+        for _at in 0..cores {
+            queues.push(HeapCircularBuffer::with_capacity(alloc, capacity)?)?;
+        }
+        Ok(Reports { queues, capacity })
+    }
+
+    /// A core's first report; None exactly where it has none, as where there is no such core.
+    pub fn first(&self, core: usize) -> Option<&Report<P>>
+        ensures { option_copied result ≡ first (queue_at self.now.queues core) }
+    {
+        self.queues.get(core)?.front()
+    }
+
+    /// Whether a core has as many reports as a queue holds. One that isn't there has none.
+    pub fn is_full(&self, core: usize) -> bool
+        ensures { result ≡ (length (queue_at self.now.queues core) == self.now.capacity) }
+    {
+        match self.queues.get(core) {
+            Some(queue) => queue.is_full(),
+            None => self.capacity == 0,
+        }
+    }
+
+    /// Puts a core's report behind its others, if there is one.
+    pub fn put(&mut self, core: usize, report: Option<Report<P>>)
+        requires in_range { core < length self.old.queues }
+        requires room { length (queue_at self.old.queues core) < self.old.capacity }
+        ensures { self.new ≡ record self.old { queues = changed_at core (λ queue. queue ++ option_to_list report) self.old.queues } }
+    {
+        if let Some(report) = report {
+            if let Err(_) = self.queues[core].try_push_back(report) {
+                unreachable!()
+            }
+        }
+    }
+
+    /// Drops a core's first report, if it has one.
+    pub fn drop_first(&mut self, core: usize)
+        requires { core < length self.old.queues }
+        ensures { self.new ≡ record self.old { queues = changed_at core (drop 1) self.old.queues } }
+    {
+        self.queues[core].pop_front();
+    }
+}
