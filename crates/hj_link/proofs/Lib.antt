@@ -1,0 +1,4 @@
+pub mod Afterwards
+pub mod Flows
+pub mod Held
+pub mod Seats

@@ -1,0 +1,4 @@
+pub mod Flow
+pub mod Rule
+pub mod Seen
+pub mod Steps
