@@ -1,0 +1,116 @@
+-- A command's faults and matches, by the values that the words give.
+use Rattle.std.proofs.Common.{◌≡◌, ◌∙◌, Bool, cond, true, false, List, [], ◌∷◌, map, Option, Some, None, Result, Ok, Err, IfErr, IsErrAnd, refl, sym, ap, ap₂, subst, true≢false, inl, inr}
+use Rattle.std.specs.Str.{bytes_eq}
+use Rattle.std.specs.String.{string_bytes}
+use Rattle.std.specs.declared.string.String.{String}
+use Rattle.std.proofs.lemmas.Str.{IsUtf8-string_bytes}
+use Rattle.clap.specs.Kinds.{HasKind, Kinds}
+use Rattle.clap.specs.Values as clap
+use Rattle.clap.specs.Walk.{Row, Rule, first_of, idle, nothing_held}
+use Rattle.clap.specs.Walk as walk
+use Rattle.clap.specs.Simple.{App, argument_words, built, matches_of, names_of}
+use Rattle.clap.specs.Faults.{built_fault, fault_of, level_fault, walk_fault}
+use Rattle.clap.specs.Matches.{found_of}
+use Rattle.clap.specs.Simple.{HasMatchesOf, is_simple}
+use Rattle.clap.specs.Faults.{is_simple_and_free}
+use Rattle.clap.specs.Built.{AddsArg}
+use Rattle.clap.specs.Simple.{app_of, with_rule}
+use Rattle.clap.specs.Walk.{rule_of}
+use Rattle.clap.specs.declared.builder.arg.Arg.{Arg}
+use Rattle.clap.specs.declared.builder.command.Command.{Command}
+use Rattle.clap.specs.declared.error.Error.{Error}
+use Rattle.hj_words.specs.declared.order.Usage.{Usage}
+use Rattle.hj_words.specs.declared.order.Usage.TheVariants as usage
+use Rattle.clap.specs.declared.error.kind.ErrorKind.TheVariants.{OutOfMemory}
+use Rattle.clap.specs.declared.parser.matches.ArgMatches.{ArgMatches}
+use Rattle.clap.proofs.WalkLemmas.{first_value-rows}
+use Rattle.clap.proofs.FaultLemmas.{leaf_fault}
+use Rattle.hj_words.specs.Arguments.{Carries}
+use Rattle.hj_words.specs.Values.{Text, Value, given, once, text_of, values_of}
+use Rattle.hj_words.proofs.Commands.{Finds, Places, top_of}
+use Rattle.hj_words.proofs.Law.{AreTexts, Agrees, agrees, at, is_accepted}
+use Rattle.hj_words.proofs.Once.{once_after, once_from_start}
+use Rattle.hj_words.proofs.Turns.{no_kinds, none_of_both, rows_of}
+
+pub text_first : (name : Text) (values : List Value) → first_of name (rows_of values) ≡ text_of name values
+text_first name [] = refl
+text_first name (v ∷ values) = go (bytes_eq v.name name) refl (text_first name values)
+  where
+    go : (b : Bool) → bytes_eq v.name name ≡ b → first_of name (rows_of values) ≡ text_of name values → first_of name (rows_of (v ∷ values)) ≡ text_of name (v ∷ values)
+    go true is more = rw is refl
+    go false is more = rw is more
+
+pub texts_of : {Z : Type 0} (words : List (String Z)) → AreTexts (map string_bytes words)
+texts_of [] = tt
+texts_of (word ∷ words) = (IsUtf8-string_bytes word, texts_of words)
+
+given_where : (o : Option (List Value)) → is_accepted [] o ≡ true → (values : List Value) × (once o ≡ Some values) × (o ≡ Some values) × (once_after [] values ≡ true)
+given_where None e = absurd (true≢false (sym e))
+given_where (Some values) e = (values, ap (λ b. cond b (Some values) None) (sym (once_from_start values) ∙ e), refl, e)
+
+none_where : (o : Option (List Value)) → is_accepted [] o ≡ false → once o ≡ None
+none_where None e = refl
+none_where (Some values) e = ap (λ b. cond b (Some values) None) (sym (once_from_start values) ∙ e)
+
+-- the command is read by the law of words: it has these options and these names of positional words
+pub record IsRead (app : App) (options names : List Text) : Type 0 where
+  pub title : Text
+  pub args : List Rule
+  pub finds : Finds options args
+  pub places : Places args 1 names
+  pub is_built : built app ≡ record { top = top_of title args; subs = [] }
+  pub all_words : app.top.no_binary_name ≡ true
+  pub simple : is_simple app ≡ true
+  pub free : is_simple_and_free app ≡ true
+
+module _ (app : App) (options names : List Text) (read : IsRead app options names) (words : List Text) (texts : AreTexts words) where
+  law : Agrees read.title read.args (at nothing_held idle 1 false) words [] (values_of options words names None)
+  law = (agrees read.title read.args options read.finds words).0 nothing_held 1 names [] texts (refl, refl, refl) read.places
+
+  argument_words_are : argument_words app words ≡ words
+  argument_words_are = rw read.all_words refl
+
+  fault_is : fault_of app words ≡ level_fault (top_of read.title read.args) [] nothing_held words false []
+  fault_is = ap₂ (λ a ws. built_fault a nothing_held ws) read.is_built argument_words_are ∙ leaf_fault (record { top = top_of read.title read.args; subs = [] }) nothing_held words refl
+
+  verdict : no_kinds (fault_of app words) ≡ is_accepted [] (values_of options words names None)
+  verdict = ap no_kinds fault_is ∙ (none_of_both (walk_fault (top_of read.title read.args) [] (at nothing_held idle 1 false) words) _ ∙ law.0)
+
+  matches_are : (values : List Value) → values_of options words names None ≡ Some values → once_after [] values ≡ true → matches_of app words ≡ rows_of values
+  matches_are values is alone = ap₂ (λ (a : App) ws. walk.rows_after a.top.rules (names_of a) ws) read.is_built argument_words_are ∙ law.1 values is alone
+
+  refused_kinds : (kinds : Kinds) (e : Error) → HasKind kinds e → (clap.kind_of e ≡ OutOfMemory → ⊥) → no_kinds kinds ≡ false
+  refused_kinds [] e has other = elim has [ inl memory ↦ absurd (other memory) | inr none ↦ absurd none ]
+  refused_kinds (k ∷ kinds) e has other = refl
+
+  carried_by : (m : ArgMatches) → fault_of app words ≡ [] → HasMatchesOf app words m → Carries options names words m
+  carried_by m none has =
+      let got = given_where (values_of options words names None) (sym verdict ∙ ap no_kinds none) in
+      record {
+        values = got.0;
+        are_given = got.1;
+        texts = λ name. first_value-rows (found_of m) name ∙ (ap (first_of name) ((has read.simple).0 ∙ matches_are got.0 got.2 got.3) ∙ text_first name got.0);
+      }
+
+  -- the matches of a parse give what the words give
+  pub carried : (actual : App) → actual ≡ app → (m : ArgMatches) → (is_simple_and_free actual ≡ true → fault_of actual words ≡ []) → HasMatchesOf actual words m → Carries options names words m
+  carried actual is m kinds has =
+      carried_by m (ap (λ a. fault_of a words) (sym is) ∙ kinds (ap is_simple_and_free is ∙ read.free)) (subst (λ a. HasMatchesOf a words m) is has)
+
+  -- an error other than that memory ran out comes of words that give nothing
+  pub refused : (actual : App) → actual ≡ app → (e : Error) → (is_simple_and_free actual ≡ true → HasKind (fault_of actual words) e) → (clap.kind_of e ≡ OutOfMemory → ⊥) → given options names words ≡ None
+  refused actual is e kinds other =
+      let has : HasKind (fault_of app words) e = subst (λ a. HasKind (fault_of a words) e) is (kinds (ap is_simple_and_free is ∙ read.free)) in
+      none_where (values_of options words names None) (sym verdict ∙ refused_kinds (fault_of app words) e has other)
+
+-- ---- steps of the code
+
+-- an argument is added
+pub added : {old : Command} {arg : Arg} {new : Command} {app : App} {rule : Rule} → AddsArg old arg new → arg.global ≡ false → app_of old ≡ app → rule_of arg ≡ rule → app_of new ≡ with_rule app rule
+added adds local is rule = adds.shape local ∙ ap₂ with_rule is rule
+
+-- an error that becomes Words is not that memory ran out
+pub words_refused : {X : Type 0} (result : Result X Usage) (e : Error) (Claim : Type 0) → IsErrAnd result (λ fault. fault ≡ usage.Words → clap.kind_of e ≡ OutOfMemory → ⊥)
+    → ((clap.kind_of e ≡ OutOfMemory → ⊥) → Claim) → IfErr result (λ fault. fault ≡ usage.Words → Claim)
+words_refused (Ok x) e Claim h claim = tt
+words_refused (Err fault) e Claim h claim = λ is. claim (h is)

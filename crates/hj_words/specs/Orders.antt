@@ -1,0 +1,139 @@
+-- The order that the words of a command line spell.
+use Rattle.std.specs.Prelude.{ℕ, Bool, not, ◌&&◌, ◌==◌, List, [], ◌∷◌, nat_le, nat_lt, length, codes, if◌then◌else◌, Option, Some, None, option_map, option_and_then}
+use Rattle.std.specs.Str.{all_ascii_digits, bytes_eq}
+use Rattle.std.specs.Str.Parse.{digits_value}
+use Rattle.hj_words.specs.Values.{Text, Value, given, text_of}
+use Rattle.hj_words.specs.declared.order.Order.{Order}
+use Rattle.hj_words.specs.declared.order.Order.TheVariants.{Equi, Join, Check, Gen}
+
+-- 1 to 20 decimal digits
+abbrev pub is_number : Text → Bool
+is_number word = nat_lt 0 (length word) && nat_le (length word) 20 && all_ascii_digits word
+
+-- the number, where it is one from `low` to `high`
+abbrev pub number_of : ℕ → ℕ → Text → Option ℕ
+number_of low high word =
+    if is_number word && nat_le low (digits_value 10 word) && nat_le (digits_value 10 word) high
+    then Some (digits_value 10 word) else None
+
+abbrev pub number_in : ℕ → ℕ → Option Text → Option ℕ
+number_in low high text = option_and_then (number_of low high) text
+
+-- the number of an option, or its default where it isn't given
+abbrev pub number_or : ℕ → ℕ → ℕ → Option Text → Option ℕ
+number_or default low high None = Some default
+number_or default low high (Some word) = number_of low high word
+
+-- a name is neither empty nor `-`
+abbrev pub name_of : Text → Option Text
+name_of word =
+    if nat_lt 0 (length word) && not (bytes_eq word (codes "-")) then Some word else None
+
+abbrev pub name_in : Option Text → Option Text
+name_in text = option_and_then name_of text
+
+abbrev pub most_rows : ℕ
+most_rows = 1000000
+
+abbrev pub most_events : ℕ
+most_events = 4294967295
+
+abbrev pub most_seed : ℕ
+most_seed = 18446744073709551615
+
+-- `equi W LEFT RIGHT`
+abbrev pub equi_of : List Value → Option Order
+equi_of values =
+    option_and_then (λ w.
+    option_and_then (λ left.
+    option_map (λ right. Equi w left right)
+    (name_in (text_of (codes "right") values)))
+    (name_in (text_of (codes "left") values)))
+    (number_in 1 most_rows (text_of (codes "w") values))
+
+-- a schedule needs a run without threads
+abbrev pub schedule_of : ℕ → Option Text → Option (Option ℕ)
+schedule_of threads None = Some None
+schedule_of threads (Some word) =
+    if threads == 0 then option_map (λ seed. Some seed) (number_of 0 most_seed word) else None
+
+-- `join [--cores N] [--threads N] [--flight N] [--max-events N] [--schedule SEED] QUERY LEFT RIGHT`
+abbrev pub join_of : List Value → Option Order
+join_of values =
+    option_and_then (λ cores.
+    option_and_then (λ threads.
+    option_and_then (λ flight.
+    option_and_then (λ limit.
+    option_and_then (λ schedule.
+    option_and_then (λ query.
+    option_and_then (λ left.
+    option_map (λ right. Join
+    (record { cores = cores; threads = threads; flight = flight })
+    limit schedule query left right)
+    (name_in (text_of (codes "right") values)))
+    (name_in (text_of (codes "left") values)))
+    (name_in (text_of (codes "query") values)))
+    (schedule_of threads (text_of (codes "schedule") values)))
+    (number_or most_events 1 most_events (text_of (codes "max-events") values)))
+    (number_or 32 1 256 (text_of (codes "flight") values)))
+    (number_or 4 0 64 (text_of (codes "threads") values)))
+    (number_or 4 1 64 (text_of (codes "cores") values))
+
+-- `check QUERY`
+abbrev pub check_of : List Value → Option Order
+check_of values =
+    option_map (λ query. Check query) (name_in (text_of (codes "query") values))
+
+-- `gen N KEYS SEED W`
+abbrev pub gen_of : List Value → Option Order
+gen_of values =
+    option_and_then (λ n.
+    option_and_then (λ keys.
+    option_and_then (λ seed.
+    option_map (λ w. Gen n keys seed w)
+    (number_in 1 most_rows (text_of (codes "w") values)))
+    (number_in 0 most_seed (text_of (codes "seed") values)))
+    (number_in 1 1000000000 (text_of (codes "keys") values)))
+    (number_in 0 100000 (text_of (codes "n") values))
+
+abbrev pub no_options : List Text
+no_options = []
+
+abbrev pub equi_names : List Text
+equi_names = codes "w" ∷ codes "left" ∷ codes "right" ∷ []
+
+abbrev pub join_options : List Text
+join_options = codes "cores" ∷ codes "threads" ∷ codes "flight" ∷ codes "max-events"
+    ∷ codes "schedule" ∷ []
+
+abbrev pub join_names : List Text
+join_names = codes "query" ∷ codes "left" ∷ codes "right" ∷ []
+
+abbrev pub check_names : List Text
+check_names = codes "query" ∷ []
+
+abbrev pub gen_names : List Text
+gen_names = codes "n" ∷ codes "keys" ∷ codes "seed" ∷ codes "w" ∷ []
+
+-- The order that the words behind a command spell, if they spell one.
+abbrev pub equi_spelled : List Text → Option Order
+equi_spelled words = option_and_then equi_of (given no_options equi_names words)
+
+abbrev pub join_spelled : List Text → Option Order
+join_spelled words = option_and_then join_of (given join_options join_names words)
+
+abbrev pub check_spelled : List Text → Option Order
+check_spelled words = option_and_then check_of (given no_options check_names words)
+
+abbrev pub gen_spelled : List Text → Option Order
+gen_spelled words = option_and_then gen_of (given no_options gen_names words)
+
+-- The order that the words spell, if they spell one.
+abbrev pub order_of : List Text → Option Order
+order_of [] = None
+order_of (command ∷ words) =
+    if bytes_eq command (codes "equi") then equi_spelled words
+    else if bytes_eq command (codes "join") then join_spelled words
+    else if bytes_eq command (codes "check") then check_spelled words
+    else if bytes_eq command (codes "gen") then gen_spelled words
+    else None

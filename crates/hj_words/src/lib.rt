@@ -1,0 +1,13 @@
+//! The order that the words of a command line spell.
+#![tactic(auto)]
+
+mod arguments;
+mod order;
+mod read;
+mod values;
+
+pub use order::{Order, Usage};
+pub use read::read_words;
+
+#[cfg(test)]
+mod tests;

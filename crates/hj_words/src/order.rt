@@ -1,0 +1,97 @@
+use hj_base::{Memory, Name, Setup};
+use std::alloc::AllocError;
+use thiserror::Error;
+
+/// What the words of a command line order.
+#[derive(Debug, Drop)]
+pub enum Order {
+    /// `equi W LEFT RIGHT`: the join of two streams by equal keys.
+    Equi {
+        /// How many rows each window holds, from 1 to 1,000,000.
+        w: u32,
+        /// The name of the left stream.
+        left: Name,
+        /// The name of the right stream.
+        right: Name,
+    },
+    /// `join QUERY LEFT RIGHT`: the join of two streams under a query.
+    Join {
+        /// How the join is spread out.
+        setup: Setup,
+        /// How many events are taken at most, from 1 to 4,294,967,295.
+        limit: u64,
+        /// The seed by which a run without threads is interleaved; None where the actors take turns.
+        schedule: Option<u64>,
+        /// The name of the query.
+        query: Name,
+        /// The name of the left stream.
+        left: Name,
+        /// The name of the right stream.
+        right: Name,
+    },
+    /// `check QUERY`: the canonical text of a query.
+    Check {
+        /// The name of the query.
+        query: Name,
+    },
+    /// `gen N KEYS SEED W`: the summary of a join of two streams that are made for it.
+    Gen {
+        /// How many rows each stream has, from 0 to 100,000.
+        n: u32,
+        /// How many keys there are, from 1 to 1,000,000,000.
+        keys: u32,
+        /// The seed of the streams.
+        seed: u64,
+        /// How many rows each window holds, from 1 to 1,000,000.
+        w: u32,
+    },
+}
+
+/// Why no order was read.
+#[derive(Clone, Copy, Debug, PartialEq, Eq, Error)]
+pub enum Usage {
+    /// The words spell no order.
+    #[error("usage")]
+    Words,
+    /// Memory ran out.
+    #[error("out of memory")]
+    Memory,
+}
+
+impl From<Memory> for Usage {
+    ghost use Rattle.std.specs.Prelude.{◌≡◌};
+    ghost use Rattle.hj_words.specs.declared.order.Usage.TheVariants as usage;
+
+    ghost from_gives = { λ _ e. e ≡ usage.Memory };
+
+    fn from(_: Memory) -> Self {
+        Usage::Memory
+    }
+}
+
+impl From<AllocError> for Usage {
+    ghost use Rattle.std.specs.Prelude.{◌≡◌};
+    ghost use Rattle.hj_words.specs.declared.order.Usage.TheVariants as usage;
+
+    ghost from_gives = { λ _ e. e ≡ usage.Memory };
+
+    fn from(_: AllocError) -> Self {
+        Usage::Memory
+    }
+}
+
+impl From<clap::Error> for Usage {
+    ghost use Rattle.std.specs.Prelude.{◌≡◌, ◌≢◌};
+    ghost use Rattle.clap.specs.Words.{kind_of};
+    ghost use Rattle.clap.specs.declared.error.kind.ErrorKind.TheVariants as kind;
+    ghost use Rattle.hj_words.specs.declared.order.Usage.TheVariants as usage;
+
+    ghost from_gives = { λ error u. u ≡ usage.Words → kind_of error ≢ kind.OutOfMemory };
+
+    fn from(error: clap::Error) -> Self {
+        match error.kind() {
+            clap::error::ErrorKind::OutOfMemory => Usage::Memory,
+            _ => Usage::Words,
+        }
+    }
+}
