@@ -1,3 +1,4 @@
+ghost use Rattle.std.specs.Prelude.{◌≡◌, Bool};
 ghost use Rattle.hj_msg.specs.Feed.{FeedState, Answers};
 
 use crate::Event;
@@ -21,8 +22,15 @@ pub trait Feed<P> {
     /// What stands of the feed.
     ghost state: { Self → FeedState };
 
+    /// Whether the next answer is there without waiting for input.
+    ghost ready: { Self → Bool };
+
     /// The next event, or Stop where there is none, and again at every later call.
     fn next(&mut self) -> Given<P>
         ensures gives { gives self.old result self.new }
         ensures answers { Answers result (state self.old) (state self.new) };
+
+    /// Whether the next answer is there, so that `next` needn't wait for input.
+    fn is_ready(&self) -> bool
+        ensures { result ≡ ready self.now };
 }
