@@ -1,4 +1,4 @@
 mod Comparing
-mod EqualKeys
 mod Needing
+mod Planning
 mod Totals

@@ -1,4 +1,4 @@
 pub mod Holds
-pub mod Keys
 pub mod Needed
+pub mod Plan
 pub mod Values

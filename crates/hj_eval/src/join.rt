@@ -1,9 +1,7 @@
 ghost use Rattle.std.specs.Prelude.{◌≡◌};
 ghost use Rattle.hj_eval.specs.Holds.{holds};
-ghost use Rattle.hj_eval.specs.Keys.{TellsApart};
 
 use crate::condition::holds;
-use crate::keys::KeyColumn;
 use crate::needed::{Comparison, needed_by};
 use hj_base::{Memory, Share};
 use hj_msg::Join;
@@ -56,16 +54,6 @@ impl<'a> QueryJoin<'a> {
             return false;
         }
         holds(self.query, left, right)
-    }
-
-    /// The columns of the left and of the right rows by which rows are told apart for which it doesn't hold.
-    pub fn key_columns(&self) -> (KeyColumn, KeyColumn)
-        ensures { TellsApart self.now result.0.at result.1.at }
-    {
-        match &self.needed {
-            Some(needed) => needed.key_columns(),
-            None => (KeyColumn { at: None }, KeyColumn { at: None }),
-        }
     }
 }
 

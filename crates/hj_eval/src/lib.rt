@@ -3,14 +3,14 @@
 
 mod condition;
 mod join;
-mod keys;
 mod needed;
 mod rows;
+mod store_plan;
 mod value;
 
 pub use condition::holds;
 pub use join::QueryJoin;
-pub use keys::KeyColumn;
+pub use store_plan::{StorePlan, plan};
 
 #[cfg(test)]
 mod tests;

@@ -1,13 +1,10 @@
-ghost use Rattle.std.specs.Prelude.{◌≡◌, ◌≢◌, false, List, [], IfSome};
-ghost use Rattle.hj_query.specs.declared.sum.Term.TheVariants as terms;
-ghost use Rattle.hj_value.specs.declared.field.Field.{Field};
-ghost use Rattle.hj_eval.specs.Keys.{key_at};
+ghost use Rattle.std.specs.Prelude.{◌≡◌, IfSome};
 ghost use Rattle.hj_eval.specs.Needed.{fields_compare, IsComparison, IsNeeded};
 
-use crate::keys::KeyColumn;
+use crate::store_plan::lone_column;
 use crate::value::{accepts, texts_compare};
 use hj_base::Side;
-use hj_query::{Op, Pred, Sum, Term};
+use hj_query::{Op, Pred, Sum};
 use hj_value::{Field, Row};
 
 /// A comparison of a column of the left rows with a column of the right rows, each counted from 0.
@@ -39,26 +36,6 @@ impl Comparison {
                 texts_compare(self.op, left.bytes(), right.bytes())
             }
             _ => false,
-        }
-    }
-
-    /// The columns of both sides by whose fields rows are told apart that don't compare so.
-    pub fn key_columns(&self) -> (KeyColumn, KeyColumn)
-        ensures { (left right : List Field) → key_at result.0.at left ≢ key_at result.1.at right
-            → fields_compare self.now left right ≡ false }
-    {
-        match self.op {
-            Op::Eq => (
-                KeyColumn {
-                    at: Some(self.left),
-                },
-                KeyColumn {
-                    at: Some(self.right),
-                },
-            ),
-            Op::Ne | Op::Lt | Op::Le | Op::Gt | Op::Ge => {
-                (KeyColumn { at: None }, KeyColumn { at: None })
-            }
         }
     }
 }
@@ -95,16 +72,6 @@ fn comparison_of(op: Op, left: &Sum, right: &Sum) -> Option<Comparison>
             right,
             is_turned: true,
         }),
-        _ => None,
-    }
-}
-
-/// The column of a sum that is one column alone.
-fn lone_column(sum: &Sum) -> Option<(Side, u16)>
-    ensures { IfSome result (λ column. sum.now ≡ record { first = terms.Column column.0 column.1; rest = [] }) }
-{
-    match sum.first {
-        Term::Column(side, at) if sum.rest.len() == 0 => Some((side, at)),
         _ => None,
     }
 }

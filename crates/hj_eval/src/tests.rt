@@ -1,4 +1,4 @@
-use crate::{QueryJoin, holds};
+use crate::{QueryJoin, StorePlan, holds, plan};
 use hj_base::Memory;
 use hj_query::{Query, parse};
 use hj_value::{Field, Row, Text};
@@ -176,5 +176,45 @@ fn evaluates_long_conditions(rt: HostRuntime) -> Result<(), Fail> {
     assert!(rt; !holds(&query(rt.alloc(), condition.as_str())?, &row, &row));
     condition.push_str(" or 1=1")?;
     assert!(rt; holds(&query(rt.alloc(), condition.as_str())?, &row, &row));
+    Ok(())
+}
+
+#[test]
+fn plans_by_the_first_conjunct(rt: HostRuntime) -> Result<(), Fail> {
+    let equal = |left: u16, right: u16| StorePlan::Equal { left, right };
+    let band = |left: u16, right: u16, within: u64| StorePlan::Band {
+        left,
+        right,
+        within,
+    };
+    let table = [
+        ("l.k = r.k", equal(1, 1)),
+        ("r.s = l.s", equal(2, 2)),
+        ("l.k = r.ts and l.s = r.s", equal(1, 0)),
+        ("r.k = l.ts and l.s = r.s", equal(0, 1)),
+        ("l.k within 10 of r.k", band(1, 1, 10)),
+        (
+            "r.ts within 0 of l.k and l.k within 5 of r.k",
+            band(1, 0, 0),
+        ),
+        ("l.k within 10 of r.k and l.ts = r.ts", equal(0, 0)),
+        ("l.k < r.k and (l.k != r.k and l.k = r.k)", equal(1, 1)),
+        ("(l.k = l.ts and l.ts = r.k) and l.k = r.k", equal(0, 1)),
+        ("l.k < r.k", StorePlan::Scan),
+        ("l.k = r.k or l.ts = r.ts", StorePlan::Scan),
+        (
+            "(l.k = r.k or 1 = 2) and l.ts within 1 of r.ts",
+            band(0, 0, 1),
+        ),
+        ("not l.k = r.k", StorePlan::Scan),
+        ("not l.k within 3 of r.k", StorePlan::Scan),
+        ("l.k = r.k + 0 and l.k = 7", StorePlan::Scan),
+        ("l.k + 1 within 10 of r.k", StorePlan::Scan),
+        ("l.k within 10 of l.ts", StorePlan::Scan),
+    ];
+    for (condition, want) in table {
+        let query = query(rt.alloc(), condition)?;
+        assert_eq!(rt; plan(&query), want, "{condition}");
+    }
     Ok(())
 }
