@@ -12,7 +12,7 @@ use Rattle.hj_msg.specs.declared.message.Msg.{Msg}
 use Rattle.hj_msg.specs.declared.message.Msg.TheVariants.{R, AckS, EndS, ExpS, CloseL, S, EndR, ExpR, CloseR}
 use Rattle.hj_msg.specs.Core.{sends, only_if}
 use Rattle.hj_chain.specs.declared.actor.Actor.{Actor}
-use Rattle.hj_chain.specs.Chain.{ChainState, Action, drives, handles, collects, action_of}
+use Rattle.hj_chain.specs.Chain.{ChainState, Action, drives, handles, collects, action_of, asks}
 use Rattle.hj_chain.specs.Reached.{Reached, begins, steps, recorded, history_of, left_end, right_end}
 use Rattle.hj_chain.proofs.Doing.{Deed, deed}
 use Rattle.hj_chain.proofs.Shape.{shape}
@@ -91,6 +91,7 @@ sound-when true ms sound = sound
 sound-when false ms sound = short [] (omega arith)
 
 sound-action : {P : Type 0} (n : ℕ) (action : Action P) (c : ℕ) → Sound (left_sent n action (suc c))
+sound-action n asks c = short [] (omega arith)
 sound-action {P} n (drives turn) c = subst (λ (b : Bool). Sound (when b (sent_at Left turn))) (sym (eqb-suc-zero c)) (short {P = P} [] (omega arith))
 sound-action n (handles place end message) c = sound-when (suc c == place + 1) (sends place n message).right (sound-sends place n message)
 sound-action n (collects place report) c = short [] (omega arith)

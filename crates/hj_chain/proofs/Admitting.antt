@@ -1,5 +1,5 @@
 -- The put of an event: what is known of the event that a chain gives its driver, and what follows of the chain.
-use Rattle.std.proofs.Common.{◌≡◌, ℕ, Bool, false, List, [], ◌∷◌, ◌++◌, length, Some, None, Option, ap, ap₂, sym, ◌∙◌, subst}
+use Rattle.std.proofs.Common.{◌≡◌, ℕ, Bool, false, List, [], ◌∷◌, ◌++◌, length, Some, None, Option, ap, ap₂, sym, ◌∙◌, subst, refl}
 use Rattle.std.specs.Bool.{OnTrue, MatchBool}
 use Rattle.hj_base.specs.declared.numbers.Side.{Side}
 use Rattle.hj_msg.specs.declared.event.Event.{Event}
@@ -19,18 +19,18 @@ use Rattle.hj_chain.specs.declared.actor.Actor.TheVariants.{Admit}
 use Rattle.hj_chain.specs.declared.actor.NotNow.TheVariants.{Waits}
 use Rattle.hj_chain.specs.declared.actor.Stepped.TheVariants.{Did, NotEnabled}
 use Rattle.hj_chain.specs.Links.{put_in}
-use Rattle.hj_chain.specs.Chain.{ChainState, Contents}
+use Rattle.hj_chain.specs.Chain.{FeedAnswer, ChainState, Contents, if_there}
 use Rattle.hj_chain.specs.Reached.{events_of}
 use Rattle.hj_chain.specs.Steps.{GoesWith, IsGoing, StepsTo, asks}
 use Rattle.hj_chain.proofs.Drivers.{wait-same, never_waits, sent}
 use Rattle.hj_chain.proofs.Standing.{log, driving}
-use Rattle.hj_chain.proofs.Stepping.{admit-waits, admit-did}
+use Rattle.hj_chain.proofs.Stepping.{admit-waits, admit-did, asks-did}
 
 -- a chain that goes with a feed, and in which memory didn't run out
 pub going_from : {P J : Type 0} (predicate : J → P → P → Bool) (chain : Contents P J) (feed : FeedState) → GoesWith predicate chain feed → chain.state.over ≡ false → IsGoing predicate chain
 going_from predicate chain feed goes going = record { schedule = goes.schedule; events = goes.events; given = goes.given; stands = goes.stands; well_formed = goes.well_formed; going = going }
 
-module _ {P J : Type 0} (predicate : J → P → P → Bool) (opened now : Contents P J) (is : opened ≡ now) (goes : IsGoing predicate now) (event : Event P) (next : opened.state.next ≡ given.Event event) where
+module _ {P J : Type 0} (predicate : J → P → P → Bool) (opened now : Contents P J) (is : opened ≡ now) (goes : IsGoing predicate now) (event : Event P) (next : opened.state.next ≡ Some (given.Event event)) where
   abbrev chain : ChainState P
   chain = opened.state
 
@@ -49,7 +49,7 @@ module _ {P J : Type 0} (predicate : J → P → P → Bool) (opened now : Conte
 
   well : IsWellFormed (admitted past ++ event ∷ [])
   unfolding past
-  well = subst IsWellFormed ((driving predicate opened going_on).events_are ∙ ap (λ (g : Given P). admitted (log predicate opened going_on) ++ events_of g) next) going_on.well_formed
+  well = subst IsWellFormed ((driving predicate opened going_on).events_are ∙ ap (λ (g : Option (Given P)). admitted (log predicate opened going_on) ++ events_of g) next) going_on.well_formed
 
   pub admitting-log : (l : List (DriverTurn P)) × StandsFor chain.driver l × IsWellFormed (admitted l ++ event ∷ [])
   admitting-log = (past, stood, well)
@@ -58,7 +58,7 @@ module _ {P J : Type 0} (predicate : J → P → P → Bool) (opened now : Conte
   abbrev Asked : Event P → Option Why → Type 0
   Asked one found = (l : List (DriverTurn P)) → StandsFor chain.driver l → IsWellFormed (admitted l ++ one ∷ []) → found ≡ cause_after chain.driver.flight one l
 
-  waits_for : (one : Event P) (found : Option Why) → chain.next ≡ given.Event one → Asked one found → wait_of event chain.driver ≡ found
+  waits_for : (one : Event P) (found : Option Why) → chain.next ≡ Some (given.Event one) → Asked one found → wait_of event chain.driver ≡ found
   waits_for one found next_one asked =
       let same : one ≡ event = (let e = sym next_one ∙ next in cc) in
       wait-same chain.driver past event stood well found (subst (λ (e : Event P). Asked e found) same asked)
@@ -67,19 +67,19 @@ module _ {P J : Type 0} (predicate : J → P → P → Bool) (opened now : Conte
   abbrev Answered : Admitted P → Type 0
   Answered result = (l : List (DriverTurn P)) → StandsFor chain.driver l → IsWellFormed (admitted l ++ event ∷ []) → result ≡ answer_to event (cause_after chain.driver.flight event l)
 
-  pub admitting-waits : (answer : Given P) (why : Why) (found : Option Why) (new : ChainState P) → Asked event found → found ≡ Some why → new ≡ chain → StepsTo (predicate now.join) Admit answer now.state (NotEnabled (Waits why)) new
+  pub admitting-waits : (answer : FeedAnswer P) (why : Why) (found : Option Why) (new : ChainState P) → Asked event found → found ≡ Some why → new ≡ chain → StepsTo (predicate now.join) Admit answer now.state (NotEnabled (Waits why)) new
   admitting-waits answer why found new asked some same =
       subst (λ (c : Contents P J). StepsTo (predicate c.join) Admit answer c.state (NotEnabled (Waits why)) new) is
       (admit-waits matches chain going_on.going answer event why new next (waits_for event found next asked ∙ some) same)
 
-  pub admitting-never : (one : Event P) (found : Option Why) → chain.next ≡ given.Event one → Asked one found → found ≡ None → (result : Admitted P) (why : Why) (back : Event P) → Answered result → result ≡ admitted_as.Wait why back → ⊥
+  pub admitting-never : (one : Event P) (found : Option Why) → chain.next ≡ Some (given.Event one) → Asked one found → found ≡ None → (result : Admitted P) (why : Why) (back : Event P) → Answered result → result ≡ admitted_as.Wait why back → ⊥
   admitting-never one found next_one asked none result why back answered waits =
       never_waits chain.driver past event stood well why back (waits_for one found next_one asked ∙ none) (subst Answered waits answered)
 
-  pub admitting-did : (one : Event P) (found : Option Why) → chain.next ≡ given.Event one → Asked one found → found ≡ None
-      → (answer : Given P) (driver : DriverState) (result : Admitted P) (port : Side) (message : Msg P) (count : ℕ) (links : List (Queues (Msg P))) (later : Given P) → Answered result → result ≡ admitted_as.Send port message
+  pub admitting-did : (one : Event P) (found : Option Why) → chain.next ≡ Some (given.Event one) → Asked one found → found ≡ None
+      → (answer : FeedAnswer P) (driver : DriverState) (result : Admitted P) (port : Side) (message : Msg P) (count : ℕ) (links : List (Queues (Msg P))) (later : Option (Given P)) → Answered result → result ≡ admitted_as.Send port message
       → ((l : List (DriverTurn P)) → StandsFor chain.driver l → IsWellFormed (admitted l ++ event ∷ []) → OnTrue (is_send result) (StandsFor driver (l ++ admission event ∷ [])))
-      → driver.flight ≡ chain.driver.flight → count ≡ length chain.cores → links ≡ put_in port count message chain.links → later ≡ answer
+      → driver.flight ≡ chain.driver.flight → count ≡ length chain.cores → links ≡ put_in port count message chain.links → later ≡ if_there answer
       → StepsTo (predicate now.join) Admit answer now.state Did (record chain { driver = driver; links = links; next = later })
   admitting-did one found next_one asked none answer driver result port message count links later answered sends stands_new same all put later_is =
       let free = waits_for one found next_one asked ∙ none in
@@ -90,8 +90,19 @@ module _ {P J : Type 0} (predicate : J → P → P → Bool) (opened now : Conte
       let new : ChainState P = record chain { driver = driver; links = links; next = later } in
       subst (λ (c : Contents P J). StepsTo (predicate c.join) Admit answer c.state Did new) is
       (admit-did matches chain going_on.going answer event new next free
-      (ap (λ (g : Given P). record chain { driver = driver; links = links; next = g }) later_is ∙ ap₂ (λ (d : DriverState) (ls : List (Queues (Msg P))). record chain { driver = d; links = ls; next = answer }) s.state links_are))
+      (ap (λ (g : Option (Given P)). record chain { driver = driver; links = links; next = g }) later_is ∙ ap₂ (λ (d : DriverState) (ls : List (Queues (Msg P))). record chain { driver = d; links = ls; next = if_there answer }) s.state links_are))
 
--- the feed is asked where an event is put
-pub asks-event : {P : Type 0} (A B : Type 0) (next : Given P) (event : Event P) → next ≡ given.Event event → A → MatchBool (asks Admit next) A B
-asks-event {P} A B next event is a = subst (λ (g : Given P). MatchBool (asks Admit g) A B) (sym is) a
+-- where no answer of the feed is known, it is asked
+pub asking-did : {P J : Type 0} (predicate : J → P → P → Bool) (opened now : Contents P J) → opened ≡ now → IsGoing predicate now → opened.state.next ≡ None → (answer : FeedAnswer P)
+    → StepsTo (predicate now.join) Admit answer now.state Did (record opened.state { next = Some answer.given })
+asking-did {P} {J} predicate opened now is goes none answer =
+    let going = subst (λ (c : Contents P J). c.state.over ≡ false) (sym is) goes.going in
+    subst (λ (c : Contents P J). StepsTo (predicate c.join) Admit answer c.state Did (record opened.state { next = Some answer.given })) is
+    (asks-did (predicate opened.join) opened.state going answer (record opened.state { next = Some answer.given }) none refl)
+
+-- The feed is asked where an event is put and the next one is there, and where no answer is known.
+pub asks-event : {P : Type 0} (A B : Type 0) (next : Option (Given P)) (event : Event P) (ready : Bool) → next ≡ Some (given.Event event) → MatchBool ready A B → MatchBool (asks Admit next ready) A B
+asks-event {P} A B next event ready is a = subst (λ (g : Option (Given P)). MatchBool (asks Admit g ready) A B) (sym is) a
+
+pub asks-first : {P : Type 0} (A B : Type 0) (next : Option (Given P)) (ready : Bool) → next ≡ None → A → MatchBool (asks Admit next ready) A B
+asks-first {P} A B next ready is a = subst (λ (g : Option (Given P)). MatchBool (asks Admit g ready) A B) (sym is) a

@@ -14,9 +14,9 @@ use Rattle.hj_msg.specs.Driver.{receipt, message_of, port_of}
 use Rattle.hj_queue.specs.Queues.{Queues, no_messages}
 use Rattle.hj_chain.specs.declared.actor.Actor.{Actor}
 use Rattle.hj_chain.specs.Links.{link_at, put_in, take_in}
-use Rattle.hj_chain.specs.Chain.{ChainState, Action, drives, handles, after_action, empty_chain, capacity}
+use Rattle.hj_chain.specs.Chain.{FeedAnswer, ChainState, Action, drives, handles, after_action, empty_chain, capacity}
 use Rattle.hj_chain.specs.Reached.{Reached, History, no_history, recorded, history_of, events_of, left_end, right_end}
-use Rattle.hj_chain.proofs.Doing.{Doing, admits, shuts, receives, works, gathers, taken_by}
+use Rattle.hj_chain.proofs.Doing.{Doing, inquires, admits, shuts, receives, works, gathers, taken_by}
 use Rattle.hj_chain.proofs.Shape.{Shape, links-length}
 use Rattle.hj_chain.proofs.Induction.{by_steps}
 use Rattle.hj_chain.proofs.Ways.{when, when-nil, rights-put_in, lefts-put_in, rights-take_out, lefts-take_out, rights-take_in, lefts-take_in, rights-send_out, lefts-send_out, length-take_in, length-put_in}
@@ -87,11 +87,12 @@ abbrev pub lefts : {P : Type 0} → ChainState P → ℕ → List (Msg P)
 lefts chain k = (link_at chain.links k).leftwards
 
 -- What an action does to the queues of link k.
-module _ {P : Type 0} (matches : P → P → Bool) (chain : ChainState P) (k : ℕ) (low : k < length chain.links) (answer : Given P) where
+module _ {P : Type 0} (matches : P → P → Bool) (chain : ChainState P) (k : ℕ) (low : k < length chain.links) (answer : FeedAnswer P) where
   abbrev n : ℕ
   n = length chain.cores
 
   pub moves-right : (action : Action P) → Doing chain action → Moves (right_took n action k) (left_sent n action k) (rights chain k) (rights (after_action matches chain (Some action) answer) k)
+  moves-right action (inquires is) = record { rest = rights chain k; is_before = refl; is_after = sym (append-nil _) }
   moves-right action (admits event is free) = record {
     rest = rights chain k;
     is_before = ap (λ ms. ms ++ rights chain k) (sym (when-nil (k == n)));
@@ -119,6 +120,7 @@ module _ {P : Type 0} (matches : P → P → Bool) (chain : ChainState P) (k : �
   moves-right action (gathers place report rest here is) = record { rest = rights chain k; is_before = refl; is_after = sym (append-nil _) }
 
   pub moves-left : (action : Action P) → Doing chain action → Moves (left_took action k) (right_sent n action k) (lefts chain k) (lefts (after_action matches chain (Some action) answer) k)
+  moves-left action (inquires is) = record { rest = lefts chain k; is_before = refl; is_after = sym (append-nil _) }
   moves-left action (admits event is free) = record {
     rest = lefts chain k;
     is_before = ap (λ ms. ms ++ lefts chain k) (sym (when-nil (k == 0)));
@@ -164,6 +166,7 @@ neither false = refl
 -- the place of a core that handles a message
 pub in_chain : {P : Type 0} (chain : ChainState P) (action : Action P) → Doing chain action → (place : ℕ) (end : Side) (message : Msg P) → action ≡ handles place end message → place < length chain.cores
 in_chain chain action (admits event is free) place end message same = absurd (cc)
+in_chain chain action (inquires is) place end message same = absurd (cc)
 in_chain chain action (shuts is free) place end message same = absurd (cc)
 in_chain chain action (receives port other rest is) place end message same = absurd (cc)
 in_chain chain action (works here side other rest low is room) place end message same = let e : here ≡ place = cc in omega (arith, low, e)
@@ -173,12 +176,12 @@ module _ {P : Type 0} (matches : P → P → Bool) (n most : ℕ) where
   abbrev Carried : ℕ → List (Event P) → ChainState P → History P → Type 0
   Carried number events chain history = (k : ℕ) → k ≤ n → Carries (left_end history k) (right_end n history k) (rights chain k) (lefts chain k)
 
-  nothing_yet : (first : Given P) → Carried 0 (events_of first) (empty_chain n most first) no_history
+  nothing_yet : (first : Given P) → Carried 0 (events_of (Some first)) (empty_chain n most first) no_history
   nothing_yet first k within =
       let empty : link_at (replicate (n + 1) (no_messages (capacity most))) k ≡ no_messages {M = Msg P} (capacity most) = get_or-replicate (n + 1) k (no_messages (capacity most)) (no_messages 0) (omega arith) in
       carries-nothing _ _ _ _ (left_end-nothing P k) (neither (k == n)) (ap (λ (q : Queues (Msg P)). q.rightwards) empty) (ap (λ (q : Queues (Msg P)). q.leftwards) empty)
 
-  carried-step : (number : ℕ) (events : List (Event P)) (chain : ChainState P) (history : History P) (action : Action P) (answer : Given P)
+  carried-step : (number : ℕ) (events : List (Event P)) (chain : ChainState P) (history : History P) (action : Action P) (answer : FeedAnswer P)
       → Shape n most chain → Doing chain action → Carried number events chain history
       → Carried (suc number) (events ++ taken_by action answer) (after_action matches chain (Some action) answer) (recorded matches chain number (Some action) history)
   carried-step number events chain history action answer shape doing old k within =

@@ -11,9 +11,9 @@ use Rattle.hj_msg.specs.Turns.{Turn, only_at}
 use Rattle.hj_queue.specs.Queues.{Queues, no_messages}
 use Rattle.hj_chain.specs.declared.actor.Actor.{Actor}
 use Rattle.hj_chain.specs.Links.{incoming}
-use Rattle.hj_chain.specs.Chain.{ChainState, Action, drives, handles, collects, after_action, empty_chain, capacity}
+use Rattle.hj_chain.specs.Chain.{FeedAnswer, ChainState, Action, drives, handles, collects, after_action, empty_chain, capacity, asks}
 use Rattle.hj_chain.specs.Reached.{Reached, History, no_history, recorded, history_of, events_of, turn_at}
-use Rattle.hj_chain.proofs.Doing.{Doing, admits, shuts, receives, works, gathers, taken_by}
+use Rattle.hj_chain.proofs.Doing.{Doing, inquires, admits, shuts, receives, works, gathers, taken_by}
 use Rattle.hj_chain.proofs.Shape.{Shape, links-length}
 use Rattle.hj_chain.proofs.Induction.{by_steps}
 use Rattle.hj_chain.proofs.Ways.{when}
@@ -37,11 +37,13 @@ count-when p true xs none = none
 count-when p false xs none = refl
 
 nothing_sent_right : {P : Type 0} (n : ℕ) (action : Action P) (k : ℕ) → count goes_left (left_sent n action k) ≡ 0
+nothing_sent_right n asks k = refl
 nothing_sent_right n (drives turn) k = count-when goes_left (k == 0) _ (port-left goes_left (λ at row. refl) (λ at. refl) refl turn)
 nothing_sent_right n (handles place end message) k = count-when goes_left (k == place + 1) _ (nothing_left_right place n message)
 nothing_sent_right n (collects place report) k = refl
 
 nothing_sent_left : {P : Type 0} (n : ℕ) (action : Action P) (k : ℕ) → count goes_right (right_sent n action k) ≡ 0
+nothing_sent_left n asks k = refl
 nothing_sent_left n (drives turn) k = count-when goes_right (k == n) _ (port-right goes_right (λ at row. refl) (λ at. refl) refl turn)
 nothing_sent_left n (handles place end message) k = count-when goes_right (k == place) _ (nothing_right_left place n message)
 nothing_sent_left n (collects place report) k = refl
@@ -74,14 +76,14 @@ module _ {P : Type 0} (matches : P → P → Bool) (n most : ℕ) where
   abbrev Kept : ℕ → List (Event P) → ChainState P → History P → Type 0
   Kept number events chain history = Directed n chain history
 
-  begin : (first : Given P) → Kept 0 (events_of first) (empty_chain n most first) no_history
+  begin : (first : Given P) → Kept 0 (events_of (Some first)) (empty_chain n most first) no_history
   begin first = record {
     rightwards = λ k within. ap (λ (q : Queues (Msg P)). count goes_left q.rightwards) (get_or-replicate (n + 1) k (no_messages (capacity most)) (no_messages 0) (omega (arith, within)));
     leftwards = λ k within. ap (λ (q : Queues (Msg P)). count goes_right q.leftwards) (get_or-replicate (n + 1) k (no_messages (capacity most)) (no_messages 0) (omega (arith, within)));
     come_in = λ k. tt;
   }
 
-  right-step : (chain : ChainState P) (history : History P) (action : Action P) (answer : Given P) → Shape n most chain → Doing chain action → Directed n chain history
+  right-step : (chain : ChainState P) (history : History P) (action : Action P) (answer : FeedAnswer P) → Shape n most chain → Doing chain action → Directed n chain history
       → (k : ℕ) → k ≤ n → count goes_left (rights (after_action matches chain (Some action) answer) k) ≡ 0
   right-step chain history action answer shape doing old k within =
       let low : k < length chain.links = omega (arith, links-length n most chain shape) in
@@ -96,7 +98,7 @@ module _ {P : Type 0} (matches : P → P → Bool) (n most : ℕ) where
         nothing_sent_right (length chain.cores) action k,
       )
 
-  left-step : (chain : ChainState P) (history : History P) (action : Action P) (answer : Given P) → Shape n most chain → Doing chain action → Directed n chain history
+  left-step : (chain : ChainState P) (history : History P) (action : Action P) (answer : FeedAnswer P) → Shape n most chain → Doing chain action → Directed n chain history
       → (k : ℕ) → k ≤ n → count goes_right (lefts (after_action matches chain (Some action) answer) k) ≡ 0
   left-step chain history action answer shape doing old k within =
       let low : k < length chain.links = omega (arith, links-length n most chain shape) in
@@ -114,6 +116,7 @@ module _ {P : Type 0} (matches : P → P → Bool) (n most : ℕ) where
   turns-step : (number : ℕ) (chain : ChainState P) (history : History P) (action : Action P) → Shape n most chain → Doing chain action → Directed n chain history
       → (k : ℕ) → AllByRecursion ComesIn ((recorded matches chain number (Some action) history).turns k)
   turns-step number chain history action shape (admits event is free) old k = old.come_in k
+  turns-step number chain history action shape (inquires is) old k = old.come_in k
   turns-step number chain history action shape (shuts is free) old k = old.come_in k
   turns-step number chain history action shape (receives port message rest is) old k = old.come_in k
   turns-step number chain history action shape (works place Left message rest low is room) old k =
@@ -124,7 +127,7 @@ module _ {P : Type 0} (matches : P → P → Bool) (n most : ℕ) where
       (comes_in Right message rest (incoming Right place chain.links) _ is refl refl (λ same. absurd (cc)) (λ same. old.leftwards (place + 1) (omega (arith, low, shape.cores))))
   turns-step number chain history action shape (gathers place report rest low is) old k = old.come_in k
 
-  step : (number : ℕ) (events : List (Event P)) (chain : ChainState P) (history : History P) (action : Action P) (answer : Given P)
+  step : (number : ℕ) (events : List (Event P)) (chain : ChainState P) (history : History P) (action : Action P) (answer : FeedAnswer P)
       → Shape n most chain → Doing chain action → Kept number events chain history
       → Kept (suc number) (events ++ taken_by action answer) (after_action matches chain (Some action) answer) (recorded matches chain number (Some action) history)
   step number events chain history action answer shape doing old = record {

@@ -20,22 +20,24 @@ use Rattle.hj_chain.specs.declared.actor.NotNow.{NotNow}
 use Rattle.hj_chain.specs.declared.actor.NotNow.TheVariants.{Waits, ReportsFull, NoSuchCore, Over}
 use Rattle.hj_chain.specs.Links.{at_port, incoming}
 use Rattle.hj_chain.specs.Reports.{queue_at}
-use Rattle.hj_chain.specs.Chain.{ChainState, Action, drives, handles, collects, action_of, turn_of, first, cause, cause_of, admit_cause, closing_cause, or_empty, at_core, full_cause, capacity}
+use Rattle.hj_chain.specs.Chain.{FeedAnswer, ChainState, Action, if_there, next_action, asks, drives, handles, collects, action_of, first, cause, cause_of, admit_cause, closing_cause, or_empty, at_core, full_cause, capacity}
 use Rattle.hj_chain.specs.Reached.{events_of, asked}
 
--- The driver puts the next event, or the closes, or takes the first message at a port; a core handles the first message at one of
+-- The driver asks the feed, or puts the next event, or the closes, or takes the first message at a port; a core handles the first message at one of
 -- its ends; or a core's first report is taken.
 pub data Doing {P : Type 0} (chain : ChainState P) : Action P → Type 0 where
-  admits : (event : Event P) → chain.next ≡ given.Event event → wait_of event chain.driver ≡ None → Doing chain (drives (admission event))
-  shuts : chain.next ≡ given.Stop → closing_of chain.driver ≡ answer.Send → Doing chain (drives closing)
+  inquires : chain.next ≡ None → Doing chain asks
+  admits : (event : Event P) → chain.next ≡ Some (given.Event event) → wait_of event chain.driver ≡ None → Doing chain (drives (admission event))
+  shuts : chain.next ≡ Some given.Stop → closing_of chain.driver ≡ answer.Send → Doing chain (drives closing)
   receives : (port : Side) (message : Msg P) (rest : List (Msg P)) → at_port port (length chain.cores) chain.links ≡ message ∷ rest → Doing chain (drives (receipt port message))
   works : (place : ℕ) (end : Side) (message : Msg P) (rest : List (Msg P)) → place < length chain.cores → incoming end place chain.links ≡ message ∷ rest
       → length (queue_at chain.reports place) ≢ capacity chain.driver.flight → Doing chain (handles place end message)
   gathers : (place : ℕ) (report : Report P) (rest : List (Report P)) → place < length chain.cores → queue_at chain.reports place ≡ report ∷ rest → Doing chain (collects place report)
 
 -- the events that an action takes from the feed
-abbrev pub taken_by : {P : Type 0} → Action P → Given P → List (Event P)
-taken_by (drives (admission event)) answer = events_of answer
+abbrev pub taken_by : {P : Type 0} → Action P → FeedAnswer P → List (Event P)
+taken_by asks answer = events_of (Some answer.given)
+taken_by (drives (admission event)) answer = events_of (if_there answer)
 taken_by (drives (receipt port message)) answer = []
 taken_by (drives closing) answer = []
 taken_by (handles place end message) answer = []
@@ -45,7 +47,7 @@ pub record Deed {P : Type 0} (chain : ChainState P) (actor : Actor) : Type 0 whe
   pub action : Action P
   pub is : action_of chain actor ≡ Some action
   pub doing : Doing chain action
-  pub takes : (answer : Given P) → asked actor chain.next answer ≡ taken_by action answer
+  pub takes : (answer : FeedAnswer P) → asked actor chain.next answer ≡ taken_by action answer
 
 no_wait : (why : Option Why) → option_map Waits why ≡ None → why ≡ None
 no_wait None none = refl
@@ -77,20 +79,27 @@ full-if false none = refl
 not_full : {P : Type 0} (chain : ChainState P) (place : ℕ) → full_cause chain place ≡ None → length (queue_at chain.reports place) ≢ capacity chain.driver.flight
 not_full chain place none = λ same. true≢false (sym (eq-eqb _ _ same) ∙ full-if _ none)
 
-deed_admit : {P : Type 0} (chain : ChainState P) (next : Given P) → chain.next ≡ next → admit_cause chain.driver next ≡ None → Deed chain Admit
-deed_admit {P} chain (given.Event event) is none =
+deed_admit : {P : Type 0} (chain : ChainState P) (next : Option (Given P)) → chain.next ≡ next → admit_cause chain.driver next ≡ None → Deed chain Admit
+deed_admit {P} chain None is none =
+    record {
+      action = asks;
+      is = ap (λ (g : Option (Given P)). Some (next_action g)) is;
+      doing = inquires is;
+      takes = λ answer. ap (λ (g : Option (Given P)). asked Admit g answer) is;
+    }
+deed_admit {P} chain (Some (given.Event event)) is none =
     record {
       action = drives (admission event);
-      is = ap (λ (g : Given P). Some (drives (turn_of g))) is;
+      is = ap (λ (g : Option (Given P)). Some (next_action g)) is;
       doing = admits event is (no_wait _ none);
-      takes = λ answer. ap (λ (g : Given P). asked Admit g answer) is;
+      takes = λ answer. ap (λ (g : Option (Given P)). asked Admit g answer) is;
     }
-deed_admit {P} chain given.Stop is none =
+deed_admit {P} chain (Some given.Stop) is none =
     record {
       action = drives closing;
-      is = ap (λ (g : Given P). Some (drives (turn_of g))) is;
+      is = ap (λ (g : Option (Given P)). Some (next_action g)) is;
       doing = shuts is (may_close _ none);
-      takes = λ answer. ap (λ (g : Given P). asked Admit g answer) is;
+      takes = λ answer. ap (λ (g : Option (Given P)). asked Admit g answer) is;
     }
 
 deed_of : {P : Type 0} (chain : ChainState P) (actor : Actor) → cause_of chain actor ≡ None → Deed chain actor

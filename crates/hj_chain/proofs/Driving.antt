@@ -1,5 +1,5 @@
 -- The driver of a chain stands for the log that the steps leave.
-use Rattle.std.proofs.Common.{◌≡◌, ℕ, suc, ◌+◌, ◌≤◌, Bool, true, List, [], ◌∷◌, ◌++◌, map, Some, None, refl, ap, sym, ◌∙◌, subst, arith, append-nil, length-append, true≢false}
+use Rattle.std.proofs.Common.{◌≡◌, ℕ, suc, ◌+◌, ◌≤◌, Bool, true, List, [], ◌∷◌, ◌++◌, map, Some, None, Option, refl, ap, sym, ◌∙◌, subst, arith, append-nil, length-append, true≢false}
 use Rattle.std.proofs.lemmas.List.{map-append}
 use Rattle.hj_base.specs.declared.numbers.Side.{Side}
 use Rattle.hj_base.specs.declared.numbers.Side.TheVariants.{Left, Right}
@@ -23,9 +23,9 @@ use Rattle.hj_driver.proofs.MayClose.{may_close}
 use Rattle.hj_driver.proofs.Standing.{stands-new, stands-admission, stands-receipt, stands-closing}
 use Rattle.hj_driver.proofs.States.{length-filter_map, length-filter}
 use Rattle.hj_chain.specs.declared.actor.Actor.{Actor}
-use Rattle.hj_chain.specs.Chain.{ChainState, Action, drives, after_action, empty_chain}
+use Rattle.hj_chain.specs.Chain.{FeedAnswer, ChainState, Action, if_there, asks, drives, after_action, empty_chain}
 use Rattle.hj_chain.specs.Reached.{Reached, History, no_history, recorded, history_of, events_of}
-use Rattle.hj_chain.proofs.Doing.{Doing, admits, shuts, receives, works, gathers, taken_by}
+use Rattle.hj_chain.proofs.Doing.{Doing, inquires, admits, shuts, receives, works, gathers, taken_by}
 use Rattle.hj_chain.proofs.Shape.{Shape}
 use Rattle.hj_chain.proofs.Induction.{by_steps}
 
@@ -37,7 +37,7 @@ turns_of log = map (λ entry. entry.turn) log
 pub record Driven {P : Type 0} (events : List (Event P)) (chain : ChainState P) (log : List (DriverTurn P)) : Type 0 where
   pub stands : StandsFor chain.driver log
   pub events_are : events ≡ admitted log ++ events_of chain.next
-  pub last : is_sent chain.driver.closes ≡ true → events_of chain.next ≡ []
+  pub last : is_sent chain.driver.closes ≡ true → chain.next ≡ Some given.Stop
   pub few : count_of chain.driver ≤ chain.driver.flight
 
 abbrev DrivenIfWell : {P : Type 0} → ℕ → List (Event P) → ChainState P → History P → Type 0
@@ -100,7 +100,7 @@ sent-take Right (EndR at) state = refl
 sent-take Right (ExpR at) state = refl
 
 module _ {P : Type 0} (matches : P → P → Bool) (n most : ℕ) where
-  driven-begin : (first : Given P) → DrivenIfWell 0 (events_of first) (empty_chain n most first) no_history
+  driven-begin : (first : Given P) → DrivenIfWell 0 (events_of (Some first)) (empty_chain n most first) no_history
   driven-begin first well = record {
     stands = stands-new P most;
     events_are = refl;
@@ -108,22 +108,22 @@ module _ {P : Type 0} (matches : P → P → Bool) (n most : ℕ) where
     few = omega arith;
   }
 
-  driven-admission : (number : ℕ) (events : List (Event P)) (chain : ChainState P) (history : History P) (event : Event P) (answer : Given P) → chain.next ≡ given.Event event
+  driven-admission : (number : ℕ) (events : List (Event P)) (chain : ChainState P) (history : History P) (event : Event P) (answer : FeedAnswer P) → chain.next ≡ Some (given.Event event)
       → Driven events chain (turns_of history.log) → IsWellFormed events → Doing chain (drives (admission event))
-      → Driven (events ++ events_of answer) (after_action matches chain (Some (drives (admission event))) answer) (turns_of history.log ++ admission event ∷ [])
+      → Driven (events ++ events_of (if_there answer)) (after_action matches chain (Some (drives (admission event))) answer) (turns_of history.log ++ admission event ∷ [])
   driven-admission number events chain history event answer next old well (admits put is free) =
       let log = turns_of history.log in
-      let now : events ≡ admitted log ++ event ∷ [] = old.events_are ∙ ap (λ (g : Given P). admitted log ++ events_of g) next in
+      let now : events ≡ admitted log ++ event ∷ [] = old.events_are ∙ ap (λ (g : Option (Given P)). admitted log ++ events_of g) next in
       let may = no_cause event chain.driver free in
       let behind : IsWellFormed (admitted log ++ event ∷ []) = subst IsWellFormed now well in
       record {
         stands = stands-admission chain.driver log event old.stands behind may.unsent (omega (arith, may.below, old.few)) (has_come_out event log (sym (row_cause-not_out event chain.driver log old.stands behind) ∙ may.no_row));
-        events_are = ap (λ (es : List (Event P)). es ++ events_of answer) (now ∙ sym (admitted-push log (admission event)));
+        events_are = ap (λ (es : List (Event P)). es ++ events_of (if_there answer)) (now ∙ sym (admitted-push log (admission event)));
         last = λ sent. absurd (true≢false (sym sent ∙ ap is_sent (closes-put event chain.driver) ∙ may.unsent));
         few = omega (arith, may.below, old.few, count-put event chain.driver, flight-put event chain.driver);
       }
 
-  driven-shut : (events : List (Event P)) (chain : ChainState P) (history : History P) (answer : Given P)
+  driven-shut : (events : List (Event P)) (chain : ChainState P) (history : History P) (answer : FeedAnswer P)
       → Driven events chain (turns_of history.log) → Doing chain (drives closing)
       → Driven events (after_action matches chain (Some (drives closing)) answer) (turns_of history.log ++ closing ∷ [])
   driven-shut events chain history answer old (shuts next free) =
@@ -132,11 +132,20 @@ module _ {P : Type 0} (matches : P → P → Bool) (n most : ℕ) where
       record {
         stands = stands-closing chain.driver log old.stands may.0 may.1;
         events_are = old.events_are ∙ ap (λ (es : List (Event P)). es ++ events_of chain.next) (sym (append-nil (admitted log)) ∙ sym (admitted-push log closing));
-        last = λ sent. ap events_of next;
+        last = λ sent. next;
         few = old.few;
       }
 
-  driven-receipt : (events : List (Event P)) (chain : ChainState P) (history : History P) (port : Side) (message : Msg P) (answer : Given P)
+  driven-asks : (events : List (Event P)) (chain : ChainState P) (log : List (DriverTurn P)) (answer : FeedAnswer P) → chain.next ≡ None
+      → Driven events chain log → Driven (events ++ events_of (Some answer.given)) (after_action matches chain (Some asks) answer) log
+  driven-asks events chain log answer next old = record {
+    stands = old.stands;
+    events_are = ap (λ (es : List (Event P)). es ++ events_of (Some answer.given)) (old.events_are ∙ ap (λ (g : Option (Given P)). admitted log ++ events_of g) next ∙ append-nil (admitted log));
+    last = λ sent. absurd (cc (old.last sent, next));
+    few = old.few;
+  }
+
+  driven-receipt : (events : List (Event P)) (chain : ChainState P) (history : History P) (port : Side) (message : Msg P) (answer : FeedAnswer P)
       → Driven events chain (turns_of history.log)
       → Driven events (after_action matches chain (Some (drives (receipt port message))) answer) (turns_of history.log ++ receipt port message ∷ [])
   driven-receipt events chain history port message answer old =
@@ -158,11 +167,13 @@ module _ {P : Type 0} (matches : P → P → Bool) (n most : ℕ) where
   unchanged : (events : List (Event P)) (chain : ChainState P) (log : List (DriverTurn P)) → Driven events chain log → Driven (events ++ []) chain log
   unchanged events chain log d = subst (λ (es : List (Event P)). Driven es chain log) (sym (append-nil events)) d
 
-  driven-step : (number : ℕ) (events : List (Event P)) (chain : ChainState P) (history : History P) (action : Action P) (answer : Given P)
+  driven-step : (number : ℕ) (events : List (Event P)) (chain : ChainState P) (history : History P) (action : Action P) (answer : FeedAnswer P)
       → Shape n most chain → Doing chain action → DrivenIfWell number events chain history
       → DrivenIfWell (suc number) (events ++ taken_by action answer) (after_action matches chain (Some action) answer) (recorded matches chain number (Some action) history)
+  driven-step number events chain history action answer shape (inquires is) before well =
+      driven-asks events chain (turns_of history.log) answer is (before (front_is_well_formed events (events_of (Some answer.given)) well))
   driven-step number events chain history action answer shape (admits event is free) before well =
-      let well_before = front_is_well_formed events (events_of answer) well in
+      let well_before = front_is_well_formed events (events_of (if_there answer)) well in
       pushed _ _ history number (admission event) (driven-admission number events chain history event answer is (before well_before) well_before (admits event is free))
   driven-step number events chain history action answer shape (shuts is free) before well =
       pushed _ _ history number closing (unchanged events _ _ (driven-shut events chain history answer (before (front_is_well_formed events [] well)) (shuts is free)))

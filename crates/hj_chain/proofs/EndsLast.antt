@@ -22,11 +22,11 @@ use Rattle.hj_driver.specs.Driver.{is_sent}
 use Rattle.hj_chain.specs.declared.actor.Actor.{Actor}
 use Rattle.hj_chain.specs.Links.{changed_at, incoming}
 use Rattle.hj_chain.specs.Reports.{queue_at}
-use Rattle.hj_chain.specs.Chain.{ChainState, Action, handles, after_action}
+use Rattle.hj_chain.specs.Chain.{FeedAnswer, ChainState, Action, handles, after_action}
 use Rattle.hj_chain.specs.Reached.{Reached, begins, steps, asked}
 use Rattle.hj_chain.proofs.Complete.{has_closed, ended-now}
 use Rattle.hj_chain.proofs.Counts.{count, count-append}
-use Rattle.hj_chain.proofs.Doing.{Doing, Deed, deed, admits, shuts, receives, works, gathers}
+use Rattle.hj_chain.proofs.Doing.{Doing, Deed, deed, inquires, admits, shuts, receives, works, gathers}
 use Rattle.hj_chain.proofs.Journals.{puts-append, puts-puts}
 use Rattle.hj_chain.proofs.MessageKinds.{a_CloseL, a_CloseR}
 use Rattle.hj_chain.proofs.OnlyCloses.{in_front, closes_right, closes_left, closed-sent}
@@ -113,10 +113,11 @@ module _ {P : Type 0} (matches : P → P → Bool) (m most : ℕ) where
       inr (in_front a_CloseR message rest (omega (arith, ap length is, ap (count a_CloseR) is, closes_left matches m most reached well sent (place + 1) (omega (arith, low)))))
 
   -- what one action leaves of the reports of core k
-  kept : {schedule : List Actor} {events : List (Event P)} (chain : ChainState P) → Reached matches (suc m) most schedule events chain → IsWellFormed events → (answer : Given P) (action : Action P) → Doing chain action
+  kept : {schedule : List Actor} {events : List (Event P)} (chain : ChainState P) → Reached matches (suc m) most schedule events chain → IsWellFormed events → (answer : FeedAnswer P) (action : Action P) → Doing chain action
       → (k : ℕ) → k < suc m → (has_closed (state_at chain k) ≡ true → LastEnds (queue_at chain.reports k))
       → has_closed (state_at (after_action matches chain (Some action) answer) k) ≡ true → LastEnds (queue_at (after_action matches chain (Some action) answer).reports k)
   kept chain reached well answer action (admits event is free) k low old closed = old closed
+  kept chain reached well answer action (inquires is) k low old closed = old closed
   kept chain reached well answer action (shuts is free) k low old closed = old closed
   kept chain reached well answer action (receives port message rest is) k low old closed = old closed
   kept chain reached well answer action (works place end message rest here is room) k low old closed =

@@ -1,6 +1,6 @@
 -- How many steps there are. Each message is weighed by the steps that it still brings, with those of the messages that come of it:
 -- a step of a core, of a port or a collection leaves that much less, and each event brings a number of steps that is fixed.
-use Rattle.std.proofs.Common.{◌≡◌, ℕ, zero, suc, ◌+◌, ◌*◌, ◌-◌, ◌<◌, ◌≤◌, ◌==◌, nat_lt, Bool, cond, List, [], ◌++◌, length, drop, get_or, replicate, Some, ap, sym, ◌∙◌, subst, arith, add-one, length-append}
+use Rattle.std.proofs.Common.{◌≡◌, ℕ, zero, suc, ◌+◌, ◌*◌, ◌-◌, ◌<◌, ◌≤◌, ◌==◌, nat_lt, Bool, cond, List, [], ◌++◌, length, drop, get_or, replicate, Some, ap, sym, ◌∙◌, subst, arith, add-one, length-append, Option, None}
 use Rattle.std.specs.Option.{option_to_list}
 use Rattle.std.proofs.Math.Nat.{mul-add}
 use Rattle.std.proofs.lemmas.Bool.{ne_eqb}
@@ -21,9 +21,9 @@ use Rattle.hj_driver.specs.Driver.{DriverState, is_sent}
 use Rattle.hj_driver.proofs.MayClose.{may_close}
 use Rattle.hj_chain.specs.declared.actor.Actor.{Actor}
 use Rattle.hj_chain.specs.Reports.{queue_at}
-use Rattle.hj_chain.specs.Chain.{ChainState, Action, after_action, empty_chain, capacity}
+use Rattle.hj_chain.specs.Chain.{FeedAnswer, ChainState, Action, after_action, empty_chain, capacity, if_there}
 use Rattle.hj_chain.specs.Reached.{Reached, History, recorded, events_of}
-use Rattle.hj_chain.proofs.Doing.{Doing, admits, shuts, receives, works, gathers, taken_by}
+use Rattle.hj_chain.proofs.Doing.{Doing, admits, shuts, receives, works, gathers, taken_by, inquires}
 use Rattle.hj_chain.proofs.Driving.{closes-put, sent-take}
 use Rattle.hj_chain.proofs.Induction.{by_steps}
 use Rattle.hj_chain.proofs.Shape.{Shape, links-length}
@@ -115,7 +115,7 @@ taken n place Right message low = ap (λ k. leftwards_work n k message) (add-one
 from_left : {P : Type 0} (n : ℕ) (message : Msg P) → rightwards_work n 0 message ≤ work n 0 message
 from_left n message = grind (arith, nat_tests, some_work n 0 message)
 
-entry : {P : Type 0} (n : ℕ) (event : Event P) → at_entry (works_of n) (port_of event) n (message_of event) + 1 ≤ 4 * n + 4
+entry : {P : Type 0} (n : ℕ) (event : Event P) → at_entry (works_of n) (port_of event) n (message_of event) + 2 ≤ 4 * n + 4
 entry {P} n (Arrive at Left row) = omega (arith, from_left {P = P} n (R at row))
 entry {P} n (Expire at Right of) = omega (arith, from_left {P = P} n (ExpS of))
 entry zero (Arrive at Right row) = omega arith
@@ -134,15 +134,25 @@ closing_work n driver = cond (is_sent driver.closes) 0 (4 * n + 3)
 abbrev waiting : {P : Type 0} → List (List (Report P)) → ℕ
 waiting reports = total (λ k queue. length queue) reports
 
--- The steps that are still to come of what is under way, of the reports, of the next event and of the closes.
+-- the step that asks the feed, where no answer is known
+abbrev asking : {P : Type 0} → Option (Given P) → ℕ
+asking None = 1
+asking (Some given) = 0
+
+asked_once : {P : Type 0} (next : Option (Given P)) → asking next ≤ 1
+asked_once None = omega arith
+asked_once (Some given) = omega arith
+
+-- The steps that are still to come of what is under way, of the reports, of the next event or the question for it, and of the
+-- closes.
 abbrev pub to_come : {P : Type 0} → ℕ → ChainState P → ℕ
-to_come n chain = load (works_of n) chain.links + waiting chain.reports + (4 * n + 4) * length (events_of chain.next) + closing_work n chain.driver
+to_come n chain = load (works_of n) chain.links + waiting chain.reports + (4 * n + 4) * length (events_of chain.next) + asking chain.next + closing_work n chain.driver
 
 -- With the steps made they are no more than the events and the closes bring.
 abbrev Paid : {P : Type 0} → ℕ → ℕ → List (Event P) → ChainState P → Type 0
 Paid n number events chain = number + to_come n chain ≤ (4 * n + 4) * length events + (4 * n + 3)
 
-paid-begin : {P : Type 0} (n most : ℕ) (first : Given P) → Paid n 0 (events_of first) (empty_chain n most first)
+paid-begin : {P : Type 0} (n most : ℕ) (first : Given P) → Paid n 0 (events_of (Some first)) (empty_chain n most first)
 paid-begin {P} n most first =
     let queues : List (List (Report P)) = replicate n [] in
     omega (
@@ -151,16 +161,19 @@ paid-begin {P} n most first =
       total-nothing (λ k queue. length queue) queues [] (λ k low. ap (λ (queue : List (Report P)). length queue) (get_or-replicate n k [] [] (omega (arith, low, length-replicate {A = List (Report P)} n [])))),
     )
 
-module _ {P : Type 0} (matches : P → P → Bool) (chain : ChainState P) (answer : Given P) (all : length chain.links ≡ length chain.cores + 1) (queues : length chain.reports ≡ length chain.cores) where
+module _ {P : Type 0} (matches : P → P → Bool) (chain : ChainState P) (answer : FeedAnswer P) (all : length chain.links ≡ length chain.cores + 1) (queues : length chain.reports ≡ length chain.cores) where
   abbrev n : ℕ
   n = length chain.cores
 
   -- a step leaves fewer, but for those that a new event brings
   pub fewer-come : (action : Action P) → Doing chain action → to_come n (after_action matches chain (Some action) answer) + 1 ≤ to_come n chain + (4 * n + 4) * length (taken_by action answer)
+  fewer-come action (inquires is) = omega (arith, ap (λ (g : Option (Given P)). (4 * n + 4) * length (events_of g)) is, ap (λ (g : Option (Given P)). asking g) is)
   fewer-come action (admits event is free) =
       omega (
         arith,
-        ap (λ (g : Given P). (4 * n + 4) * length (events_of g)) is,
+        ap (λ (g : Option (Given P)). (4 * n + 4) * length (events_of g)) is,
+        ap (λ (g : Option (Given P)). asking g) is,
+        asked_once (if_there answer),
         load-put_in (works_of n) n chain.links all (port_of event) (message_of event),
         entry n event,
         ap (λ c. cond {A = ℕ} (is_sent c) 0 (4 * n + 3)) (closes-put event chain.driver),
@@ -210,7 +223,7 @@ module _ {P : Type 0} (matches : P → P → Bool) (n most : ℕ) where
   abbrev Kept : ℕ → List (Event P) → ChainState P → History P → Type 0
   Kept number events chain history = Paid n number events chain
 
-  step : (number : ℕ) (events : List (Event P)) (chain : ChainState P) (history : History P) (action : Action P) (answer : Given P)
+  step : (number : ℕ) (events : List (Event P)) (chain : ChainState P) (history : History P) (action : Action P) (answer : FeedAnswer P)
       → Shape n most chain → Doing chain action → Kept number events chain history
       → Kept (suc number) (events ++ taken_by action answer) (after_action matches chain (Some action) answer) (recorded matches chain number (Some action) history)
   step number events chain history action answer shape doing old =

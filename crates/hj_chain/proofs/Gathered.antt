@@ -8,7 +8,7 @@ use Rattle.hj_msg.specs.declared.event.Event.{Event}
 use Rattle.hj_msg.specs.declared.message.Report.{Report}
 use Rattle.hj_collect.specs.StandsFor.{with_report}
 use Rattle.hj_chain.specs.declared.actor.Actor.{Actor}
-use Rattle.hj_chain.specs.Chain.{ChainState, Action, drives, handles, collects}
+use Rattle.hj_chain.specs.Chain.{ChainState, Action, asks, drives, handles, collects}
 use Rattle.hj_chain.specs.Reached.{Reached, History, history_of, recorded, with_last, collected_of}
 use Rattle.hj_chain.proofs.Ways.{same_place}
 use Rattle.hj_chain.proofs.Journals.{takes-append}
@@ -58,6 +58,7 @@ module _ {P : Type 0} (matches : P → P → Bool) (chain : ChainState P) (n num
 
   pub told-recorded : (action : Option (Action P)) → taken_of n (recorded matches chain number action history) ≡ told action (taken_of n history)
   told-recorded None = refl
+  told-recorded (Some asks) = refl
   told-recorded (Some (drives turn)) = refl
   told-recorded (Some (handles place end message)) = refl
   told-recorded (Some (collects place report)) = with-report place report

@@ -32,7 +32,7 @@ use Rattle.hj_chain.specs.declared.actor.Stepped.{Stepped}
 use Rattle.hj_chain.specs.declared.actor.Stepped.TheVariants.{Did, NotEnabled, Memory}
 use Rattle.hj_chain.specs.Links.{at_port, incoming}
 use Rattle.hj_chain.specs.Reports.{queue_at}
-use Rattle.hj_chain.specs.Chain.{ChainState, Contents, Action, action_of, after, after_action, cause, cause_of, drives, handles, collects, first, next_after, turn_of}
+use Rattle.hj_chain.specs.Chain.{FeedAnswer, ChainState, Contents, Action, action_of, after, after_action, cause, cause_of, drives, handles, collects, first, next_after, turn_of, if_there, next_action}
 use Rattle.hj_chain.specs.Reached.{Reached, steps, StandsFor, asked, events_of, history_of, run_of, collected_of}
 use Rattle.hj_chain.specs.Steps.{GoesWith, Gathers, HasRoom, StepsTo, asks, is_stop}
 use Rattle.hj_chain.proofs.Shape.{Shape, shape}
@@ -118,10 +118,15 @@ told-work : {P : Type 0} (place : ℕ) (end : Side) (o : Option (Msg P)) (lists 
 told-work place end None lists = refl
 told-work place end (Some message) lists = refl
 
+-- the driver collects nothing
+told-next : {P : Type 0} (next : Option (Given P)) (lists : List (List (Report P))) → told (Some (next_action next)) lists ≡ lists
+told-next None lists = refl
+told-next (Some given) lists = refl
+
 gathered-one : {P : Type 0} (report : Report P) (o : Option (Report P)) (What : Report P → Type 0) → o ≡ Some report → IfSome o What → What report
 gathered-one {P} report o What is some = subst (λ (p : Option (Report P)). IfSome p What) is some
 
-module _ {P J : Type 0} (predicate : J → P → P → Bool) (old new : Contents P J) (actor : Actor) (answer : Given P) (same_join : new.join ≡ old.join) where
+module _ {P J : Type 0} (predicate : J → P → P → Bool) (old new : Contents P J) (actor : Actor) (answer : FeedAnswer P) (same_join : new.join ≡ old.join) where
   whole : (state : ChainState P) → new.state ≡ state → record new { join = old.join; state = state } ≡ new
   whole state is = ap₂ (λ (j : J) (s : ChainState P). record new { join = j; state = s }) (sym same_join) (sym is)
 
@@ -155,7 +160,7 @@ module _ {P J : Type 0} (predicate : J → P → P → Bool) (old new : Contents
       subst (Accounts new.collector new.kept given) (sym same)
       (subst (λ (collector : CollectorState). Accounts collector new.kept given lists) (sym gathers.0) (subst (λ (kept : List (Pair P)). Accounts old.collector kept given lists) (sym gathers.1) accounts))
 
-module _ {P J : Type 0} (predicate : J → P → P → Bool) (old new : Contents P J) (answer : Given P) (same_join : new.join ≡ old.join) where
+module _ {P J : Type 0} (predicate : J → P → P → Bool) (old new : Contents P J) (answer : FeedAnswer P) (same_join : new.join ≡ old.join) where
   -- a report that was collected
   record Collecting (core : CoreNo) : Type 0 where
     report : Report P
@@ -199,7 +204,7 @@ module _ {P J : Type 0} (predicate : J → P → P → Bool) (old new : Contents
 
   pub emits-next : (actor : Actor) → Sound predicate old → cause old.state actor ≡ None → (schedule : List Actor) (events : List (Event P)) (given : ℕ) (stands : StandsFor predicate old schedule events given)
       → IsPrefix (emitted (collected_of stands.reached)) (emitted (told (action_of old.state actor) (collected_of stands.reached)))
-  emits-next Admit sound enabled schedule events given stands = emits-same (collected_of stands.reached) _ refl
+  emits-next Admit sound enabled schedule events given stands = emits-same (collected_of stands.reached) _ (told-next old.state.next (collected_of stands.reached))
   emits-next PortLeft sound enabled schedule events given stands = emits-same (collected_of stands.reached) _ (told-receipt Left (first (at_port Left (length old.state.cores) old.state.links)) (collected_of stands.reached))
   emits-next PortRight sound enabled schedule events given stands = emits-same (collected_of stands.reached) _ (told-receipt Right (first (at_port Right (length old.state.cores) old.state.links)) (collected_of stands.reached))
   emits-next (Core place end) sound enabled schedule events given stands = emits-same (collected_of stands.reached) _ (told-work place.0 end (first (incoming end place.0 old.state.links)) (collected_of stands.reached))
@@ -210,7 +215,7 @@ module _ {P J : Type 0} (predicate : J → P → P → Bool) (old new : Contents
 
   accounts-next : (actor : Actor) → Sound predicate old → cause old.state actor ≡ None → Gathers actor old Did new → (schedule : List Actor) (events : List (Event P)) (given : ℕ) (stands : StandsFor predicate old schedule events given)
       → Accounts new.collector new.kept given (told (action_of old.state actor) (collected_of stands.reached))
-  accounts-next Admit sound enabled gathers schedule events given stands = unchanged predicate old new Admit answer same_join given (collected_of stands.reached) _ refl gathers (accounts-of stands)
+  accounts-next Admit sound enabled gathers schedule events given stands = unchanged predicate old new Admit answer same_join given (collected_of stands.reached) _ (told-next old.state.next (collected_of stands.reached)) gathers (accounts-of stands)
   accounts-next PortLeft sound enabled gathers schedule events given stands =
       unchanged predicate old new PortLeft answer same_join given (collected_of stands.reached) _ (told-receipt Left (first (at_port Left (length old.state.cores) old.state.links)) (collected_of stands.reached)) gathers (accounts-of stands)
   accounts-next PortRight sound enabled gathers schedule events given stands =
@@ -235,7 +240,7 @@ module _ {P J : Type 0} (old new : Contents P J) where
   none-kept (Core place end) gathers = gathers
   none-kept (Collect core) gathers = gathers
 
-module _ {P J : Type 0} (predicate : J → P → P → Bool) (old new : Contents P J) (actor : Actor) (answer : Given P) (same_join : new.join ≡ old.join) where
+module _ {P J : Type 0} (predicate : J → P → P → Bool) (old new : Contents P J) (actor : Actor) (answer : FeedAnswer P) (same_join : new.join ≡ old.join) where
   pub stood-did : Sound predicate old → (schedule : List Actor) (events : List (Event P)) (given : ℕ) (stands : StandsFor predicate old schedule events given) → StepsTo (predicate old.join) actor answer old.state Did new.state → Gathers actor old Did new
       → Stood predicate new (schedule ++ actor ∷ []) (events ++ asked actor old.state.next answer) given (told (action_of old.state actor) (collected_of stands.reached))
   stood-did sound schedule events given stands did gathers =
@@ -282,21 +287,36 @@ module _ {P J : Type 0} (predicate : J → P → P → Bool) (old new : Contents
 
 -- the events that a step takes from the feed
 module _ {P F : Type 0} (gives : F → Given P → F → Type 0) (from to : F) where
-  pub goes_over : (actor : Actor) (next answer : Given P) → MatchBool (asks actor next) (gives from answer to) (to ≡ from) → GoesOver gives from (asked actor next answer) to
-  goes_over Admit (given.Event event) (given.Event other) feed = record { stops = 0; answers = (to, feed, refl) }
-  goes_over Admit (given.Event event) given.Stop feed = record { stops = 1; answers = (to, feed, refl) }
-  goes_over Admit given.Stop answer feed = record { stops = 0; answers = feed }
+  one_answer : (ready : Bool) (answer : Given P) → MatchBool ready (gives from answer to) (to ≡ from) → GoesOver gives from (events_of (cond ready (Some answer) None)) to
+  one_answer true (given.Event event) feed = record { stops = 0; answers = (to, feed, refl) }
+  one_answer true given.Stop feed = record { stops = 1; answers = (to, feed, refl) }
+  one_answer false answer feed = record { stops = 0; answers = feed }
+
+  pub goes_over : (actor : Actor) (next : Option (Given P)) (answer : FeedAnswer P) → MatchBool (asks actor next answer.ready) (gives from answer.given to) (to ≡ from) → GoesOver gives from (asked actor next answer) to
+  goes_over Admit None answer feed = one_answer true answer.given feed
+  goes_over Admit (Some (given.Event event)) answer feed = one_answer answer.ready answer.given feed
+  goes_over Admit (Some given.Stop) answer feed = record { stops = 0; answers = feed }
   goes_over PortLeft next answer feed = record { stops = 0; answers = feed }
   goes_over PortRight next answer feed = record { stops = 0; answers = feed }
   goes_over (Core place end) next answer feed = record { stops = 0; answers = feed }
   goes_over (Collect place) next answer feed = record { stops = 0; answers = feed }
 
--- what the step of an actor leaves as the next event
-admit_next : {P : Type 0} (next answer : Given P) → next_after (turn_of next) next answer ≡ cond (asks Admit next) answer next
-admit_next (given.Event event) answer = refl
-admit_next given.Stop answer = refl
+-- What the step of an actor leaves of the feed's answers: the one that is to be used next.
+abbrev pub next_known : {P : Type 0} → Actor → Option (Given P) → FeedAnswer P → Option (Given P)
+next_known Admit None answer = Some answer.given
+next_known Admit (Some (given.Event event)) answer = if_there answer
+next_known Admit (Some given.Stop) answer = Some given.Stop
+next_known PortLeft next answer = next
+next_known PortRight next answer = next
+next_known (Core place end) next answer = next
+next_known (Collect place) next answer = next
 
-module _ {P : Type 0} (matches : P → P → Bool) (chain : ChainState P) (answer : Given P) where
+module _ {P : Type 0} (matches : P → P → Bool) (chain : ChainState P) (answer : FeedAnswer P) where
+  admit_next : (next : Option (Given P)) → (after_action matches (record chain { next = next }) (Some (next_action next)) answer).next ≡ next_known Admit next answer
+  admit_next None = refl
+  admit_next (Some (given.Event event)) = refl
+  admit_next (Some given.Stop) = refl
+
   receipt_next : (port : Side) (o : Option (Msg P)) → (after_action matches chain (option_map (λ message. drives (receipt port message)) o) answer).next ≡ chain.next
   receipt_next port None = refl
   receipt_next port (Some message) = refl
@@ -309,27 +329,27 @@ module _ {P : Type 0} (matches : P → P → Bool) (chain : ChainState P) (answe
   gather_next place None = refl
   gather_next place (Some report) = refl
 
-  pub next-of : (actor : Actor) → (after matches chain actor answer).next ≡ cond (asks actor chain.next) answer chain.next
-  next-of Admit = admit_next chain.next answer
+  pub next-of : (actor : Actor) → (after matches chain actor answer).next ≡ next_known actor chain.next answer
+  next-of Admit = admit_next chain.next
   next-of PortLeft = receipt_next Left (first (at_port Left (length chain.cores) chain.links))
   next-of PortRight = receipt_next Right (first (at_port Right (length chain.cores) chain.links))
   next-of (Core place end) = work_next place.0 end (first (incoming end place.0 chain.links))
   next-of (Collect place) = gather_next place.0 (first (queue_at chain.reports place.0))
 
 -- the feed behind a step that asked it, or didn't
-pub record FeedAfter {P : Type 0} (events : List (Event P)) (taken : List (Event P)) (next : Given P) (feed : FeedState) : Type 0 where
+pub record FeedAfter {P : Type 0} (events : List (Event P)) (taken : List (Event P)) (next : Option (Given P)) (feed : FeedState) : Type 0 where
   pub well_formed : IsWellFormed (events ++ taken)
   pub numbering : feed.numbering ≡ numbering_of (events ++ taken)
   pub stopped : is_stop next ≡ true → feed.stopped ≡ true
 
-feed_same : {P : Type 0} (events : List (Event P)) (next : Given P) (feed : FeedState) → IsWellFormed events → feed.numbering ≡ numbering_of events → (is_stop next ≡ true → feed.stopped ≡ true) → FeedAfter events [] next feed
+feed_same : {P : Type 0} (events : List (Event P)) (next : Option (Given P)) (feed : FeedState) → IsWellFormed events → feed.numbering ≡ numbering_of events → (is_stop next ≡ true → feed.stopped ≡ true) → FeedAfter events [] next feed
 feed_same {P} events next feed well numbering stopped = record {
   well_formed = subst IsWellFormed (sym (append-nil events)) well;
   numbering = numbering ∙ ap (λ (es : List (Event P)). numbering_of es) (sym (append-nil events));
   stopped = stopped;
 }
 
-pub feed_asked : {P : Type 0} (events : List (Event P)) (answer : Given P) (old new : FeedState) → IsWellFormed events → old.numbering ≡ numbering_of events → Answers answer old new → FeedAfter events (events_of answer) answer new
+pub feed_asked : {P : Type 0} (events : List (Event P)) (answer : Given P) (old new : FeedState) → IsWellFormed events → old.numbering ≡ numbering_of events → Answers answer old new → FeedAfter events (events_of (Some answer)) (Some answer) new
 feed_asked events (given.Event event) old new well numbering gives = record {
   well_formed = well-push events event old new well numbering gives;
   numbering = numbering-push events event old new numbering gives;
@@ -341,10 +361,16 @@ feed_asked {P} events given.Stop old new well numbering gives = record {
   stopped = λ stop. gives.stopped;
 }
 
-feed_after : {P : Type 0} (events : List (Event P)) (actor : Actor) (next answer : Given P) (old new : FeedState) → IsWellFormed events → old.numbering ≡ numbering_of events → (is_stop next ≡ true → old.stopped ≡ true)
-    → MatchBool (asks actor next) (Answers answer old new) (new ≡ old) → FeedAfter events (asked actor next answer) (cond (asks actor next) answer next) new
-feed_after events Admit (given.Event event) answer old new well numbering stopped feed = feed_asked events answer old new well numbering feed
-feed_after {P} events Admit given.Stop answer old new well numbering stopped feed = subst (FeedAfter events [] given.Stop) (sym feed) (feed_same events given.Stop old well numbering stopped)
+feed_there : {P : Type 0} (events : List (Event P)) (ready : Bool) (answer : Given P) (old new : FeedState) → IsWellFormed events → old.numbering ≡ numbering_of events
+    → MatchBool ready (Answers answer old new) (new ≡ old) → FeedAfter events (events_of (cond ready (Some answer) None)) (cond ready (Some answer) None) new
+feed_there events true answer old new well numbering feed = feed_asked events answer old new well numbering feed
+feed_there events false answer old new well numbering feed = subst (FeedAfter events [] None) (sym feed) (feed_same events None old well numbering (λ stop. absurd (cc)))
+
+feed_after : {P : Type 0} (events : List (Event P)) (actor : Actor) (next : Option (Given P)) (answer : FeedAnswer P) (old new : FeedState) → IsWellFormed events → old.numbering ≡ numbering_of events → (is_stop next ≡ true → old.stopped ≡ true)
+    → MatchBool (asks actor next answer.ready) (Answers answer.given old new) (new ≡ old) → FeedAfter events (asked actor next answer) (next_known actor next answer) new
+feed_after events Admit None answer old new well numbering stopped feed = feed_asked events answer.given old new well numbering feed
+feed_after events Admit (Some (given.Event event)) answer old new well numbering stopped feed = feed_there events answer.ready answer.given old new well numbering feed
+feed_after {P} events Admit (Some given.Stop) answer old new well numbering stopped feed = subst (FeedAfter events [] (Some given.Stop)) (sym feed) (feed_same events (Some given.Stop) old well numbering stopped)
 feed_after events PortLeft next answer old new well numbering stopped feed = subst (FeedAfter events [] next) (sym feed) (feed_same events next old well numbering stopped)
 feed_after events PortRight next answer old new well numbering stopped feed = subst (FeedAfter events [] next) (sym feed) (feed_same events next old well numbering stopped)
 feed_after events (Core place end) next answer old new well numbering stopped feed = subst (FeedAfter events [] next) (sym feed) (feed_same events next old well numbering stopped)
@@ -352,7 +378,7 @@ feed_after events (Collect place) next answer old new well numbering stopped fee
 
 module _ {P J : Type 0} (predicate : J → P → P → Bool) (old new : Contents P J) (actor : Actor) (same_join : new.join ≡ old.join) (before after_feed : FeedState) (goes : GoesWith predicate old before) where
   -- a step was made, and the feed answered where it was asked
-  pub goes-did : (answer : Given P) → StepsTo (predicate old.join) actor answer old.state Did new.state → Gathers actor old Did new → MatchBool (asks actor old.state.next) (Answers answer before after_feed) (after_feed ≡ before) → GoesWith predicate new after_feed
+  pub goes-did : (answer : FeedAnswer P) → StepsTo (predicate old.join) actor answer old.state Did new.state → Gathers actor old Did new → MatchBool (asks actor old.state.next answer.ready) (Answers answer.given before after_feed) (after_feed ≡ before) → GoesWith predicate new after_feed
   goes-did answer did gathers feed =
       let after_step = feed_after goes.events actor old.state.next answer before after_feed goes.well_formed goes.numbering goes.stopped feed in
       record {
@@ -366,7 +392,7 @@ module _ {P J : Type 0} (predicate : J → P → P → Bool) (old new : Contents
       }
 
   -- none was made
-  pub goes-stays : (result : Stepped) (answer : Given P) → StepsTo (predicate old.join) actor answer old.state result new.state → Gathers actor old result new → result ≢ Did → after_feed ≡ before → GoesWith predicate new after_feed
+  pub goes-stays : (result : Stepped) (answer : FeedAnswer P) → StepsTo (predicate old.join) actor answer old.state result new.state → Gathers actor old result new → result ≢ Did → after_feed ≡ before → GoesWith predicate new after_feed
   goes-stays result answer step gathers other feed = record {
     schedule = goes.schedule;
     events = goes.events;

@@ -14,7 +14,7 @@ use Rattle.hj_msg.specs.Core.{sends}
 use Rattle.hj_msg.specs.Turns.{Turn, only_at, at_left, at_right}
 use Rattle.hj_msg.specs.Driver.{DriverTurn, admission, receipt, closing, message_of, port_of}
 use Rattle.hj_msg.specs.Run.{LogEntry, close_of, at_port, port_journal}
-use Rattle.hj_chain.specs.Chain.{ChainState, Action, drives, handles, collects}
+use Rattle.hj_chain.specs.Chain.{ChainState, Action, asks, drives, handles, collects}
 use Rattle.hj_chain.specs.Reached.{History, turn_at, recorded, left_end, right_end}
 use Rattle.hj_chain.proofs.Ways.{when, same_place}
 
@@ -85,21 +85,25 @@ at_left-entries turn = ap (λ es. es ++ map (put turn.number) turn.to_left) (map
 
 -- What an action takes and puts at the left end of link k, and at its right end.
 abbrev pub left_took : {P : Type 0} → Action P → ℕ → List (Msg P)
+left_took asks k = []
 left_took (drives turn) k = when (k == 0) (took_at Left turn)
 left_took (handles place end message) k = when (k == place + 1) (only_at end Right message)
 left_took (collects place report) k = []
 
 abbrev pub left_sent : {P : Type 0} → ℕ → Action P → ℕ → List (Msg P)
+left_sent n asks k = []
 left_sent n (drives turn) k = when (k == 0) (sent_at Left turn)
 left_sent n (handles place end message) k = when (k == place + 1) (sends place n message).right
 left_sent n (collects place report) k = []
 
 abbrev pub right_took : {P : Type 0} → ℕ → Action P → ℕ → List (Msg P)
+right_took n asks k = []
 right_took n (drives turn) k = when (k == n) (took_at Right turn)
 right_took n (handles place end message) k = when (k == place) (only_at end Left message)
 right_took n (collects place report) k = []
 
 abbrev pub right_sent : {P : Type 0} → ℕ → Action P → ℕ → List (Msg P)
+right_sent n asks k = []
 right_sent n (drives turn) k = when (k == n) (sent_at Right turn)
 right_sent n (handles place end message) k = when (k == place) (sends place n message).left
 right_sent n (collects place report) k = []
@@ -124,6 +128,7 @@ module _ {P : Type 0} (matches : P → P → Bool) (chain : ChainState P) (numbe
   n = length chain.cores
 
   pub left_end-more : (action : Action P) (k : ℕ) → left_end (recorded matches chain number (Some action) history) k ≡ left_end history k ++ entries number (left_took action k) (left_sent n action k)
+  left_end-more asks k = sym (append-nil _)
   left_end-more (drives turn) zero = port_journal-push Left history.log number turn
   left_end-more (drives turn) (suc j) = no_entries (suc j == 0) number (took_at Left turn) (sent_at Left turn) (left_end history (suc j)) (eqb-suc-zero j)
   left_end-more (handles place end message) zero =
@@ -142,6 +147,7 @@ module _ {P : Type 0} (matches : P → P → Bool) (chain : ChainState P) (numbe
 
   pub right_end-more : (action : Action P) → ((place : ℕ) (end : Side) (message : Msg P) → action ≡ handles place end message → place < n) → (k : ℕ)
       → right_end n (recorded matches chain number (Some action) history) k ≡ right_end n history k ++ entries number (right_took n action k) (right_sent n action k)
+  right_end-more asks low k = sym (append-nil _)
   right_end-more (drives turn) low k = right_end-drives (k == n) turn (flat_map at_left (history.turns k))
   right_end-more (handles place end message) low k =
       let turn = turn_at matches chain number place end message in

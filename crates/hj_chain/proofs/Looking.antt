@@ -1,7 +1,8 @@
 -- Lists that are looked over from one element to the next, for those that pass a test.
-use Rattle.std.proofs.Common.{◌≡◌, ℕ, zero, suc, ◌+◌, ◌-◌, ◌<◌, ◌≤◌, Bool, true, false, cond, List, [], ◌∷◌, ◌++◌, length, take, drop, filter, Some, None, Option, refl, ap, sym, ◌∙◌, subst, arith, append-nil}
+use Rattle.std.proofs.Common.{◌≡◌, ℕ, zero, suc, ◌+◌, ◌-◌, ◌<◌, ◌≤◌, Bool, true, false, cond, List, [], ◌∷◌, ◌++◌, length, take, drop, filter, Some, None, Option, refl, ap, sym, ◌∙◌, subst, arith, append-nil, ap₂}
 use Rattle.std.specs.List.{slice_get}
 use Rattle.std.proofs.lemmas.List.Elements.{filter-append}
+use Rattle.hj_chain.specs.Serial.{from_there_on}
 
 pub take-at : {X : Type 0} (xs : List X) (i : ℕ) (x : X) → slice_get xs i ≡ Some x → (j : ℕ) → j ≡ i + 1 → take j xs ≡ take i xs ++ x ∷ []
 take-at [] i x is j next = absurd (cc)
@@ -22,6 +23,14 @@ at-dropped xs zero i j is = ap (slice_get xs) (omega (arith, is))
 at-dropped [] (suc from) i j is = refl
 at-dropped (x ∷ xs) (suc from) zero j is = absurd (omega (arith, is))
 at-dropped (x ∷ xs) (suc from) (suc i) j is = at-dropped xs from i j (omega (arith, is))
+
+-- without its first element, a list from a place on, all the way round
+pub turned : {X : Type 0} (x : X) (xs : List X) (place from : ℕ) → from ≡ (place - 1) + 1 → drop from (x ∷ xs) ++ take (from - 1) (drop 1 (x ∷ xs)) ≡ from_there_on (place - 1) xs
+turned x xs place zero is = absurd (omega (arith, is))
+turned {X} x xs place (suc from) is =
+    let same : from ≡ place - 1 = omega (arith, is) in
+    let less : suc from - 1 ≡ place - 1 = omega (arith, is) in
+    ap₂ (λ (j k : ℕ). drop j xs ++ take k xs) same less
 
 pub sub-zero : (i : ℕ) → i - 0 ≡ i
 sub-zero i = omega arith

@@ -15,7 +15,7 @@ use Rattle.hj_msg.specs.declared.message.Report.{Report}
 use Rattle.hj_msg.specs.Turns.{Turn, at_reports}
 use Rattle.hj_msg.specs.Run.{LogEntry}
 use Rattle.hj_chain.specs.declared.actor.Actor.{Actor}
-use Rattle.hj_chain.specs.Chain.{ChainState, Action, drives, handles, collects, after_action, empty_chain}
+use Rattle.hj_chain.specs.Chain.{FeedAnswer, ChainState, Action, asks, drives, handles, collects, after_action, empty_chain}
 use Rattle.hj_chain.specs.Reached.{Reached, History, no_history, recorded, history_of, events_of, turn_at, left_end, right_end}
 use Rattle.hj_chain.proofs.Doing.{Doing, taken_by}
 use Rattle.hj_chain.proofs.Shape.{Shape}
@@ -122,7 +122,7 @@ module _ {P : Type 0} (matches : P → P → Bool) (n most : ℕ) where
   abbrev Kept : ℕ → List (Event P) → ChainState P → History P → Type 0
   Kept number events chain history = Numbered n number history
 
-  begin : (first : Given P) → Kept 0 (events_of first) (empty_chain n most first) no_history
+  begin : (first : Given P) → Kept 0 (events_of (Some first)) (empty_chain n most first) no_history
   begin first = record {
     log = rises-nothing;
     turns = λ k. rises-nothing;
@@ -143,9 +143,17 @@ module _ {P : Type 0} (matches : P → P → Bool) (n most : ℕ) where
       (earlier-more number (right_end c history k) _ (right_took c action k) (right_sent c action k) (subst (λ (m : ℕ). Earlier number (right_end m history k)) (sym shape.cores) old)
       (right_end-more matches chain number history action (in_chain chain action doing) k))
 
-  step : (number : ℕ) (events : List (Event P)) (chain : ChainState P) (history : History P) (action : Action P) (answer : Given P)
+  step : (number : ℕ) (events : List (Event P)) (chain : ChainState P) (history : History P) (action : Action P) (answer : FeedAnswer P)
       → Shape n most chain → Doing chain action → Kept number events chain history
       → Kept (suc number) (events ++ taken_by action answer) (after_action matches chain (Some action) answer) (recorded matches chain number (Some action) history)
+  step number events chain history asks answer shape doing old = record {
+    log = rises-later number _ old.log;
+    turns = λ k. rises-later number _ (old.turns k);
+    left = λ k. still number _ (old.left k);
+    right = λ k. still number _ (old.right k);
+    sender = λ k. still number _ (old.sender k);
+    receiver = λ k. still number _ (old.receiver k);
+  }
   step number events chain history (drives turn) answer shape doing old = record {
     log = subst (Rises (suc number)) (sym (map-append (λ (e : LogEntry P). e.number) history.log (record { number = number; turn = turn } ∷ []))) (rises-push number _ old.log);
     turns = λ k. rises-later number _ (old.turns k);

@@ -3,6 +3,7 @@ use Rattle.std.proofs.Common.{◌≡◌, ℕ, suc, ◌+◌, ◌<◌, ◌≤◌, 
 use Rattle.std.specs.List.{fold}
 use Rattle.hj_msg.specs.declared.event.Event.{Event}
 use Rattle.hj_msg.specs.declared.feed.Given.{Given}
+use Rattle.hj_msg.specs.declared.feed.Given.TheVariants as given
 use Rattle.hj_msg.specs.declared.message.Msg.{Msg}
 use Rattle.hj_msg.specs.declared.message.Msg.TheVariants.{CloseL}
 use Rattle.hj_msg.specs.Core as core
@@ -13,13 +14,13 @@ use Rattle.hj_driver.specs.Driver.{DriverState, count_of, is_sent}
 use Rattle.hj_driver.proofs.ComingOut.{no_cause}
 use Rattle.hj_driver.proofs.MayClose.{may_close}
 use Rattle.hj_chain.specs.declared.actor.Actor.{Actor}
-use Rattle.hj_chain.specs.Chain.{ChainState, Action, after_action, empty_chain}
+use Rattle.hj_chain.specs.Chain.{FeedAnswer, ChainState, Action, after_action, empty_chain}
 use Rattle.hj_chain.specs.Reached.{Reached, History, no_history, recorded, history_of, events_of}
 use Rattle.hj_chain.proofs.Balance.{is_waiting}
 use Rattle.hj_chain.proofs.Carrying.{rights, lefts}
 use Rattle.hj_chain.proofs.Counts.{count}
 use Rattle.hj_chain.proofs.Directed.{directed}
-use Rattle.hj_chain.proofs.Doing.{Doing, admits, shuts, receives, works, gathers, taken_by}
+use Rattle.hj_chain.proofs.Doing.{Doing, admits, shuts, receives, works, gathers, taken_by, inquires}
 use Rattle.hj_chain.proofs.Driving.{closes-put, sent-take, count-take}
 use Rattle.hj_chain.proofs.Induction.{by_steps}
 use Rattle.hj_chain.proofs.MessageKinds.{a_CloseL, a_CloseR, right_kinds, left_kinds, CloseL_right, CloseR_left}
@@ -38,12 +39,13 @@ module _ {P : Type 0} (matches : P → P → Bool) (n most : ℕ) where
   abbrev Kept : ℕ → List (Event P) → ChainState P → History P → Type 0
   Kept number events chain history = AreGone chain.driver
 
-  begin : (first : Given P) → Kept 0 (events_of first) (empty_chain n most first) no_history
+  begin : (first : Given P) → Kept 0 (events_of (Some first)) (empty_chain n most first) no_history
   begin first sent = refl
 
-  step : (number : ℕ) (events : List (Event P)) (chain : ChainState P) (history : History P) (action : Action P) (answer : Given P)
+  step : (number : ℕ) (events : List (Event P)) (chain : ChainState P) (history : History P) (action : Action P) (answer : FeedAnswer P)
       → Shape n most chain → Doing chain action → Kept number events chain history
       → Kept (suc number) (events ++ taken_by action answer) (after_action matches chain (Some action) answer) (recorded matches chain number (Some action) history)
+  step number events chain history action answer shape (inquires is) old sent = old sent
   step number events chain history action answer shape (admits event is free) old sent =
       absurd (true≢false (sym sent ∙ ap is_sent (closes-put event chain.driver) ∙ (no_cause event chain.driver free).unsent))
   step number events chain history action answer shape (shuts is free) old sent = (may_close chain.driver free).1
@@ -51,6 +53,24 @@ module _ {P : Type 0} (matches : P → P → Bool) (n most : ℕ) where
       omega (arith, count-take port message chain.driver, old (sym (sent-take port message chain.driver.closes) ∙ sent))
   step number events chain history action answer shape (works place end message rest low is room) old sent = old sent
   step number events chain history action answer shape (gathers place report rest low is) old sent = old sent
+
+  -- nor is any to come
+  abbrev Last : ℕ → List (Event P) → ChainState P → History P → Type 0
+  Last number events chain history = is_sent chain.driver.closes ≡ true → chain.next ≡ Some given.Stop
+
+  last-step : (number : ℕ) (events : List (Event P)) (chain : ChainState P) (history : History P) (action : Action P) (answer : FeedAnswer P)
+      → Shape n most chain → Doing chain action → Last number events chain history
+      → Last (suc number) (events ++ taken_by action answer) (after_action matches chain (Some action) answer) (recorded matches chain number (Some action) history)
+  last-step number events chain history action answer shape (inquires is) old sent = absurd (cc (old sent, is))
+  last-step number events chain history action answer shape (admits event is free) old sent =
+      absurd (true≢false (sym sent ∙ ap is_sent (closes-put event chain.driver) ∙ (no_cause event chain.driver free).unsent))
+  last-step number events chain history action answer shape (shuts is free) old sent = is
+  last-step number events chain history action answer shape (receives port message rest is) old sent = old (sym (sent-take port message chain.driver.closes) ∙ sent)
+  last-step number events chain history action answer shape (works place end message rest low is room) old sent = old sent
+  last-step number events chain history action answer shape (gathers place report rest low is) old sent = old sent
+
+  pub none_to_come : {schedule : List Actor} {events : List (Event P)} {chain : ChainState P} → Reached matches n most schedule events chain → is_sent chain.driver.closes ≡ true → chain.next ≡ Some given.Stop
+  none_to_come reached = by_steps matches n most Last (λ first sent. absurd (true≢false (sym sent))) last-step reached
 
   none_outstanding : {schedule : List Actor} {events : List (Event P)} {chain : ChainState P} → Reached matches n most schedule events chain → AreGone chain.driver
   none_outstanding reached = by_steps matches n most Kept begin step reached

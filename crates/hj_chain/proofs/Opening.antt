@@ -33,7 +33,7 @@ use Rattle.hj_chain.specs.declared.actor.Stepped.{Stepped}
 use Rattle.hj_chain.specs.declared.actor.Stepped.TheVariants.{Did, NotEnabled, Memory}
 use Rattle.hj_chain.specs.Links.{changed_at, link_at, at_port, put_in, take_out, incoming, take_in, send_out, put_rightwards, HasRoomAt}
 use Rattle.hj_chain.specs.Reports.{queue_at}
-use Rattle.hj_chain.specs.Chain.{ChainState, Contents, first, closing_cause, capacity}
+use Rattle.hj_chain.specs.Chain.{FeedAnswer, ChainState, Contents, first, closing_cause, capacity}
 use Rattle.hj_chain.specs.Reached.{collected_of}
 use Rattle.hj_chain.specs.Steps.{IsGoing, StepsTo, at_port as actor_at}
 use Rattle.hj_chain.proofs.Ways.{length-take_in, length-put_in, lefts-put_right}
@@ -42,6 +42,7 @@ use Rattle.hj_chain.proofs.Goings.{cause-going}
 use Rattle.hj_chain.proofs.Drivers.{took-state}
 use Rattle.hj_chain.proofs.Standing.{Stands, stands, first-none, first-some, log, driving, fits_both, fits_one}
 use Rattle.hj_chain.proofs.Stepping.{close-waits, close-did, receive-waits, receive-did, take_out-empty, turn-enabled, turn-action, turn-no_memory, turn-did, collect-empty, collect-no_memory, collect-did}
+use Rattle.hj_chain.proofs.Advancing.{unheard}
 
 -- one queue that changes, with the rest of a chain
 same_links : {P : Type 0} (chain : ChainState P) (links : List (Queues (Msg P))) → links ≡ chain.links → record chain { links = links } ≡ chain
@@ -76,7 +77,7 @@ module _ {P J : Type 0} (predicate : J → P → P → Bool) (opened now : Conte
   known : Stands chain
   known = stands predicate opened going_on
 
-  moved : (actor : Actor) (answer : Given P) (result : Stepped) (new : ChainState P) → StepsTo matches actor answer chain result new → StepsTo (predicate now.join) actor answer now.state result new
+  moved : (actor : Actor) (answer : FeedAnswer P) (result : Stepped) (new : ChainState P) → StepsTo matches actor answer chain result new → StepsTo (predicate now.join) actor answer now.state result new
   moved actor answer result new step = subst (λ (c : Contents P J). StepsTo (predicate c.join) actor answer c.state result new) is step
 
   -- places are in range
@@ -90,11 +91,11 @@ module _ {P J : Type 0} (predicate : J → P → P → Bool) (opened now : Conte
   in_reports place low = omega (arith, known.reports, low)
 
   -- closes
-  pub closing-waits : (answer : Given P) (why : NotNow) (new : ChainState P) → now.state.next ≡ given.Stop → closing_cause (closing_of chain.driver) ≡ Some why → new ≡ chain → StepsTo (predicate now.join) Admit answer now.state (NotEnabled why) new
+  pub closing-waits : (answer : FeedAnswer P) (why : NotNow) (new : ChainState P) → now.state.next ≡ Some given.Stop → closing_cause (closing_of chain.driver) ≡ Some why → new ≡ chain → StepsTo (predicate now.join) Admit answer now.state (NotEnabled why) new
   closing-waits answer why new next waits same =
       moved Admit answer (NotEnabled why) new (close-waits matches chain known.going answer why new (ap (λ (c : Contents P J). c.state.next) is ∙ next) waits same)
 
-  pub closing-did : (answer : Given P) (new : ChainState P) → now.state.next ≡ given.Stop → closing_of chain.driver ≡ closes_as.Send
+  pub closing-did : (answer : FeedAnswer P) (new : ChainState P) → now.state.next ≡ Some given.Stop → closing_of chain.driver ≡ closes_as.Send
       → new ≡ record chain { driver = closed chain.driver; links = put_in Right n CloseR (put_in Left n CloseL chain.links) } → StepsTo (predicate now.join) Admit answer now.state Did new
   closing-did answer new next sends made = moved Admit answer Did new (close-did matches chain known.going answer new (ap (λ (c : Contents P J). c.state.next) is ∙ next) sends made)
 
@@ -121,14 +122,14 @@ module _ {P J : Type 0} (predicate : J → P → P → Bool) (opened now : Conte
   still_in_links count links all made = omega (arith, known.links, all, ap length made, length-put_in Left count (let m : Msg P = CloseL in m) chain.links)
 
   -- a message that comes out
-  pub receiving-waits : (answer : Given P) (port : Side) (count : ℕ) (links : List (Queues (Msg P))) → count ≡ n → first (at_port port count chain.links) ≡ None → links ≡ take_out port count chain.links
+  pub receiving-waits : (answer : FeedAnswer P) (port : Side) (count : ℕ) (links : List (Queues (Msg P))) → count ≡ n → first (at_port port count chain.links) ≡ None → links ≡ take_out port count chain.links
       → StepsTo (predicate now.join) (actor_at port) answer now.state (NotEnabled Empty) (record chain { links = links })
   receiving-waits answer port count links all none taken =
       let nothing : first (at_port port n chain.links) ≡ None = ap (λ (m : ℕ). first (at_port port m chain.links)) (sym all) ∙ none in
       let same : links ≡ chain.links = taken ∙ ap (λ (m : ℕ). take_out port m chain.links) all ∙ take_out-empty port n chain.links nothing in
       moved (actor_at port) answer (NotEnabled Empty) (record chain { links = links }) (receive-waits matches chain known.going answer port (record chain { links = links }) nothing (same_links chain links same))
 
-  pub receiving-did : (answer : Given P) (port : Side) (count : ℕ) (message : Msg P) (links : List (Queues (Msg P))) (driver : DriverState) (new : ChainState P) → count ≡ n
+  pub receiving-did : (answer : FeedAnswer P) (port : Side) (count : ℕ) (message : Msg P) (links : List (Queues (Msg P))) (driver : DriverState) (new : ChainState P) → count ≡ n
       → first (at_port port count chain.links) ≡ Some message → links ≡ take_out port count chain.links
       → ((l : List (DriverTurn P)) → StandsFor chain.driver l → StandsFor driver (l ++ receipt port message ∷ [])) → driver.flight ≡ chain.driver.flight
       → new ≡ record chain { driver = driver; links = links } → StepsTo (predicate now.join) (actor_at port) answer now.state Did new
@@ -141,19 +142,19 @@ module _ {P J : Type 0} (predicate : J → P → P → Bool) (opened now : Conte
       (made ∙ ap₂ (λ (d : DriverState) (ls : List (Queues (Msg P))). record chain { driver = d; links = ls }) driver_is links_are))
 
   -- a report that is collected
-  pub collecting-empty : (answer : Given P) (place : CoreNo) (at : ℕ) → at ≡ place.0 → at < n → first (queue_at chain.reports at) ≡ None → StepsTo (predicate now.join) (Collect place) answer now.state (NotEnabled Empty) chain
+  pub collecting-empty : (answer : FeedAnswer P) (place : CoreNo) (at : ℕ) → at ≡ place.0 → at < n → first (queue_at chain.reports at) ≡ None → StepsTo (predicate now.join) (Collect place) answer now.state (NotEnabled Empty) chain
   collecting-empty answer place at is_at low none =
       moved (Collect place) answer (NotEnabled Empty) chain
       (collect-empty matches chain known.going answer place chain (omega (arith, is_at, low)) (first-none (queue_at chain.reports place.0) (ap (λ (m : ℕ). first (queue_at chain.reports m)) (sym is_at) ∙ none)) refl)
 
-  pub collecting-no_memory : (answer : Given P) (place : CoreNo) (at : ℕ) (report : Report P) → at ≡ place.0 → at < n → first (queue_at chain.reports at) ≡ Some report
+  pub collecting-no_memory : (answer : FeedAnswer P) (place : CoreNo) (at : ℕ) (report : Report P) → at ≡ place.0 → at < n → first (queue_at chain.reports at) ≡ Some report
       → StepsTo (predicate now.join) (Collect place) answer now.state Memory (record chain { over = true })
   collecting-no_memory answer place at report is_at low some =
       let found = first-some (queue_at chain.reports place.0) report (ap (λ (m : ℕ). first (queue_at chain.reports m)) (sym is_at) ∙ some) in
       moved (Collect place) answer Memory (record chain { over = true })
       (collect-no_memory matches chain known.going answer place report found.0 (record chain { over = true }) (omega (arith, is_at, low)) found.1 refl)
 
-  pub collecting-did : (answer : Given P) (place : CoreNo) (at : ℕ) (report : Report P) (reports : List (List (Report P))) → at ≡ place.0 → at < n → first (queue_at chain.reports at) ≡ Some report
+  pub collecting-did : (answer : FeedAnswer P) (place : CoreNo) (at : ℕ) (report : Report P) (reports : List (List (Report P))) → at ≡ place.0 → at < n → first (queue_at chain.reports at) ≡ Some report
       → reports ≡ changed_at at (drop 1) chain.reports → StepsTo (predicate now.join) (Collect place) answer now.state Did (record chain { reports = reports })
   collecting-did answer place at report reports is_at low some taken =
       let new : ChainState P = record chain { reports = reports } in
@@ -173,7 +174,7 @@ module _ {P J : Type 0} (predicate : J → P → P → Bool) (opened now : Conte
       (subst (λ (o : Option (Report P)). IfSome o (λ r. (collector ≡ after_report place r opened.collector) × IsPermutation (opened.kept ++ pairs_of r) kept)) (sym here) (noted, added))
 
   -- a message that a core handles
-  named : (actor : CoreNo → Actor) (place : CoreNo) (at : ℕ) (answer : Given P) (result : Stepped) (new : ChainState P) → at ≡ place.0 → StepsTo matches (actor (record { 0 = at })) answer chain result new
+  named : (actor : CoreNo → Actor) (place : CoreNo) (at : ℕ) (answer : FeedAnswer P) (result : Stepped) (new : ChainState P) → at ≡ place.0 → StepsTo matches (actor (record { 0 = at })) answer chain result new
       → StepsTo (predicate now.join) (actor place) answer now.state result new
   named actor place at answer result new is_at step = moved (actor place) answer result new (subst (λ (m : ℕ). StepsTo matches (actor (record { 0 = m })) answer chain result new) is_at step)
 
@@ -196,20 +197,20 @@ module _ {P J : Type 0} (predicate : J → P → P → Bool) (opened now : Conte
     pub turning-room_right : (links : List (Queues (Msg P))) (to : core.Sends P) → links ≡ take_in end at chain.links → to ≡ core.sends at n message
         → length (link_at links (at + 1)).rightwards + length to.right ≤ (link_at links (at + 1)).capacity
     turning-room_right links to taken is_to =
-        let enabled = cause-going chain (Core (record { 0 = at }) end) known.going ∙ turn-enabled matches chain known.going given.Stop (record { 0 = at }) end message low some not_full in
-        let action = turn-action matches chain known.going given.Stop (record { 0 = at }) end message some in
+        let enabled = cause-going chain (Core (record { 0 = at }) end) known.going ∙ turn-enabled matches chain known.going (unheard false) (record { 0 = at }) end message low some not_full in
+        let action = turn-action matches chain known.going (unheard false) (record { 0 = at }) end message some in
         subst (λ (ls : List (Queues (Msg P))). length (link_at ls (at + 1)).rightwards + length to.right ≤ (link_at ls (at + 1)).capacity) (sym taken)
         (subst (λ (s : core.Sends P). length (link_at (take_in end at chain.links) (at + 1)).rightwards + length s.right ≤ (link_at (take_in end at chain.links) (at + 1)).capacity) (sym is_to)
-        (fits_both predicate opened going_on (record { 0 = at }) end message given.Stop enabled action low))
+        (fits_both predicate opened going_on (record { 0 = at }) end message (unheard false) enabled action low))
 
-    pub turning-no_memory : (answer : Given P) (place : CoreNo) (cores : List (core.State P)) → at ≡ place.0 → cores ≡ chain.cores
+    pub turning-no_memory : (answer : FeedAnswer P) (place : CoreNo) (cores : List (core.State P)) → at ≡ place.0 → cores ≡ chain.cores
         → StepsTo (predicate now.join) (Core place end) answer now.state Memory (record chain { cores = cores; over = true })
     turning-no_memory answer place cores is_at same =
         named (λ p. Core p end) place at answer Memory (record chain { cores = cores; over = true }) is_at
         (turn-no_memory matches chain known.going answer (record { 0 = at }) end message (record chain { cores = cores; over = true }) low some not_full
         (ap (λ (cs : List (core.State P)). record chain { cores = cs; over = true }) same))
 
-    pub turning-did : (answer : Given P) (place : CoreNo) (links : List (Queues (Msg P))) (cores : List (core.State P)) (reports : List (List (Report P))) → at ≡ place.0
+    pub turning-did : (answer : FeedAnswer P) (place : CoreNo) (links : List (Queues (Msg P))) (cores : List (core.State P)) (reports : List (List (Report P))) → at ≡ place.0
         → links ≡ send_out at (core.sends at n message).left (core.sends at n message).right (take_in end at chain.links)
         → cores ≡ changed_at at (λ state. core.after at n state message) chain.cores
         → reports ≡ changed_at at (λ queue. queue ++ option_to_list (core.report matches (get_or chain.cores at core.empty_state) message)) chain.reports

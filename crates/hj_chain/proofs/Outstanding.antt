@@ -8,19 +8,20 @@ use Rattle.hj_msg.proofs.Numbered.{front_is_well_formed}
 use Rattle.hj_driver.proofs.ComingOut.{is_new}
 use Rattle.hj_driver.proofs.MayClose.{may_close}
 use Rattle.hj_chain.specs.declared.actor.Actor.{Actor}
-use Rattle.hj_chain.specs.Chain.{ChainState, Action, after_action}
+use Rattle.hj_chain.specs.Chain.{FeedAnswer, ChainState, Action, after_action}
 use Rattle.hj_chain.specs.Reached.{Reached, begins, steps, History, recorded, history_of, events_of, asked}
-use Rattle.hj_chain.proofs.Doing.{Doing, Deed, deed, admits, shuts, receives, works, gathers}
+use Rattle.hj_chain.proofs.Doing.{Doing, Deed, deed, inquires, admits, shuts, receives, works, gathers}
 use Rattle.hj_chain.proofs.Shape.{shape}
 use Rattle.hj_chain.proofs.Driving.{Driven, driven, turns_of}
 use Rattle.hj_chain.proofs.Balance.{Balanced, balanced-begin, balanced-admission, balanced-closing, balanced-receipt}
 
 module _ {P : Type 0} (matches : P → P → Bool) (n most : ℕ) where
-  balanced-step : (number : ℕ) (events : List (Event P)) (chain : ChainState P) (history : History P) (action : Action P) (answer : Given P) → Doing chain action
+  balanced-step : (number : ℕ) (events : List (Event P)) (chain : ChainState P) (history : History P) (action : Action P) (answer : FeedAnswer P) → Doing chain action
       → Driven events chain (turns_of history.log) → IsWellFormed events → Balanced chain.driver history.log
       → Balanced (after_action matches chain (Some action) answer).driver (recorded matches chain number (Some action) history).log
+  balanced-step number events chain history action answer (inquires is) driving well old = old
   balanced-step number events chain history action answer (admits event next free) driving well old =
-      let now : events ≡ admitted (turns_of history.log) ++ event ∷ [] = driving.events_are ∙ ap (λ (g : Given P). admitted (turns_of history.log) ++ events_of g) next in
+      let now : events ≡ admitted (turns_of history.log) ++ event ∷ [] = driving.events_are ∙ ap (λ (g : Option (Given P)). admitted (turns_of history.log) ++ events_of g) next in
       balanced-admission chain.driver history.log number old event (is_new event chain.driver (turns_of history.log) driving.stands (subst IsWellFormed now well))
   balanced-step number events chain history action answer (shuts next free) driving well old = balanced-closing chain.driver history.log number old (may_close chain.driver free).0
   balanced-step number events chain history action answer (receives port message rest is) driving well old = balanced-receipt chain.driver history.log number old port message

@@ -12,9 +12,9 @@ use Rattle.hj_msg.specs.Driver.{message_of, port_of}
 use Rattle.hj_driver.specs.Driver.{DriverState, new_driver, after_put, after_take, closed}
 use Rattle.hj_chain.specs.declared.actor.Actor.{Actor}
 use Rattle.hj_chain.specs.Links.{changed_at}
-use Rattle.hj_chain.specs.Chain.{ChainState, Action, after_action, empty_chain}
+use Rattle.hj_chain.specs.Chain.{FeedAnswer, ChainState, Action, after_action, empty_chain}
 use Rattle.hj_chain.specs.Reached.{Reached, History, no_history, recorded, events_of}
-use Rattle.hj_chain.proofs.Doing.{Doing, admits, shuts, receives, works, gathers, taken_by}
+use Rattle.hj_chain.proofs.Doing.{Doing, admits, shuts, receives, works, gathers, taken_by, inquires}
 use Rattle.hj_chain.proofs.Induction.{by_steps}
 use Rattle.hj_chain.proofs.Shape.{Shape, links-length}
 use Rattle.hj_chain.proofs.Totals.{sum_of}
@@ -46,8 +46,9 @@ module _ {P : Type 0} (weights : Weights (Msg P)) (owed : DriverState → List (
   abbrev Carried : ChainState P → Type 0
   Carried chain = owed chain.driver chain.cores ≤ load weights chain.links
 
-  owed-step : (matches : P → P → Bool) (chain : ChainState P) (answer : Given P) → Owes (length chain.cores) weights owed → length chain.links ≡ length chain.cores + 1
+  owed-step : (matches : P → P → Bool) (chain : ChainState P) (answer : FeedAnswer P) → Owes (length chain.cores) weights owed → length chain.links ≡ length chain.cores + 1
       → (action : Action P) → Doing chain action → Carried chain → Carried (after_action matches chain (Some action) answer)
+  owed-step matches chain answer owes all action (inquires is) old = old
   owed-step matches chain answer owes all action (admits event is free) old =
       omega (arith, old, load-put_in weights (length chain.cores) chain.links all (port_of event) (message_of event), owes.putting event chain.driver chain.cores)
   owed-step matches chain answer owes all action (shuts is free) old =
@@ -63,10 +64,10 @@ module _ {P : Type 0} (weights : Weights (Msg P)) (owed : DriverState → List (
     abbrev Kept : ℕ → List (Event P) → ChainState P → History P → Type 0
     Kept number events chain history = Carried chain
 
-    begin : (first : Given P) → Kept 0 (events_of first) (empty_chain n most first) no_history
+    begin : (first : Given P) → Kept 0 (events_of (Some first)) (empty_chain n most first) no_history
     begin first = omega (arith, owes.beginning most)
 
-    step : (number : ℕ) (events : List (Event P)) (chain : ChainState P) (history : History P) (action : Action P) (answer : Given P)
+    step : (number : ℕ) (events : List (Event P)) (chain : ChainState P) (history : History P) (action : Action P) (answer : FeedAnswer P)
         → Shape n most chain → Doing chain action → Kept number events chain history
         → Kept (suc number) (events ++ taken_by action answer) (after_action matches chain (Some action) answer) (recorded matches chain number (Some action) history)
     step number events chain history action answer shape doing old =

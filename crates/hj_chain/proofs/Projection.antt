@@ -1,5 +1,5 @@
 -- The steps of a chain give a run.
-use Rattle.std.proofs.Common.{◌≡◌, ℕ, ◌+◌, ◌*◌, ◌<◌, ◌≤◌, Bool, true, cond, List, [], ◌∷◌, ◌++◌, length, map, None, refl, ap, sym, ◌∙◌, subst, arith, append-nil, add-one, length-append, eq-eqb}
+use Rattle.std.proofs.Common.{◌≡◌, ℕ, ◌+◌, ◌*◌, ◌<◌, ◌≤◌, Bool, true, cond, List, [], ◌∷◌, ◌++◌, length, map, None, refl, ap, sym, ◌∙◌, subst, arith, append-nil, add-one, length-append, eq-eqb, Option}
 use Rattle.std.specs.List.{flat_map, list_any}
 use Rattle.std.specs.List.Sorted.{IsStrictlyIncreasing}
 use Rattle.std.proofs.lemmas.Bool.{ne_eqb}
@@ -25,6 +25,7 @@ use Rattle.hj_chain.proofs.Numbers.{Numbered, numbered}
 use Rattle.hj_chain.proofs.Turning.{turned}
 use Rattle.hj_chain.proofs.Room.{has_room}
 use Rattle.hj_chain.proofs.Gathered.{one-each, collected-at}
+use Rattle.hj_msg.specs.declared.feed.Given.{Given}
 
 has_closing : {P : Type 0} (earlier later : List (DriverTurn P)) → list_any is_closing (earlier ++ closing ∷ later) ≡ true
 has_closing [] later = refl
@@ -34,7 +35,7 @@ has_closing (closing ∷ earlier) later = refl
 
 -- the log is lawful over all events that were taken from the feed
 lawful : {P : Type 0} (events : List (Event P)) (chain : ChainState P) (log : List (DriverTurn P)) (most : ℕ) → chain.driver.flight ≡ most → Driven events chain log → IsLawful most events log
-lawful events chain log most same d =
+lawful {P} events chain log most same d =
     let law : IsLawful most (admitted log) log = subst (λ (f : ℕ). IsLawful f (admitted log) log) same d.stands.lawful in
     record {
       in_order = record { rest = events_of chain.next; is = d.events_are };
@@ -44,7 +45,7 @@ lawful events chain log most same d =
           let last = law.closes earlier later is in
           let sent : is_sent chain.driver.closes ≡ true = ap is_sent d.stands.closes ∙ is_sent-closes_of log ∙ ap (list_any is_closing) is ∙ has_closing earlier later in
           record {
-            all = last.all ∙ sym (d.events_are ∙ ap (λ es. admitted log ++ es) (d.last sent) ∙ append-nil (admitted log));
+            all = last.all ∙ sym (d.events_are ∙ ap (λ (g : Option (Given P)). admitted log ++ events_of g) (d.last sent) ∙ append-nil (admitted log));
             none_outstanding = last.none_outstanding;
             once = last.once;
           };

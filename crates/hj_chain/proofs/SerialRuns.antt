@@ -31,7 +31,7 @@ use Rattle.hj_chain.specs.declared.serial.Chooser.{Chooser}
 use Rattle.hj_chain.specs.declared.serial.Chooser.TheVariants as chooser
 use Rattle.hj_chain.specs.declared.serial.Fin.{Fin}
 use Rattle.hj_chain.specs.declared.serial.Fin.TheVariants as fin
-use Rattle.hj_chain.specs.Chain.{ChainState, Contents, Action, action_of, after_action, cause}
+use Rattle.hj_chain.specs.Chain.{FeedAnswer, ChainState, Contents, Action, action_of, after_action, cause}
 use Rattle.hj_chain.specs.Progress.{IsDone}
 use Rattle.hj_chain.specs.Reached.{Reached, steps, StandsFor, asked, collected_of, events_of, next_pair}
 use Rattle.hj_chain.specs.Serial.{Choosing, IsWithin, MakesSteps, begins, goes_on, runs_out, Releases, RunsSerially, chosen, choosing_after, first_choosing, Ends}
@@ -45,9 +45,10 @@ use Rattle.hj_chain.proofs.Emissions.{within}
 use Rattle.hj_chain.proofs.FewSteps.{fewer-come, to_come}
 use Rattle.hj_chain.proofs.Gathered.{told}
 use Rattle.hj_chain.proofs.Giving.{gives-none}
-use Rattle.hj_chain.proofs.Goings.{Sound, Stood, emits-next, enabled_going, next-of, reached-state, sound-goes, stood-did, stood-over}
+use Rattle.hj_chain.proofs.Goings.{Sound, Stood, emits-next, enabled_going, next-of, reached-state, sound-goes, stood-did, stood-over, next_known}
 use Rattle.hj_chain.proofs.Shape.{Shape, links-length, shape}
 use Rattle.hj_chain.proofs.Stuck.{finished-sent, stuck_is_done}
+use Rattle.std.specs.Option.{IfSome}
 
 -- ---- the pairs
 
@@ -114,17 +115,17 @@ goes-push {F = F} gives from mid to [] answer goes gave = (to, subst (λ (f : F)
 goes-push gives from mid to (a ∷ answers) answer goes gave = (goes.0, goes.1, goes-push gives goes.0 mid to answers answer goes.2 gave)
 
 -- The feed went over these events. Where one is to come, it didn't stop.
-pub record Fed {P F : Type 0} (gives : F → Given P → F → Type 0) (from : F) (taken : List (Event P)) (next : Given P) (to : F) : Type 0 where
+pub record Fed {P F : Type 0} (gives : F → Given P → F → Type 0) (from : F) (taken : List (Event P)) (next : Option (Given P)) (to : F) : Type 0 where
   pub over : GoesOver gives from taken to
   pub going : is_stop next ≡ false → GoesOverAnswers gives from (map given.Event taken) to
 
 module _ {P F : Type 0} (gives : F → Given P → F → Type 0) (from mid to : F) (taken : List (Event P)) where
-  unfed : (next : Given P) → to ≡ mid → Fed gives from taken next mid → Fed gives from (taken ++ []) next to
+  unfed : (next : Option (Given P)) → to ≡ mid → Fed gives from taken next mid → Fed gives from (taken ++ []) next to
   unfed next same fed =
       subst (λ (f : F). Fed gives from (taken ++ []) next f) (sym same) (subst (λ (es : List (Event P)). Fed gives from es next mid) (sym (append-nil taken)) fed)
 
-  fed-more : (actor : Actor) (next answer : Given P) → MatchBool (asks actor next) (gives mid answer to) (to ≡ mid) → Fed gives from taken next mid → Fed gives from (taken ++ asked actor next answer) (cond (asks actor next) answer next) to
-  fed-more Admit (given.Event event) (given.Event other) gave fed =
+  one-more : (ready : Bool) (answer : Given P) → MatchBool ready (gives mid answer to) (to ≡ mid) → Fed gives from taken None mid → Fed gives from (taken ++ events_of (cond ready (Some answer) None)) (cond ready (Some answer) None) to
+  one-more true (given.Event other) gave fed =
       let longer : map given.Event (taken ++ other ∷ []) ≡ map given.Event taken ++ given.Event other ∷ [] = map-both given.Event taken (other ∷ []) in
       let goes : GoesOverAnswers gives from (map given.Event (taken ++ other ∷ [])) to =
       subst (λ (l : List (Given P)). GoesOverAnswers gives from l to) (sym longer) (goes-push gives from mid to (map given.Event taken) (given.Event other) (fed.going refl) gave) in
@@ -132,7 +133,7 @@ module _ {P F : Type 0} (gives : F → Given P → F → Type 0) (from mid to : 
         over = record { stops = 0; answers = subst (λ (l : List (Given P)). GoesOverAnswers gives from l to) (sym (append-nil (map given.Event (taken ++ other ∷ [])))) goes };
         going = λ comes. goes;
       }
-  fed-more Admit (given.Event event) given.Stop gave fed =
+  one-more true given.Stop gave fed =
       record {
         over = record {
           stops = 1;
@@ -142,7 +143,13 @@ module _ {P F : Type 0} (gives : F → Given P → F → Type 0) (from mid to : 
         };
         going = λ comes. absurd (true≢false comes);
       }
-  fed-more Admit given.Stop answer gave fed = unfed given.Stop gave fed
+  one-more false answer gave fed = unfed None gave fed
+
+  fed-more : (actor : Actor) (next : Option (Given P)) (answer : FeedAnswer P) → MatchBool (asks actor next answer.ready) (gives mid answer.given to) (to ≡ mid) → Fed gives from taken next mid
+      → Fed gives from (taken ++ asked actor next answer) (next_known actor next answer) to
+  fed-more Admit None answer gave fed = one-more true answer.given gave fed
+  fed-more Admit (Some (given.Event event)) answer gave fed = one-more answer.ready answer.given gave (record { over = fed.over; going = λ comes. fed.going refl })
+  fed-more Admit (Some given.Stop) answer gave fed = unfed (Some given.Stop) gave fed
   fed-more PortLeft next answer gave fed = unfed next gave fed
   fed-more PortRight next answer gave fed = unfed next gave fed
   fed-more (Core place end) next answer gave fed = unfed next gave fed
@@ -195,18 +202,14 @@ still-settled {P} old new actor gathers other settled pair kept = by (same actor
     by : (new.collector ≡ old.collector) × (new.kept ≡ old.kept) → is_within (least_mark new.collector) (later pair) ≡ false
     by are = ap (λ (c : CollectorState). is_within (least_mark c) (later pair)) are.0 ∙ settled pair (subst (λ (pairs : List (Pair P)). Contains pairs pair) are.1 kept)
 
-no-event : {P : Type 0} (next : Given P) → events_of next ≡ [] → is_stop next ≡ true
-no-event (given.Event event) none = absurd (cc)
-no-event given.Stop none = refl
-
 -- ---- the run
 
-module _ {P J F D : Type 0} (gives : F → Given P → F → Type 0) (takes : D → Pair P → Drained → D → Type 0) (predicate : J → P → P → Bool) (rule : Chooser) (schedule : List Actor) (events : List (Event P)) (given_before : ℕ)
+module _ {P J F D : Type 0} (gives : F → Given P → F → Type 0) (is_ready : F → Bool) (takes : D → Pair P → Drained → D → Type 0) (predicate : J → P → P → Bool) (rule : Chooser) (schedule : List Actor) (events : List (Event P)) (given_before : ℕ)
     (old : Contents P J) (from : F) (unfilled : D) where
   -- how far it has come
   pub record Underway (last : List Drained) (choosing : Choosing) (now : Contents P J) (to : F) (filled : D) : Type 0 where
     pub made : List Actor
-    pub steps : MakesSteps gives (predicate old.join) (first_choosing rule) old.state from made choosing now.state to
+    pub steps : MakesSteps gives is_ready (predicate old.join) (first_choosing rule) old.state from made choosing now.state to
     pub taken : List (Event P)
     pub feed : Fed gives from taken now.state.next to
     pub lists : List (List (Report P))
@@ -234,7 +237,7 @@ module _ {P J F D : Type 0} (gives : F → Given P → F → Type 0) (takes : D 
         → ((schedule : List Actor) (events : List (Event P)) (given : ℕ) (stood : StandsFor predicate now schedule events given) → Releases takes stood filled answer new more) → Underway (last_of answer) choosing new to more
     underway-release new more answer same releases = record {
       made = under.made;
-      steps = subst (λ (s : ChainState P). MakesSteps gives (predicate old.join) (first_choosing rule) old.state from under.made choosing s to) (sym same) under.steps;
+      steps = subst (λ (s : ChainState P). MakesSteps gives is_ready (predicate old.join) (first_choosing rule) old.state from under.made choosing s to) (sym same) under.steps;
       taken = under.taken;
       feed = subst (λ (s : ChainState P). Fed gives from under.taken s.next to) (sym same) under.feed;
       lists = under.lists;
@@ -243,21 +246,21 @@ module _ {P J F D : Type 0} (gives : F → Given P → F → Type 0) (takes : D 
           (releases (schedule ++ under.made) (events ++ under.taken) (given_before + length under.gave.pairs) under.gave.stood.stands);
     }
 
-    module _ (joined : now.join ≡ old.join) (sound : Sound predicate now) (actor : Actor) (named : chosen choosing now.state ≡ Some actor) (new : Contents P J) (onward : F) (same_join : new.join ≡ now.join) where
+    module _ (joined : now.join ≡ old.join) (sound : Sound predicate now) (actor : Actor) (named : chosen choosing (is_ready to) now.state ≡ Some actor) (new : Contents P J) (onward : F) (same_join : new.join ≡ now.join) where
       -- a step
-      pub underway-step : Steps gives (predicate now.join) actor now.state to Did new.state onward → Gathers actor now Did new → Underway [] (choosing_after (length old.state.cores) actor choosing) new onward filled
+      pub underway-step : Steps gives is_ready (predicate now.join) actor now.state to Did new.state onward → Gathers actor now Did new → Underway [] (choosing_after (length old.state.cores) actor choosing) new onward filled
       underway-step step gathers =
           let taken = asked actor now.state.next step.answer in
-          let next_is : new.state.next ≡ cond (asks actor now.state.next) step.answer now.state.next = ap (λ (s : ChainState P). s.next) step.chain.1 ∙ next-of (predicate now.join) now.state step.answer actor in
+          let next_is : new.state.next ≡ next_known actor now.state.next step.answer = ap (λ (s : ChainState P). s.next) step.chain.1 ∙ next-of (predicate now.join) now.state step.answer actor in
           let lists = under.lists in
           let lists' = told (action_of now.state actor) lists in
           let stands = under.gave.stood.stands in
           let are = under.gave.stood.are in
           record {
             made = under.made ++ actor ∷ [];
-            steps = goes_on under.made choosing now.state to actor new.state onward under.steps named (subst (λ (j : J). Steps gives (predicate j) actor now.state to Did new.state onward) joined step);
+            steps = goes_on under.made choosing now.state to actor new.state onward under.steps named (subst (λ (j : J). Steps gives is_ready (predicate j) actor now.state to Did new.state onward) joined step);
             taken = under.taken ++ taken;
-            feed = subst (λ (next : Given P). Fed gives from (under.taken ++ taken) next onward) (sym next_is) (fed-more gives from to onward under.taken actor now.state.next step.answer step.feed under.feed);
+            feed = subst (λ (next : Option (Given P)). Fed gives from (under.taken ++ taken) next onward) (sym next_is) (fed-more gives from to onward under.taken actor now.state.next step.answer step.feed under.feed);
             lists = lists';
             gave =
                 gave-step takes predicate given_before unfilled (schedule ++ under.made) (schedule ++ (under.made ++ actor ∷ [])) (events ++ under.taken) (events ++ (under.taken ++ taken)) lists lists' now new filled under.gave
@@ -272,15 +275,15 @@ module _ {P J F D : Type 0} (gives : F → Given P → F → Type 0) (takes : D 
           }
 
       -- one for which there was no memory
-      pub underway-over : Steps gives (predicate now.join) actor now.state to Memory new.state onward → Gathers actor now Memory new → Underway [] choosing new onward filled
+      pub underway-over : Steps gives is_ready (predicate now.join) actor now.state to Memory new.state onward → Gathers actor now Memory new → Underway [] choosing new onward filled
       underway-over step gathers =
           let next_is : new.state.next ≡ now.state.next = ap (λ (s : ChainState P). s.next) step.chain.2 in
           record {
             made = under.made;
-            steps = runs_out under.made choosing now.state to actor new.state onward under.steps named (subst (λ (j : J). Steps gives (predicate j) actor now.state to Memory new.state onward) joined step);
+            steps = runs_out under.made choosing now.state to actor new.state onward under.steps named (subst (λ (j : J). Steps gives is_ready (predicate j) actor now.state to Memory new.state onward) joined step);
             taken = under.taken;
             feed =
-                subst (λ (next : Given P). Fed gives from under.taken next onward) (sym next_is) (subst (λ (f : F). Fed gives from under.taken now.state.next f) (sym step.feed) under.feed);
+                subst (λ (next : Option (Given P)). Fed gives from under.taken next onward) (sym next_is) (subst (λ (f : F). Fed gives from under.taken now.state.next f) (sym step.feed) under.feed);
             lists = under.lists;
             gave =
                 gave-step takes predicate given_before unfilled (schedule ++ under.made) (schedule ++ under.made) (events ++ under.taken) (events ++ under.taken) under.lists under.lists now new filled under.gave
@@ -294,7 +297,7 @@ module _ {P J F D : Type 0} (gives : F → Given P → F → Type 0) (takes : D 
 
   module _ (choosing : Choosing) (now : Contents P J) (to : F) (filled : D) where
     abbrev Ran : Fin → Type 0
-    Ran ended = RunsSerially gives takes predicate rule schedule events given_before old from unfilled ended now to filled
+    Ran ended = RunsSerially gives is_ready takes predicate rule schedule events given_before old from unfilled ended now to filled
 
     ran : (last : List Drained) (under : Underway last choosing now to filled) (ended : Fin) → Ends ended under.gave.pairs under.gave.stood.stands → Ran ended
     ran last under ended ends = record {
@@ -320,40 +323,56 @@ module _ {P J F D : Type 0} (gives : F → Given P → F → Type 0) (takes : D 
     ran-over under over = ran [] under fin.Memory (kept under, over)
 
     -- no actor is enabled
-    pub ran-done : Underway [] choosing now to filled → now.state.over ≡ false → Settled now → (feed : FeedState) → GoesWith predicate now feed → 1 ≤ now.state.driver.flight → chosen choosing now.state ≡ None → Ran fin.Done
-    ran-done under going settled feed goes some none =
+    pub ran-done : Underway [] choosing now to filled → now.state.over ≡ false → Settled now → (feed : FeedState) → GoesWith predicate now feed → 1 ≤ now.state.driver.flight → (ready : Bool) → chosen choosing ready now.state ≡ None → Ran fin.Done
+    ran-done under going settled feed goes some ready none =
         let stands = under.gave.stood.stands in
         let n = length now.state.cores in
         let flight = now.state.driver.flight in
         let reached : Reached (predicate now.join) n flight goes.schedule goes.events now.state = reached-state predicate now goes.schedule goes.events going goes.stands.reached in
-        let done : IsDone now.state = stuck_is_done (predicate now.join) n flight reached some (none-enabled now.state choosing none) in
-        let last : events_of now.state.next ≡ [] = (driven (predicate now.join) n flight reached goes.well_formed).last (finished-sent now.state.driver.closes done.finished) in
-        ran [] under fin.Done (kept under, settled-none predicate now (schedule ++ under.made) (events ++ under.taken) (given_before + length under.gave.pairs) stands settled, going, no-event now.state.next last, done)
+        let done : IsDone now.state = stuck_is_done (predicate now.join) n flight reached some (none-enabled now.state choosing ready none) in
+        let last : now.state.next ≡ Some given.Stop = (driven (predicate now.join) n flight reached goes.well_formed).last (finished-sent now.state.driver.closes done.finished) in
+        ran [] under fin.Done (kept under, settled-none predicate now (schedule ++ under.made) (events ++ under.taken) (given_before + length under.gave.pairs) stands settled, going, ap is_stop last, done)
 
 -- ---- the steps that are still to come
 
-match-answers : {P : Type 0} (b : Bool) (next answer later : Given P) (Gave Same : Type 0) (Says : Given P → Type 0) → later ≡ cond b answer next → MatchBool b Gave Same → (b ≡ true → Says later) → MatchBool b (Says answer) Same
-match-answers true next answer later Gave Same Says is feed says = subst Says is (says refl)
-match-answers false next answer later Gave Same Says is feed says = feed
+match-answers : {P : Type 0} (b : Bool) (answer : Given P) (later : Option (Given P)) (Gave Same : Type 0) (Says : Given P → Type 0) → (b ≡ true → later ≡ Some answer) → MatchBool b Gave Same → (b ≡ true → IfSome later Says) → MatchBool b (Says answer) Same
+match-answers {P} true answer later Gave Same Says is feed says = subst (λ (o : Option (Given P)). IfSome o Says) (is refl) (says refl)
+match-answers false answer later Gave Same Says is feed says = feed
+
+-- a feed that was asked gave the answer that is to be used next
+known-asked : {P : Type 0} (actor : Actor) (next : Option (Given P)) (answer : FeedAnswer P) → asks actor next answer.ready ≡ true → next_known actor next answer ≡ Some answer.given
+known-asked Admit None answer was = refl
+known-asked Admit (Some (given.Event event)) answer was = ap (λ b. cond b (Some answer.given) None) was
+known-asked Admit (Some given.Stop) answer was = absurd (true≢false (sym was))
+known-asked PortLeft next answer was = absurd (true≢false (sym was))
+known-asked PortRight next answer was = absurd (true≢false (sym was))
+known-asked (Core place end) next answer was = absurd (true≢false (sym was))
+known-asked (Collect place) next answer was = absurd (true≢false (sym was))
 
 match-same : (b : Bool) (What Same Other : Type 0) → (Same → Other) → MatchBool b What Same → MatchBool b What Other
 match-same true What Same Other onward fact = fact
 match-same false What Same Other onward fact = onward fact
 
-event-bill : {P : Type 0} (k : ℕ) (answer : Given P) (before later : FeedState) → Answers answer before later → k * length (events_of answer) + k * later.remaining ≤ k * before.remaining
+event-bill : {P : Type 0} (k : ℕ) (answer : Given P) (before later : FeedState) → Answers answer before later → k * length (events_of (Some answer)) + k * later.remaining ≤ k * before.remaining
 event-bill k (given.Event event) before later gives = omega (arith, mul-add k 1 later.remaining, mul-le-mul_left k gives.remaining)
 event-bill k given.Stop before later gives = omega (arith, mul-le-mul_left k gives.remaining)
 
-bill : {P : Type 0} (k : ℕ) (actor : Actor) (next answer : Given P) (before later : FeedState) → MatchBool (asks actor next) (Answers answer before later) (later ≡ before) → k * length (asked actor next answer) + k * later.remaining ≤ k * before.remaining
-bill k Admit (given.Event event) answer before later feed = event-bill k answer before later feed
-bill k Admit given.Stop answer before later feed = omega (arith, ap (λ (f : FeedState). k * f.remaining) feed)
+bill-there : {P : Type 0} (k : ℕ) (ready : Bool) (answer : Given P) (before later : FeedState) → MatchBool ready (Answers answer before later) (later ≡ before)
+    → k * length (events_of (cond ready (Some answer) None)) + k * later.remaining ≤ k * before.remaining
+bill-there k true answer before later feed = event-bill k answer before later feed
+bill-there k false answer before later feed = omega (arith, ap (λ (f : FeedState). k * f.remaining) feed)
+
+bill : {P : Type 0} (k : ℕ) (actor : Actor) (next : Option (Given P)) (answer : FeedAnswer P) (before later : FeedState) → MatchBool (asks actor next answer.ready) (Answers answer.given before later) (later ≡ before) → k * length (asked actor next answer) + k * later.remaining ≤ k * before.remaining
+bill k Admit None answer before later feed = event-bill k answer.given before later feed
+bill k Admit (Some (given.Event event)) answer before later feed = bill-there k answer.ready answer.given before later feed
+bill k Admit (Some given.Stop) answer before later feed = omega (arith, ap (λ (f : FeedState). k * f.remaining) feed)
 bill k PortLeft next answer before later feed = omega (arith, ap (λ (f : FeedState). k * f.remaining) feed)
 bill k PortRight next answer before later feed = omega (arith, ap (λ (f : FeedState). k * f.remaining) feed)
 bill k (Core place end) next answer before later feed = omega (arith, ap (λ (f : FeedState). k * f.remaining) feed)
 bill k (Collect place) next answer before later feed = omega (arith, ap (λ (f : FeedState). k * f.remaining) feed)
 
-module _ {P J F : Type 0} (gives : F → Given P → F → Type 0) (state : F → FeedState) (predicate : J → P → P → Bool) (old new : Contents P J) (actor : Actor) (from to : F) (goes : GoesWith predicate old (state from))
-    (step : Steps gives (predicate old.join) actor old.state from Did new.state to) where
+module _ {P J F : Type 0} (gives : F → Given P → F → Type 0) (is_ready : F → Bool) (state : F → FeedState) (predicate : J → P → P → Bool) (old new : Contents P J) (actor : Actor) (from to : F) (goes : GoesWith predicate old (state from))
+    (step : Steps gives is_ready (predicate old.join) actor old.state from Did new.state to) where
   abbrev matches : P → P → Bool
   matches = predicate old.join
 
@@ -371,12 +390,12 @@ module _ {P J F : Type 0} (gives : F → Given P → F → Type 0) (state : F �
       let reached = reached-state predicate old goes.schedule goes.events going goes.stands.reached in
       ap (λ (s : ChainState P). length s.cores) step.chain.1 ∙ (shape (steps goes.schedule goes.events old.state actor step.answer reached step.chain.0)).cores
 
-  module _ (answers : was_asked actor old.state.next Did ≡ true → Answers new.state.next (state from) (state to)) where
-    feed_is : MatchBool (asks actor old.state.next) (Answers step.answer (state from) (state to)) (state to ≡ state from)
+  module _ (answers : was_asked actor old.state.next (is_ready from) Did ≡ true → IfSome new.state.next (λ given. Answers given (state from) (state to))) where
+    feed_is : MatchBool (asks actor old.state.next step.answer.ready) (Answers step.answer.given (state from) (state to)) (state to ≡ state from)
     feed_is =
-        match-answers (asks actor old.state.next) old.state.next step.answer new.state.next _ (state to ≡ state from) (λ (a : Given P). Answers a (state from) (state to))
-        (ap (λ (s : ChainState P). s.next) step.chain.1 ∙ next-of matches old.state step.answer actor)
-        (match-same (asks actor old.state.next) _ _ (state to ≡ state from) (ap state) step.feed) answers
+        match-answers (asks actor old.state.next step.answer.ready) step.answer.given new.state.next _ (state to ≡ state from) (λ (a : Given P). Answers a (state from) (state to))
+        (λ was. ap (λ (s : ChainState P). s.next) step.chain.1 ∙ next-of matches old.state step.answer actor ∙ known-asked actor old.state.next step.answer was)
+        (match-same (asks actor old.state.next step.answer.ready) _ _ (state to ≡ state from) (ap state) step.feed) (λ was. answers (ap (asks actor old.state.next) (sym step.ready) ∙ was))
 
     pub fewer-left : to_come (length new.state.cores) new.state + (4 * length new.state.cores + 4) * (state to).remaining < to_come n old.state + (4 * n + 4) * (state from).remaining
     fewer-left =
@@ -396,19 +415,19 @@ pub first-within : (n : ℕ) (rule : Chooser) → IsWithin n (first_choosing rul
 first-within n chooser.InTurn = omega arith
 first-within n (chooser.Seeded seed) = tt
 
-pub did-step : {P F : Type 0} (gives : F → Given P → F → Type 0) (matches : P → P → Bool) (actor : Actor) (old : ChainState P) (from : F) (result : Stepped) (new : ChainState P) (to : F) → Steps gives matches actor old from result new to → cause old actor ≡ None → result ≢ Memory
+pub did-step : {P F : Type 0} (gives : F → Given P → F → Type 0) (is_ready : F → Bool) (matches : P → P → Bool) (actor : Actor) (old : ChainState P) (from : F) (result : Stepped) (new : ChainState P) (to : F) → Steps gives is_ready matches actor old from result new to → cause old actor ≡ None → result ≢ Memory
     → result ≡ Did
-did-step gives matches actor old from Did new to step can other = refl
-did-step gives matches actor old from (NotEnabled why) new to step can other = absurd (let e : Some why ≡ None = sym step.chain.0 ∙ can in cc)
-did-step gives matches actor old from Memory new to step can other = absurd (other refl)
+did-step gives is_ready matches actor old from Did new to step can other = refl
+did-step gives is_ready matches actor old from (NotEnabled why) new to step can other = absurd (let e : Some why ≡ None = sym step.chain.0 ∙ can in cc)
+did-step gives is_ready matches actor old from Memory new to step can other = absurd (other refl)
 
-module _ {P J F D : Type 0} (gives : F → Given P → F → Type 0) (takes : D → Pair P → Drained → D → Type 0) (state : F → FeedState) (predicate : J → P → P → Bool) (rule : Chooser) (old : Contents P J) (from : F) (unfilled : D) where
+module _ {P J F D : Type 0} (gives : F → Given P → F → Type 0) (is_ready : F → Bool) (takes : D → Pair P → Drained → D → Type 0) (state : F → FeedState) (predicate : J → P → P → Bool) (rule : Chooser) (old : Contents P J) (from : F) (unfilled : D) where
   pub record Running (choosing : Choosing) (now : Contents P J) (to : F) (filled : D) : Type 0 where
     pub join : now.join ≡ old.join
     pub cores : length now.state.cores ≡ length old.state.cores
     pub goes : GoesWith predicate now (state to)
     pub within : IsWithin (length now.state.cores) choosing
-    pub under : (schedule : List Actor) (events : List (Event P)) (given : ℕ) → StandsFor predicate old schedule events given → Underway gives takes predicate rule schedule events given old from unfilled [] choosing now to filled
+    pub under : (schedule : List Actor) (events : List (Event P)) (given : ℕ) → StandsFor predicate old schedule events given → Underway gives is_ready takes predicate rule schedule events given old from unfilled [] choosing now to filled
 
   pub running-begins : GoesWith predicate old (state from) → (choosing : Choosing) → choosing ≡ first_choosing rule → Running choosing old from unfilled
   running-begins goes choosing first = record {
@@ -417,7 +436,7 @@ module _ {P J F D : Type 0} (gives : F → Given P → F → Type 0) (takes : D 
     goes = goes;
     within = subst (IsWithin (length old.state.cores)) (sym first) (first-within (length old.state.cores) rule);
     under = λ schedule events given stands.
-        subst (λ (c : Choosing). Underway gives takes predicate rule schedule events given old from unfilled [] c old from unfilled) (sym first) (underway-begins gives takes predicate rule schedule events given old from unfilled stands);
+        subst (λ (c : Choosing). Underway gives is_ready takes predicate rule schedule events given old from unfilled [] c old from unfilled) (sym first) (underway-begins gives is_ready takes predicate rule schedule events given old from unfilled stands);
   }
 
   module _ (choosing : Choosing) (now : Contents P J) (to : F) (filled : D) (running : Running choosing now to filled) where
@@ -426,13 +445,13 @@ module _ {P J F D : Type 0} (gives : F → Given P → F → Type 0) (takes : D 
       same-state : new.state ≡ now.state
       same-state = ap (λ (c : Contents P J). c.state) others
 
-      onward : (schedule : List Actor) (events : List (Event P)) (given : ℕ) → StandsFor predicate old schedule events given → Underway gives takes predicate rule schedule events given old from unfilled (last_of answer) choosing new to more
-      onward schedule events given stands = underway-release gives takes predicate rule schedule events given old from unfilled choosing now to filled (running.under schedule events given stands) new more answer same-state releases
+      onward : (schedule : List Actor) (events : List (Event P)) (given : ℕ) → StandsFor predicate old schedule events given → Underway gives is_ready takes predicate rule schedule events given old from unfilled (last_of answer) choosing new to more
+      onward schedule events given stands = underway-release gives is_ready takes predicate rule schedule events given old from unfilled choosing now to filled (running.under schedule events given stands) new more answer same-state releases
 
-      pub running-refused : answer ≡ Refused → (schedule : List Actor) (events : List (Event P)) (given : ℕ) → StandsFor predicate old schedule events given → RunsSerially gives takes predicate rule schedule events given old from unfilled fin.Refused new to more
+      pub running-refused : answer ≡ Refused → (schedule : List Actor) (events : List (Event P)) (given : ℕ) → StandsFor predicate old schedule events given → RunsSerially gives is_ready takes predicate rule schedule events given old from unfilled fin.Refused new to more
       running-refused refused schedule events given stands =
-          ran-refused gives takes predicate rule schedule events given old from unfilled choosing new to more
-          (subst (λ (a : Drained). Underway gives takes predicate rule schedule events given old from unfilled (last_of a) choosing new to more) refused (onward schedule events given stands))
+          ran-refused gives is_ready takes predicate rule schedule events given old from unfilled choosing new to more
+          (subst (λ (a : Drained). Underway gives is_ready takes predicate rule schedule events given old from unfilled (last_of a) choosing new to more) refused (onward schedule events given stands))
 
       pub running-release : answer ≡ Kept → GoesWith predicate new (state to) → Running choosing new to more
       running-release kept goes = record {
@@ -441,7 +460,7 @@ module _ {P J F D : Type 0} (gives : F → Given P → F → Type 0) (takes : D 
         goes = goes;
         within = subst (λ (s : ChainState P). IsWithin (length s.cores) choosing) (sym same-state) running.within;
         under = λ schedule events given stands.
-            subst (λ (a : Drained). Underway gives takes predicate rule schedule events given old from unfilled (last_of a) choosing new to more) kept (onward schedule events given stands);
+            subst (λ (a : Drained). Underway gives is_ready takes predicate rule schedule events given old from unfilled (last_of a) choosing new to more) kept (onward schedule events given stands);
       }
 
       pub release-settles : answer ≡ Kept → new.state.over ≡ false → Settled new
@@ -450,25 +469,25 @@ module _ {P J F D : Type 0} (gives : F → Given P → F → Type 0) (takes : D 
           let released : Releases takes goes.stands filled Kept new more = subst (λ (a : Drained). Releases takes goes.stands filled a new more) kept (releases goes.schedule goes.events goes.given goes.stands) in
           settles predicate new goes.schedule goes.events (goes.given + length released.pairs) released.stands going released.gives.1
 
-    module _ (actor : Actor) (named : Some actor ≡ chosen choosing now.state) (result : Stepped) (new : Contents P J) (onto : F) (step : Steps gives (predicate now.join) actor now.state to result new.state onto) (gathers : Gathers actor now result new)
+    module _ (actor : Actor) (named : Some actor ≡ chosen choosing (is_ready to) now.state) (result : Stepped) (new : Contents P J) (onto : F) (step : Steps gives is_ready (predicate now.join) actor now.state to result new.state onto) (gathers : Gathers actor now result new)
         (same_join : new.join ≡ now.join) where
       sound : Sound predicate now
       sound = sound-goes predicate now (state to) running.goes
 
-      pub running-over : result ≡ Memory → (schedule : List Actor) (events : List (Event P)) (given : ℕ) → StandsFor predicate old schedule events given → RunsSerially gives takes predicate rule schedule events given old from unfilled fin.Memory new onto filled
+      pub running-over : result ≡ Memory → (schedule : List Actor) (events : List (Event P)) (given : ℕ) → StandsFor predicate old schedule events given → RunsSerially gives is_ready takes predicate rule schedule events given old from unfilled fin.Memory new onto filled
       running-over memory schedule events given stands =
-          let made : Steps gives (predicate now.join) actor now.state to Memory new.state onto = subst (λ (r : Stepped). Steps gives (predicate now.join) actor now.state to r new.state onto) memory step in
-          ran-over gives takes predicate rule schedule events given old from unfilled choosing new onto filled
-          (underway-over gives takes predicate rule schedule events given old from unfilled choosing now to filled (running.under schedule events given stands) running.join sound actor (sym named) new onto same_join made
+          let made : Steps gives is_ready (predicate now.join) actor now.state to Memory new.state onto = subst (λ (r : Stepped). Steps gives is_ready (predicate now.join) actor now.state to r new.state onto) memory step in
+          ran-over gives is_ready takes predicate rule schedule events given old from unfilled choosing new onto filled
+          (underway-over gives is_ready takes predicate rule schedule events given old from unfilled choosing now to filled (running.under schedule events given stands) running.join sound actor (sym named) new onto same_join made
           (subst (λ (r : Stepped). Gathers actor now r new) memory gathers))
           (ap (λ (s : ChainState P). s.over) made.chain.2)
 
       pub did : result ≢ Memory → result ≡ Did
-      did other = did-step gives (predicate now.join) actor now.state to result new.state onto step (chosen-enabled now.state choosing actor (sym named)) other
+      did other = did-step gives is_ready (predicate now.join) actor now.state to result new.state onto step (chosen-enabled now.state choosing (is_ready to) actor (sym named)) other
 
       module _ (other : result ≢ Memory) where
-        made : Steps gives (predicate now.join) actor now.state to Did new.state onto
-        made = subst (λ (r : Stepped). Steps gives (predicate now.join) actor now.state to r new.state onto) (did other) step
+        made : Steps gives is_ready (predicate now.join) actor now.state to Did new.state onto
+        made = subst (λ (r : Stepped). Steps gives is_ready (predicate now.join) actor now.state to r new.state onto) (did other) step
 
         gathered : Gathers actor now Did new
         gathered = subst (λ (r : Stepped). Gathers actor now r new) (did other) gathers
@@ -476,12 +495,12 @@ module _ {P J F D : Type 0} (gives : F → Given P → F → Type 0) (takes : D 
         pub running-step : GoesWith predicate new (state onto) → (next : Choosing) → next ≡ choosing_after (length now.state.cores) actor choosing → IsWithin (length now.state.cores) next → Running next new onto filled
         running-step goes next is within = record {
           join = same_join ∙ running.join;
-          cores = cores-stay gives state predicate now new actor to onto running.goes made ∙ running.cores;
+          cores = cores-stay gives is_ready state predicate now new actor to onto running.goes made ∙ running.cores;
           goes = goes;
-          within = subst (λ (n : ℕ). IsWithin n next) (sym (cores-stay gives state predicate now new actor to onto running.goes made)) within;
+          within = subst (λ (n : ℕ). IsWithin n next) (sym (cores-stay gives is_ready state predicate now new actor to onto running.goes made)) within;
           under = λ schedule events given stands.
-              subst (λ (c : Choosing). Underway gives takes predicate rule schedule events given old from unfilled [] c new onto filled) (ap (λ (n : ℕ). choosing_after n actor choosing) (sym running.cores) ∙ sym is)
-              (underway-step gives takes predicate rule schedule events given old from unfilled choosing now to filled (running.under schedule events given stands) running.join sound actor (sym named) new onto same_join made gathered);
+              subst (λ (c : Choosing). Underway gives is_ready takes predicate rule schedule events given old from unfilled [] c new onto filled) (ap (λ (n : ℕ). choosing_after n actor choosing) (sym running.cores) ∙ sym is)
+              (underway-step gives is_ready takes predicate rule schedule events given old from unfilled choosing now to filled (running.under schedule events given stands) running.join sound actor (sym named) new onto same_join made gathered);
         }
 
         pub step-settled : ((core : CoreNo) → actor ≡ Collect core → ⊥) → Settled now → Settled new
@@ -490,17 +509,17 @@ module _ {P J F D : Type 0} (gives : F → Given P → F → Type 0) (takes : D 
         pub was-going : now.state.over ≡ false
         was-going = enabled_going now.state actor made.chain.0
 
-        pub step-fewer : (was_asked actor now.state.next result ≡ true → Answers new.state.next (state to) (state onto))
+        pub step-fewer : (was_asked actor now.state.next (is_ready to) result ≡ true → IfSome new.state.next (λ given. Answers given (state to) (state onto)))
             → to_come (length new.state.cores) new.state + (4 * length new.state.cores + 4) * (state onto).remaining < to_come (length now.state.cores) now.state + (4 * length now.state.cores + 4) * (state to).remaining
         step-fewer answers =
-            fewer-left gives state predicate now new actor to onto running.goes made
-            (subst (λ (r : Stepped). was_asked actor now.state.next r ≡ true → Answers new.state.next (state to) (state onto)) (did other) answers)
+            fewer-left gives is_ready state predicate now new actor to onto running.goes made
+            (subst (λ (r : Stepped). was_asked actor now.state.next (is_ready to) r ≡ true → IfSome new.state.next (λ given. Answers given (state to) (state onto))) (did other) answers)
 
     -- no actor is enabled
-    pub running-ends-over : now.state.over ≡ true → (schedule : List Actor) (events : List (Event P)) (given : ℕ) → StandsFor predicate old schedule events given → RunsSerially gives takes predicate rule schedule events given old from unfilled fin.Memory now to filled
-    running-ends-over over schedule events given stands = ran-over gives takes predicate rule schedule events given old from unfilled choosing now to filled (running.under schedule events given stands) over
+    pub running-ends-over : now.state.over ≡ true → (schedule : List Actor) (events : List (Event P)) (given : ℕ) → StandsFor predicate old schedule events given → RunsSerially gives is_ready takes predicate rule schedule events given old from unfilled fin.Memory now to filled
+    running-ends-over over schedule events given stands = ran-over gives is_ready takes predicate rule schedule events given old from unfilled choosing now to filled (running.under schedule events given stands) over
 
-    pub running-ends-done : now.state.over ≡ false → Settled now → 1 ≤ now.state.driver.flight → None ≡ chosen choosing now.state → (schedule : List Actor) (events : List (Event P)) (given : ℕ) → StandsFor predicate old schedule events given
-        → RunsSerially gives takes predicate rule schedule events given old from unfilled fin.Done now to filled
-    running-ends-done going settled some none schedule events given stands =
-        ran-done gives takes predicate rule schedule events given old from unfilled choosing now to filled (running.under schedule events given stands) going settled (state to) running.goes some (sym none)
+    pub running-ends-done : now.state.over ≡ false → Settled now → 1 ≤ now.state.driver.flight → (ready : Bool) → None ≡ chosen choosing ready now.state → (schedule : List Actor) (events : List (Event P)) (given : ℕ) → StandsFor predicate old schedule events given
+        → RunsSerially gives is_ready takes predicate rule schedule events given old from unfilled fin.Done now to filled
+    running-ends-done going settled some ready none schedule events given stands =
+        ran-done gives is_ready takes predicate rule schedule events given old from unfilled choosing now to filled (running.under schedule events given stands) going settled (state to) running.goes some ready (sym none)

@@ -13,7 +13,7 @@ use Rattle.hj_driver.proofs.Standing.{flight-put}
 use Rattle.hj_queue.specs.Queues.{Queues, no_messages}
 use Rattle.hj_chain.specs.declared.actor.Actor.{Actor}
 use Rattle.hj_chain.specs.Links.{changed_at, link_at, put_rightwards, put_leftwards, take_rightwards, take_leftwards, put_in, take_out, take_in, send_out}
-use Rattle.hj_chain.specs.Chain.{ChainState, Action, drives, handles, collects, action_of, after_action, links_after, driver_after, capacity}
+use Rattle.hj_chain.specs.Chain.{FeedAnswer, ChainState, Action, asks, drives, handles, collects, action_of, after_action, links_after, driver_after, capacity}
 use Rattle.hj_chain.specs.Reached.{Reached, begins, steps}
 use Rattle.hj_chain.proofs.Places.{length-changed_at, map-changed_at, changed_at-same}
 use Rattle.hj_chain.proofs.ReportQueues.{map-replicate}
@@ -59,8 +59,16 @@ flight-driver_after chain (admission event) = flight-put event chain.driver
 flight-driver_after chain (receipt port message) = refl
 flight-driver_after chain closing = refl
 
-shape-after : {P : Type 0} (matches : P → P → Bool) (n flight : ℕ) (chain : ChainState P) (action : Option (Action P)) (answer : Given P) → Shape n flight chain → Shape n flight (after_action matches chain action answer)
+shape-after : {P : Type 0} (matches : P → P → Bool) (n flight : ℕ) (chain : ChainState P) (action : Option (Action P)) (answer : FeedAnswer P) → Shape n flight chain → Shape n flight (after_action matches chain action answer)
 shape-after matches n flight chain None answer shape = shape
+shape-after matches n flight chain (Some asks) answer shape =
+    record {
+      cores = shape.cores;
+      capacities = shape.capacities;
+      reports = shape.reports;
+      flight = shape.flight;
+      going = shape.going;
+    }
 shape-after matches n flight chain (Some (drives turn)) answer shape =
     record {
       cores = shape.cores;

@@ -13,7 +13,7 @@ use Rattle.hj_queue.specs.Queues.{Queues}
 use Rattle.hj_chain.specs.declared.actor.Actor.TheVariants.{Core}
 use Rattle.hj_chain.specs.Links.{link_at, incoming, take_in, send_out}
 use Rattle.hj_chain.specs.Reports.{queue_at}
-use Rattle.hj_chain.specs.Chain.{ChainState, Contents, first, after, after_action, action_of, handles, cause, capacity}
+use Rattle.hj_chain.specs.Chain.{FeedAnswer, ChainState, Contents, first, after, after_action, action_of, handles, cause, capacity}
 use Rattle.hj_chain.specs.Reached.{Reached, steps, history_of}
 use Rattle.hj_chain.specs.Steps.{IsGoing, HasRoom}
 use Rattle.hj_chain.proofs.Shape.{Shape, shape, links-length, capacity_at}
@@ -82,7 +82,7 @@ module _ {P J : Type 0} (predicate : J → P → P → Bool) (chain : Contents P
   driving = driven (predicate chain.join) n flight reached goes.well_formed
 
   -- what a core sends to its right finds room, behind the take of its message
-  pub fits_both : (place : CoreNo) (end : Side) (message : Msg P) (answer : Given P) → cause chain.state (Core place end) ≡ None → action_of chain.state (Core place end) ≡ Some (handles place.0 end message) → place.0 < n
+  pub fits_both : (place : CoreNo) (end : Side) (message : Msg P) (answer : FeedAnswer P) → cause chain.state (Core place end) ≡ None → action_of chain.state (Core place end) ≡ Some (handles place.0 end message) → place.0 < n
       → length (link_at (take_in end place.0 chain.state.links) (place.0 + 1)).rightwards + length (core.sends place.0 n message).right ≤ (link_at (take_in end place.0 chain.state.links) (place.0 + 1)).capacity
   fits_both place end message answer enabled is low =
       let k : ℕ = place.0 + 1 in

@@ -1,5 +1,5 @@
 -- The chain in which nothing was done yet.
-use Rattle.std.proofs.Common.{◌≡◌, ℕ, zero, suc, arith, map, ◌+◌, ◌≤◌, Bool, false, List, [], ◌∷◌, replicate, refl, ap, sym, subst}
+use Rattle.std.proofs.Common.{◌≡◌, ℕ, zero, suc, arith, map, ◌+◌, ◌≤◌, Bool, false, List, [], ◌∷◌, replicate, refl, ap, sym, subst, Some}
 use Rattle.hj_msg.specs.declared.feed.Given.{Given}
 use Rattle.hj_msg.specs.declared.message.Msg.{Msg}
 use Rattle.hj_msg.specs.declared.message.Report.{Report}
@@ -23,7 +23,7 @@ use Rattle.hj_chain.proofs.Goings.{FeedAfter, feed_asked, stands-state}
 
 pub is_empty_chain : {P J : Type 0} (join : J) (n flight : ℕ) (first : Given P) (driver : DriverState) (links : List (Queues (Msg P))) (cores : List (core.State P)) (reports : List (List (Report P))) (collector : CollectorState)
     (kept : List (Pair P)) → driver ≡ new_driver flight → links ≡ replicate (n + 1) (no_messages (capacity flight)) → cores ≡ replicate n core.empty_state → reports ≡ replicate n [] → collector ≡ nothing_taken n → kept ≡ []
-    → ◌≡◌ {A = Contents P J} (record { join = join; state = record { driver = driver; next = first; links = links; cores = cores; reports = reports; over = false }; collector = collector; kept = kept })
+    → ◌≡◌ {A = Contents P J} (record { join = join; state = record { driver = driver; next = Some first; links = links; cores = cores; reports = reports; over = false }; collector = collector; kept = kept })
     (record { join = join; state = empty_chain n flight first; collector = nothing_taken n; kept = [] })
 is_empty_chain join n flight first driver links cores reports collector kept driver_is links_are cores_are reports_are collector_is none_kept = cc
 
@@ -46,14 +46,14 @@ no-accounts {P} n = record {
 pub goes-first : {P J : Type 0} (predicate : J → P → P → Bool) (chain : Contents P J) (n flight : ℕ) (join : J) (first : Given P) (old new : FeedState) → 1 ≤ n → IsFresh old → Answers first old new
     → chain ≡ record { join = join; state = empty_chain n flight first; collector = nothing_taken n; kept = [] } → GoesWith predicate chain new
 goes-first {P} {J} predicate chain n flight join first old new some fresh answers is =
-    let feed : FeedAfter [] (events_of first) first new = feed_asked [] first old new (well-nothing P) fresh answers in
+    let feed : FeedAfter [] (events_of (Some first)) (Some first) new = feed_asked [] first old new (well-nothing P) fresh answers in
     subst (λ (c : Contents P J). GoesWith predicate c new) (sym is)
     (record {
       schedule = [];
-      events = events_of first;
+      events = events_of (Some first);
       given = 0;
       stands =
-          stands-state predicate (record { join = join; state = empty_chain n flight first; collector = nothing_taken n; kept = [] }) n flight [] (events_of first) 0 (replicate n [])
+          stands-state predicate (record { join = join; state = empty_chain n flight first; collector = nothing_taken n; kept = [] }) n flight [] (events_of (Some first)) 0 (replicate n [])
           (record { reached = begins some first; are = nothing 0 n }) (no-accounts n);
       well_formed = feed.well_formed;
       numbering = feed.numbering;

@@ -24,7 +24,7 @@ use Rattle.hj_chain.specs.declared.actor.NotNow.TheVariants.{Waits, Empty, Repor
 use Rattle.hj_chain.specs.declared.actor.Stepped.TheVariants.{Did, NotEnabled, Memory}
 use Rattle.hj_chain.specs.Links.{changed_at, link_at, at_port, put_in, take_out, incoming, take_in, send_out, take_leftwards, take_rightwards}
 use Rattle.hj_chain.specs.Reports.{queue_at}
-use Rattle.hj_chain.specs.Chain.{ChainState, Action, drives, handles, collects, first, action_of, after_action, cause_of, admit_cause, closing_cause, or_empty, at_core, capacity, turn_of}
+use Rattle.hj_chain.specs.Chain.{FeedAnswer, ChainState, Action, drives, handles, collects, first, action_of, after_action, cause_of, admit_cause, closing_cause, or_empty, at_core, capacity, asks, if_there, next_action}
 use Rattle.hj_chain.specs.Steps.{StepsTo, needs_memory, at_port as actor_at}
 use Rattle.hj_chain.proofs.Goings.{cause-going}
 use Rattle.hj_chain.proofs.Standing.{first-none, first-some}
@@ -36,7 +36,7 @@ or_empty-none {X} xs other is = ap (λ (ys : List X). or_empty ys other) is
 or_empty-some : {X : Type 0} (xs : List X) (x : X) (rest : List X) (other : Option NotNow) → xs ≡ x ∷ rest → or_empty xs other ≡ other
 or_empty-some {X} xs x rest other is = ap (λ (ys : List X). or_empty ys other) is
 
-module _ {P : Type 0} (matches : P → P → Bool) (chain : ChainState P) (going : chain.over ≡ false) (answer : Given P) where
+module _ {P : Type 0} (matches : P → P → Bool) (chain : ChainState P) (going : chain.over ≡ false) (answer : FeedAnswer P) where
   abbrev n : ℕ
   n = length chain.cores
 
@@ -51,20 +51,23 @@ module _ {P : Type 0} (matches : P → P → Bool) (chain : ChainState P) (going
   no_memory actor new enabled needs made = (cause-going chain actor going ∙ enabled, needs, made)
 
   -- the driver
-  pub close-waits : (why : NotNow) (new : ChainState P) → chain.next ≡ given.Stop → closing_cause (closing_of chain.driver) ≡ Some why → new ≡ chain → StepsTo matches Admit answer chain (NotEnabled why) new
+  pub close-waits : (why : NotNow) (new : ChainState P) → chain.next ≡ Some given.Stop → closing_cause (closing_of chain.driver) ≡ Some why → new ≡ chain → StepsTo matches Admit answer chain (NotEnabled why) new
   close-waits why new next is same = waits Admit why new (ap (admit_cause chain.driver) next ∙ is) same
 
-  pub close-did : (new : ChainState P) → chain.next ≡ given.Stop → closing_of chain.driver ≡ closes_as.Send
+  pub close-did : (new : ChainState P) → chain.next ≡ Some given.Stop → closing_of chain.driver ≡ closes_as.Send
       → new ≡ record chain { driver = closed chain.driver; links = put_in Right n CloseR (put_in Left n CloseL chain.links) } → StepsTo matches Admit answer chain Did new
-  close-did new next sends made = did Admit (drives closing) new (ap (admit_cause chain.driver) next ∙ ap closing_cause sends) (ap (λ (g : Given P). Some (drives (turn_of g))) next) made
+  close-did new next sends made = did Admit (drives closing) new (ap (admit_cause chain.driver) next ∙ ap closing_cause sends) (ap (λ (g : Option (Given P)). Some (next_action g)) next) made
 
-  pub admit-waits : (event : Event P) (why : Why) (new : ChainState P) → chain.next ≡ given.Event event → wait_of event chain.driver ≡ Some why → new ≡ chain → StepsTo matches Admit answer chain (NotEnabled (Waits why)) new
+  pub asks-did : (new : ChainState P) → chain.next ≡ None → new ≡ record chain { next = Some answer.given } → StepsTo matches Admit answer chain Did new
+  asks-did new next made = did Admit asks new (ap (admit_cause chain.driver) next) (ap (λ (g : Option (Given P)). Some (next_action g)) next) made
+
+  pub admit-waits : (event : Event P) (why : Why) (new : ChainState P) → chain.next ≡ Some (given.Event event) → wait_of event chain.driver ≡ Some why → new ≡ chain → StepsTo matches Admit answer chain (NotEnabled (Waits why)) new
   admit-waits event why new next is same = waits Admit (Waits why) new (ap (admit_cause chain.driver) next ∙ ap (option_map Waits) is) same
 
-  pub admit-did : (event : Event P) (new : ChainState P) → chain.next ≡ given.Event event → wait_of event chain.driver ≡ None
-      → new ≡ record chain { driver = after_put event chain.driver; links = put_in (port_of event) n (message_of event) chain.links; next = answer } → StepsTo matches Admit answer chain Did new
+  pub admit-did : (event : Event P) (new : ChainState P) → chain.next ≡ Some (given.Event event) → wait_of event chain.driver ≡ None
+      → new ≡ record chain { driver = after_put event chain.driver; links = put_in (port_of event) n (message_of event) chain.links; next = if_there answer } → StepsTo matches Admit answer chain Did new
   admit-did event new next free made =
-      did Admit (drives (admission event)) new (ap (admit_cause chain.driver) next ∙ ap (option_map Waits) free) (ap (λ (g : Given P). Some (drives (turn_of g))) next) made
+      did Admit (drives (admission event)) new (ap (admit_cause chain.driver) next ∙ ap (option_map Waits) free) (ap (λ (g : Option (Given P)). Some (next_action g)) next) made
 
   port-cause : (port : Side) → cause_of chain (actor_at port) ≡ or_empty (at_port port n chain.links) None
   port-cause Left = refl

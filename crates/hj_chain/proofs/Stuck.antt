@@ -38,13 +38,14 @@ use Rattle.hj_chain.specs.Progress.{IsDone, EnabledActor}
 use Rattle.hj_chain.specs.Reached.{Reached}
 use Rattle.hj_chain.proofs.Awaited.{one, expiries_of}
 use Rattle.hj_chain.proofs.Counts.{count}
-use Rattle.hj_chain.proofs.Doing.{Doing, admits, shuts, receives, works, gathers, deed}
+use Rattle.hj_chain.proofs.Doing.{Doing, inquires, admits, shuts, receives, works, gathers, deed}
 use Rattle.hj_chain.proofs.OwedCloses.{unhandled, owes-close_left, owes-close_right, owes-to_core_left, owes-to_core_right}
 use Rattle.hj_chain.proofs.OwedEnds.{owes-end_left, owes-end_right}
 use Rattle.hj_chain.proofs.OwedRows.{owes-row_left, owes-row_right, owes-expiry_left, owes-expiry_right}
 use Rattle.hj_chain.proofs.Owing.{Owes, under_way}
 use Rattle.hj_chain.proofs.Shape.{shape, some_core, links-length}
 use Rattle.hj_chain.proofs.Weighing.{Weights, load-nothing}
+use Rattle.hj_chain.proofs.OnlyCloses.{none_to_come}
 
 -- each of so many, or else something else
 all_or : (A : ℕ → Type 0) (B : Type 0) (m : ℕ) → ((k : ℕ) → k < m → A k ⊎ B) → ((k : ℕ) → k < m → A k) ⊎ B
@@ -124,12 +125,13 @@ module _ {P : Type 0} (driver : DriverState) (free : Free driver) (unsent : is_s
   no_row (Expire at Right of) = ap (λ arrivals. cond (list_any (waits_for of.0 Row) arrivals) (Some (NotMarked of)) None) free.right_arrivals
 
   -- puts the next event, or the closes
-  goes_on : (next : Given P) → admit_cause driver next ≡ None
-  goes_on (given.Event event) =
+  goes_on : (next : Option (Given P)) → admit_cause driver next ≡ None
+  goes_on None = refl
+  goes_on (Some (given.Event event)) =
       ap (λ b. option_map Waits (cond b (Some Closed) (cond (count_of driver == driver.flight) (Some (Flight (count_of driver))) (row_cause event driver)))) unsent
       ∙ ap (λ b. option_map Waits (cond b (Some (Flight (count_of driver))) (row_cause event driver))) (ne_eqb (count_of driver) driver.flight (λ same. omega (arith, same, some, none_outstanding driver free)))
       ∙ ap (option_map Waits) (no_row event)
-  goes_on given.Stop =
+  goes_on (Some given.Stop) =
       ap (λ b. closing_cause (cond b answer.Already (cond (count_of driver == 0) answer.Send (answer.Wait (count_of driver))))) unsent
       ∙ ap (λ b. closing_cause (cond b answer.Send (answer.Wait (count_of driver)))) (eq-eqb (count_of driver) 0 (none_outstanding driver free))
 
@@ -236,6 +238,7 @@ module _ {P : Type 0} (matches : P → P → Bool) (n most : ℕ) {schedule : Li
   stuck_is_done some none = elim (done_or_enabled some) [ inl done ↦ done | inr goes ↦ absurd (none goes.actor goes.enabled) ]
 
   nothing_to_do : IsDone chain → (action : Action P) → Doing chain action → ⊥
+  nothing_to_do done action (inquires is) = let stop = none_to_come matches n most reached (finished-sent chain.driver.closes done.finished) in cc
   nothing_to_do done action (admits event is free) = true≢false (sym (finished-sent chain.driver.closes done.finished) ∙ (no_cause event chain.driver free).unsent)
   nothing_to_do done action (shuts is free) = true≢false (sym (finished-sent chain.driver.closes done.finished) ∙ (may_close chain.driver free).0)
   nothing_to_do done action (receives Left message rest is) = let none = (done.nothing_under_way 0 (no_messages 0) (omega (arith, links-length n most chain (shape reached)))).1 in cc

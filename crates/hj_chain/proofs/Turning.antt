@@ -15,9 +15,9 @@ use Rattle.hj_msg.specs.Turns.{Turn, IsWhole, AreWhole, at_reports}
 use Rattle.hj_chain.specs.declared.actor.Actor.{Actor}
 use Rattle.hj_chain.specs.Links.{changed_at}
 use Rattle.hj_chain.specs.Reports.{queue_at}
-use Rattle.hj_chain.specs.Chain.{ChainState, Action, handles, collects, after_action, empty_chain, capacity}
+use Rattle.hj_chain.specs.Chain.{FeedAnswer, ChainState, Action, handles, collects, after_action, empty_chain, capacity}
 use Rattle.hj_chain.specs.Reached.{Reached, History, no_history, recorded, history_of, events_of, turn_at}
-use Rattle.hj_chain.proofs.Doing.{Doing, admits, shuts, receives, works, gathers, taken_by}
+use Rattle.hj_chain.proofs.Doing.{Doing, inquires, admits, shuts, receives, works, gathers, taken_by}
 use Rattle.hj_chain.proofs.Shape.{Shape}
 use Rattle.hj_chain.proofs.Induction.{by_steps}
 use Rattle.hj_chain.proofs.Places.{get_or-changed_at, get_or-changed_other}
@@ -97,7 +97,7 @@ module _ {P : Type 0} (matches : P → P → Bool) (n most k number : ℕ) (stat
 abbrev pub Turned : {P : Type 0} → (P → P → Bool) → ℕ → ℕ → ChainState P → History P → Type 0
 Turned matches n most chain history = (k : ℕ) → k < n → TurnedAt matches n most k (state_at chain k) (queue_at chain.reports k) (history.turns k) (history.collected k)
 
-module _ {P : Type 0} (matches : P → P → Bool) (most : ℕ) (chain : ChainState P) (history : History P) (number : ℕ) (answer : Given P) where
+module _ {P : Type 0} (matches : P → P → Bool) (most : ℕ) (chain : ChainState P) (history : History P) (number : ℕ) (answer : FeedAnswer P) where
   abbrev n : ℕ
   n = length chain.cores
 
@@ -141,15 +141,16 @@ module _ {P : Type 0} (matches : P → P → Bool) (n most : ℕ) where
   abbrev Kept : ℕ → List (Event P) → ChainState P → History P → Type 0
   Kept number events chain history = Turned matches n most chain history
 
-  begin : (first : Given P) → Kept 0 (events_of first) (empty_chain n most first) no_history
+  begin : (first : Given P) → Kept 0 (events_of (Some first)) (empty_chain n most first) no_history
   begin first k within =
       turned-as matches n most k (get_or-replicate n k core.empty_state core.empty_state within) (get_or-replicate n k [] [] within) refl refl
       (record { whole = tt; keeps = refl; reports = refl; room = omega arith })
 
-  step : (number : ℕ) (events : List (Event P)) (chain : ChainState P) (history : History P) (action : Action P) (answer : Given P)
+  step : (number : ℕ) (events : List (Event P)) (chain : ChainState P) (history : History P) (action : Action P) (answer : FeedAnswer P)
       → Shape n most chain → Doing chain action → Kept number events chain history
       → Kept (suc number) (events ++ taken_by action answer) (after_action matches chain (Some action) answer) (recorded matches chain number (Some action) history)
   step number events chain history action answer shape (admits event is free) old = old
+  step number events chain history action answer shape (inquires is) old = old
   step number events chain history action answer shape (shuts is free) old = old
   step number events chain history action answer shape (receives port message rest is) old = old
   step number events chain history action answer shape (works place end message rest low is room) old =

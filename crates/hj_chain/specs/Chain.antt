@@ -28,8 +28,8 @@ use Rattle.hj_chain.specs.Links.{changed_at, at_port, put_in, take_out, incoming
 pub record ChainState (P : Type 0) : Type 0 where
   -- what is outstanding of the events that were put in, and how far the closes have come
   pub driver : DriverState
-  -- the event that is to be put in next, or that none is to come
-  pub next : Given P
+  -- the feed's answer that is to be used next: an event to put in, or that none is to come; None where the feed is to be asked first
+  pub next : Option (Given P)
   -- the messages under way on the links 0 to n
   pub links : List (Queues (Msg P))
   -- what each core keeps
@@ -51,20 +51,30 @@ pub record Contents (P J : Type 0) : Type 0 where
 abbrev pub capacity : ℕ → ℕ
 capacity flight = 2 * flight + 2
 
+-- What the feed says in a step: whether its next answer is there, and that answer, which is used where the feed is asked.
+pub record FeedAnswer (P : Type 0) : Type 0 where
+  pub ready : Bool
+  pub given : Given P
+
+-- the feed's next answer, if it is there
+abbrev pub if_there : {P : Type 0} → FeedAnswer P → Option (Given P)
+if_there answer = if answer.ready then Some answer.given else None
+
 -- The empty chain of n cores, with this answer of the feed to go on with.
 abbrev pub empty_chain : {P : Type 0} → ℕ → ℕ → Given P → ChainState P
 empty_chain n flight first = record {
   driver = new_driver flight;
-  next = first;
+  next = Some first;
   links = replicate (n + 1) (no_messages (capacity flight));
   cores = replicate n core.empty_state;
   reports = replicate n [];
   over = false;
 }
 
--- What an actor does in a step: a turn of the driver; the handling of a message by the core at a place, which took it at this
--- end; or the taking of a report of that core.
+-- What an actor does in a step: it asks the feed; a turn of the driver; the handling of a message by the core at a place, which
+-- took it at this end; or the taking of a report of that core.
 pub data Action (P : Type 0) : Type 0 where
+  asks : Action P
   drives : (turn : DriverTurn P) → Action P
   handles : (place : ℕ) (end : Side) (message : Msg P) → Action P
   collects : (place : ℕ) (report : Report P) → Action P
@@ -74,13 +84,18 @@ abbrev pub turn_of : {P : Type 0} → Given P → DriverTurn P
 turn_of (given.Event event) = admission event
 turn_of given.Stop = closing
 
+-- the driver's next action: where no answer of the feed is known, the feed is asked
+abbrev pub next_action : {P : Type 0} → Option (Given P) → Action P
+next_action None = asks
+next_action (Some given) = drives (turn_of given)
+
 -- the first element of a queue
 abbrev pub first : {X : Type 0} → List X → Option X
 first queue = slice_get queue 0
 
 -- What an actor does, if it finds something to do.
 abbrev pub action_of : {P : Type 0} → ChainState P → Actor → Option (Action P)
-action_of chain Admit = Some (drives (turn_of chain.next))
+action_of chain Admit = Some (next_action chain.next)
 action_of chain PortLeft = option_map (λ message. drives (receipt Left message)) (first (at_port Left (length chain.cores) chain.links))
 action_of chain PortRight = option_map (λ message. drives (receipt Right message)) (first (at_port Right (length chain.cores) chain.links))
 action_of chain (Core place end) = option_map (handles place.0 end) (first (incoming end place.0 chain.links))
@@ -97,15 +112,16 @@ links_after n (admission event) links = put_in (port_of event) n (message_of eve
 links_after n (receipt port message) links = take_out port n links
 links_after n closing links = put_in Right n CloseR (put_in Left n CloseL links)
 
--- Behind the put of an event the feed is asked for the next one, and gives this answer.
-abbrev pub next_after : {P : Type 0} → DriverTurn P → Given P → Given P → Given P
-next_after (admission event) next answer = answer
+-- Behind the put of an event the feed is asked for the next one where that is there. Else it is asked when nothing else is to do.
+abbrev pub next_after : {P : Type 0} → DriverTurn P → Option (Given P) → FeedAnswer P → Option (Given P)
+next_after (admission event) next answer = if_there answer
 next_after (receipt port message) next answer = next
 next_after closing next answer = next
 
 -- The chain after an actor did this, if anything. A core that handles a message sends and reports what that message asks for.
-abbrev pub after_action : {P : Type 0} → (P → P → Bool) → ChainState P → Option (Action P) → Given P → ChainState P
+abbrev pub after_action : {P : Type 0} → (P → P → Bool) → ChainState P → Option (Action P) → FeedAnswer P → ChainState P
 after_action matches chain None answer = chain
+after_action matches chain (Some asks) answer = record chain { next = Some answer.given }
 after_action matches chain (Some (drives turn)) answer =
     record chain {
       driver = driver_after turn chain.driver;
@@ -123,8 +139,8 @@ after_action matches chain (Some (handles place end message)) answer =
     }
 after_action matches chain (Some (collects place report)) answer = record chain { reports = changed_at place (drop 1) chain.reports }
 
--- The chain after a step of an actor, with the feed's answer where it was asked.
-abbrev pub after : {P : Type 0} → (P → P → Bool) → ChainState P → Actor → Given P → ChainState P
+-- The chain after a step of an actor, with what the feed says.
+abbrev pub after : {P : Type 0} → (P → P → Bool) → ChainState P → Actor → FeedAnswer P → ChainState P
 after matches chain actor answer = after_action matches chain (action_of chain actor) answer
 
 -- Why an actor isn't enabled, if it isn't. The causes of one actor are looked at in this order.
@@ -133,9 +149,10 @@ closing_cause answer.Send = None
 closing_cause (answer.Wait count) = Some (Drains count)
 closing_cause answer.Already = Some Closed
 
-abbrev pub admit_cause : {P : Type 0} → DriverState → Given P → Option NotNow
-admit_cause driver (given.Event event) = option_map Waits (wait_of event driver)
-admit_cause driver given.Stop = closing_cause (closing_of driver)
+abbrev pub admit_cause : {P : Type 0} → DriverState → Option (Given P) → Option NotNow
+admit_cause driver None = None
+admit_cause driver (Some (given.Event event)) = option_map Waits (wait_of event driver)
+admit_cause driver (Some given.Stop) = closing_cause (closing_of driver)
 
 -- an empty queue is a cause, or else there is this one
 abbrev pub or_empty : {X : Type 0} → List X → Option NotNow → Option NotNow

@@ -20,17 +20,20 @@ use Rattle.hj_msg.specs.Emission.{emitted}
 use Rattle.hj_collect.specs.StandsFor as collect
 use Rattle.hj_chain.specs.declared.actor.Actor.{Actor}
 use Rattle.hj_chain.specs.declared.actor.Actor.TheVariants.{Admit, PortLeft, PortRight, Core, Collect}
-use Rattle.hj_chain.specs.Chain.{Action, drives, handles, collects, ChainState, Contents, action_of, after, cause, empty_chain}
+use Rattle.hj_chain.specs.Chain.{Action, FeedAnswer, if_there, asks, drives, handles, collects, ChainState, Contents, action_of, after, cause, empty_chain}
 
--- the event that an answer of the feed gives, if any
-abbrev pub events_of : {P : Type 0} → Given P → List (Event P)
-events_of (given.Event event) = event ∷ []
-events_of given.Stop = []
+-- the event that an answer of the feed gives, if there is one
+abbrev pub events_of : {P : Type 0} → Option (Given P) → List (Event P)
+events_of None = []
+events_of (Some (given.Event event)) = event ∷ []
+events_of (Some given.Stop) = []
 
--- the events that a step takes from the feed: it asks for the next one where it puts one in
-abbrev pub asked : {P : Type 0} → Actor → Given P → Given P → List (Event P)
-asked Admit (given.Event event) answer = events_of answer
-asked Admit given.Stop answer = []
+-- the events that a step takes from the feed: the driver asks for the next one where it knows none, and where it puts one in and
+-- the next one is there
+abbrev pub asked : {P : Type 0} → Actor → Option (Given P) → FeedAnswer P → List (Event P)
+asked Admit None answer = events_of (Some answer.given)
+asked Admit (Some (given.Event event)) answer = events_of (if_there answer)
+asked Admit (Some given.Stop) answer = []
 asked PortLeft next answer = []
 asked PortRight next answer = []
 asked (Core place end) next answer = []
@@ -39,8 +42,8 @@ asked (Collect place) next answer = []
 -- A schedule of steps, each of an actor that is enabled then, leads from the empty chain of n cores to this one. The events are
 -- those that were taken from the feed.
 pub data Reached {P : Type 0} (matches : P → P → Bool) (n flight : ℕ) : List Actor → List (Event P) → ChainState P → Type 0 where
-  begins : 1 ≤ n → (first : Given P) → Reached matches n flight [] (events_of first) (empty_chain n flight first)
-  steps : (schedule : List Actor) (events : List (Event P)) (chain : ChainState P) (actor : Actor) (answer : Given P)
+  begins : 1 ≤ n → (first : Given P) → Reached matches n flight [] (events_of (Some first)) (empty_chain n flight first)
+  steps : (schedule : List Actor) (events : List (Event P)) (chain : ChainState P) (actor : Actor) (answer : FeedAnswer P)
       → Reached matches n flight schedule events chain → cause chain actor ≡ None
       → Reached matches n flight (schedule ++ actor ∷ []) (events ++ asked actor chain.next answer) (after matches chain actor answer)
 
@@ -74,6 +77,7 @@ with_last place x lists k = if k == place then lists k ++ x ∷ [] else lists k
 -- the journals with one turn more
 abbrev pub recorded : {P : Type 0} → (P → P → Bool) → ChainState P → ℕ → Option (Action P) → History P → History P
 recorded matches chain number None history = history
+recorded matches chain number (Some asks) history = history
 recorded matches chain number (Some (drives turn)) history = record history { log = history.log ++ record { number = number; turn = turn } ∷ [] }
 recorded matches chain number (Some (handles place end message)) history =
     record history { turns = with_last place (turn_at matches chain number place end message) history.turns }

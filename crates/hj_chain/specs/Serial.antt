@@ -1,5 +1,5 @@
 -- A serial run: one enabled actor after the other makes its step, each chosen by a rule.
-use Rattle.std.specs.Prelude.{◌≡◌, ℕ, ◌+◌, ◌*◌, ◌≤◌, ◌%◌, Bool, true, false, List, [], ◌∷◌, ◌++◌, drop, filter, is_none, length, map, replicate, slice_get, take, None, Some}
+use Rattle.std.specs.Prelude.{◌≡◌, ℕ, ◌+◌, ◌-◌, ◌*◌, ◌≤◌, ◌%◌, ◌&&◌, not, nat_lt, if◌then◌else◌, Bool, true, false, List, [], ◌∷◌, ◌++◌, drop, filter, is_none, length, map, replicate, slice_get, take, None, Some}
 use Rattle.std.specs.declared.option.Option.{Option}
 use Rattle.std.specs.List.{flat_map, range_with_len}
 use Rattle.hj_base.specs.declared.numbers.CoreNo.{CoreNo}
@@ -30,11 +30,15 @@ use Rattle.hj_chain.specs.Steps.{Steps, is_stop}
 abbrev pub core_no : ℕ → CoreNo
 core_no place = record { 0 = place }
 
--- All actors of a chain of n cores, in their order: the driver's put and its ports, the ends of each core, and the collection of
--- each core's reports.
-abbrev pub actors : ℕ → List Actor
-actors n = Admit ∷ PortLeft ∷ PortRight
+-- The actors of a chain of n cores but the driver's put, in their order: the driver's ports, the ends of each core, and the
+-- collection of each core's reports.
+abbrev pub others : ℕ → List Actor
+others n = PortLeft ∷ PortRight
     ∷ (flat_map (λ place. Core (core_no place) Left ∷ Core (core_no place) Right ∷ []) (range_with_len 0 n) ++ map (λ place. Collect (core_no place)) (range_with_len 0 n))
+
+-- all actors: the driver's put comes first
+abbrev pub actors : ℕ → List Actor
+actors n = Admit ∷ others n
 
 -- the actors that are enabled, in that order
 abbrev pub is_enabled : {P : Type 0} → ChainState P → Actor → Bool
@@ -52,12 +56,27 @@ abbrev pub first_choosing : Chooser → Choosing
 first_choosing chooser.InTurn = from_place 0
 first_choosing (chooser.Seeded seed) = by_draw seed
 
--- the enabled actor that the rule names, if one is enabled
-abbrev pub chosen : {P : Type 0} → Choosing → ChainState P → Option Actor
-chosen (from_place place) chain =
-    let all = actors (length chain.cores) in
-    slice_get (filter (is_enabled chain) (drop place all ++ take place all)) 0
-chosen (by_draw held) chain = slice_get (enabled chain) (lcg.drawn (lcg.next held) % length (enabled chain))
+-- the driver's put would wait: the feed's next answer isn't known, and isn't there
+abbrev pub would_wait : {P : Type 0} → Bool → ChainState P → Bool
+would_wait ready chain = is_none chain.next && not ready
+
+-- a list from this place on, all the way round
+abbrev pub from_there_on : {X : Type 0} → ℕ → List X → List X
+from_there_on place all = drop place all ++ take place all
+
+-- The actors of a chain of n cores as they are looked over from a place on: the driver's put comes last where it would wait.
+abbrev pub in_turn : ℕ → Bool → ℕ → List Actor
+in_turn n false place = from_there_on place (actors n)
+in_turn n true place = from_there_on (place - 1) (others n) ++ Admit ∷ []
+
+-- The enabled actors of which one is drawn: without the driver's put where it would wait, if there is another.
+abbrev pub drawn_from : {P : Type 0} → Bool → ChainState P → List Actor
+drawn_from ready chain = if would_wait ready chain && nat_lt 1 (length (enabled chain)) then drop 1 (enabled chain) else enabled chain
+
+-- The enabled actor that the rule names, if one is enabled; `ready` tells whether the feed's next answer is there.
+abbrev pub chosen : {P : Type 0} → Choosing → Bool → ChainState P → Option Actor
+chosen (from_place place) ready chain = slice_get (filter (is_enabled chain) (in_turn (length chain.cores) (would_wait ready chain) place)) 0
+chosen (by_draw held) ready chain = slice_get (drawn_from ready chain) (lcg.drawn (lcg.next held) % length (drawn_from ready chain))
 
 -- the place behind an actor, among those of n cores
 abbrev pub place_behind : ℕ → Actor → ℕ
@@ -85,15 +104,15 @@ IsWithin n (by_draw held) = Unit {0}
 
 -- Steps that are made one after another, each of the actor that the rule names then. Where memory runs out in one, none comes
 -- behind it.
-pub data MakesSteps {P F : Type 0} (gives : F → Given P → F → Type 0) (matches : P → P → Bool) (first : Choosing) (old : ChainState P) (from : F)
+pub data MakesSteps {P F : Type 0} (gives : F → Given P → F → Type 0) (is_ready : F → Bool) (matches : P → P → Bool) (first : Choosing) (old : ChainState P) (from : F)
     : List Actor → Choosing → ChainState P → F → Type 0 where
-  begins : MakesSteps gives matches first old from [] first old from
+  begins : MakesSteps gives is_ready matches first old from [] first old from
   goes_on : (made : List Actor) (choosing : Choosing) (mid : ChainState P) (between : F) (actor : Actor) (new : ChainState P) (to : F)
-      → MakesSteps gives matches first old from made choosing mid between → chosen choosing mid ≡ Some actor → Steps gives matches actor mid between stepped.Did new to
-      → MakesSteps gives matches first old from (made ++ actor ∷ []) (choosing_after (length old.cores) actor choosing) new to
+      → MakesSteps gives is_ready matches first old from made choosing mid between → chosen choosing (is_ready between) mid ≡ Some actor → Steps gives is_ready matches actor mid between stepped.Did new to
+      → MakesSteps gives is_ready matches first old from (made ++ actor ∷ []) (choosing_after (length old.cores) actor choosing) new to
   runs_out : (made : List Actor) (choosing : Choosing) (mid : ChainState P) (between : F) (actor : Actor) (new : ChainState P) (to : F)
-      → MakesSteps gives matches first old from made choosing mid between → chosen choosing mid ≡ Some actor → Steps gives matches actor mid between stepped.Memory new to
-      → MakesSteps gives matches first old from made choosing new to
+      → MakesSteps gives is_ready matches first old from made choosing mid between → chosen choosing (is_ready between) mid ≡ Some actor → Steps gives is_ready matches actor mid between stepped.Memory new to
+      → MakesSteps gives is_ready matches first old from made choosing new to
 
 -- How pairs were given: each one kept, and no further pair due; or the last one refused, and each other one kept.
 abbrev pub Gives : {P J : Type 0} {predicate : J → P → P → Bool} {chain : Contents P J} {schedule : List Actor} {events : List (Event P)} {given : ℕ}
@@ -124,11 +143,11 @@ Ends {chain = chain} fin.Memory pairs stands = (map (λ one. one.answer) pairs �
 -- A serial run of a chain that stood for a schedule and events, and had given so many pairs: its steps are those that the rule
 -- names; the chain stands for that schedule with them behind it, for the events with those that the feed gave on the way, and
 -- for so many pairs more as the drain took. These are the next ones of the emission.
-pub record RunsSerially {P J F D : Type 0} (gives : F → Given P → F → Type 0) (takes : D → Pair P → Drained → D → Type 0) (predicate : J → P → P → Bool) (rule : Chooser)
+pub record RunsSerially {P J F D : Type 0} (gives : F → Given P → F → Type 0) (is_ready : F → Bool) (takes : D → Pair P → Drained → D → Type 0) (predicate : J → P → P → Bool) (rule : Chooser)
     (schedule : List Actor) (events : List (Event P)) (given : ℕ) (old : Contents P J) (from : F) (unfilled : D) (ended : Fin) (new : Contents P J) (to : F) (filled : D) : Type 0 where
   pub made : List Actor
   pub choosing : Choosing
-  pub steps : MakesSteps gives (predicate old.join) (first_choosing rule) old.state from made choosing new.state to
+  pub steps : MakesSteps gives is_ready (predicate old.join) (first_choosing rule) old.state from made choosing new.state to
   pub taken : List (Event P)
   pub feed : GoesOver gives from taken to
   pub pairs : List (Drainage P)

@@ -1,5 +1,6 @@
 -- What a step of an actor answers and does, and what a schedule of them does, as callers see it.
 use Rattle.std.specs.Prelude.{◌≡◌, ◌≤◌, ℕ, ◌+◌, ◌*◌, Bool, true, false, List, [], ◌∷◌, ◌++◌, length, None, Some, MatchBool, IfSome, IsPermutation}
+use Rattle.std.specs.declared.option.Option.{Option}
 use Rattle.hj_base.specs.declared.numbers.Side.{Side}
 use Rattle.hj_base.specs.declared.numbers.Side.TheVariants.{Left, Right}
 use Rattle.hj_msg.specs.declared.event.Event.{Event}
@@ -7,7 +8,7 @@ use Rattle.hj_msg.specs.declared.feed.Given.{Given}
 use Rattle.hj_msg.specs.declared.feed.Given.TheVariants as given
 use Rattle.hj_msg.specs.Event.{IsWellFormed}
 use Rattle.hj_msg.specs.Met.{pairs_of}
-use Rattle.hj_msg.specs.Feed.{FeedState, GoesOver, first_numbering, numbering_of}
+use Rattle.hj_msg.specs.Feed.{FeedState, GoesOver, first_numbering, numbering_of, Answers}
 use Rattle.hj_chain.specs.declared.actor.Actor.{Actor}
 use Rattle.hj_chain.specs.declared.actor.Actor.TheVariants.{Admit, PortLeft, PortRight, Core, Collect}
 use Rattle.hj_chain.specs.declared.actor.NotNow.{NotNow}
@@ -16,13 +17,14 @@ use Rattle.hj_chain.specs.declared.actor.Stepped.TheVariants.{Did, NotEnabled, M
 use Rattle.hj_chain.specs.Links.{link_at}
 use Rattle.hj_collect.specs.Collector.{after_report}
 use Rattle.hj_chain.specs.Reports.{queue_at}
-use Rattle.hj_chain.specs.Chain.{ChainState, Contents, after, cause, first}
+use Rattle.hj_chain.specs.Chain.{ChainState, Contents, FeedAnswer, after, cause, first}
 use Rattle.hj_chain.specs.Reached.{StandsFor}
 
 -- whether no event is to come
-abbrev pub is_stop : {P : Type 0} → Given P → Bool
-is_stop (given.Event event) = false
-is_stop given.Stop = true
+abbrev pub is_stop : {P : Type 0} → Option (Given P) → Bool
+is_stop None = false
+is_stop (Some (given.Event event)) = false
+is_stop (Some given.Stop) = true
 
 -- A feed goes with a chain: the chain stands for well-formed events, with which the feed's numbering goes on, and the feed has
 -- stopped where no event is to come.
@@ -48,14 +50,15 @@ pub record IsGoing {P J : Type 0} (predicate : J → P → P → Bool) (chain : 
 abbrev pub IsFresh : FeedState → Type 0
 IsFresh feed = feed.numbering ≡ first_numbering
 
--- The feed is asked for the next event where the driver puts one in.
-abbrev pub asks : {P : Type 0} → Actor → Given P → Bool
-asks Admit (given.Event event) = true
-asks Admit given.Stop = false
-asks PortLeft next = false
-asks PortRight next = false
-asks (Core place end) next = false
-asks (Collect place) next = false
+-- The feed is asked for the next event where the driver knows none, and where it puts one in and the next one is there (`ready`).
+abbrev pub asks : {P : Type 0} → Actor → Option (Given P) → Bool → Bool
+asks Admit None ready = true
+asks Admit (Some (given.Event event)) ready = ready
+asks Admit (Some given.Stop) ready = false
+asks PortLeft next ready = false
+asks PortRight next ready = false
+asks (Core place end) next ready = false
+asks (Collect place) next ready = false
 
 -- who takes messages at a port
 abbrev pub at_port : Side → Actor
@@ -70,8 +73,15 @@ needs_memory PortRight = false
 needs_memory (Core place end) = true
 needs_memory (Collect place) = true
 
--- What a step of an actor answers, and what it leaves of the chain. `answer` is that of the feed, where it was asked.
-abbrev pub StepsTo : {P : Type 0} → (P → P → Bool) → Actor → Given P → ChainState P → Stepped → ChainState P → Type 0
+-- What a feed says that is asked where its next answer is there: whether it is (`ready`), and the answer that it then gave (`gave`,
+-- `says`). Else the feed is as it was.
+pub record Tells {P F : Type 0} (gives : F → Given P → F → Type 0) (is_ready : F → Bool) (state : F → FeedState) (from : F) (answer : FeedAnswer P) (to : F) : Type 0 where
+  pub ready : answer.ready ≡ is_ready from
+  pub gave : MatchBool answer.ready (gives from answer.given to) (to ≡ from)
+  pub says : MatchBool answer.ready (Answers answer.given (state from) (state to)) (state to ≡ state from)
+
+-- What a step of an actor answers, and what it leaves of the chain. `answer` is what the feed says.
+abbrev pub StepsTo : {P : Type 0} → (P → P → Bool) → Actor → FeedAnswer P → ChainState P → Stepped → ChainState P → Type 0
 StepsTo matches actor answer old Did new = (cause old actor ≡ None) × (new ≡ after matches old actor answer)
 StepsTo matches actor answer old (NotEnabled why) new = (cause old actor ≡ Some why) × (new ≡ old)
 StepsTo matches actor answer old Memory new = (cause old actor ≡ None) × (needs_memory actor ≡ true) × (new ≡ record old { over = true })
@@ -84,29 +94,30 @@ Gathers (Collect core) old Did new =
 Gathers actor old result new = (new.collector ≡ old.collector) × (new.kept ≡ old.kept)
 
 -- whether the feed was asked in a step
-abbrev pub was_asked : {P : Type 0} → Actor → Given P → Stepped → Bool
-was_asked actor next Did = asks actor next
-was_asked actor next (NotEnabled why) = false
-was_asked actor next Memory = false
+abbrev pub was_asked : {P : Type 0} → Actor → Option (Given P) → Bool → Stepped → Bool
+was_asked actor next ready Did = asks actor next ready
+was_asked actor next ready (NotEnabled why) = false
+was_asked actor next ready Memory = false
 
 -- The same with the feed, before and after.
-pub record Steps {P F : Type 0} (gives : F → Given P → F → Type 0) (matches : P → P → Bool) (actor : Actor) (old : ChainState P) (from : F) (result : Stepped) (new : ChainState P) (to : F) : Type 0 where
-  pub answer : Given P
+pub record Steps {P F : Type 0} (gives : F → Given P → F → Type 0) (is_ready : F → Bool) (matches : P → P → Bool) (actor : Actor) (old : ChainState P) (from : F) (result : Stepped) (new : ChainState P) (to : F) : Type 0 where
+  pub answer : FeedAnswer P
+  pub ready : answer.ready ≡ is_ready from
   pub chain : StepsTo matches actor answer old result new
-  pub feed : MatchBool (was_asked actor old.next result) (gives from answer to) (to ≡ from)
+  pub feed : MatchBool (was_asked actor old.next answer.ready result) (gives from answer.given to) (to ≡ from)
 
 -- What a schedule does: the steps of its actors in order, up to one for which there is no memory. `done` are the actors that
 -- made a step; those that weren't enabled then are passed over.
-pub data RunsOver {P F : Type 0} (gives : F → Given P → F → Type 0) (matches : P → P → Bool) : List Actor → ChainState P → F → List Actor → Stepped → ChainState P → F → Type 0 where
-  ended : (chain : ChainState P) (feed : F) → RunsOver gives matches [] chain feed [] Did chain feed
+pub data RunsOver {P F : Type 0} (gives : F → Given P → F → Type 0) (is_ready : F → Bool) (matches : P → P → Bool) : List Actor → ChainState P → F → List Actor → Stepped → ChainState P → F → Type 0 where
+  ended : (chain : ChainState P) (feed : F) → RunsOver gives is_ready matches [] chain feed [] Did chain feed
   did : (actor : Actor) (later : List Actor) (old mid : ChainState P) (from between : F) (done : List Actor) (result : Stepped) (new : ChainState P) (to : F)
-      → Steps gives matches actor old from Did mid between → RunsOver gives matches later mid between done result new to
-      → RunsOver gives matches (actor ∷ later) old from (actor ∷ done) result new to
+      → Steps gives is_ready matches actor old from Did mid between → RunsOver gives is_ready matches later mid between done result new to
+      → RunsOver gives is_ready matches (actor ∷ later) old from (actor ∷ done) result new to
   passed_over : (actor : Actor) (later : List Actor) (why : NotNow) (old mid : ChainState P) (from between : F) (done : List Actor) (result : Stepped) (new : ChainState P) (to : F)
-      → Steps gives matches actor old from (NotEnabled why) mid between → RunsOver gives matches later mid between done result new to
-      → RunsOver gives matches (actor ∷ later) old from done result new to
+      → Steps gives is_ready matches actor old from (NotEnabled why) mid between → RunsOver gives is_ready matches later mid between done result new to
+      → RunsOver gives is_ready matches (actor ∷ later) old from done result new to
   stopped : (actor : Actor) (later : List Actor) (old new : ChainState P) (from to : F)
-      → Steps gives matches actor old from Memory new to → RunsOver gives matches (actor ∷ later) old from [] Memory new to
+      → Steps gives is_ready matches actor old from Memory new to → RunsOver gives is_ready matches (actor ∷ later) old from [] Memory new to
 
 -- The chain stands for this schedule and these events, of which the last ones were taken from the feed on the way, and for so
 -- many pairs given.
@@ -117,9 +128,9 @@ pub record StandsFurther {P J F : Type 0} (gives : F → Given P → F → Type 
   pub stands : StandsFor predicate chain schedule (events ++ taken) given
 
 -- What a schedule did: its steps, and whatever the chain stood for before, it stands for that with these steps behind it.
-pub record Ran {P J F : Type 0} (gives : F → Given P → F → Type 0) (predicate : J → P → P → Bool) (schedule : List Actor) (old : Contents P J) (from : F) (result : Stepped) (new : Contents P J) (to : F) : Type 0 where
+pub record Ran {P J F : Type 0} (gives : F → Given P → F → Type 0) (is_ready : F → Bool) (predicate : J → P → P → Bool) (schedule : List Actor) (old : Contents P J) (from : F) (result : Stepped) (new : Contents P J) (to : F) : Type 0 where
   pub done : List Actor
-  pub steps : RunsOver gives (predicate old.join) schedule old.state from done result new.state to
+  pub steps : RunsOver gives is_ready (predicate old.join) schedule old.state from done result new.state to
   pub stands : (before : List Actor) (events : List (Event P)) (given : ℕ) → StandsFor predicate old before events given → StandsFurther gives predicate (before ++ done) events given from new to
 
 -- Each right-going queue holds at most 2 * flight + 1 messages, and each left-going one at most flight + 1. So no put ever finds

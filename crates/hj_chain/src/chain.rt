@@ -1,4 +1,4 @@
-ghost use Rattle.std.specs.Prelude.{◌≡◌, ◌≢◌, ◌↔◌, true, ◌+◌, ◌^◌, ◌<◌, ◌≤◌, ◌++◌, [], ◌∷◌, ℕ, false, List, length, map, replicate, option_to_list, All, IfOk, IfSome, IfNone, IsPermutation, OnErr};
+ghost use Rattle.std.specs.Prelude.{◌≡◌, ◌≢◌, ◌↔◌, true, ◌+◌, ◌^◌, ◌<◌, ◌≤◌, ◌++◌, [], ◌∷◌, ℕ, false, List, length, map, replicate, option_to_list, Some, All, IfOk, IfSome, IfNone, IsPermutation, OnErr};
 ghost use Rattle.hj_base.specs.declared.numbers.Side.{Side as Sides};
 ghost use Rattle.hj_base.specs.declared.numbers.Side.TheVariants.{Left, Right};
 ghost use Rattle.hj_msg.specs.declared.event.Event.{Event};
@@ -8,13 +8,13 @@ ghost use Rattle.hj_msg.specs.Feed.{Answers, FeedState};
 ghost use Rattle.hj_core.specs.Contents.{state_of};
 ghost use Rattle.hj_core.specs.Sent.{sent};
 ghost use Rattle.hj_chain.specs.Placed.{ArePlaced};
-ghost use Rattle.hj_chain.specs.Chain.{empty_chain};
+ghost use Rattle.hj_chain.specs.Chain.{FeedAnswer, empty_chain, if_there};
 ghost use Rattle.hj_collect.specs.Collector.{nothing_taken};
 ghost use Rattle.hj_chain.specs.Reached.{StandsFor, next_pair};
 ghost use Rattle.hj_chain.specs.Progress.{IsDone};
 ghost use Rattle.hj_chain.specs.Links.{changed_at, link_at, send_out};
 ghost use Rattle.hj_chain.specs.Reports.{queue_at};
-ghost use Rattle.hj_chain.specs.Steps.{at_port, GoesWith, Gathers, HasRoom, IsFresh, IsGoing, Ran, StandsFurther, Steps, StepsTo, was_asked};
+ghost use Rattle.hj_chain.specs.Steps.{at_port, GoesWith, Gathers, HasRoom, IsFresh, IsGoing, Ran, StandsFurther, Steps, StepsTo, Tells, was_asked};
 
 use crate::links::Links;
 use crate::reports::Reports;
@@ -39,7 +39,7 @@ mod tests;
 pub struct Chain<P, J: Join<P>, L: Store<P, J>, R: Store<P, J>> {
     join: J,
     driver: Driver,
-    next: Given<P>,
+    next: Option<Given<P>>,
     links: Links<P>,
     cores: Vec<Core<P, J, L, R>>,
     reports: Reports<P>,
@@ -119,7 +119,7 @@ impl<P: Share + Drop, J: Join<P> + Drop, L: Store<P, J> + Drop, R: Store<P, J> +
         Ok(Chain {
             join,
             driver,
-            next: feed.next(),
+            next: Some(feed.next()),
             links,
             cores,
             reports,
@@ -129,11 +129,12 @@ impl<P: Share + Drop, J: Join<P> + Drop, L: Store<P, J> + Drop, R: Store<P, J> +
         })
     }
 
-    /// Makes a step of an actor, if it is enabled. A step that puts an event into the chain asks the feed for the next one.
+    /// Makes a step of an actor, if it is enabled. A step that puts an event into the chain asks the feed for the next one where
+    /// that is there; else the driver's next step asks, and puts nothing.
     pub fn step<F: Feed<P>>(&mut self, actor: Actor, feed: &mut F) -> Stepped
         requires { GoesWith J.predicate self.old (F.state feed.old) }
-        ensures step { Steps F.gives (J.predicate self.old.join) actor self.old.state feed.old result self.new.state feed.new }
-        ensures answers { was_asked actor self.old.state.next result ≡ true → Answers self.new.state.next (F.state feed.old) (F.state feed.new) }
+        ensures step { Steps F.gives F.ready (J.predicate self.old.join) actor self.old.state feed.old result self.new.state feed.new }
+        ensures answers { was_asked actor self.old.state.next (F.ready feed.old) result ≡ true → IfSome self.new.state.next (λ given. Answers given (F.state feed.old) (F.state feed.new)) }
         ensures join { self.new.join ≡ self.old.join }
         ensures gathers { Gathers actor self.old result self.new }
         ensures room { HasRoom self.new.state }
@@ -158,7 +159,7 @@ impl<P: Share + Drop, J: Join<P> + Drop, L: Store<P, J> + Drop, R: Store<P, J> +
     /// Makes the steps of a schedule in their order. An actor that isn't enabled is passed over.
     pub fn run<F: Feed<P>>(&mut self, schedule: &[Actor], feed: &mut F) -> Stepped
         requires { GoesWith J.predicate self.old (F.state feed.old) }
-        ensures runs { Ran F.gives J.predicate schedule.now self.old feed.old result self.new feed.new }
+        ensures runs { Ran F.gives F.ready J.predicate schedule.now self.old feed.old result self.new feed.new }
         ensures join { self.new.join ≡ self.old.join }
         ensures goes { GoesWith J.predicate self.new (F.state feed.new) }
     {
@@ -198,22 +199,29 @@ impl<P: Share + Drop, J: Join<P> + Drop, L: Store<P, J> + Drop, R: Store<P, J> +
         self.driver.finished() && self.collector.ended()
     }
 
-    /// The driver puts the next event, or the closes.
+    /// The driver asks the feed where no answer is known, or puts the next event, or the closes.
     fn admit<F: Feed<P>>(&mut self, feed: &mut F) -> Stepped
         requires goes { GoesWith J.predicate self.old (F.state feed.old) }
         requires going { self.old.state.over ≡ false }
-        ensures step { Steps F.gives (J.predicate self.old.join) Actor.Admit self.old.state feed.old result self.new.state feed.new }
-        ensures answers { was_asked Actor.Admit self.old.state.next result ≡ true → Answers self.new.state.next (F.state feed.old) (F.state feed.new) }
+        ensures step { Steps F.gives F.ready (J.predicate self.old.join) Actor.Admit self.old.state feed.old result self.new.state feed.new }
+        ensures answers { was_asked Actor.Admit self.old.state.next (F.ready feed.old) result ≡ true → IfSome self.new.state.next (λ given. Answers given (F.state feed.old) (F.state feed.new)) }
         ensures others { self.new ≡ record self.old { state = self.new.state } }
         ensures goes { GoesWith J.predicate self.new (F.state feed.new) }
     {
-        let Given::Event(event) = &self.next else {
+        let Some(given) = &self.next else {
+            self.next = Some(feed.next());
+            return Stepped::Did;
+        };
+        let Given::Event(event) = given else {
             return self.close();
         };
         if let Some(why) = self.driver.waits(event) {
             return Stepped::NotEnabled(NotNow::Waits(why));
         }
-        let Given::Event(event) = mem::replace(&mut self.next, feed.next()) else {
+        let Some(given) = mem::replace(&mut self.next, next_if_there(feed)) else {
+            unreachable!()
+        };
+        let Given::Event(event) = given else {
             unreachable!()
         };
         let Admitted::Send(port, msg) = self.driver.admit(event) else {
@@ -226,8 +234,8 @@ impl<P: Share + Drop, J: Join<P> + Drop, L: Store<P, J> + Drop, R: Store<P, J> +
     /// The driver puts the closes.
     fn close(&mut self) -> Stepped
         requires going { IsGoing J.predicate self.old }
-        requires last { self.old.state.next ≡ Given.Stop }
-        ensures step { (answer : Given P) → StepsTo (J.predicate self.old.join) Actor.Admit answer self.old.state result self.new.state }
+        requires last { self.old.state.next ≡ Some Given.Stop }
+        ensures step { (answer : FeedAnswer P) → StepsTo (J.predicate self.old.join) Actor.Admit answer self.old.state result self.new.state }
         ensures others { self.new ≡ record self.old { state = self.new.state } }
     {
         match self.driver.close() {
@@ -245,7 +253,7 @@ impl<P: Share + Drop, J: Join<P> + Drop, L: Store<P, J> + Drop, R: Store<P, J> +
     /// The driver takes a message out at a port.
     fn receive(&mut self, port: Side) -> Stepped
         requires { IsGoing J.predicate self.old }
-        ensures step { (answer : Given P) → StepsTo (J.predicate self.old.join) (at_port port) answer self.old.state result self.new.state }
+        ensures step { (answer : FeedAnswer P) → StepsTo (J.predicate self.old.join) (at_port port) answer self.old.state result self.new.state }
         ensures others { self.new ≡ record self.old { state = self.new.state } }
     {
         match self.links.take_out(port, self.cores.len()) {
@@ -260,7 +268,7 @@ impl<P: Share + Drop, J: Join<P> + Drop, L: Store<P, J> + Drop, R: Store<P, J> +
     /// A core handles the first message that comes in at one of its ends.
     fn turn(&mut self, core: CoreNo, end: Side) -> Stepped
         requires { IsGoing J.predicate self.old }
-        ensures step { (answer : Given P) → StepsTo (J.predicate self.old.join) (Actor.Core core end) answer self.old.state result self.new.state }
+        ensures step { (answer : FeedAnswer P) → StepsTo (J.predicate self.old.join) (Actor.Core core end) answer self.old.state result self.new.state }
         ensures others { self.new ≡ record self.old { state = self.new.state } }
     {
         let place = usize::from(core.0);
@@ -289,7 +297,7 @@ impl<P: Share + Drop, J: Join<P> + Drop, L: Store<P, J> + Drop, R: Store<P, J> +
     /// A core's first report is taken. The queue gives it up only once there is room for its pairs.
     fn collect(&mut self, core: CoreNo) -> Stepped
         requires { IsGoing J.predicate self.old }
-        ensures step { (answer : Given P) → StepsTo (J.predicate self.old.join) (Actor.Collect core) answer self.old.state result self.new.state }
+        ensures step { (answer : FeedAnswer P) → StepsTo (J.predicate self.old.join) (Actor.Collect core) answer self.old.state result self.new.state }
         ensures join { self.new.join ≡ self.old.join }
         ensures gathers { Gathers (Actor.Collect core) self.old result self.new }
     {
@@ -311,6 +319,17 @@ impl<P: Share + Drop, J: Join<P> + Drop, L: Store<P, J> + Drop, R: Store<P, J> +
         self.collector.note(core, report);
         self.reports.drop_first(place);
         Stepped::Did
+    }
+}
+
+/// The feed's next answer, if it is there.
+fn next_if_there<P, F: Feed<P>>(feed: &mut F) -> Option<Given<P>>
+    ensures { (answer : FeedAnswer P) × (result ≡ if_there answer) × Tells F.gives F.ready F.state feed.old answer feed.new }
+{
+    if feed.is_ready() {
+        Some(feed.next())
+    } else {
+        None
     }
 }
 

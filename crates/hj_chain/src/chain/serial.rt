@@ -1,10 +1,10 @@
-ghost use Rattle.std.specs.Prelude.{◌≡◌, ◌+◌, ◌-◌, ◌*◌, ◌<◌, ◌≤◌, ◌++◌, true, ℕ, List, length, slice_get, is_none, take, drop, filter, IfSome, IfNone};
+ghost use Rattle.std.specs.Prelude.{◌≡◌, ◌+◌, ◌-◌, ◌*◌, ◌%◌, ◌<◌, ◌≤◌, ◌++◌, true, ℕ, List, length, slice_get, is_none, take, drop, filter, Bool, IfSome, IfNone};
 ghost use Rattle.hj_msg.specs.declared.event.Event.{Event};
 ghost use Rattle.hj_msg.specs.Feed.{FeedState};
 ghost use Rattle.hj_chain.specs.declared.actor.Actor.{Actor as Actors};
 ghost use Rattle.hj_chain.specs.Chain.{admit_cause};
 ghost use Rattle.hj_chain.specs.Reached.{StandsFor};
-ghost use Rattle.hj_chain.specs.Serial.{Choosing, IsWithin, Releases, RunsSerially, actors, chosen, choosing_after, choosing_of, enabled, first_choosing, is_enabled};
+ghost use Rattle.hj_chain.specs.Serial.{Choosing, IsWithin, Releases, RunsSerially, actors, chosen, choosing_after, choosing_of, drawn_from, enabled, first_choosing, in_turn, is_enabled, would_wait};
 ghost use Rattle.hj_chain.specs.Steps.{GoesWith};
 
 use crate::{Actor, Chain, Chooser, Fin, Stepped};
@@ -55,7 +55,7 @@ impl<P: Share + Drop, J: Join<P> + Drop, L: Store<P, J> + Drop, R: Store<P, J> +
     /// Makes steps until all is done, one enabled actor after the other, each chosen by a rule. The pairs go to the drain in the
     /// order of the sequential join, each as soon as it is due; the first one that the drain refuses ends the run. Before each
     /// step of a core the gate is passed, with the core and the number of steps that this call made before; this number stays
-    /// at 2^64 - 1 once it is there.
+    /// at 2^64 - 1 once it is there. The feed is asked for an event that isn't there yet only where nothing else is to do.
     pub fn run_serial<F: Feed<P>, D: Drain<P>, G: Gate>(
         &mut self,
         chooser: Chooser,
@@ -65,7 +65,7 @@ impl<P: Share + Drop, J: Join<P> + Drop, L: Store<P, J> + Drop, R: Store<P, J> +
     ) -> Fin
         requires { GoesWith J.predicate self.old (F.state feed.old) }
         ensures runs { (schedule : List Actors) (events : List (Event P)) (given : ℕ) → StandsFor J.predicate self.old schedule events given
-            → RunsSerially F.gives D.takes J.predicate chooser schedule events given self.old feed.old drain.old result self.new feed.new drain.new }
+            → RunsSerially F.gives F.ready D.takes J.predicate chooser schedule events given self.old feed.old drain.old result self.new feed.new drain.new }
         ensures join { self.new.join ≡ self.old.join }
         ensures goes { GoesWith J.predicate self.new (F.state feed.new) }
     {
@@ -74,7 +74,7 @@ impl<P: Share + Drop, J: Join<P> + Drop, L: Store<P, J> + Drop, R: Store<P, J> +
         if self.release(drain) == Drained::Refused {
             return Fin::Refused;
         }
-        while let Some(actor) = rule.next(self) {
+        while let Some(actor) = rule.next(self, self.would_wait(feed)) {
             pass(gate, actor, made);
             made = made.saturating_add(1);
             if self.step(actor, feed) == Stepped::Memory {
@@ -129,23 +129,59 @@ impl<P: Share + Drop, J: Join<P> + Drop, L: Store<P, J> + Drop, R: Store<P, J> +
         }
     }
 
-    /// Whether the driver may put the next event, or the closes where none is to come.
+    /// Whether the driver would wait for the feed.
+    fn would_wait<F: Feed<P>>(&self, feed: &F) -> bool
+        ensures { result ≡ would_wait (F.ready feed.now) self.now.state }
+    {
+        self.next.is_none() && !feed.is_ready()
+    }
+
+    /// Whether the driver may put the next event, or the closes where none is to come, or ask the feed which it is.
     fn may_put(&self) -> bool
         ensures { result ≡ is_none (admit_cause self.now.state.driver self.now.state.next) }
     {
         match &self.next {
-            Given::Event(event) => self.driver.waits(event).is_none(),
-            Given::Stop => self.driver.closing() == Closing::Send,
+            None => true,
+            Some(Given::Event(event)) => self.driver.waits(event).is_none(),
+            Some(Given::Stop) => self.driver.closing() == Closing::Send,
         }
     }
 
-    /// The first enabled actor from this place on, all the way round.
-    fn first_from(&self, place: usize) -> Option<Actor>
+    /// The enabled actor that a number draws; not the driver's put where it would wait, if there is another.
+    fn drawn(&self, draw: u64, waits: bool) -> Option<Actor>
+        ensures { (ready : Bool) → waits ≡ would_wait ready self.now.state → result ≡ slice_get (drawn_from ready self.now.state) (draw % length (drawn_from ready self.now.state)) }
+    {
+        let enabled = self.enabled();
+        if enabled == 0 {
+            return None;
+        }
+        if waits && enabled > 1 {
+            return self.nth(1 + (draw % u64::from(enabled - 1)) as u32);
+        }
+        self.nth((draw % u64::from(enabled)) as u32)
+    }
+
+    /// The first enabled actor from this place on, all the way round; the driver's put comes last where it would wait.
+    fn first_from(&self, place: usize, waits: bool) -> Option<Actor>
         requires { place ≤ length (actors (length self.now.state.cores)) }
-        ensures { result ≡ chosen (Choosing.from_place place) self.now.state }
+        ensures { result ≡ slice_get (filter (is_enabled self.now.state) (in_turn (length self.now.state.cores) waits place)) 0 }
+    {
+        if !waits {
+            return self.first_round(place, 0);
+        }
+        match self.first_round(place.max(1), 1) {
+            None => self.first_enabled(0, 1),
+            found => found,
+        }
+    }
+
+    /// The first enabled actor from this place on, all the way round, without the first `passed` actors.
+    fn first_round(&self, place: usize, passed: usize) -> Option<Actor>
+        requires { place ≤ length (actors (length self.now.state.cores)) }
+        ensures { result ≡ slice_get (filter (is_enabled self.now.state) (drop place (actors (length self.now.state.cores)) ++ take (place - passed) (drop passed (actors (length self.now.state.cores))))) 0 }
     {
         match self.first_enabled(place, Actor::count(self.cores.len())) {
-            None => self.first_enabled(0, place),
+            None => self.first_enabled(passed, place),
             found => found,
         }
     }
@@ -192,29 +228,24 @@ impl Rule {
         }
     }
 
-    /// The enabled actor that makes the next step; None where none is enabled.
+    /// The enabled actor that makes the next step, where the driver's put would wait or not; None where none is enabled.
     fn next<P: Share + Drop, J: Join<P> + Drop, L: Store<P, J> + Drop, R: Store<P, J> + Drop>(
         &mut self,
         chain: &Chain<P, J, L, R>,
+        waits: bool,
     ) -> Option<Actor>
         requires within { IsWithin (length chain.now.state.cores) (choosing_of self.old) }
-        ensures actor { result ≡ chosen (choosing_of self.old) chain.now.state }
+        ensures actor { (ready : Bool) → waits ≡ would_wait ready chain.now.state → result ≡ chosen (choosing_of self.old) ready chain.now.state }
         ensures goes_on { IfSome result (λ actor. choosing_of self.new ≡ choosing_after (length chain.now.state.cores) actor (choosing_of self.old)) }
         ensures still_within { IsWithin (length chain.now.state.cores) (choosing_of self.new) }
     {
         match self {
             Rule::InTurn(place) => {
-                let actor = chain.first_from(*place)?;
+                let actor = chain.first_from(*place, waits)?;
                 *place = actor.place_behind(chain.cores.len());
                 Some(actor)
             }
-            Rule::Seeded(lcg) => {
-                let enabled = chain.enabled();
-                if enabled == 0 {
-                    return None;
-                }
-                chain.nth((lcg.draw() % u64::from(enabled)) as u32)
-            }
+            Rule::Seeded(lcg) => chain.drawn(lcg.draw(), waits),
         }
     }
 }

@@ -49,10 +49,11 @@ fn other(side: Side) -> Side
     }
 }
 
-/// Gives a row of one side, then one of the other side.
+/// Gives a row of one side, then one of the other side. Its next answer is there always, or never before it is asked.
 #[derive(Drop)]
 struct TwoRows {
     first: Side,
+    ready: bool,
     given: u64,
     stopped: bool,
     ghost few: { given ≤ 2 },
@@ -62,6 +63,8 @@ impl Feed<Row> for TwoRows {
     ghost gives = { λ old answer new. Unit {0} };
 
     ghost state = { λ f. rows_given f.first f.given f.stopped };
+
+    ghost ready = { λ f. f.ready };
 
     fn next(&mut self) -> Given<Row> {
         if self.given == 2 || self.stopped {
@@ -80,6 +83,10 @@ impl Feed<Row> for TwoRows {
             side,
             row: Row(7),
         })
+    }
+
+    fn is_ready(&self) -> bool {
+        self.ready
     }
 }
 
@@ -100,9 +107,19 @@ fn from(side: Side) -> TwoRows
 {
     TwoRows {
         first: side,
+        ready: true,
         given: 0,
         stopped: false,
     }
+}
+
+/// The same, where no answer is there before it is asked for.
+fn late_from(side: Side) -> TwoRows
+    ensures { result.given ≡ 0 }
+{
+    let mut rows = from(side);
+    rows.ready = false;
+    rows
 }
 
 const LEFT_0: Actor = Actor::Core(CoreNo(0), Side::Left);
@@ -292,6 +309,29 @@ fn causes_in_their_order(rt: HostRuntime) -> Result<(), Fail> {
     Ok(())
 }
 
+#[test]
+fn a_late_event_is_asked_for(rt: HostRuntime) -> Result<(), Fail> {
+    let mut feed = late_from(Side::Left);
+    let mut chain = two_cores(rt.alloc(), 2, &mut feed)?;
+    let did = Stepped::Did;
+    let asked = did;
+    step_all(
+        &rt,
+        &mut chain,
+        &mut feed,
+        &[
+            (Actor::Admit, did),
+            (Actor::Admit, asked),
+            (LEFT_0, did),
+            (Actor::Admit, did),
+            (RIGHT_1, did),
+            (Actor::Admit, asked),
+            (Actor::Admit, Stepped::NotEnabled(NotNow::Drains(2))),
+        ],
+    );
+    Ok(())
+}
+
 /// Keeps the numbers of as many pairs as there is room for: of the last one, with how many there were.
 #[derive(Drop)]
 struct LastPair {
@@ -363,13 +403,13 @@ fn no_steps() -> Counts {
 #[test]
 fn serial_runs(rt: HostRuntime) -> Result<(), Fail> {
     let rows = [
-        (Side::Left, Chooser::InTurn, (0, 1)),
-        (Side::Right, Chooser::InTurn, (1, 0)),
-        (Side::Left, Chooser::Seeded(1), (0, 1)),
-        (Side::Right, Chooser::Seeded(1), (1, 0)),
+        (from(Side::Left), Chooser::InTurn, (0, 1)),
+        (from(Side::Right), Chooser::InTurn, (1, 0)),
+        (late_from(Side::Right), Chooser::InTurn, (1, 0)),
+        (from(Side::Left), Chooser::Seeded(1), (0, 1)),
+        (late_from(Side::Left), Chooser::Seeded(1), (0, 1)),
     ];
-    for (first, chooser, pair) in rows {
-        let mut feed = from(first);
+    for (mut feed, chooser, pair) in rows {
         let mut chain = two_cores(rt.alloc(), 2, &mut feed)?;
         let mut drain = room_for(1);
         let gate = no_steps();

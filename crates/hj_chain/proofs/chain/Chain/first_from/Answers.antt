@@ -1,28 +1,24 @@
-use Rattle.std.proofs.Common.{◌≡◌, ◌-◌, ℕ, List, length, filter, take, drop, ap, sym, ◌∙◌, arith}
+use Rattle.std.proofs.Common.{◌≡◌, ◌+◌, ◌-◌, ℕ, List, ◌++◌, [], ◌∷◌, length, filter, take, drop, Bool, ap, sym, ◌∙◌, subst, arith}
 use Rattle.std.specs.List.{slice_get}
-use Rattle.std.proofs.lemmas.List.{length-map, length-drop}
-use Rattle.hj_core.specs.Contents.{state_of}
 use Rattle.hj_chain.specs.declared.actor.Actor.{Actor}
-use Rattle.hj_chain.specs.Chain.{Contents}
-use Rattle.hj_chain.specs.Serial.{actors, is_enabled}
-use Rattle.hj_chain.proofs.Looking.{sub-zero, first-behind, first-round, take-whole}
+use Rattle.hj_chain.specs.declared.actor.Actor.TheVariants.{Admit}
+use Rattle.hj_chain.specs.Serial.{actors, from_there_on, in_turn, is_enabled, others}
+use Rattle.hj_chain.proofs.Looking.{first-behind, first-round, turned}
 use Rattle.hj_chain.proofs.chain.Chain.first_from.Goals as goal
 
 pub returns-in-None : goal.returns-in-None
 returns-in-None g c =
-    let n : c.len.result ≡ length c.args.self.now.state.cores = (c.len.ensures ∙ c.self.inside.cores.ok.0 ∙ sym (length-map c.self.inside.cores.items (state_of g.L.Store.entries g.R.Store.entries)) ∙ ap (λ (k : Contents g.row.P.Denot g.row.J.Denot). length k.state.cores) c.self.view_is) in
-    let all = actors (length c.args.self.now.state.cores) in
+    let n = length c.args.self.now.state.cores in
     let test = is_enabled c.args.self.now.state in
-    let back : take (c.count.result - c.args.place) (drop c.args.place all) ≡ drop c.args.place all =
-    take-whole (drop c.args.place all) (c.count.result - c.args.place) (omega (arith, c.count.ensures, ap (λ (m : ℕ). length (actors m)) n, length-drop c.args.place all)) in
-    first-round test (drop c.args.place all) (take c.args.place all) c.first_enabled-in-None.result
-    (ap (λ (l : List Actor). slice_get (filter test l) 0) (sym back) ∙ sym c.first_enabled.ensures ∙ c.in-None.is) (c.first_enabled-in-None.ensures ∙ ap (λ (k : ℕ). slice_get (filter test (take k all)) 0) (sub-zero c.args.place))
+    let same = turned Admit (others n) c.args.place c.max.result (omega (arith, c.max.ensures)) in
+    subst (λ (waits : Bool). c.first_enabled.result ≡ slice_get (filter test (in_turn n waits c.args.place)) 0) (sym c.if-not-waits.false)
+    (first-round test (from_there_on (c.args.place - 1) (others n)) (Admit ∷ []) c.first_enabled.result
+    (ap (λ (l : List Actor). slice_get (filter test l) 0) (sym same) ∙ sym c.first_round-2.ensures ∙ c.in-None.is) c.first_enabled.ensures)
 
 pub returns-in_default : goal.returns-in_default
 returns-in_default g c =
-    let n : c.len.result ≡ length c.args.self.now.state.cores = (c.len.ensures ∙ c.self.inside.cores.ok.0 ∙ sym (length-map c.self.inside.cores.items (state_of g.L.Store.entries g.R.Store.entries)) ∙ ap (λ (k : Contents g.row.P.Denot g.row.J.Denot). length k.state.cores) c.self.view_is) in
-    let all = actors (length c.args.self.now.state.cores) in
+    let n = length c.args.self.now.state.cores in
     let test = is_enabled c.args.self.now.state in
-    let back : take (c.count.result - c.args.place) (drop c.args.place all) ≡ drop c.args.place all =
-    take-whole (drop c.args.place all) (c.count.result - c.args.place) (omega (arith, c.count.ensures, ap (λ (m : ℕ). length (actors m)) n, length-drop c.args.place all)) in
-    first-behind test (drop c.args.place all) (take c.args.place all) c.first_enabled.result (ap (λ (l : List Actor). slice_get (filter test l) 0) (sym back) ∙ sym c.first_enabled.ensures) c.in_default.not-None
+    let same = turned Admit (others n) c.args.place c.max.result (omega (arith, c.max.ensures)) in
+    subst (λ (waits : Bool). c.first_round-2.result ≡ slice_get (filter test (in_turn n waits c.args.place)) 0) (sym c.if-not-waits.false)
+    (first-behind test (from_there_on (c.args.place - 1) (others n)) (Admit ∷ []) c.first_round-2.result (ap (λ (l : List Actor). slice_get (filter test l) 0) (sym same) ∙ sym c.first_round-2.ensures) c.in_default.not-None)

@@ -8,7 +8,7 @@ use Rattle.hj_chain.proofs.chain.Chain.run.Goals as goal
 pub returns-then-eq-clause-runs : goal.returns-then-eq-clause-runs
 returns-then-eq-clause-runs g c =
     let memory : c.step.result ≡ Memory = search rules in
-    ran-stopped g.F.Feed.gives g.J.Join.predicate c.args.schedule.now c.args.self.now c.args.feed.now c.loop-actor.actor-index c.loop-actor.self c.loop-actor.feed c.loop-actor.invariant.leads c.step.new.self c.step.new.feed
+    ran-stopped g.F.Feed.gives g.F.Feed.ready g.J.Join.predicate c.args.schedule.now c.args.self.now c.args.feed.now c.loop-actor.actor-index c.loop-actor.self c.loop-actor.feed c.loop-actor.invariant.leads c.step.new.self c.step.new.feed
     (sound-goes g.J.Join.predicate c.loop-actor.self (g.F.Feed.state c.loop-actor.feed) c.loop-actor.invariant.goes) c.step.ensures.join Admit c.step.result c.loop-actor-test.true c.step.ensures.step c.step.ensures.gathers memory
 
 pub loop-actor-preserved : goal.loop-actor-preserved
@@ -18,10 +18,10 @@ loop-actor-preserved g c =
       join = c.step.ensures.join ∙ c.loop-actor.invariant.join;
       goes = c.step.ensures.goes;
       leads =
-          leads-next g.F.Feed.gives g.J.Join.predicate c.args.schedule.now c.args.self.now c.args.feed.now c.loop-actor.actor-index c.loop-actor.self c.loop-actor.feed c.loop-actor.invariant.leads c.step.new.self c.step.new.feed
+          leads-next g.F.Feed.gives g.F.Feed.ready g.J.Join.predicate c.args.schedule.now c.args.self.now c.args.feed.now c.loop-actor.actor-index c.loop-actor.self c.loop-actor.feed c.loop-actor.invariant.leads c.step.new.self c.step.new.feed
           (sound-goes g.J.Join.predicate c.loop-actor.self (g.F.Feed.state c.loop-actor.feed) c.loop-actor.invariant.goes) c.step.ensures.join Admit c.step.result _ c.loop-actor-test.true c.step.ensures.step c.step.ensures.gathers other refl;
     }
 
 pub returns-clause-runs : goal.returns-clause-runs
 returns-clause-runs g c =
-    ran-over g.F.Feed.gives g.J.Join.predicate c.args.schedule.now c.args.self.now c.args.feed.now c.loop-actor.actor-index c.loop-actor.self c.loop-actor.feed c.loop-actor.invariant.leads (omega arith)
+    ran-over g.F.Feed.gives g.F.Feed.ready g.J.Join.predicate c.args.schedule.now c.args.self.now c.args.feed.now c.loop-actor.actor-index c.loop-actor.self c.loop-actor.feed c.loop-actor.invariant.leads (omega arith)

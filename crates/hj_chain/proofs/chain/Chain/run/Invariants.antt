@@ -7,5 +7,5 @@ abbrev pub invariant-loop-actor : goal.invariant-loop-actor
 invariant-loop-actor g l = record {
   join : l.self.join ≡ l.fn.self.join;
   goes : GoesWith g.J.Join.predicate l.self (g.F.Feed.state l.feed);
-  leads : Leads g.F.Feed.gives g.J.Join.predicate l.schedule (drop l.actor-index l.schedule) l.fn.self l.self l.fn.feed l.feed;
+  leads : Leads g.F.Feed.gives g.F.Feed.ready g.J.Join.predicate l.schedule (drop l.actor-index l.schedule) l.fn.self l.self l.fn.feed l.feed;
 }

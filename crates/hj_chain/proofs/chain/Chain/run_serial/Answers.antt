@@ -13,29 +13,29 @@ use Rattle.hj_chain.proofs.chain.Chain.run_serial.Goals.{then-self, else-self}
 pub returns-then-eq-clause-runs : goal.returns-then-eq-clause-runs
 returns-then-eq-clause-runs g c =
     let refused : c.release.result ≡ Refused = search rules in
-    running-refused g.F.Feed.gives g.D.Drain.takes g.F.Feed.state g.J.Join.predicate c.args.chooser c.args.self.now c.args.feed.now c.args.drain.now (choosing_of c.new-rule.result) c.args.self.now c.args.feed.now c.args.drain.now (running-begins g.F.Feed.gives g.D.Drain.takes g.F.Feed.state g.J.Join.predicate c.args.chooser c.args.self.now c.args.feed.now c.args.drain.now c.requires (choosing_of c.new-rule.result) c.new-rule.ensures) c.release.new.self c.release.new.drain c.release.ensures.others c.release.result c.release.ensures.releases refused
+    running-refused g.F.Feed.gives g.F.Feed.ready g.D.Drain.takes g.F.Feed.state g.J.Join.predicate c.args.chooser c.args.self.now c.args.feed.now c.args.drain.now (choosing_of c.new-rule.result) c.args.self.now c.args.feed.now c.args.drain.now (running-begins g.F.Feed.gives g.F.Feed.ready g.D.Drain.takes g.F.Feed.state g.J.Join.predicate c.args.chooser c.args.self.now c.args.feed.now c.args.drain.now c.requires (choosing_of c.new-rule.result) c.new-rule.ensures) c.release.new.self c.release.new.drain c.release.ensures.others c.release.result c.release.ensures.releases refused
 
 pub loop-actor-init : goal.loop-actor-init
 loop-actor-init g c =
     let other : c.release.result ≢ Refused = search rules in
     let kept : c.release.result ≡ Kept = was-kept c.release.result other in
     record {
-      running = running-release g.F.Feed.gives g.D.Drain.takes g.F.Feed.state g.J.Join.predicate c.args.chooser c.args.self.now c.args.feed.now c.args.drain.now (choosing_of c.new-rule.result) c.args.self.now c.args.feed.now c.args.drain.now (running-begins g.F.Feed.gives g.D.Drain.takes g.F.Feed.state g.J.Join.predicate c.args.chooser c.args.self.now c.args.feed.now c.args.drain.now c.requires (choosing_of c.new-rule.result) c.new-rule.ensures) c.release.new.self c.release.new.drain c.release.ensures.others c.release.result c.release.ensures.releases kept (c.release.ensures.goes (g.F.Feed.state c.args.feed.now) c.requires);
-      settled = λ going. release-settles g.F.Feed.gives g.D.Drain.takes g.F.Feed.state g.J.Join.predicate c.args.chooser c.args.self.now c.args.feed.now c.args.drain.now (choosing_of c.new-rule.result) c.args.self.now c.args.feed.now c.args.drain.now (running-begins g.F.Feed.gives g.D.Drain.takes g.F.Feed.state g.J.Join.predicate c.args.chooser c.args.self.now c.args.feed.now c.args.drain.now c.requires (choosing_of c.new-rule.result) c.new-rule.ensures) c.release.new.self c.release.new.drain c.release.ensures.others c.release.result c.release.ensures.releases kept going;
+      running = running-release g.F.Feed.gives g.F.Feed.ready g.D.Drain.takes g.F.Feed.state g.J.Join.predicate c.args.chooser c.args.self.now c.args.feed.now c.args.drain.now (choosing_of c.new-rule.result) c.args.self.now c.args.feed.now c.args.drain.now (running-begins g.F.Feed.gives g.F.Feed.ready g.D.Drain.takes g.F.Feed.state g.J.Join.predicate c.args.chooser c.args.self.now c.args.feed.now c.args.drain.now c.requires (choosing_of c.new-rule.result) c.new-rule.ensures) c.release.new.self c.release.new.drain c.release.ensures.others c.release.result c.release.ensures.releases kept (c.release.ensures.goes (g.F.Feed.state c.args.feed.now) c.requires);
+      settled = λ going. release-settles g.F.Feed.gives g.F.Feed.ready g.D.Drain.takes g.F.Feed.state g.J.Join.predicate c.args.chooser c.args.self.now c.args.feed.now c.args.drain.now (choosing_of c.new-rule.result) c.args.self.now c.args.feed.now c.args.drain.now (running-begins g.F.Feed.gives g.F.Feed.ready g.D.Drain.takes g.F.Feed.state g.J.Join.predicate c.args.chooser c.args.self.now c.args.feed.now c.args.drain.now c.requires (choosing_of c.new-rule.result) c.new-rule.ensures) c.release.new.self c.release.new.drain c.release.ensures.others c.release.result c.release.ensures.releases kept going;
     }
 
 pub returns-then-eq-2-clause-runs : goal.returns-then-eq-2-clause-runs
 returns-then-eq-2-clause-runs g c =
     let memory : c.step.result ≡ Memory = search rules in
-    running-over g.F.Feed.gives g.D.Drain.takes g.F.Feed.state g.J.Join.predicate c.args.chooser c.args.self.now c.args.feed.now c.args.drain.now (choosing_of c.loop-actor.rule) c.loop-actor.self c.loop-actor.feed c.loop-actor.drain c.loop-actor.invariant.running c.in-Some.actor c.in-Some.ensures.actor c.step.result c.step.new.self c.step.new.feed c.step.ensures.step c.step.ensures.gathers c.step.ensures.join memory
+    running-over g.F.Feed.gives g.F.Feed.ready g.D.Drain.takes g.F.Feed.state g.J.Join.predicate c.args.chooser c.args.self.now c.args.feed.now c.args.drain.now (choosing_of c.loop-actor.rule) c.loop-actor.self c.loop-actor.feed c.loop-actor.drain c.loop-actor.invariant.running c.in-Some.actor (c.in-Some.ensures.actor (g.F.Feed.ready c.loop-actor.feed) c.would_wait.ensures) c.step.result c.step.new.self c.step.new.feed c.step.ensures.step c.step.ensures.gathers c.step.ensures.join memory
 
 pub returns-then-eq-3-clause-runs : goal.returns-then-eq-3-clause-runs
 returns-then-eq-3-clause-runs g c =
     let other : c.step.result ≢ Memory = search rules in
     let refused : c.release-in-Collect.result ≡ Refused = search rules in
-    running-refused g.F.Feed.gives g.D.Drain.takes g.F.Feed.state g.J.Join.predicate c.args.chooser c.args.self.now c.args.feed.now c.args.drain.now (choosing_of c.next.new.self) c.step.new.self c.step.new.feed c.loop-actor.drain
+    running-refused g.F.Feed.gives g.F.Feed.ready g.D.Drain.takes g.F.Feed.state g.J.Join.predicate c.args.chooser c.args.self.now c.args.feed.now c.args.drain.now (choosing_of c.next.new.self) c.step.new.self c.step.new.feed c.loop-actor.drain
     (running-step
-    g.F.Feed.gives g.D.Drain.takes g.F.Feed.state g.J.Join.predicate c.args.chooser c.args.self.now c.args.feed.now c.args.drain.now (choosing_of c.loop-actor.rule) c.loop-actor.self c.loop-actor.feed c.loop-actor.drain c.loop-actor.invariant.running c.in-Some.actor c.in-Some.ensures.actor c.step.result c.step.new.self c.step.new.feed c.step.ensures.step c.step.ensures.gathers c.step.ensures.join
+    g.F.Feed.gives g.F.Feed.ready g.D.Drain.takes g.F.Feed.state g.J.Join.predicate c.args.chooser c.args.self.now c.args.feed.now c.args.drain.now (choosing_of c.loop-actor.rule) c.loop-actor.self c.loop-actor.feed c.loop-actor.drain c.loop-actor.invariant.running c.in-Some.actor (c.in-Some.ensures.actor (g.F.Feed.ready c.loop-actor.feed) c.would_wait.ensures) c.step.result c.step.new.self c.step.new.feed c.step.ensures.step c.step.ensures.gathers c.step.ensures.join
     other c.step.ensures.goes (choosing_of c.next.new.self) c.in-Some.ensures.goes_on c.in-Some.ensures.still_within)
     c.release-in-Collect.new.self c.release-in-Collect.new.drain c.release-in-Collect.ensures.others c.release-in-Collect.result c.release-in-Collect.ensures.releases
     refused
@@ -46,7 +46,7 @@ loop-actor-smaller-else-eq-3 g c =
     subst (λ (s : ChainState g.row.P.Denot). to_come (length s.cores) s + (4 * length s.cores + 4) * (g.F.Feed.state c.step.new.feed).remaining
     < to_come (length c.loop-actor.self.state.cores) c.loop-actor.self.state + (4 * length c.loop-actor.self.state.cores + 4) * (g.F.Feed.state c.loop-actor.feed).remaining)
     (ap (λ (k : Contents g.row.P.Denot g.row.J.Denot). k.state) (sym c.release-in-Collect.ensures.others))
-    (step-fewer g.F.Feed.gives g.D.Drain.takes g.F.Feed.state g.J.Join.predicate c.args.chooser c.args.self.now c.args.feed.now c.args.drain.now (choosing_of c.loop-actor.rule) c.loop-actor.self c.loop-actor.feed c.loop-actor.drain c.loop-actor.invariant.running c.in-Some.actor c.in-Some.ensures.actor c.step.result c.step.new.self c.step.new.feed c.step.ensures.step c.step.ensures.gathers c.step.ensures.join other c.step.ensures.answers)
+    (step-fewer g.F.Feed.gives g.F.Feed.ready g.D.Drain.takes g.F.Feed.state g.J.Join.predicate c.args.chooser c.args.self.now c.args.feed.now c.args.drain.now (choosing_of c.loop-actor.rule) c.loop-actor.self c.loop-actor.feed c.loop-actor.drain c.loop-actor.invariant.running c.in-Some.actor (c.in-Some.ensures.actor (g.F.Feed.ready c.loop-actor.feed) c.would_wait.ensures) c.step.result c.step.new.self c.step.new.feed c.step.ensures.step c.step.ensures.gathers c.step.ensures.join other c.step.ensures.answers)
 
 pub loop-actor-preserved-else-eq-3 : goal.loop-actor-preserved-else-eq-3
 loop-actor-preserved-else-eq-3 g c =
@@ -54,14 +54,14 @@ loop-actor-preserved-else-eq-3 g c =
     let unrefused : c.release-in-Collect.result ≢ Refused = search rules in
     let kept : c.release-in-Collect.result ≡ Kept = was-kept c.release-in-Collect.result unrefused in
     record {
-      running = running-release g.F.Feed.gives g.D.Drain.takes g.F.Feed.state g.J.Join.predicate c.args.chooser c.args.self.now c.args.feed.now c.args.drain.now (choosing_of c.next.new.self) c.step.new.self c.step.new.feed c.loop-actor.drain
+      running = running-release g.F.Feed.gives g.F.Feed.ready g.D.Drain.takes g.F.Feed.state g.J.Join.predicate c.args.chooser c.args.self.now c.args.feed.now c.args.drain.now (choosing_of c.next.new.self) c.step.new.self c.step.new.feed c.loop-actor.drain
           (running-step
-          g.F.Feed.gives g.D.Drain.takes g.F.Feed.state g.J.Join.predicate c.args.chooser c.args.self.now c.args.feed.now c.args.drain.now (choosing_of c.loop-actor.rule) c.loop-actor.self c.loop-actor.feed c.loop-actor.drain c.loop-actor.invariant.running c.in-Some.actor c.in-Some.ensures.actor c.step.result c.step.new.self c.step.new.feed c.step.ensures.step c.step.ensures.gathers c.step.ensures.join
+          g.F.Feed.gives g.F.Feed.ready g.D.Drain.takes g.F.Feed.state g.J.Join.predicate c.args.chooser c.args.self.now c.args.feed.now c.args.drain.now (choosing_of c.loop-actor.rule) c.loop-actor.self c.loop-actor.feed c.loop-actor.drain c.loop-actor.invariant.running c.in-Some.actor (c.in-Some.ensures.actor (g.F.Feed.ready c.loop-actor.feed) c.would_wait.ensures) c.step.result c.step.new.self c.step.new.feed c.step.ensures.step c.step.ensures.gathers c.step.ensures.join
           other c.step.ensures.goes (choosing_of c.next.new.self) c.in-Some.ensures.goes_on c.in-Some.ensures.still_within)
           c.release-in-Collect.new.self c.release-in-Collect.new.drain c.release-in-Collect.ensures.others c.release-in-Collect.result c.release-in-Collect.ensures.releases kept (c.release-in-Collect.ensures.goes (g.F.Feed.state c.step.new.feed) c.step.ensures.goes);
-      settled = λ going. release-settles g.F.Feed.gives g.D.Drain.takes g.F.Feed.state g.J.Join.predicate c.args.chooser c.args.self.now c.args.feed.now c.args.drain.now (choosing_of c.next.new.self) c.step.new.self c.step.new.feed c.loop-actor.drain
+      settled = λ going. release-settles g.F.Feed.gives g.F.Feed.ready g.D.Drain.takes g.F.Feed.state g.J.Join.predicate c.args.chooser c.args.self.now c.args.feed.now c.args.drain.now (choosing_of c.next.new.self) c.step.new.self c.step.new.feed c.loop-actor.drain
           (running-step
-          g.F.Feed.gives g.D.Drain.takes g.F.Feed.state g.J.Join.predicate c.args.chooser c.args.self.now c.args.feed.now c.args.drain.now (choosing_of c.loop-actor.rule) c.loop-actor.self c.loop-actor.feed c.loop-actor.drain c.loop-actor.invariant.running c.in-Some.actor c.in-Some.ensures.actor c.step.result c.step.new.self c.step.new.feed c.step.ensures.step c.step.ensures.gathers c.step.ensures.join
+          g.F.Feed.gives g.F.Feed.ready g.D.Drain.takes g.F.Feed.state g.J.Join.predicate c.args.chooser c.args.self.now c.args.feed.now c.args.drain.now (choosing_of c.loop-actor.rule) c.loop-actor.self c.loop-actor.feed c.loop-actor.drain c.loop-actor.invariant.running c.in-Some.actor (c.in-Some.ensures.actor (g.F.Feed.ready c.loop-actor.feed) c.would_wait.ensures) c.step.result c.step.new.self c.step.new.feed c.step.ensures.step c.step.ensures.gathers c.step.ensures.join
           other c.step.ensures.goes (choosing_of c.next.new.self) c.in-Some.ensures.goes_on c.in-Some.ensures.still_within)
           c.release-in-Collect.new.self c.release-in-Collect.new.drain c.release-in-Collect.ensures.others c.release-in-Collect.result c.release-in-Collect.ensures.releases kept going;
     }
@@ -69,18 +69,18 @@ loop-actor-preserved-else-eq-3 g c =
 pub loop-actor-smaller : goal.loop-actor-smaller
 loop-actor-smaller g c =
     let other : c.step.result ≢ Memory = search rules in
-    step-fewer g.F.Feed.gives g.D.Drain.takes g.F.Feed.state g.J.Join.predicate c.args.chooser c.args.self.now c.args.feed.now c.args.drain.now (choosing_of c.loop-actor.rule) c.loop-actor.self c.loop-actor.feed c.loop-actor.drain c.loop-actor.invariant.running c.in-Some.actor c.in-Some.ensures.actor c.step.result c.step.new.self c.step.new.feed c.step.ensures.step c.step.ensures.gathers c.step.ensures.join other c.step.ensures.answers
+    step-fewer g.F.Feed.gives g.F.Feed.ready g.D.Drain.takes g.F.Feed.state g.J.Join.predicate c.args.chooser c.args.self.now c.args.feed.now c.args.drain.now (choosing_of c.loop-actor.rule) c.loop-actor.self c.loop-actor.feed c.loop-actor.drain c.loop-actor.invariant.running c.in-Some.actor (c.in-Some.ensures.actor (g.F.Feed.ready c.loop-actor.feed) c.would_wait.ensures) c.step.result c.step.new.self c.step.new.feed c.step.ensures.step c.step.ensures.gathers c.step.ensures.join other c.step.ensures.answers
 
 pub loop-actor-preserved : goal.loop-actor-preserved
 loop-actor-preserved g c =
     let other : c.step.result ≢ Memory = search rules in
     record {
       running = (running-step
-          g.F.Feed.gives g.D.Drain.takes g.F.Feed.state g.J.Join.predicate c.args.chooser c.args.self.now c.args.feed.now c.args.drain.now (choosing_of c.loop-actor.rule) c.loop-actor.self c.loop-actor.feed c.loop-actor.drain c.loop-actor.invariant.running c.in-Some.actor c.in-Some.ensures.actor c.step.result c.step.new.self c.step.new.feed c.step.ensures.step c.step.ensures.gathers c.step.ensures.join
+          g.F.Feed.gives g.F.Feed.ready g.D.Drain.takes g.F.Feed.state g.J.Join.predicate c.args.chooser c.args.self.now c.args.feed.now c.args.drain.now (choosing_of c.loop-actor.rule) c.loop-actor.self c.loop-actor.feed c.loop-actor.drain c.loop-actor.invariant.running c.in-Some.actor (c.in-Some.ensures.actor (g.F.Feed.ready c.loop-actor.feed) c.would_wait.ensures) c.step.result c.step.new.self c.step.new.feed c.step.ensures.step c.step.ensures.gathers c.step.ensures.join
           other c.step.ensures.goes (choosing_of c.next.new.self) c.in-Some.ensures.goes_on c.in-Some.ensures.still_within);
       settled = λ going.
-          step-settled g.F.Feed.gives g.D.Drain.takes g.F.Feed.state g.J.Join.predicate c.args.chooser c.args.self.now c.args.feed.now c.args.drain.now (choosing_of c.loop-actor.rule) c.loop-actor.self c.loop-actor.feed c.loop-actor.drain c.loop-actor.invariant.running c.in-Some.actor c.in-Some.ensures.actor c.step.result c.step.new.self c.step.new.feed c.step.ensures.step c.step.ensures.gathers c.step.ensures.join other c.in_default-actor.not-Collect
-          (c.loop-actor.invariant.settled (was-going g.F.Feed.gives g.D.Drain.takes g.F.Feed.state g.J.Join.predicate c.args.chooser c.args.self.now c.args.feed.now c.args.drain.now (choosing_of c.loop-actor.rule) c.loop-actor.self c.loop-actor.feed c.loop-actor.drain c.loop-actor.invariant.running c.in-Some.actor c.in-Some.ensures.actor c.step.result c.step.new.self c.step.new.feed c.step.ensures.step c.step.ensures.gathers c.step.ensures.join other));
+          step-settled g.F.Feed.gives g.F.Feed.ready g.D.Drain.takes g.F.Feed.state g.J.Join.predicate c.args.chooser c.args.self.now c.args.feed.now c.args.drain.now (choosing_of c.loop-actor.rule) c.loop-actor.self c.loop-actor.feed c.loop-actor.drain c.loop-actor.invariant.running c.in-Some.actor (c.in-Some.ensures.actor (g.F.Feed.ready c.loop-actor.feed) c.would_wait.ensures) c.step.result c.step.new.self c.step.new.feed c.step.ensures.step c.step.ensures.gathers c.step.ensures.join other c.in_default-actor.not-Collect
+          (c.loop-actor.invariant.settled (was-going g.F.Feed.gives g.F.Feed.ready g.D.Drain.takes g.F.Feed.state g.J.Join.predicate c.args.chooser c.args.self.now c.args.feed.now c.args.drain.now (choosing_of c.loop-actor.rule) c.loop-actor.self c.loop-actor.feed c.loop-actor.drain c.loop-actor.invariant.running c.in-Some.actor (c.in-Some.ensures.actor (g.F.Feed.ready c.loop-actor.feed) c.would_wait.ensures) c.step.result c.step.new.self c.step.new.feed c.step.ensures.step c.step.ensures.gathers c.step.ensures.join other));
     }
 
 pub returns-clause-runs : goal.returns-clause-runs
@@ -88,11 +88,11 @@ returns-clause-runs g c =
     let over : c.self.inside.over ≡ c.loop-actor.self.state.over = ap (λ (k : Contents g.row.P.Denot g.row.J.Denot). k.state.over) c.self.view_is in
     elim c.if-self.branch [
       | then-self w ↦ λ schedule events given stands.
-          subst (λ (ended : Fin). RunsSerially g.F.Feed.gives g.D.Drain.takes g.J.Join.predicate c.args.chooser schedule events given c.args.self.now c.args.feed.now c.args.drain.now ended c.loop-actor.self c.loop-actor.feed c.loop-actor.drain) (sym w.result-is)
-          (running-ends-over g.F.Feed.gives g.D.Drain.takes g.F.Feed.state g.J.Join.predicate c.args.chooser c.args.self.now c.args.feed.now c.args.drain.now (choosing_of c.loop-actor.rule) c.loop-actor.self c.loop-actor.feed c.loop-actor.drain c.loop-actor.invariant.running (sym over ∙ w.if-self.true) schedule events given stands)
+          subst (λ (ended : Fin). RunsSerially g.F.Feed.gives g.F.Feed.ready g.D.Drain.takes g.J.Join.predicate c.args.chooser schedule events given c.args.self.now c.args.feed.now c.args.drain.now ended c.loop-actor.self c.loop-actor.feed c.loop-actor.drain) (sym w.result-is)
+          (running-ends-over g.F.Feed.gives g.F.Feed.ready g.D.Drain.takes g.F.Feed.state g.J.Join.predicate c.args.chooser c.args.self.now c.args.feed.now c.args.drain.now (choosing_of c.loop-actor.rule) c.loop-actor.self c.loop-actor.feed c.loop-actor.drain c.loop-actor.invariant.running (sym over ∙ w.if-self.true) schedule events given stands)
       | else-self w ↦ λ schedule events given stands.
           let going : c.loop-actor.self.state.over ≡ false = sym over ∙ w.if-self.false in
-          subst (λ (ended : Fin). RunsSerially g.F.Feed.gives g.D.Drain.takes g.J.Join.predicate c.args.chooser schedule events given c.args.self.now c.args.feed.now c.args.drain.now ended c.loop-actor.self c.loop-actor.feed c.loop-actor.drain) (sym w.result-is)
-          (running-ends-done g.F.Feed.gives g.D.Drain.takes g.F.Feed.state g.J.Join.predicate c.args.chooser c.args.self.now c.args.feed.now c.args.drain.now (choosing_of c.loop-actor.rule) c.loop-actor.self c.loop-actor.feed c.loop-actor.drain c.loop-actor.invariant.running going (c.loop-actor.invariant.settled going)
-          (subst (λ (k : Contents g.row.P.Denot g.row.J.Denot). 1 ≤ k.state.driver.flight) c.self.view_is c.self.invariant.flight) c.in_default.ensures.actor schedule events given stands)
+          subst (λ (ended : Fin). RunsSerially g.F.Feed.gives g.F.Feed.ready g.D.Drain.takes g.J.Join.predicate c.args.chooser schedule events given c.args.self.now c.args.feed.now c.args.drain.now ended c.loop-actor.self c.loop-actor.feed c.loop-actor.drain) (sym w.result-is)
+          (running-ends-done g.F.Feed.gives g.F.Feed.ready g.D.Drain.takes g.F.Feed.state g.J.Join.predicate c.args.chooser c.args.self.now c.args.feed.now c.args.drain.now (choosing_of c.loop-actor.rule) c.loop-actor.self c.loop-actor.feed c.loop-actor.drain c.loop-actor.invariant.running going (c.loop-actor.invariant.settled going)
+          (subst (λ (k : Contents g.row.P.Denot g.row.J.Denot). 1 ≤ k.state.driver.flight) c.self.view_is c.self.invariant.flight) (g.F.Feed.ready c.loop-actor.feed) (c.in_default.ensures.actor (g.F.Feed.ready c.loop-actor.feed) c.would_wait.ensures) schedule events given stands)
     ]

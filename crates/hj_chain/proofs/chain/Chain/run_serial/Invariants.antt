@@ -6,7 +6,7 @@ use Rattle.hj_chain.proofs.chain.Chain.run_serial.Given as goal
 
 abbrev pub invariant-loop-actor : goal.invariant-loop-actor
 invariant-loop-actor g l = record {
-  running : Running g.F.Feed.gives g.D.Drain.takes g.F.Feed.state g.J.Join.predicate l.fn.chooser l.fn.self l.fn.feed l.fn.drain (choosing_of l.rule) l.self l.feed l.drain;
+  running : Running g.F.Feed.gives g.F.Feed.ready g.D.Drain.takes g.F.Feed.state g.J.Join.predicate l.fn.chooser l.fn.self l.fn.feed l.fn.drain (choosing_of l.rule) l.self l.feed l.drain;
   settled : l.self.state.over ≡ false → Settled l.self;
 }
 
