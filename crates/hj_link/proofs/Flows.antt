@@ -70,7 +70,6 @@ module _ {M : Type 0} where
   -- the putting end saw that g were taken
   pub flow_looks_for_room : (c base pw tw : ℕ) (hs : Row M) (sent got known : List M) (kt : ℕ) (a b : Bool) → Flow c base pw tw hs sent got known kt a b → Flow c base pw tw hs sent got known (length got) a b
   flow_looks_for_room c base pw tw hs sent got known kt a b f = let old = f.stale in let w = f.within in record {
-    some_room = f.some_room;
     fits = f.fits;
     put_is = f.put_is;
     take_is = f.take_is;
@@ -87,7 +86,6 @@ module _ {M : Type 0} where
   -- the taking end saw all the puts
   pub flow_looks_for_message : (c base pw tw : ℕ) (hs : Row M) (sent got known : List M) (kt : ℕ) (a b : Bool) → Flow c base pw tw hs sent got known kt a b → Flow c base pw tw hs sent got sent kt a b
   flow_looks_for_message c base pw tw hs sent got known kt a b f = let more = prefix_length known sent f.learned in record {
-    some_room = f.some_room;
     fits = f.fits;
     put_is = f.put_is;
     take_is = f.take_is;
@@ -110,7 +108,6 @@ module _ {M : Type 0} where
         v.0,
         v.1,
         record {
-          some_room = f.some_room;
           fits = subst (λ (z : ℕ). base + c ≤ z) (sym (length-set hs k none)) f.fits;
           put_is = f.put_is;
           take_is = f.take_is;
@@ -131,7 +128,6 @@ module _ {M : Type 0} where
   flow_publishes c base pw tw hs sent got known kt b t m new f is = let n : ℕ = length sent in let g : ℕ = length got in let k : ℕ = base + n % c in let old : kt ≤ g = f.stale in let room : n < kt + c = f.free_there refl in
       let gl : g ≤ length known = prefix_length got known f.taken in let kl : length known ≤ n = prefix_length known sent f.learned in
       let long : length (sent ++ m ∷ []) ≡ n + 1 = omega (arith, length-append sent (m ∷ [])) in record {
-        some_room = f.some_room;
         fits = subst (λ (z : ℕ). base + c ≤ z) (sym (length-set hs k (some (Full t m)))) f.fits;
         put_is = is ∙ ap (λ (z : ℕ). z % 2 ^ 64) (sym long);
         take_is = f.take_is;
@@ -143,7 +139,7 @@ module _ {M : Type 0} where
         some_there = f.some_there;
         full = (λ p x le at home. ⊎_elim
             (λ here. let lt : p < n = at_within sent p x here in let z = f.full p x le here home in (z.0, set_else hs k (base + p % c) (some (Full t m)) (apart c base p n g le (omega arith) (omega arith) (omega arith) (λ e. omega arith)) ∙ z.1))
-            (λ new_one. let is_n : p ≡ n = new_one.0 in (t, ap (λ (z : ℕ). get_elem? (set hs k (some (Full t m))) (base + z % c)) is_n ∙ set_here hs k (some (Full t m)) (inside c base n (length hs) f.some_room f.fits) ∙ ap (λ (z : M). some (some (Full t z))) new_one.1))
+            (λ new_one. let is_n : p ≡ n = new_one.0 in (t, ap (λ (z : ℕ). get_elem? (set hs k (some (Full t m))) (base + z % c)) is_n ∙ set_here hs k (some (Full t m)) (inside c base n (length hs) (omega arith) f.fits) ∙ ap (λ (z : M). some (some (Full t z))) new_one.1))
             (at_end sent m x p at));
         vacant = (λ p le lt home. let ne : p ≢ n = (λ e. omega arith) in let z = f.vacant p (omega arith) lt (λ e. absurd (ne e)) in (z.0, set_else hs k (base + p % c) (some (Full t m)) (apart c base p n g (omega arith) lt (omega arith) (omega arith) ne) ∙ z.1));
       }
@@ -152,14 +148,13 @@ module _ {M : Type 0} where
   pub flow_fetches : (c base pw tw : ℕ) (hs : Row M) (sent got known : List M) (kt : ℕ) (a : Bool) → Flow c base pw tw hs sent got known kt a false → length got < length known
       → (t : ℕ) × (x : M) × (get_elem? known (length got) ≡ some x) × (get_elem? hs (base + length got % c) ≡ some (some (Full t x))) × Flow c base pw tw (set hs (base + length got % c) none) sent got known kt a true
   flow_fetches c base pw tw hs sent got known kt a f some_one = let n : ℕ = length sent in let g : ℕ = length got in let k : ℕ = base + g % c in let old : kt ≤ g = f.stale in
-      let w : n ≤ kt + c = f.within in let kl : length known ≤ n = prefix_length known sent f.learned in let pos : 0 < c = f.some_room in
+      let w : n ≤ kt + c = f.within in let kl : length known ≤ n = prefix_length known sent f.learned in let pos : 0 < c = omega arith in
       let next = there known g some_one in let x = next.0 in let lies = f.full g x (le_refl g) (prefix_at known sent g x f.learned next.1) (λ _. refl) in (
         lies.0,
         x,
         next.1,
         lies.1,
         record {
-          some_room = f.some_room;
           fits = subst (λ (z : ℕ). base + c ≤ z) (sym (length-set hs k none)) f.fits;
           put_is = f.put_is;
           take_is = f.take_is;
@@ -178,9 +173,8 @@ module _ {M : Type 0} where
   pub flow_publishes_take : (c base pw tw : ℕ) (hs : Row M) (sent got known : List M) (kt : ℕ) (a : Bool) (x : M) (y : Slot M) (new : ℕ) → Flow c base pw tw hs sent got known kt a true → get_elem? known (length got) ≡ some x → new ≡ (length got + 1) % 2 ^ 64
       → Flow c base pw new (set hs (base + length got % c) (some y)) sent (got ++ x ∷ []) known kt a false
   flow_publishes_take c base pw tw hs sent got known kt a x y new f next is = let n : ℕ = length sent in let g : ℕ = length got in let k : ℕ = base + g % c in let old : kt ≤ g = f.stale in
-      let w : n ≤ kt + c = f.within in let kl : length known ≤ n = prefix_length known sent f.learned in let gl : g < length known = f.some_there refl in let pos : 0 < c = f.some_room in
+      let w : n ≤ kt + c = f.within in let kl : length known ≤ n = prefix_length known sent f.learned in let gl : g < length known = f.some_there refl in let pos : 0 < c = omega arith in
       let long : length (got ++ x ∷ []) ≡ g + 1 = omega (arith, length-append got (x ∷ [])) in record {
-        some_room = f.some_room;
         fits = subst (λ (z : ℕ). base + c ≤ z) (sym (length-set hs k (some y))) f.fits;
         put_is = f.put_is;
         take_is = is ∙ ap (λ (z : ℕ). z % 2 ^ 64) (sym long);
@@ -192,6 +186,6 @@ module _ {M : Type 0} where
         some_there = (λ e. absurd (true≢false (sym e)));
         full = (λ p m le at home. let lt : p < n = at_within sent p m at in let ne : p ≢ g = (λ e. omega arith) in let z = f.full p m (omega arith) at (λ e. absurd (ne e)) in (z.0, set_else hs k (base + p % c) (some y) (apart c base p g g (omega arith) (omega arith) (le_refl g) (omega arith) ne) ∙ z.1));
         vacant = (λ p le lt home. dite (ℕ_discrete p (g + c))
-            (λ e. (y, ap (λ (z : ℕ). get_elem? (set hs k (some y)) (base + z)) (ap (λ (z : ℕ). z % c) e ∙ add-mod_right g c) ∙ set_here hs k (some y) (inside c base g (length hs) f.some_room f.fits)))
+            (λ e. (y, ap (λ (z : ℕ). get_elem? (set hs k (some y)) (base + z)) (ap (λ (z : ℕ). z % c) e ∙ add-mod_right g c) ∙ set_here hs k (some y) (inside c base g (length hs) pos f.fits)))
             (λ ne. let other : p ≢ g = (λ e. omega arith) in let z = f.vacant p le (omega arith) home in (z.0, set_else hs k (base + p % c) (some y) (apart c base p g g (omega arith) (omega arith) (le_refl g) (omega arith) other) ∙ z.1)));
       }

@@ -1,4 +1,6 @@
-pub mod Afterwards
 pub mod Flows
 pub mod Held
+pub mod Journals
+pub mod Moves
+pub mod Opposites
 pub mod Seats

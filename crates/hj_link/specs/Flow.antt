@@ -6,12 +6,12 @@ use Rattle.hj_base.specs.Journals.{IsPrefix}
 use Rattle.hj_link.specs.declared.table.Slot.{Slot}
 use Rattle.hj_link.specs.declared.table.Slot.TheVariants.{Full}
 
--- The ring has `capacity` slots from `base` on; the message of place p, counted from 0, lies in the slot p % capacity of it.
+-- The ring has `capacity` slots from `base` on; the message of place p, counted from 0, lies in the slot p % capacity of it. A
+-- direction of capacity 0 has no slot, and nothing is ever put.
 -- `sent` was put and `got` was taken. Of `sent` the taking end knows `known`, and of `got` the putting end knows the number
 -- `known_takes`. A list `homes` has each slot's value, or nothing where the slot is out: `putting` says so of the slot of the
 -- next place to put into, and `fetching` of that of the next place to take from.
 pub record Flow {M : Type 0} (capacity base put_word take_word : ℕ) (homes : List (Option (Slot M))) (sent got known : List M) (known_takes : ℕ) (putting fetching : Bool) : Type 0 where
-  pub some_room : 0 < capacity
   pub fits : base + capacity ≤ length homes
   -- a word is a count modulo 2^64
   pub put_is : put_word ≡ length sent % 2 ^ 64

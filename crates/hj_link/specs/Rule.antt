@@ -1,11 +1,13 @@
--- What the ends of a link have done and know, and the rule that the table of a link that goes one way keeps between any two
--- steps. The left end of such a link is its sender, and the right end its receiver.
-use Rattle.std.specs.Prelude.{◌≡◌, ℕ, Bool, true, false, List, [], length, map, slice_index_or}
+-- What the ends of a link have done and know, and the rule that the table of a link keeps between any two steps. A link that
+-- goes one way keeps it too: its left end is the sender, its right end the receiver, and its way back has no slot.
+use Rattle.std.specs.Prelude.{◌≡◌, ◌≢◌, ℕ, Bool, true, false, ◌+◌, ◌%◌, List, [], length, map, slice_index_or}
 use lib.ListN.{get_elem?}
-use mathlib.Core.Option.{some}
+use mathlib.Core.Option.{Option, some}
 use Rattle.hj_base.specs.Journals.{Entry, puts, takes}
+use Rattle.hj_base.specs.Link.{TookBeforePut}
 use Rattle.atomic_table.specs.Table.{State, Me}
 use Rattle.hj_link.specs.declared.table.Slot.{Slot}
+use Rattle.hj_link.specs.declared.table.Capacities.{Capacities}
 use Rattle.hj_link.specs.declared.table.Noted.{Noted}
 use Rattle.hj_link.specs.declared.table.End.{End}
 use Rattle.hj_link.specs.declared.table.View.{View}
@@ -33,25 +35,38 @@ module _ {M : Type 0} where
   abbrev pub new_end : End M
   new_end = record { journal = []; known = []; known_takes = 0; putting = false; fetching = false; full_looks = 0; empty_looks = 0 }
 
-  abbrev pub view : Bool → End M → Bool → End M → View M
-  view has_left left has_right right = record { has_left = has_left; left = left; has_right = has_right; right = right }
+  abbrev pub view : Capacities → Bool → End M → Bool → End M → View M
+  view capacities has_left left has_right right = record { capacities = capacities; has_left = has_left; left = left; has_right = has_right; right = right }
 
   -- the view of the first seat, which has both ends
-  abbrev pub opened : View M
-  opened = view true new_end true new_end
+  abbrev pub opened : Capacities → View M
+  opened capacities = view capacities true new_end true new_end
+
+  -- There are no two messages, one from each end, such that either end took the other's before it put its own.
+  abbrev pub InTime : List (Entry M) → List (Entry M) → Type 0
+  InTime one two = (p q : ℕ) → TookBeforePut one q p → ¬ (TookBeforePut two p q)
+
+  -- Both directions of a link: `one` puts into the ring of `capacity` slots from `base` on, and `two` into that of `capacity'`
+  -- slots from `base'` on. The words count the puts of `one` and the takes of these by `two`, and then the puts of `two` and the
+  -- takes of these by `one`. No slot is of both rings.
+  pub record Opposed (capacity base capacity' base' put_word take_word put_word' take_word' : ℕ) (homes : List (Option (Slot M))) (one two : End M) : Type 0 where
+    pub apart : (p q : ℕ) → base + p % capacity ≢ base' + q % capacity'
+    pub there : Flow capacity base put_word take_word homes (sent one) (got two) two.known one.known_takes one.putting two.fetching
+    pub back : Flow capacity' base' put_word' take_word' homes (sent two) (got one) one.known two.known_takes two.putting one.fetching
+    pub in_time : InTime (journal_of one) (journal_of two)
 
   -- the seat number `j` has this view, which is right about each end that it has; one seat alone has an end
-  pub record Knows (left_id right_id : ℕ) (left right : End M) (j : ℕ) (v : View M) : Type 0 where
-    pub of_left : v.has_left ≡ true → (j ≡ left_id) × (v.left ≡ left)
-    pub of_right : v.has_right ≡ true → (j ≡ right_id) × (v.right ≡ right)
+  pub record Knows (capacities : Capacities) (left_id right_id : ℕ) (left right : End M) (j : ℕ) (v : View M) : Type 0 where
+    pub of_left : v.has_left ≡ true → (j ≡ left_id) × (v.left ≡ left) × (v.capacities ≡ capacities)
+    pub of_right : v.has_right ≡ true → (j ≡ right_id) × (v.right ≡ right) × (v.capacities ≡ capacities)
 
-  -- Word 0 counts the puts of the left end and word 16 the takes of the right one, and each slot is of the one ring.
-  pub record Rule (capacity : ℕ) (s : State (Slot M) (View M)) : Type 0 where
+  -- The ring of what goes rightwards comes first. The words are those of `words_of`.
+  pub record Rule (capacities : Capacities) (s : State (Slot M) (View M)) : Type 0 where
     pub left_id : ℕ
     pub right_id : ℕ
     pub left : End M
     pub right : End M
-    pub wide : length s.words ≡ 32
-    pub sized : length s.homes ≡ capacity
-    pub flow : Flow capacity 0 (slice_index_or s.words 0 0) (slice_index_or s.words 16 0) s.homes (sent left) (got right) right.known left.known_takes left.putting right.fetching
-    pub each_seat : (j : ℕ) (v : View M) → get_elem? s.views j ≡ some v → Knows left_id right_id left right j v
+    pub wide : length s.words ≡ 64
+    pub sized : length s.homes ≡ capacities.rightwards + capacities.leftwards
+    pub flows : Opposed capacities.rightwards 0 capacities.leftwards capacities.rightwards (slice_index_or s.words 0 0) (slice_index_or s.words 16 0) (slice_index_or s.words 32 0) (slice_index_or s.words 48 0) s.homes left right
+    pub each_seat : (j : ℕ) (v : View M) → get_elem? s.views j ≡ some v → Knows capacities left_id right_id left right j v

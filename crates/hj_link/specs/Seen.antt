@@ -1,9 +1,8 @@
--- What contracts see of the ends of a link that goes one way, and of the link once both were handed in.
-use Rattle.std.specs.Prelude.{◌≡◌, ℕ, true, false, ◌+◌, ◌^◌, ◌%◌, List, [], length}
+-- What contracts see of the ends of a link, and of the link once both were handed in.
+use Rattle.std.specs.Prelude.{ℕ, List}
 use Rattle.hj_base.specs.Journals.{Entry}
-use Rattle.hj_base.specs.Link.{OneWay}
+use Rattle.hj_base.specs.Link.{Link, OneWay}
 use Rattle.atomic_table.specs.Seated.{TableId}
-use Rattle.hj_link.specs.Rule.{Seated, sent, got}
 
 -- the sender of a link
 pub record SenderSeen (M : Type 0) : Type 0 where
@@ -26,35 +25,38 @@ pub record ReceiverSeen (M : Type 0) : Type 0 where
   -- the steps that found the link empty
   pub empty_looks : ℕ
 
--- a link whose ends were handed in
-pub record ClosedWay (M : Type 0) : Type 0 where
+-- an end of a link that goes both ways
+pub record EndSeen (M : Type 0) : Type 0 where
+  -- which link it is of, and for how many messages there is room in each direction
+  pub link : TableId
+  pub capacity : ℕ
+  pub journal : List (Entry M)
+  -- so many puts find room, and so many takes a message, whatever the other end does
+  pub room : ℕ
+  pub ready : ℕ
+  -- the steps that found the direction full into which it puts, and those that found the other one empty
+  pub full_looks : ℕ
+  pub empty_looks : ℕ
+
+-- a link in one direction whose ends were handed in
+pub record WaySeen (M : Type 0) : Type 0 where
   pub capacity : ℕ
   pub way : OneWay M
+
+-- a link that goes both ways whose ends were handed in
+pub record LinkSeen (M : Type 0) : Type 0 where
+  pub capacity : ℕ
+  pub link : Link M
 
 module _ {M : Type 0} where
   abbrev pub one_way_of : List (Entry M) → List (Entry M) → OneWay M
   one_way_of sender receiver = record { sender = sender; receiver = receiver }
 
-  abbrev pub closed : ℕ → List (Entry M) → List (Entry M) → ClosedWay M
-  closed capacity sender receiver = record { capacity = capacity; way = one_way_of sender receiver }
+  abbrev pub closed_way : ℕ → List (Entry M) → List (Entry M) → WaySeen M
+  closed_way capacity sender receiver = record { capacity = capacity; way = one_way_of sender receiver }
 
-  -- what a sender keeps beside its seat
-  pub record IsSender (capacity puts seen room next : ℕ) (m : Seated M) : Type 0 where
-    pub no_slot : m.1 ≡ []
-    pub has_left : m.0.has_left ≡ true
-    pub no_right : m.0.has_right ≡ false
-    pub idle : m.0.left.putting ≡ false
-    pub puts_is : puts ≡ length (sent m.0.left) % 2 ^ 64
-    pub seen_is : seen ≡ m.0.left.known_takes % 2 ^ 64
-    pub room_is : length (sent m.0.left) + room ≡ m.0.left.known_takes + capacity
-    pub next_is : next ≡ length (sent m.0.left) % capacity
+  abbrev pub link_of : List (Entry M) → List (Entry M) → Link M
+  link_of left right = record { left = left; right = right }
 
-  -- what a receiver keeps beside its seat
-  pub record IsReceiver (capacity takes ready next : ℕ) (m : Seated M) : Type 0 where
-    pub no_slot : m.1 ≡ []
-    pub has_right : m.0.has_right ≡ true
-    pub no_left : m.0.has_left ≡ false
-    pub idle : m.0.right.fetching ≡ false
-    pub takes_is : takes ≡ length (got m.0.right) % 2 ^ 64
-    pub ready_is : length (got m.0.right) + ready ≡ length m.0.right.known
-    pub next_is : next ≡ length (got m.0.right) % capacity
+  abbrev pub closed : ℕ → List (Entry M) → List (Entry M) → LinkSeen M
+  closed capacity left right = record { capacity = capacity; link = link_of left right }

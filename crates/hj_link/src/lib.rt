@@ -2,10 +2,16 @@
 #![tactic(auto)]
 
 mod ends;
+mod halves;
+mod opening;
 mod plays;
+mod sides;
 mod steps;
 mod table;
 #[cfg(test)]
 mod tests;
+mod ways;
 
-pub use ends::{Closed, Full, Receiver, Sender, close_way, one_way};
+pub use ends::{Closed, LeftEnd, RightEnd, close, duplex};
+pub use halves::Full;
+pub use ways::{ClosedWay, Receiver, Sender, close_way, one_way};

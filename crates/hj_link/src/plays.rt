@@ -1,49 +1,63 @@
 //! What each step tells the end that makes it. These types are for the proofs alone.
 ghost use Rattle.hj_link.specs.Steps.{looks_for_room, looks_for_message, reserves, publishes, fetches, publishes_take, learns, left_alone, right_alone, both_ends, neither};
 
+use crate::sides::Side;
 use crate::table::{Slot, View};
 use atomic_table::{Join, Play, Split};
+use std::marker::PhantomData;
 
-pub struct LookForRoom;
-
-impl<M> Play<Slot<M>, View<M>> for LookForRoom {
-    ghost then = { looks_for_room };
+pub struct LookForRoom<D> {
+    side: PhantomData<D>,
 }
 
-pub struct LookForMessage;
-
-impl<M> Play<Slot<M>, View<M>> for LookForMessage {
-    ghost then = { looks_for_message };
+impl<M, D: Side> Play<Slot<M>, View<M>> for LookForRoom<D> {
+    ghost then = { λ step before found after. looks_for_room D.is_left before found after };
 }
 
-pub struct Reserve;
-
-impl<M> Play<Slot<M>, View<M>> for Reserve {
-    ghost then = { reserves };
+pub struct LookForMessage<D> {
+    side: PhantomData<D>,
 }
 
-pub struct PublishPut;
-
-impl<M> Play<Slot<M>, View<M>> for PublishPut {
-    ghost then = { λ step before found after. publishes before after };
+impl<M, D: Side> Play<Slot<M>, View<M>> for LookForMessage<D> {
+    ghost then = { λ step before found after. looks_for_message D.is_left before found after };
 }
 
-pub struct Fetch;
-
-impl<M> Play<Slot<M>, View<M>> for Fetch {
-    ghost then = { fetches };
+pub struct Reserve<D> {
+    side: PhantomData<D>,
 }
 
-pub struct PublishTake;
+impl<M, D: Side> Play<Slot<M>, View<M>> for Reserve<D> {
+    ghost then = { λ step before found after. reserves D.is_left before after };
+}
 
-impl<M> Play<Slot<M>, View<M>> for PublishTake {
-    ghost then = { λ step before found after. publishes_take before after };
+pub struct PublishPut<D> {
+    side: PhantomData<D>,
+}
+
+impl<M, D: Side> Play<Slot<M>, View<M>> for PublishPut<D> {
+    ghost then = { λ step before found after. publishes D.is_left before after };
+}
+
+pub struct Fetch<D> {
+    side: PhantomData<D>,
+}
+
+impl<M, D: Side> Play<Slot<M>, View<M>> for Fetch<D> {
+    ghost then = { λ step before found after. fetches D.is_left before after };
+}
+
+pub struct PublishTake<D> {
+    side: PhantomData<D>,
+}
+
+impl<M, D: Side> Play<Slot<M>, View<M>> for PublishTake<D> {
+    ghost then = { λ step before found after. publishes_take D.is_left before after };
 }
 
 pub struct Learn;
 
 impl<M> Play<Slot<M>, View<M>> for Learn {
-    ghost then = { λ step before found after. learns step before after };
+    ghost then = { λ step before found after. learns before after };
 }
 
 pub struct Apart;

@@ -5,17 +5,18 @@ use atomic_table::{Seat, Table, TableRule};
 use std::alloc::Global;
 use std::collections::LinkedList;
 
-/// The word that counts the puts, modulo 2^64.
-pub(crate) const PUTS: usize = 0;
-
-/// The word that counts the takes, modulo 2^64. It lies 128 bytes from the other, so that they share no cache line.
-pub(crate) const TAKES: usize = 16;
-
 /// A place for a message, with the turn of the put or of the take that left it so.
 #[derive(Drop)]
 pub enum Slot<M> {
     Empty(u64),
     Full(u64, M),
+}
+
+/// For how many messages each direction has room. A link that goes one way has none in the way back.
+#[derive(Clone, Copy)]
+pub struct Capacities {
+    pub rightwards: usize,
+    pub leftwards: usize,
 }
 
 /// An entry of an end's journal. No value of it is made.
@@ -41,20 +42,21 @@ pub struct End<M> {
 
 /// What a seat knows: one end, the other, both, or neither. No value of it is made.
 pub struct View<M> {
+    pub capacities: Capacities,
     pub has_left: bool,
     pub left: End<M>,
     pub has_right: bool,
     pub right: End<M>,
 }
 
-pub struct OneWayRule;
+pub struct LinkRule;
 
-impl<M> TableRule<Slot<M>, View<M>, usize> for OneWayRule {
-    ghost holds = { λ capacity. Rule capacity };
+impl<M> TableRule<Slot<M>, View<M>, Capacities> for LinkRule {
+    ghost holds = { λ capacities. Rule capacities };
 
-    ghost first = { λ _. opened };
+    ghost first = { λ capacities. opened capacities };
 }
 
-pub(crate) type WayTable<M> = Table<Slot<M>, View<M>, usize, OneWayRule, Global>;
+pub(crate) type LinkTable<M> = Table<Slot<M>, View<M>, Capacities, LinkRule, Global>;
 
-pub(crate) type WaySeat<M> = Seat<Slot<M>, View<M>>;
+pub(crate) type LinkSeat<M> = Seat<Slot<M>, View<M>>;

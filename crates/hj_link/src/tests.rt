@@ -1,10 +1,14 @@
 ghost use Rattle.std.specs.Prelude.{◌≡◌};
 
 use super::*;
+use crate::ends::LinkEnd;
+use crate::sides::Side;
 use std::test::Fail;
 use std::thread::{join, yield_now};
 
 const NUMBERS: u64 = 100_000;
+
+const NUMBERS_EACH_WAY: u64 = 10_000;
 
 // An end gives up after so many calls.
 const CALLS: u64 = 100_000_000;
@@ -110,5 +114,96 @@ fn ends_are_sent(rt: HostRuntime) -> Result<(), Fail> {
     let (mut sender, mut receiver) = ends_cross(one_way(rt.alloc(), 2)?);
     assert!(rt; sender.put(0, 'a').is_ok());
     assert_eq!(rt; receiver.take(0), Some('a'));
+    Ok(())
+}
+
+#[test]
+fn both_directions_hold_one_message(rt: HostRuntime) -> Result<(), Fail> {
+    let (mut left, mut right) = duplex(rt.alloc(), 1)?;
+    assert!(rt; left.put(0, 'a').is_ok());
+    assert!(rt; matches!(left.put(1, 'b'), Err(Full('b'))));
+    assert!(rt; right.put(0, 'c').is_ok());
+    assert_eq!(rt; left.take(2), Some('c'));
+    assert_eq!(rt; right.take(1), Some('a'));
+    assert!(rt; left.put(3, 'b').is_ok());
+    assert_eq!(rt; right.take(2), Some('b'));
+    assert_eq!(rt; right.take(3), None);
+    let _closed = close(left, right);
+    Ok(())
+}
+
+// Puts the next number, and tells how many are put then.
+fn put_next<D: Side>(end: &mut LinkEnd<u64, D>, sent: u64) -> u64
+    ensures { end.new.link ≡ end.old.link }
+{
+    if sent < NUMBERS_EACH_WAY && end.put(sent, sent).is_ok() {
+        sent + 1
+    } else {
+        sent
+    }
+}
+
+// Takes the next number, and tells how many are taken then. None where another number comes.
+fn take_next<D: Side>(end: &mut LinkEnd<u64, D>, received: u64) -> Option<u64>
+    ensures { end.new.link ≡ end.old.link }
+{
+    match end.take(received) {
+        Some(number) if number == received => received.checked_add(1),
+        Some(_) => None,
+        None => Some(received),
+    }
+}
+
+fn put_and_take_all<D: Side>(mut end: LinkEnd<u64, D>) -> (bool, LinkEnd<u64, D>)
+    ensures { result.1.link ≡ end.link }
+{
+    let mut sent = 0;
+    let mut received = 0;
+    for _ in 0..CALLS {
+        if sent == NUMBERS_EACH_WAY && received == NUMBERS_EACH_WAY {
+            return (true, end);
+        }
+        sent = put_next(&mut end, sent);
+        let before = received;
+        match take_next(&mut end, received) {
+            Some(count) => received = count,
+            None => return (false, end),
+        }
+        if received == before {
+            yield_now();
+        }
+    }
+    (false, end)
+}
+
+#[test]
+fn crosses_in_both_directions(rt: HostRuntime) -> Result<(), Fail> {
+    let (left, right) = duplex(rt.alloc(), 4)?;
+    let ((from_left, left), (from_right, right)) = join(
+        &rt,
+        move || -> (bool, LeftEnd<u64>)
+            ensures { result.1.link ≡ left.link }
+        { put_and_take_all(left) },
+        move || -> (bool, RightEnd<u64>)
+            ensures { result.1.link ≡ right.link }
+        { put_and_take_all(right) },
+    );
+    assert!(rt; from_left);
+    assert!(rt; from_right);
+    let _closed = close(left, right);
+    Ok(())
+}
+
+// Either end may go to another thread, whatever its messages are.
+fn link_ends_cross<M: Drop + Send>(ends: (LeftEnd<M>, RightEnd<M>)) -> (LeftEnd<M>, RightEnd<M>) {
+    (crosses(ends.0), crosses(ends.1))
+}
+
+#[test]
+fn link_ends_are_sent(rt: HostRuntime) -> Result<(), Fail> {
+    let (mut left, mut right) = link_ends_cross(duplex(rt.alloc(), 2)?);
+    assert!(rt; left.room());
+    assert!(rt; right.put(0, 'a').is_ok());
+    assert_eq!(rt; left.take(0), Some('a'));
     Ok(())
 }

@@ -1,7 +1,6 @@
-use Rattle.std.proofs.Common.{rules, ap}
-use Rattle.hj_link.proofs.Seats.{put_published}
+use Rattle.std.proofs.Common.{rules}
+use Rattle.hj_link.proofs.Moves.{words_inside, put_published}
 use Rattle.hj_link.proofs.steps.publish_put.Goals as goal
 
 pub store-requires : goal.store-requires
-store-requires g c = let me = c.args.seat.now.me in let laid = c.requires.laid in
-    (search rules, search rules, put_published _ _ _ me me.0 laid.turn laid.message c.args.puts (ap (λ held. (me.0, held)) laid.held) laid.has_left laid.is_out c.requires.puts)
+store-requires g c = (search rules, (words_inside g.D.Side.is_left _ _ c.words-words.ensures c.requires.table.1).0, put_published g.D.Side.is_left _ _ _ _ c.args.seat.now.me c.args.puts c.words-words.ensures c.requires.laid c.requires.puts)

@@ -1,0 +1,5 @@
+use Rattle.std.proofs.Common.{◌≡◌, ◌≤◌, ◌+◌, vec_len, vec_capacity}
+use Rattle.hj_link.proofs.opening.open.Given as goal
+
+abbrev pub invariant-loop : goal.invariant-loop
+invariant-loop g l = (vec_len l.slots ≡ l.counter) × (l.count ≤ vec_capacity l.slots) × (l.count ≡ l.fn.capacities.rightwards + l.fn.capacities.leftwards) × (l.capacities ≡ l.fn.capacities)
