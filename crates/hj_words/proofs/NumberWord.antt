@@ -14,7 +14,7 @@ pub list_all-digits : (ds : List ℕ) → list_all is_ascii_digit ds ≡ all_asc
 list_all-digits [] = refl
 list_all-digits (c ∷ cs) = ap (λ b. is_ascii_digit c && b) (list_all-digits cs)
 
-digits : IsNumeralModel (λ ds. all_ascii_digits ds ≡ true) (digits_value 10)
+pub digits : IsNumeralModel (λ ds. all_ascii_digits ds ≡ true) (digits_value 10)
 digits = numerals_by_value (λ ds. all_ascii_digits ds ≡ true) tells_all_ascii_digits
 
 -- digits that `parse` refuses have a value that does not fit

@@ -1,3 +1,4 @@
 pub mod Values
 pub mod Orders
+pub mod Ranges
 pub mod Arguments

@@ -1,5 +1,6 @@
 ghost use Rattle.std.specs.Prelude.{◌≡◌, IfOk, IfErr, Some, None, map, string_bytes};
 ghost use Rattle.hj_words.specs.Orders.{order_of, equi_spelled, join_spelled, check_spelled, gen_spelled};
+ghost use Rattle.hj_words.specs.Ranges.{IsInRange};
 
 use crate::arguments::{check_matches, equi_matches, gen_matches, join_matches};
 use crate::order::{Order, Usage};
@@ -14,6 +15,7 @@ const MOST_EVENTS: u64 = 4_294_967_295;
 /// The order that the words after the program's name spell. Words exactly where they spell none.
 pub fn read_words(alloc: Global, words: &[String]) -> Result<Order, Usage>
     ensures ok { IfOk result (λ order. order_of (map string_bytes words.now) ≡ Some order) }
+    ensures ranges { IfOk result IsInRange }
     ensures err { IfErr result (λ fault. fault ≡ Usage.Words → order_of (map string_bytes words.now) ≡ None) }
 {
     let [command, rest @ ..] = words else {
@@ -31,6 +33,7 @@ pub fn read_words(alloc: Global, words: &[String]) -> Result<Order, Usage>
 /// The order of the words behind `equi`.
 fn read_equi(alloc: Global, words: &[String]) -> Result<Order, Usage>
     ensures ok { IfOk result (λ order. equi_spelled (map string_bytes words.now) ≡ Some order) }
+    ensures ranges { IfOk result IsInRange }
     ensures err { IfErr result (λ fault. fault ≡ Usage.Words → equi_spelled (map string_bytes words.now) ≡ None) }
 {
     let matches = equi_matches(alloc, words)?;
@@ -47,6 +50,7 @@ fn read_equi(alloc: Global, words: &[String]) -> Result<Order, Usage>
 /// The order of the words behind `join`.
 fn read_join(alloc: Global, words: &[String]) -> Result<Order, Usage>
     ensures ok { IfOk result (λ order. join_spelled (map string_bytes words.now) ≡ Some order) }
+    ensures ranges { IfOk result IsInRange }
     ensures err { IfErr result (λ fault. fault ≡ Usage.Words → join_spelled (map string_bytes words.now) ≡ None) }
 {
     let matches = join_matches(alloc, words)?;
@@ -78,6 +82,7 @@ fn read_join(alloc: Global, words: &[String]) -> Result<Order, Usage>
 /// The order of the words behind `check`.
 fn read_check(alloc: Global, words: &[String]) -> Result<Order, Usage>
     ensures ok { IfOk result (λ order. check_spelled (map string_bytes words.now) ≡ Some order) }
+    ensures ranges { IfOk result IsInRange }
     ensures err { IfErr result (λ fault. fault ≡ Usage.Words → check_spelled (map string_bytes words.now) ≡ None) }
 {
     let matches = check_matches(alloc, words)?;
@@ -88,6 +93,7 @@ fn read_check(alloc: Global, words: &[String]) -> Result<Order, Usage>
 /// The order of the words behind `gen`.
 fn read_gen(alloc: Global, words: &[String]) -> Result<Order, Usage>
     ensures ok { IfOk result (λ order. gen_spelled (map string_bytes words.now) ≡ Some order) }
+    ensures ranges { IfOk result IsInRange }
     ensures err { IfErr result (λ fault. fault ≡ Usage.Words → gen_spelled (map string_bytes words.now) ≡ None) }
 {
     let matches = gen_matches(alloc, words)?;

@@ -1,6 +1,7 @@
 //! Numbers and names among the words.
-ghost use Rattle.std.specs.Prelude.{◌≡◌, ◌≤◌, IfOk, IfSome, option_map};
+ghost use Rattle.std.specs.Prelude.{◌≡◌, IfOk, IfSome, option_map};
 ghost use Rattle.std.specs.Str.{all_ascii_digits};
+ghost use Rattle.hj_words.specs.Ranges.{IsFrom};
 ghost use Rattle.hj_words.specs.Orders.{number_in, number_of, number_or, name_in, schedule_of};
 
 use hj_base::{Memory, Name};
@@ -11,7 +12,7 @@ const MOST_DIGITS: usize = 20;
 /// The number of a word, from `low` to `high`; None where there is no word, or it is no such number.
 pub fn number(word: Option<&str>, low: u64, high: u64) -> Option<u64>
     ensures value { result ≡ number_in low high (option_map (λ w. w.now) word.entry) }
-    ensures range { IfSome result (λ n. n ≤ high) }
+    ensures range { IfSome result (IsFrom low high) }
 {
     number_of(word?, low, high)
 }
@@ -19,9 +20,9 @@ pub fn number(word: Option<&str>, low: u64, high: u64) -> Option<u64>
 /// The number of a word, from `low` to `high`, or `default` where there is no word; None where it is no
 /// such number.
 pub fn number_or(word: Option<&str>, default: u64, low: u64, high: u64) -> Option<u64>
-    requires { default ≤ high }
+    requires { IsFrom low high default }
     ensures value { result ≡ number_or default low high (option_map (λ w. w.now) word.entry) }
-    ensures range { IfSome result (λ n. n ≤ high) }
+    ensures range { IfSome result (IsFrom low high) }
 {
     match word {
         Some(word) => number_of(word, low, high),
@@ -58,7 +59,7 @@ pub fn name(alloc: Global, word: Option<&str>) -> Result<Option<Name>, Memory>
 /// The number of 1 to 20 digits from `low` to `high`.
 fn number_of(word: &str, low: u64, high: u64) -> Option<u64>
     ensures value { result ≡ number_of low high word.now }
-    ensures range { IfSome result (λ n. n ≤ high) }
+    ensures range { IfSome result (IsFrom low high) }
 {
     if word.is_empty() || word.len() > MOST_DIGITS || !are_digits(word) {
         return None;
