@@ -1,21 +1,23 @@
--- A join while it runs, and how it ends.
-use Rattle.std.proofs.Common.{◌≡◌, ℕ, ◌+◌, ◌<◌, Bool, false, List, [], ◌∷◌, ◌++◌, length, refl, sym, ap, subst, ◌∙◌, append_assoc, append-nil, arith}
+-- How a join ends.
+use Rattle.std.proofs.Common.{◌≡◌, ◌≢◌, ℕ, Bool, true, false, ◌&&◌, List, [], ◌++◌, length, None, Some, refl, sym, ap, subst, ◌∙◌, append-nil}
+use Rattle.std.specs.List.{flat_map}
 use Rattle.std.proofs.lemmas.Grind.{flat_map-append}
-use Rattle.std.proofs.lemmas.List.{length-append}
-use Rattle.std.proofs.KnownBytes.{Appends-nil, Appends-trans}
+use Rattle.std.proofs.KnownBytes.{Appends-nil}
 use Rattle.std.specs.Io.KnownBytes.{Appends}
 use Rattle.std.specs.declared.option.Option.{Option}
 use Rattle.hj_value.specs.declared.field.Field.{Field}
-use Rattle.hj_base.specs.declared.numbers.Side.{Side}
 use Rattle.hj_base.specs.declared.numbers.Side.TheVariants.{Left, Right}
 use Rattle.hj_base.specs.declared.outside.Role.{Role}
 use Rattle.hj_base.specs.declared.outside.Role.TheVariants as role
 use Rattle.hj_base.specs.Journals.{IsPrefix}
 use Rattle.hj_base.specs.Outside.{RoleState, role_of}
+use Rattle.hj_msg.specs.declared.drain.Drained.{Drained}
 use Rattle.hj_msg.specs.declared.event.Event.{Event}
-use Rattle.hj_msg.specs.Event.{number}
-use Rattle.hj_msg.specs.Kang.{Windows, no_rows, listed, after, kang, kang_from, windows_after}
-use Rattle.hj_msg.proofs.Windows.{join_of_both, kang-push, windows_from-append}
+use Rattle.hj_msg.specs.declared.event.Pair.{Pair}
+use Rattle.hj_msg.specs.declared.feed.Given.{Given}
+use Rattle.hj_msg.specs.Feed.{FeedState}
+use Rattle.hj_msg.specs.Kang.{kang, kang_from, windows_after}
+use Rattle.hj_msg.proofs.Windows.{join_of_both}
 use Rattle.hj_query.specs.Parts.{Parts}
 use Rattle.hj_eval.specs.Holds.{holds}
 use Rattle.hj_event.specs.declared.merger.Next.{Next}
@@ -23,90 +25,28 @@ use Rattle.hj_event.specs.declared.merger.Next.TheVariants as next
 use Rattle.hj_event.specs.Arrivals.{Ending, clean, bad, unread, too_many}
 use Rattle.hj_event.specs.Events.{Numbered, events_of}
 use Rattle.hj_event.specs.Numbering.{no_event}
-use Rattle.hj_event.specs.Merger.{Merging, IsNew, Answers, TakesNext, IsAllRead, events_from, fails_next}
-use Rattle.hj_event.specs.Roles.{IsInStep, IsReadOn}
-use Rattle.hj_event.specs.Sides.{in_front, MayFollow, Follows}
+use Rattle.hj_event.specs.Merger.{Merging, IsNew, TakesNext, IsAllRead, events_from, fails_next}
+use Rattle.hj_event.specs.Roles.{IsInStep}
+use Rattle.hj_event.specs.Sides.{in_front}
 use Rattle.hj_event.specs.Calls.{GivesAll, then_events}
 use Rattle.hj_event.proofs.CallLemmas.{ends}
 use Rattle.hj_event.proofs.RoleLemmas.{not_read, read_more}
+use Rattle.hj_chain.specs.declared.serial.Fin.{Fin}
+use Rattle.hj_chain.specs.declared.serial.Fin.TheVariants as fin
 use Rattle.hj_engine.specs.declared.outcome.Outcome.{Outcome}
 use Rattle.hj_engine.specs.declared.outcome.Outcome.TheVariants as outcome
+use Rattle.hj_engine.specs.declared.output.Sent.{Sent}
+use Rattle.hj_engine.specs.declared.output.Sent.TheVariants as sent
+use Rattle.hj_engine.specs.Draining.{TakesLine, refusal_of}
+use Rattle.hj_engine.specs.Feeding.{Feeding, Gives, outcome_by}
 use Rattle.hj_engine.specs.JoinText.{JoinResult, text, text_of, join_result}
-use Rattle.hj_engine.specs.Joining.{fails_on, WritesText, AreEnded, Joins}
-use Rattle.hj_engine.specs.Output.{AppendsFront}
-use Rattle.hj_engine.specs.Windows.{AreBelow}
-use Rattle.hj_engine.proofs.Prefixes.{begins_behind}
-use Rattle.hj_engine.proofs.Reading.{Reads, reads_begin, taking, reads_more, before_call, within_limit, newest_given}
-
--- So many events were given and handled: the windows hold what is live after them, and their text was written.
-pub record Running (query : Parts) (limit count : ℕ) (merger : Merging) (windows : Windows (List Field)) (before now : Role → RoleState) (old new : Option (List ℕ)) : Type 0 where
-  pub events : List (Event (List Field))
-  pub reads : Reads query limit events merger before now
-  pub counted : length events ≡ count
-  pub held : windows ≡ windows_after events
-  pub written : Appends old new (text_of query events)
-
-pub running_first : (query : Parts) (limit : ℕ) (merger : Merging) (windows : Windows (List Field)) (now : Role → RoleState) (sink : Option (List ℕ)) → IsNew query limit merger → windows ≡ no_rows → IsInStep false (now role.Left) → IsInStep false (now role.Right)
-    → Running query limit 0 merger windows now now sink sink
-running_first query limit merger windows now sink new empty left right = record {
-  events = [];
-  reads = reads_begin query limit merger now new left right;
-  counted = refl;
-  held = empty;
-  written = Appends-nil sink;
-}
-
--- Of these events the last was given and isn't handled yet.
-pub record Taken (query : Parts) (limit count : ℕ) (event : Event (List Field)) (merger : Merging) (windows : Windows (List Field)) (before now : Role → RoleState) (old new : Option (List ℕ)) : Type 0 where
-  pub events : List (Event (List Field))
-  pub reads : Reads query limit (events ++ event ∷ []) merger before now
-  pub counted : length events ≡ count
-  pub held : windows ≡ windows_after events
-  pub written : Appends old new (text_of query events)
-
--- the merger gave an event
-pub taken : (query : Parts) (limit count : ℕ) (answer : Next) (event : Event (List Field)) (merger later : Merging) (windows : Windows (List Field)) (before mid now : Role → RoleState) (old new : Option (List ℕ))
-    → Running query limit count merger windows before mid old new → Answers answer merger later mid now → answer ≡ next.Event event → Taken query limit count event later windows before now old new
-taken query limit count answer event merger later windows before mid now old new running answers is =
-    let takes : TakesNext (next.Event event) merger later mid now = subst (λ (a : Next). TakesNext a merger later mid now) is (taking answer merger later mid now running.reads.going answers) in
-    record {
-      events = running.events;
-      reads = reads_more query limit running.events event merger later before mid now running.reads takes;
-      counted = running.counted;
-      held = running.held;
-      written = running.written;
-    }
-
--- it is newer than the rows held
-pub taken_newest : (query : Parts) (limit count : ℕ) (event : Event (List Field)) (merger : Merging) (windows : Windows (List Field)) (before now : Role → RoleState) (old new : Option (List ℕ))
-    → Taken query limit count event merger windows before now old new → AreBelow (number event) windows
-taken_newest query limit count event merger windows before now old new taken =
-    subst (AreBelow (number event)) (sym taken.held) (newest_given query limit taken.events event merger before now taken.reads)
-
--- and within the limit
-pub taken_within : (query : Parts) (limit count : ℕ) (event : Event (List Field)) (merger : Merging) (windows : Windows (List Field)) (before now : Role → RoleState) (old new : Option (List ℕ))
-    → Taken query limit count event merger windows before now old new → count < limit
-taken_within query limit count event merger windows before now old new taken =
-    omega (arith, within_limit query limit (taken.events ++ event ∷ []) merger before now taken.reads, length-append taken.events (event ∷ []), taken.counted)
-
--- the text of events, and of one more
-text-push : (query : Parts) (events : List (Event (List Field))) (event : Event (List Field)) → text_of query (events ++ event ∷ []) ≡ text_of query events ++ text (listed (holds query) (windows_after events) event)
-text-push query events event = ap text (kang-push (holds query) events event) ∙ flat_map-append _ (kang (holds query) events) (listed (holds query) (windows_after events) event)
-
--- the event was handled
-pub running_on : (query : Parts) (limit count : ℕ) (event : Event (List Field)) (merger : Merging) (windows later : Windows (List Field)) (before now : Role → RoleState) (old mid new : Option (List ℕ))
-    → Taken query limit count event merger windows before now old mid → Appends mid new (text (listed (holds query) windows event)) → later ≡ after windows event
-    → Running query limit (count + 1) merger later before now old new
-running_on query limit count event merger windows later before now old mid new taken sent moved =
-    let lines : Appends mid new (text (listed (holds query) (windows_after taken.events) event)) =
-    subst (λ (w : Windows (List Field)). Appends mid new (text (listed (holds query) w event))) taken.held sent in
-    record {
-      events = taken.events ++ event ∷ [];
-      reads = taken.reads;
-      counted = omega (arith, length-append taken.events (event ∷ []), taken.counted);
-      held = moved ∙ (ap (λ (w : Windows (List Field)). after w event) taken.held ∙ sym (windows_from-append no_rows taken.events (event ∷ [])));
-      written = subst (Appends old new) (sym (text-push query taken.events event)) (Appends-trans old mid new (text_of query taken.events) (text (listed (holds query) (windows_after taken.events) event)) taken.written lines);
-    }
+use Rattle.hj_engine.specs.Joining.{CountsSinkFault, FailsOn, WritesText, AreEnded, Joins}
+use Rattle.hj_engine.specs.Output.{AppendsFront, CountsFaults}
+use Rattle.hj_engine.specs.Running.{EndsJoin, RunsJoin, events_in, pairs_in}
+use Rattle.hj_engine.proofs.Drained.{Draining, all_kept, last_refused}
+use Rattle.hj_engine.proofs.Fed.{Fed, HasEnded, fed_all, fed_first, fed_well}
+use Rattle.hj_engine.proofs.Prefixes.{IsPrefix-trans}
+use Rattle.hj_engine.proofs.Reading.{Reads, before_call}
 
 -- The whole text goes on behind that of the first events.
 text-then : (query : Parts) (events : List (Event (List Field))) (all others : Numbered) → all ≡ then_events events others
@@ -121,8 +61,8 @@ begins_text query events all others is = record { rest = text (kang_from (holds 
 abbrev result_of : Parts → Numbered → JoinResult
 result_of query all = record { text = text_of query all.events; ending = all.ending; events = length all.events }
 
--- the outcome by an answer that is no event, behind so many events
-abbrev pub ended_by : ℕ → Next → Outcome
+-- the outcome that an answer makes, behind so many events
+abbrev ended_by : ℕ → Next → Outcome
 ended_by count (next.Event event) = outcome.Memory
 ended_by count next.Done = outcome.Done count
 ended_by count (next.Bad side at why) = outcome.Bad side at why
@@ -130,16 +70,42 @@ ended_by count (next.Failed side) = outcome.SourceFault (role_of side)
 ended_by count next.TooMany = outcome.TooMany
 ended_by count next.Memory = outcome.Memory
 
-fails_same : (count : ℕ) (answer : Next) (of : Side) → fails_on (ended_by count answer) of ≡ fails_next answer of
-fails_same count (next.Event event) of = refl
-fails_same count next.Done of = refl
-fails_same count (next.Bad side at why) of = refl
-fails_same count (next.Failed Left) Left = refl
-fails_same count (next.Failed Left) Right = refl
-fails_same count (next.Failed Right) Left = refl
-fails_same count (next.Failed Right) Right = refl
-fails_same count next.TooMany of = refl
-fails_same count next.Memory of = refl
+some_same : {X : Type 0} (x y : X) → Some x ≡ Some y → x ≡ y
+some_same x y is = cc
+
+ended_is : (count : ℕ) (last : Next) (made : Outcome) → outcome_by count last ≡ Some made → ended_by count last ≡ made
+ended_is count (next.Event event) made is = absurd (let wrong : None ≡ Some made = is in cc)
+ended_is count next.Done made is = some_same _ _ is
+ended_is count (next.Bad side at why) made is = some_same _ _ is
+ended_is count (next.Failed side) made is = some_same _ _ is
+ended_is count next.TooMany made is = some_same _ _ is
+ended_is count next.Memory made is = some_same _ _ is
+
+fails_so : (count : ℕ) (last : Next) → FailsOn (ended_by count last) (fails_next last Left) (fails_next last Right)
+fails_so count (next.Event event) = refl
+fails_so count next.Done = (refl, refl)
+fails_so count (next.Bad side at why) = (refl, refl)
+fails_so count (next.Failed Left) = (refl, refl)
+fails_so count (next.Failed Right) = (refl, refl)
+fails_so count next.TooMany = (refl, refl)
+fails_so count next.Memory = refl
+
+not_both : (last : Next) → (fails_next last Left && fails_next last Right) ≡ false
+not_both (next.Event event) = refl
+not_both next.Done = refl
+not_both (next.Bad side at why) = refl
+not_both (next.Failed Left) = refl
+not_both (next.Failed Right) = refl
+not_both next.TooMany = refl
+not_both next.Memory = refl
+
+sink_same : (count : ℕ) (last : Next) (old new : ℕ) → new ≡ old → CountsSinkFault (ended_by count last) old new
+sink_same count (next.Event event) old new same = same
+sink_same count next.Done old new same = same
+sink_same count (next.Bad side at why) old new same = same
+sink_same count (next.Failed side) old new same = same
+sink_same count next.TooMany old new same = same
+sink_same count next.Memory old new same = same
 
 -- where no event is left, the whole text was written
 whole_text : (query : Parts) (events : List (Event (List Field))) (all : Numbered) (ending : Ending) → all ≡ then_events events (no_event ending) → (text_of query events ≡ text_of query all.events) × (all.ending ≡ ending)
@@ -166,87 +132,90 @@ are_ended count (next.Failed side) left right read = tt
 are_ended count next.TooMany left right read = tt
 are_ended count next.Memory left right read = tt
 
--- a role read on by a call that may have failed
-read_last : (failed fails : Bool) (xs ys : List ℕ) (mid ended : Bool) (a b c : RoleState) → failed ≡ fails → IsReadOn false xs false mid a b → IsReadOn fails ys mid ended b c → IsReadOn failed (xs ++ ys) false ended a c
-read_last failed fails xs ys mid ended a b c same first second =
-    subst (λ (f : Bool). IsReadOn f (xs ++ ys) false ended a c) (sym same) (read_more fails xs ys false mid ended a b c first second)
-
--- the merger gave no event
-joins_last : (query : Parts) (limit count : ℕ) (answer : Next) (merger later : Merging) (windows : Windows (List Field)) (before mid now : Role → RoleState) (old new : Option (List ℕ))
-    → Running query limit count merger windows before mid old new → TakesNext answer merger later mid now → Joins (ended_by count answer) query limit before now old new
-joins_last query limit count answer merger later windows before mid now old new running takes =
-    let reads = running.reads in
-    let same = fails_same count answer in
-    record {
-      left_bytes = reads.left_bytes ++ takes.left_bytes;
-      right_bytes = reads.right_bytes ++ takes.right_bytes;
-      left_ended = later.sides.left.reading.ended;
-      right_ended = later.sides.right.reading.ended;
-      left = read_last (fails_on (ended_by count answer) Left) (fails_next answer Left) reads.left_bytes takes.left_bytes merger.sides.left.reading.ended later.sides.left.reading.ended (before role.Left) (mid role.Left) (now role.Left) (same Left) reads.left takes.left;
-      right = read_last (fails_on (ended_by count answer) Right) (fails_next answer Right) reads.right_bytes takes.right_bytes merger.sides.right.reading.ended later.sides.right.reading.ended (before role.Right) (mid role.Right) (now role.Right) (same Right) reads.right takes.right;
-      query_role = takes.query ∙ reads.query_role;
-      grown = text_of query running.events;
-      written = running.written;
-      text = λ l r l_follows r_follows.
-          let l_behind : Follows (fails_next answer Left) later.sides.left.reading.ended l = subst (λ (f : Bool). Follows f later.sides.left.reading.ended l) (same Left) l_follows in
-          let r_behind : Follows (fails_next answer Right) later.sides.right.reading.ended r = subst (λ (f : Bool). Follows f later.sides.right.reading.ended r) (same Right) r_follows in
-          writes_all query count answer running.events (events_of query (in_front (reads.left_bytes ++ takes.left_bytes) l) (in_front (reads.right_bytes ++ takes.right_bytes) r) limit) (events_from merger (in_front takes.left_bytes l) (in_front takes.right_bytes r))
-          (before_call query limit reads.left_bytes reads.right_bytes running.events answer merger later mid now reads.given takes l r l_behind r_behind)
-          (ends query limit reads.left_bytes reads.right_bytes running.events answer merger later mid now reads.given takes l r l_behind r_behind)
-          running.counted;
-      ends = are_ended count answer later.sides.left.reading.ended later.sides.right.reading.ended takes.ended;
-    }
-
--- the merger gave this answer
-pub joins_by : (query : Parts) (limit count : ℕ) (answer is_answer : Next) (merger later : Merging) (windows : Windows (List Field)) (before mid now : Role → RoleState) (old new : Option (List ℕ))
-    → Running query limit count merger windows before mid old new → Answers answer merger later mid now → answer ≡ is_answer → Joins (ended_by count is_answer) query limit before now old new
-joins_by query limit count answer is_answer merger later windows before mid now old new running answers is =
-    joins_last query limit count is_answer merger later windows before mid now old new running
-    (subst (λ (a : Next). TakesNext a merger later mid now) is (taking answer merger later mid now running.reads.going answers))
+-- the events ended, and the lines of all were sent
+joins_last : (query : Parts) (limit : ℕ) (events : List (Event (List Field))) (last : Next) (merger later : Merging) (before mid now : Role → RoleState) (old new : Option (List ℕ))
+    → Reads query limit events merger before mid → TakesNext last merger later mid now → Appends old new (text_of query events) → Joins (ended_by (length events) last) query limit before now old new
+joins_last query limit events last merger later before mid now old new reads takes written = record {
+  left_bytes = reads.left_bytes ++ takes.left_bytes;
+  right_bytes = reads.right_bytes ++ takes.right_bytes;
+  left_failed = fails_next last Left;
+  right_failed = fails_next last Right;
+  left_ended = later.sides.left.reading.ended;
+  right_ended = later.sides.right.reading.ended;
+  left = read_more (fails_next last Left) reads.left_bytes takes.left_bytes false merger.sides.left.reading.ended later.sides.left.reading.ended (before role.Left) (mid role.Left) (now role.Left) reads.left takes.left;
+  right = read_more (fails_next last Right) reads.right_bytes takes.right_bytes false merger.sides.right.reading.ended later.sides.right.reading.ended (before role.Right) (mid role.Right) (now role.Right) reads.right takes.right;
+  failed = fails_so (length events) last;
+  query_role = takes.query ∙ reads.query_role;
+  grown = text_of query events;
+  written = written;
+  text = λ l r l_follows r_follows.
+      writes_all query (length events) last events (events_of query (in_front (reads.left_bytes ++ takes.left_bytes) l) (in_front (reads.right_bytes ++ takes.right_bytes) r) limit) (events_from merger (in_front takes.left_bytes l) (in_front takes.right_bytes r))
+      (before_call query limit reads.left_bytes reads.right_bytes events last merger later mid now reads.given takes l r l_follows r_follows)
+      (ends query limit reads.left_bytes reads.right_bytes events last merger later mid now reads.given takes l r l_follows r_follows)
+      refl;
+  ends = are_ended (length events) last later.sides.left.reading.ended later.sides.right.reading.ended takes.ended;
+}
 
 -- An outcome that says no more of the text than that what was written begins it.
-pub record SaysBegun (ended : Outcome) : Type 0 where
-  pub fails : (of : Side) → fails_on ended of ≡ false
-  pub writes : (written : List ℕ) (joined : JoinResult) → IsPrefix written joined.text → WritesText ended written joined
-  pub ends : (left right : Bool) → AreEnded ended left right
+record SaysBegun (ended : Outcome) : Type 0 where
+  failed : (left right : Bool) → (left && right) ≡ false → FailsOn ended left right
+  writes : (written : List ℕ) (joined : JoinResult) → IsPrefix written joined.text → WritesText ended written joined
+  ends : (left right : Bool) → AreEnded ended left right
 
-pub sink_fault_says : SaysBegun outcome.SinkFault
-sink_fault_says = record { fails = λ of. refl; writes = λ written joined begins. begins; ends = λ left right. tt }
+memory_says : SaysBegun outcome.Memory
+memory_says = record { failed = λ left right one. one; writes = λ written joined begins. begins; ends = λ left right. tt }
 
-pub memory_says : SaysBegun outcome.Memory
-memory_says = record { fails = λ of. refl; writes = λ written joined begins. begins; ends = λ left right. tt }
+refusal_says : (last : Sent) → SaysBegun (refusal_of last)
+refusal_says sent.Whole = memory_says
+refusal_says sent.Failed = record { failed = λ left right one. one; writes = λ written joined begins. begins; ends = λ left right. tt }
+refusal_says sent.Memory = memory_says
 
--- what a sink took of an event's lines begins the text
-stopped_text : (query : Parts) (events : List (Event (List Field))) (event : Event (List Field)) (windows : Windows (List Field)) (all others : Numbered) (grown : List ℕ) → windows ≡ windows_after events → all ≡ then_events (events ++ event ∷ []) others
-    → IsPrefix grown (text (listed (holds query) windows event)) → IsPrefix (text_of query events ++ grown) (text_of query all.events)
-stopped_text query events event windows all others grown held is front =
-    let lines = text (listed (holds query) (windows_after events) event) in
-    let behind = text (kang_from (holds query) (windows_after (events ++ event ∷ [])) others.events) in
-    begins_behind (text_of query events) lines behind (text_of query all.events) grown
-    (text-then query (events ++ event ∷ []) all others is ∙ (ap (λ (l : List ℕ). l ++ behind) (text-push query events event) ∙ append_assoc (text_of query events) lines behind))
-    (subst (λ (w : Windows (List Field)). IsPrefix grown (text (listed (holds query) w event))) held front)
+-- what begins the text of the first events begins the whole one
+front_of_all : (query : Parts) (events : List (Event (List Field))) (all others : Numbered) (grown : List ℕ) → all ≡ then_events events others → IsPrefix grown (text_of query events) → IsPrefix grown (text_of query all.events)
+front_of_all query events all others grown is front = IsPrefix-trans grown (text_of query events) (text_of query all.events) front (begins_text query events all others is)
 
--- the sink stopped within an event's lines
-pub joins_stopped : (ended : Outcome) → SaysBegun ended → (query : Parts) (limit count : ℕ) (event : Event (List Field)) (merger : Merging) (windows : Windows (List Field)) (before now : Role → RoleState) (old mid new : Option (List ℕ))
-    → Taken query limit count event merger windows before now old mid → AppendsFront (text (listed (holds query) windows event)) mid new → Joins ended query limit before now old new
-joins_stopped ended says query limit count event merger windows before now old mid new taken sent =
-    let reads = taken.reads in
+-- a front of the lines of the events given was sent
+joins_begun : (ended : Outcome) → SaysBegun ended → (was : Option Outcome) (query : Parts) (limit : ℕ) (before : Role → RoleState) (events : List (Event (List Field))) (now : Feeding) (old new : Option (List ℕ))
+    → Fed was query limit before events now → AppendsFront (text_of query events) old new → Joins ended query limit before now.roles old new
+joins_begun ended says None query limit before events now old new fed sends =
+    let reads = fed.reads in
     record {
       left_bytes = reads.left_bytes;
       right_bytes = reads.right_bytes;
-      left_ended = merger.sides.left.reading.ended;
-      right_ended = merger.sides.right.reading.ended;
-      left = subst (λ (f : Bool). IsReadOn f reads.left_bytes false merger.sides.left.reading.ended (before role.Left) (now role.Left)) (sym (says.fails Left)) reads.left;
-      right = subst (λ (f : Bool). IsReadOn f reads.right_bytes false merger.sides.right.reading.ended (before role.Right) (now role.Right)) (sym (says.fails Right)) reads.right;
+      left_failed = false;
+      right_failed = false;
+      left_ended = now.merger.sides.left.reading.ended;
+      right_ended = now.merger.sides.right.reading.ended;
+      left = reads.left;
+      right = reads.right;
+      failed = says.failed false false refl;
       query_role = reads.query_role;
-      grown = text_of query taken.events ++ sent.grown;
-      written = Appends-trans old mid new (text_of query taken.events) sent.grown taken.written sent.written;
-      text = λ l r l_follows r_follows.
-          let l_behind : MayFollow merger.sides.left.reading.ended l = subst (λ (f : Bool). Follows f merger.sides.left.reading.ended l) (says.fails Left) l_follows in
-          let r_behind : MayFollow merger.sides.right.reading.ended r = subst (λ (f : Bool). Follows f merger.sides.right.reading.ended r) (says.fails Right) r_follows in
-          says.writes (text_of query taken.events ++ sent.grown) (join_result query (in_front reads.left_bytes l) (in_front reads.right_bytes r) limit)
-          (stopped_text query taken.events event windows (events_of query (in_front reads.left_bytes l) (in_front reads.right_bytes r) limit) (events_from merger l r) sent.grown taken.held (reads.given l r l_behind r_behind) sent.front);
-      ends = says.ends merger.sides.left.reading.ended merger.sides.right.reading.ended;
+      grown = sends.grown;
+      written = sends.written;
+      text = λ l r l_follows r_follows. says.writes sends.grown (join_result query (in_front reads.left_bytes l) (in_front reads.right_bytes r) limit)
+          (front_of_all query events (events_of query (in_front reads.left_bytes l) (in_front reads.right_bytes r) limit) (events_from now.merger l r) sends.grown (reads.given l r l_follows r_follows) sends.front);
+      ends = says.ends now.merger.sides.left.reading.ended now.merger.sides.right.reading.ended;
+    }
+joins_begun ended says (Some made) query limit before events now old new fed sends =
+    let reads = fed.reads in
+    let takes = fed.takes in
+    record {
+      left_bytes = reads.left_bytes ++ takes.left_bytes;
+      right_bytes = reads.right_bytes ++ takes.right_bytes;
+      left_failed = fails_next fed.last Left;
+      right_failed = fails_next fed.last Right;
+      left_ended = now.merger.sides.left.reading.ended;
+      right_ended = now.merger.sides.right.reading.ended;
+      left = read_more (fails_next fed.last Left) reads.left_bytes takes.left_bytes false fed.merger.sides.left.reading.ended now.merger.sides.left.reading.ended (before role.Left) (fed.roles role.Left) (now.roles role.Left) reads.left takes.left;
+      right = read_more (fails_next fed.last Right) reads.right_bytes takes.right_bytes false fed.merger.sides.right.reading.ended now.merger.sides.right.reading.ended (before role.Right) (fed.roles role.Right) (now.roles role.Right) reads.right takes.right;
+      failed = says.failed (fails_next fed.last Left) (fails_next fed.last Right) (not_both fed.last);
+      query_role = takes.query ∙ reads.query_role;
+      grown = sends.grown;
+      written = sends.written;
+      text = λ l r l_follows r_follows. says.writes sends.grown (join_result query (in_front (reads.left_bytes ++ takes.left_bytes) l) (in_front (reads.right_bytes ++ takes.right_bytes) r) limit)
+          (front_of_all query events (events_of query (in_front (reads.left_bytes ++ takes.left_bytes) l) (in_front (reads.right_bytes ++ takes.right_bytes) r) limit) (events_from fed.merger (in_front takes.left_bytes l) (in_front takes.right_bytes r)) sends.grown
+          (before_call query limit reads.left_bytes reads.right_bytes events fed.last fed.merger now.merger fed.roles now.roles reads.given takes l r l_follows r_follows) sends.front);
+      ends = says.ends now.merger.sides.left.reading.ended now.merger.sides.right.reading.ended;
     }
 
 -- memory ran out before anything was read
@@ -254,13 +223,92 @@ pub joins_none : (query : Parts) (limit : ℕ) (now : Role → RoleState) (sink 
 joins_none query limit now sink left right = record {
   left_bytes = [];
   right_bytes = [];
+  left_failed = false;
+  right_failed = false;
   left_ended = false;
   right_ended = false;
   left = not_read false (now role.Left) left;
   right = not_read false (now role.Right) right;
+  failed = refl;
   query_role = refl;
   grown = [];
   written = Appends-nil sink;
   text = λ l r l_follows r_follows. record { rest = (join_result query (in_front [] l) (in_front [] r) limit).text; is = refl };
   ends = tt;
 }
+
+counts_refusal : (last : Sent) (old new : ℕ) → CountsFaults last old new → CountsSinkFault (refusal_of last) old new
+counts_refusal sent.Whole old new counts = counts
+counts_refusal sent.Failed old new counts = counts
+counts_refusal sent.Memory old new counts = counts
+
+-- the text of the first pairs begins that of all
+text-front : (pairs all : List (Pair (List Field))) → IsPrefix pairs all → IsPrefix (text pairs) (text all)
+text-front pairs all front = record { rest = text front.rest; is = ap text front.is ∙ flat_map-append _ pairs front.rest }
+
+-- A run of a chain between a feed over two streams that is seen so, and a drain to a sink that is seen so.
+module _ {F D : Type 0} (gives : F → Given (List Field) → F → Type 0) (state : F → FeedState) (takes : D → Pair (List Field) → Drained → D → Type 0) (view : F → Feeding) (seen : D → Draining)
+    (each_answer : (old : F) (answer : Given (List Field)) (new : F) → gives old answer new → Gives answer (view old) (view new))
+    (each_pair : (old : D) (pair : Pair (List Field)) (answer : Drained) (new : D) → takes old pair answer new → TakesLine pair answer (seen new).last (seen old).told (seen new).told (seen old).faults (seen new).faults)
+    (query : Parts) (limit : ℕ) (from to : F) (unfilled filled : D) (new : IsNew query limit (view from).merger) (none : (view from).events ≡ 0) (going : (view from).ended ≡ None)
+    (left : IsInStep false ((view from).roles role.Left)) (right : IsInStep false ((view from).roles role.Right)) where
+  abbrev Ran : Fin → Type 0
+  Ran ended = RunsJoin gives state takes (holds query) ended from to unfilled filled
+
+  module _ (ended : Fin) (ran : Ran ended) where
+    abbrev events : List (Event (List Field))
+    events = events_in ran.answers
+
+    fed : Fed (view to).ended query limit (view from).roles events (view to)
+    fed = fed_all query limit (view from).roles gives view each_answer [] ran.answers from to (fed_first query limit (view from) going none new left right) ran.feed
+
+    ending : EndsJoin ended (state to).stopped ran.taken (kang (holds query) events)
+    ending = ran.ends (fed_well (view to).ended query limit (view from).roles events (view to) fed)
+
+  pub has_stopped : Ran fin.Done → (state to).stopped ≡ true
+  has_stopped ran = (ending fin.Done ran).0
+
+  pub was_refused : Ran fin.Refused → (seen filled).last ≢ sent.Whole
+  was_refused ran =
+      let refused = (ending fin.Refused ran).0 in
+      (last_refused takes seen each_pair refused.0 ran.taken unfilled filled ran.drain refused.1).refused
+
+  done : (made : Outcome) (ran : Ran fin.Done) → HasEnded made query limit (view from).roles (events fin.Done ran) (view to)
+      → Joins made query limit (view from).roles (view to).roles (seen unfilled).told (seen filled).told × CountsSinkFault made (seen unfilled).faults (seen filled).faults
+  done made ran over =
+      let kept = all_kept takes seen each_pair ran.taken unfilled filled ran.drain (ending fin.Done ran).1 in
+      let is = ended_is (length (events fin.Done ran)) over.last made over.made in
+      let written : Appends (seen unfilled).told (seen filled).told (text_of query (events fin.Done ran)) =
+      subst (λ (pairs : List (Pair (List Field))). Appends (seen unfilled).told (seen filled).told (text pairs)) (ending fin.Done ran).2 kept.0 in (
+        subst (λ (o : Outcome). Joins o query limit (view from).roles (view to).roles (seen unfilled).told (seen filled).told) is
+            (joins_last query limit (events fin.Done ran) over.last over.merger (view to).merger (view from).roles over.roles (view to).roles (seen unfilled).told (seen filled).told over.reads over.takes written),
+        subst (λ (o : Outcome). CountsSinkFault o (seen unfilled).faults (seen filled).faults) is (sink_same (length (events fin.Done ran)) over.last (seen unfilled).faults (seen filled).faults kept.1),
+      )
+
+  -- all is done, and this is the outcome that was kept
+  pub joins_done : (made : Outcome) → (view to).ended ≡ Some made → Ran fin.Done
+      → Joins made query limit (view from).roles (view to).roles (seen unfilled).told (seen filled).told × CountsSinkFault made (seen unfilled).faults (seen filled).faults
+  joins_done made is ran = done made ran (subst (λ (o : Option Outcome). Fed o query limit (view from).roles (events fin.Done ran) (view to)) is (fed fin.Done ran))
+
+  -- a pair was refused
+  pub joins_refused : Ran fin.Refused
+      → Joins (refusal_of (seen filled).last) query limit (view from).roles (view to).roles (seen unfilled).told (seen filled).told × CountsSinkFault (refusal_of (seen filled).last) (seen unfilled).faults (seen filled).faults
+  joins_refused ran =
+      let ends = ending fin.Refused ran in
+      let sent = last_refused takes seen each_pair ends.0.0 ran.taken unfilled filled ran.drain ends.0.1 in
+      let front : IsPrefix sent.sends.grown (text_of query (events fin.Refused ran)) = IsPrefix-trans sent.sends.grown (text (pairs_in ran.taken)) (text_of query (events fin.Refused ran)) sent.sends.front (text-front (pairs_in ran.taken) (kang (holds query) (events fin.Refused ran)) ends.1) in (
+        joins_begun (refusal_of (seen filled).last) (refusal_says (seen filled).last) (view to).ended query limit (view from).roles (events fin.Refused ran) (view to) (seen unfilled).told (seen filled).told (fed fin.Refused ran)
+            (record { grown = sent.sends.grown; written = sent.sends.written; front = front }),
+        counts_refusal (seen filled).last (seen unfilled).faults (seen filled).faults sent.faults,
+      )
+
+  -- memory ran out in the chain
+  pub joins_memory : Ran fin.Memory
+      → Joins outcome.Memory query limit (view from).roles (view to).roles (seen unfilled).told (seen filled).told × ((seen filled).faults ≡ (seen unfilled).faults)
+  joins_memory ran =
+      let ends = ending fin.Memory ran in
+      let kept = all_kept takes seen each_pair ran.taken unfilled filled ran.drain ends.0 in (
+        joins_begun outcome.Memory memory_says (view to).ended query limit (view from).roles (events fin.Memory ran) (view to) (seen unfilled).told (seen filled).told (fed fin.Memory ran)
+            (record { grown = text (pairs_in ran.taken); written = kept.0; front = text-front (pairs_in ran.taken) (kang (holds query) (events fin.Memory ran)) ends.1 }),
+        kept.1,
+      )

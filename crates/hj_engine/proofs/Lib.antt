@@ -1,7 +1,11 @@
-pub mod Ascending
+pub mod Beginning
+pub mod Coming
+pub mod Drained
+pub mod Fed
+pub mod Going
 pub mod Joining
-pub mod Lines
-pub mod Numbering
 pub mod Prefixes
+pub mod Ran
 pub mod Reading
 pub mod Sending
+pub mod Walks

@@ -1,6 +1,6 @@
 -- What was read of both streams while a join runs, and which events this gave.
 use Rattle.std.proofs.Common.{◌≡◌, ℕ, ◌≤◌, Bool, true, false, cond, ltb, List, [], ◌∷◌, ◌++◌, length, take, None, refl, sym, ap, subst, ◌∙◌, append_assoc, arith}
-use Rattle.std.proofs.lemmas.List.{length-append, length-take}
+use Rattle.std.proofs.lemmas.List.{length-take}
 use Rattle.std.proofs.lemmas.Bool.Decides.{nat_tests}
 use Rattle.std.specs.declared.option.Option.{Option}
 use Rattle.hj_value.specs.declared.field.Field.{Field}
@@ -9,9 +9,8 @@ use Rattle.hj_base.specs.declared.outside.Role.{Role}
 use Rattle.hj_base.specs.declared.outside.Role.TheVariants as role
 use Rattle.hj_base.specs.Outside.{RoleState}
 use Rattle.hj_msg.specs.declared.event.Event.{Event}
-use Rattle.hj_msg.specs.Event.{number, IsWellFormed}
-use Rattle.hj_msg.specs.Kang.{windows_after}
-use Rattle.hj_msg.proofs.Numbered.{front_is_well_formed, number-last}
+use Rattle.hj_msg.specs.Event.{IsWellFormed}
+use Rattle.hj_msg.proofs.Numbered.{front_is_well_formed}
 use Rattle.hj_query.specs.Parts.{Parts}
 use Rattle.hj_record.specs.Pieces.{Stream}
 use Rattle.hj_event.specs.declared.merger.Next.{Next}
@@ -26,8 +25,6 @@ use Rattle.hj_event.specs.Calls.{HasGiven, then_events}
 use Rattle.hj_event.proofs.CallLemmas.{begins, goes_on}
 use Rattle.hj_event.proofs.RoleLemmas.{not_read, read_more}
 use Rattle.hj_event.proofs.Whole.{are_well_formed}
-use Rattle.hj_engine.specs.Windows.{AreBelow}
-use Rattle.hj_engine.proofs.Numbering.{newest}
 
 -- These events were given, of these bytes.
 pub record Reads (query : Parts) (limit : ℕ) (events : List (Event (List Field))) (merger : Merging) (before now : Role → RoleState) : Type 0 where
@@ -73,7 +70,7 @@ reads_more query limit events event old new before mid now reads takes = record 
 }
 
 -- what may come behind the bytes of a call may come behind those before it
-follows_before : (failed : Bool) (bytes : List ℕ) (was ended : Bool) (before now : RoleState) (stream : Stream) → IsReadOn failed bytes was ended before now → Follows failed ended stream → MayFollow was (in_front bytes stream)
+pub follows_before : (failed : Bool) (bytes : List ℕ) (was ended : Bool) (before now : RoleState) (stream : Stream) → IsReadOn failed bytes was ended before now → Follows failed ended stream → MayFollow was (in_front bytes stream)
 follows_before failed bytes false ended before now stream reads follows = tt
 follows_before failed bytes true ended before now stream reads follows =
     let none = reads.no_more refl in
@@ -96,7 +93,7 @@ before_call query limit left right events answer old new before now given takes 
     (follows_before (fails_next answer Right) takes.right_bytes old.sides.right.reading.ended new.sides.right.reading.ended (before role.Right) (now role.Right) r takes.right r_follows))
 
 -- the end may come at any time
-end_follows : (ended : Bool) → MayFollow ended at_its_end
+pub end_follows : (ended : Bool) → MayFollow ended at_its_end
 end_follows true = refl
 end_follows false = tt
 
@@ -110,18 +107,11 @@ up_to_within : (limit : ℕ) (all : Numbered) (over : Bool) → ltb limit (lengt
 up_to_within limit all true is = omega (arith, length-take limit all.events)
 up_to_within limit all false is = grind (arith, nat_tests)
 
-front_within : (limit : ℕ) (front rest whole : List (Event (List Field))) → whole ≡ front ++ rest → length whole ≤ limit → length front ≤ limit
-front_within limit front rest whole is within = omega (arith, length-append front rest, ap length is)
-
--- no more events are given than the limit
-pub within_limit : (query : Parts) (limit : ℕ) (events : List (Event (List Field))) (merger : Merging) (before now : Role → RoleState) → Reads query limit events merger before now → length events ≤ limit
-within_limit query limit events merger before now reads =
-    let left = in_front reads.left_bytes at_its_end in
-    let right = in_front reads.right_bytes at_its_end in
+-- the events of streams are no more than the limit
+pub events_within : (query : Parts) (left right : Stream) (limit : ℕ) → length (events_of query left right limit).events ≤ limit
+events_within query left right limit =
     let all = all_events_of query left right in
-    front_within limit events (events_from merger at_its_end at_its_end).events (events_of query left right limit).events
-    (ap (λ (n : Numbered). n.events) (some_events query limit events merger before now reads))
-    (up_to_within limit all (ltb limit (length all.events)) refl)
+    up_to_within limit all (ltb limit (length all.events)) refl
 
 -- the events given are numbered from 0
 pub well_formed : (query : Parts) (limit : ℕ) (events : List (Event (List Field))) (merger : Merging) (before now : Role → RoleState) → Reads query limit events merger before now → IsWellFormed events
@@ -130,9 +120,3 @@ well_formed query limit events merger before now reads =
     let right = in_front reads.right_bytes at_its_end in
     front_is_well_formed events (events_from merger at_its_end at_its_end).events
     (subst (λ (n : Numbered). IsWellFormed n.events) (some_events query limit events merger before now reads) (are_well_formed query left right limit))
-
--- the last event given is newer than the rows held after the others
-pub newest_given : (query : Parts) (limit : ℕ) (events : List (Event (List Field))) (event : Event (List Field)) (merger : Merging) (before now : Role → RoleState) → Reads query limit (events ++ event ∷ []) merger before now → AreBelow (number event) (windows_after events)
-newest_given query limit events event merger before now reads =
-    let formed = well_formed query limit (events ++ event ∷ []) merger before now reads in
-    newest events event (front_is_well_formed events (event ∷ []) formed).numbered (number-last events event formed)

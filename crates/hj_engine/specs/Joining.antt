@@ -1,5 +1,5 @@
 -- How a join ends, and what it did to the streams and to the sink.
-use Rattle.std.specs.Prelude.{◌≡◌, ◌≤◌, ℕ, Bool, true, false, List}
+use Rattle.std.specs.Prelude.{◌≡◌, ◌≤◌, ◌&&◌, ℕ, Bool, true, false, List}
 use Rattle.std.specs.Io.KnownBytes.{Appends}
 use Rattle.std.specs.declared.option.Option.{Option}
 use Rattle.hj_base.specs.declared.numbers.Side.{Side}
@@ -23,6 +23,13 @@ abbrev pub fails_on : Outcome → Side → Bool
 fails_on (outcome.SourceFault role.Left) Left = true
 fails_on (outcome.SourceFault role.Right) Right = true
 fails_on ended side = false
+
+-- On which sides a read failed: on that of a source fault. A fault of the sink and want of memory may come behind a failed read,
+-- and stand for it.
+abbrev pub FailsOn : Outcome → Bool → Bool → Type 0
+FailsOn outcome.SinkFault left right = (left && right) ≡ false
+FailsOn outcome.Memory left right = (left && right) ≡ false
+FailsOn ended left right = (left ≡ fails_on ended Left) × (right ≡ fails_on ended Right)
 
 -- What was written, by the outcome: the whole text of events that end so; a front of it where the sink failed or memory ran
 -- out.
@@ -49,14 +56,17 @@ pub record Joins (ended : Outcome) (query : Parts) (limit : ℕ) (before now : R
     (old new : Option (List ℕ)) : Type 0 where
   pub left_bytes : List ℕ
   pub right_bytes : List ℕ
+  pub left_failed : Bool
+  pub right_failed : Bool
   pub left_ended : Bool
   pub right_ended : Bool
-  pub left : IsReadOn (fails_on ended Left) left_bytes false left_ended (before role.Left) (now role.Left)
-  pub right : IsReadOn (fails_on ended Right) right_bytes false right_ended (before role.Right) (now role.Right)
+  pub left : IsReadOn left_failed left_bytes false left_ended (before role.Left) (now role.Left)
+  pub right : IsReadOn right_failed right_bytes false right_ended (before role.Right) (now role.Right)
+  pub failed : FailsOn ended left_failed right_failed
   pub query_role : now role.Query ≡ before role.Query
   pub grown : List ℕ
   pub written : Appends old new grown
-  pub text : (l r : Stream) → Follows (fails_on ended Left) left_ended l → Follows (fails_on ended Right) right_ended r
+  pub text : (l r : Stream) → Follows left_failed left_ended l → Follows right_failed right_ended r
       → WritesText ended grown (join_result query (in_front left_bytes l) (in_front right_bytes r) limit)
   pub ends : AreEnded ended left_ended right_ended
 

@@ -1,5 +1,8 @@
+pub mod Ahead
+pub mod Draining
+pub mod Feeding
+pub mod InStep
 pub mod Joining
 pub mod JoinText
 pub mod Output
-pub mod Windows
-pub mod WindowView
+pub mod Running

@@ -1,15 +1,16 @@
 //! The join of two streams under a query, from bytes to the text of its pairs.
 #![tactic(auto)]
 
+mod drain;
+mod feed;
+mod history;
 mod outcome;
 mod output;
-mod run;
-mod window;
-mod windows;
+mod serial;
 
 pub use outcome::Outcome;
 pub use output::{Sent, put_all};
-pub use run::join;
+pub use serial::join_serial;
 
 #[cfg(test)]
 mod tests;

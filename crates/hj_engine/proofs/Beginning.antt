@@ -1,0 +1,58 @@
+-- A chain that was just made stands for no step, and for the first event of its feed.
+use Rattle.std.proofs.Common.{◌≡◌, ℕ, zero, suc, ◌+◌, ◌≤◌, List, [], ◌∷◌, length, map, replicate, Some, Ok, Err, Result, refl, sym, ap, subst, ◌∙◌, arith}
+use Rattle.std.specs.Result.{IfOk}
+use Rattle.std.specs.List.{range_with_len}
+use Rattle.std.specs.List.Sorted.{IsPermutation}
+use Rattle.std.proofs.lemmas.List.{length-replicate}
+use Rattle.std.proofs.lemmas.List.Sorted.{IsPermutation-refl}
+use Rattle.hj_value.specs.declared.field.Field.{Field}
+use Rattle.hj_msg.specs.Core.{empty_state}
+use Rattle.hj_msg.specs.declared.feed.Given.{Given}
+use Rattle.hj_msg.specs.declared.message.Report.{Report}
+use Rattle.hj_msg.specs.declared.event.Pair.{Pair}
+use Rattle.hj_msg.specs.Met.{met}
+use Rattle.hj_query.specs.Parts.{Parts}
+use Rattle.hj_eval.specs.Holds.{holds}
+use Rattle.hj_collect.specs.Collector.{nothing_taken}
+use Rattle.hj_collect.specs.StandsFor as collect
+use Rattle.hj_collect.proofs.Following.{new_follows}
+use Rattle.hj_chain.specs.Chain.{Contents, empty_chain}
+use Rattle.hj_chain.specs.Reached.{Reached, StandsFor, begins, collected_of, events_of}
+use Rattle.hj_engine.specs.Running.{IsBegun}
+
+nothing : {X : Type 0} (from n : ℕ) → map (λ k. []) (range_with_len from n) ≡ replicate {A = List X} n []
+nothing from zero = refl
+nothing from (suc n) = ap (λ lists. [] ∷ lists) (nothing (from + 1) n)
+
+none_met : {P : Type 0} (n : ℕ) → met {P = P} (replicate n []) ≡ []
+none_met zero = refl
+none_met (suc n) = none_met n
+
+-- no step was made, and nothing was taken of any core's reports
+record NoStep (query : Parts) (flight : ℕ) (first : Given (List Field)) (n cores : ℕ) : Type 0 where
+  reached : Reached (holds query) cores flight [] (events_of (Some first)) (empty_chain n flight first)
+  nothing_collected : collected_of reached ≡ replicate n []
+
+stands_first : (query : Parts) (n flight : ℕ) (first : Given (List Field)) → 1 ≤ n
+    → StandsFor holds (record { join = query; state = empty_chain n flight first; collector = nothing_taken n; kept = [] }) [] (events_of (Some first)) 0
+stands_first query n flight first some =
+    let none : NoStep query flight first n (length (replicate n (empty_state {P = List Field}))) =
+    subst (λ cores. NoStep query flight first n cores) (sym (length-replicate n (empty_state {P = List Field}))) (record { reached = begins some first; nothing_collected = nothing 0 n }) in
+    let nothing_met : met (collected_of none.reached) ≡ [] = ap (met {P = List Field}) none.nothing_collected ∙ none_met n in
+    record {
+      reached = none.reached;
+      collector = subst (λ (lists : List (List (Report (List Field)))). collect.StandsFor (nothing_taken n) lists) (sym none.nothing_collected) (new_follows n);
+      within = omega arith;
+      released = subst (λ (pairs : List (Pair (List Field))). IsPermutation [] pairs) (sym nothing_met) (IsPermutation-refl []);
+    }
+
+pub has_begun : {F E : Type 0} (gives : F → Given (List Field) → F → Type 0) (query join : Parts) (n flight : ℕ) (result : Result (Contents (List Field) Parts) E) (from to : F) → 1 ≤ n → join ≡ query
+    → IfOk result (λ chain. (first : Given (List Field)) × (chain ≡ record { join = join; state = empty_chain n flight first; collector = nothing_taken n; kept = [] }) × gives from first to)
+    → IfOk result (λ chain. IsBegun gives query chain from to)
+has_begun gives query join n flight (Err e) from to some is begun = tt
+has_begun gives query join n flight (Ok chain) from to some is begun = record {
+  join = ap (λ (c : Contents (List Field) Parts). c.join) begun.1 ∙ is;
+  first = begun.0;
+  given = begun.2;
+  stands = subst (λ (c : Contents (List Field) Parts). StandsFor holds c [] (events_of (Some begun.0)) 0) (sym begun.1) (stands_first join n flight begun.0 some);
+}

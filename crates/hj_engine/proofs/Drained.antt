@@ -1,0 +1,97 @@
+-- What a drain sent, pair by pair.
+use Rattle.std.proofs.Common.{◌≡◌, ◌≢◌, ℕ, zero, suc, List, [], ◌∷◌, ◌++◌, map, replicate, refl, sym, ap, subst, ◌∙◌, append_assoc, append-nil}
+use Rattle.std.proofs.KnownBytes.{Appends-nil, Appends-trans}
+use Rattle.std.specs.Io.KnownBytes.{Appends}
+use Rattle.std.specs.declared.option.Option.{Option}
+use Rattle.hj_value.specs.declared.field.Field.{Field}
+use Rattle.hj_msg.specs.declared.drain.Drained.{Drained}
+use Rattle.hj_msg.specs.declared.drain.Drained.TheVariants.{Kept, Refused}
+use Rattle.hj_msg.specs.declared.event.Pair.{Pair}
+use Rattle.hj_msg.specs.Drain.{Drainage, TakesAll}
+use Rattle.hj_emit.specs.Line.{line_of}
+use Rattle.hj_engine.specs.declared.output.Sent.{Sent}
+use Rattle.hj_engine.specs.declared.output.Sent.TheVariants as sent
+use Rattle.hj_engine.specs.Draining.{TakesLine, answer_by}
+use Rattle.hj_engine.specs.JoinText.{text}
+use Rattle.hj_engine.specs.Output.{AppendsFront, CountsFaults, Sends}
+use Rattle.hj_engine.specs.Running.{AreKept, pairs_in}
+
+-- What is seen of a drain: how its last line went, and what its sink tells and counts.
+pub record Draining : Type 0 where
+  pub last : Sent
+  pub told : Option (List ℕ)
+  pub faults : ℕ
+
+kept_whole : (last : Sent) → answer_by last ≡ Kept → last ≡ sent.Whole
+kept_whole sent.Whole is = refl
+kept_whole sent.Failed is = absurd (let wrong : Refused ≡ Kept = is in cc)
+kept_whole sent.Memory is = absurd (let wrong : Refused ≡ Kept = is in cc)
+
+refused_apart : (last : Sent) → answer_by last ≡ Refused → last ≢ sent.Whole
+refused_apart sent.Whole is same = let wrong : Kept ≡ Refused = is in cc
+refused_apart sent.Failed is same = let wrong : sent.Failed ≡ sent.Whole = same in cc
+refused_apart sent.Memory is same = let wrong : sent.Memory ≡ sent.Whole = same in cc
+
+-- A front of the text was sent, and its last line went so.
+pub record SendsFront (bytes : List ℕ) (old new : Draining) : Type 0 where
+  pub sends : AppendsFront bytes old.told new.told
+  pub faults : CountsFaults new.last old.faults new.faults
+  pub refused : new.last ≢ sent.Whole
+
+front_sent : (last : Sent) (bytes : List ℕ) (old new : Option (List ℕ)) → last ≢ sent.Whole → Sends last bytes old new → AppendsFront bytes old new
+front_sent sent.Whole bytes old new apart sends = absurd (apart refl)
+front_sent sent.Failed bytes old new apart sends = sends
+front_sent sent.Memory bytes old new apart sends = sends
+
+module _ {D : Type 0} (takes : D → Pair (List Field) → Drained → D → Type 0) (view : D → Draining)
+    (each : (old : D) (pair : Pair (List Field)) (answer : Drained) (new : D) → takes old pair answer new → TakesLine pair answer (view new).last (view old).told (view new).told (view old).faults (view new).faults) where
+  -- a pair that was kept
+  one_kept : (old : D) (pair : Pair (List Field)) (answer : Drained) (new : D) → takes old pair answer new → answer ≡ Kept → Appends (view old).told (view new).told (line_of pair.left pair.right) × ((view new).faults ≡ (view old).faults)
+  one_kept old pair answer new taken is =
+      let line = each old pair answer new taken in
+      let whole = kept_whole (view new).last (sym line.answered ∙ is) in (
+        subst (λ (last : Sent). Sends last (line_of pair.left pair.right) (view old).told (view new).told) whole line.sends,
+        subst (λ (last : Sent). CountsFaults last (view old).faults (view new).faults) whole line.faults,
+      )
+
+  pub all_kept : (taken : List (Drainage (List Field))) (from to : D) → TakesAll takes from taken to → AreKept taken → Appends (view from).told (view to).told (text (pairs_in taken)) × ((view to).faults ≡ (view from).faults)
+  all_kept [] from to all kept = subst (λ (d : D). Appends (view from).told (view d).told [] × ((view d).faults ≡ (view from).faults)) (sym all) (Appends-nil (view from).told, refl)
+  all_kept (one ∷ later) from to all kept =
+      let first = one_kept from one.pair one.answer all.0 all.1 (cc) in
+      let rest = all_kept later all.0 to all.2 (cc) in
+      (Appends-trans (view from).told (view all.0).told (view to).told (line_of one.pair.left one.pair.right) (text (pairs_in later)) first.0 rest.0, rest.1 ∙ first.1)
+
+  pub last_refused : (kept : ℕ) (taken : List (Drainage (List Field))) (from to : D) → TakesAll takes from taken to → map (λ one. one.answer) taken ≡ replicate kept Kept ++ Refused ∷ [] → SendsFront (text (pairs_in taken)) (view from) (view to)
+  last_refused zero [] from to all answers = absurd (let wrong : [] ≡ Refused ∷ [] = answers in cc)
+  last_refused (suc kept) [] from to all answers = absurd (let wrong : [] ≡ Kept ∷ (replicate kept Kept ++ Refused ∷ []) = answers in cc)
+  last_refused zero (one ∷ []) from to all answers =
+      let line = each from one.pair one.answer all.0 all.1 in
+      let refused : one.answer ≡ Refused = cc in
+      let apart = refused_apart (view all.0).last (sym line.answered ∙ refused) in
+      let sends = front_sent (view all.0).last (line_of one.pair.left one.pair.right) (view from).told (view all.0).told apart line.sends in
+      subst (λ (d : D). SendsFront (text (one.pair ∷ [])) (view from) (view d)) (sym all.2)
+      (record {
+        sends = subst (λ bytes. AppendsFront bytes (view from).told (view all.0).told) (sym (append-nil (line_of one.pair.left one.pair.right))) sends;
+        faults = line.faults;
+        refused = apart;
+      })
+  last_refused zero (one ∷ other ∷ later) from to all answers = absurd (let wrong : one.answer ∷ other.answer ∷ map (λ o. o.answer) later ≡ Refused ∷ [] = answers in cc)
+  last_refused (suc kept) (one ∷ later) from to all answers =
+      let first = one_kept from one.pair one.answer all.0 all.1 (cc) in
+      let rest = last_refused kept later all.0 to all.2 (cc) in
+      let line = line_of one.pair.left one.pair.right in
+      record {
+        sends = record {
+          grown = line ++ rest.sends.grown;
+          written = Appends-trans (view from).told (view all.0).told (view to).told line rest.sends.grown first.0 rest.sends.written;
+          front = record { rest = rest.sends.front.rest; is = ap (λ l. line ++ l) rest.sends.front.is ∙ sym (append_assoc line rest.sends.grown rest.sends.front.rest) };
+        };
+        faults = subst (λ n. CountsFaults (view to).last n (view to).faults) first.1 rest.faults;
+        refused = rest.refused;
+      }
+
+-- what every pair keeps, all keep
+pub kept_by_all : {P D X : Type 0} (takes : D → Pair P → Drained → D → Type 0) (of : D → X) → ((old : D) (pair : Pair P) (answer : Drained) (new : D) → takes old pair answer new → of new ≡ of old) → (taken : List (Drainage P)) (from to : D)
+    → TakesAll takes from taken to → of to ≡ of from
+kept_by_all takes of each [] from to all = ap of all
+kept_by_all takes of each (one ∷ later) from to all = kept_by_all takes of each later all.0 to all.2 ∙ each from one.pair one.answer all.0 all.1
