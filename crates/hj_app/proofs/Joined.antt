@@ -12,7 +12,7 @@ use Rattle.hj_base.specs.Journals.{IsPrefix}
 use Rattle.hj_base.specs.Outside.{opened, role_of}
 use Rattle.hj_engine.specs.declared.outcome.Outcome.{Outcome}
 use Rattle.hj_engine.specs.declared.outcome.Outcome.TheVariants as outcome
-use Rattle.hj_engine.specs.Joining.{AreEnded, CountsSinkFault, Joins, WritesText, fails_on}
+use Rattle.hj_engine.specs.Joining.{AreEnded, CountsSinkFault, FailsOn, Joins, WritesText}
 use Rattle.hj_engine.specs.JoinText.{JoinResult, join_result}
 use Rattle.hj_event.specs.Arrivals.{Ending, clean, bad, unread, too_many}
 use Rattle.hj_event.specs.Roles.{CountsFailure, IsReadOn, name_of}
@@ -152,44 +152,46 @@ whole_behind false false bytes rest none end follows = absurd cc
 
 module _ (query : Parts) (limit : ℕ) (names : Names) (under : List ℕ → Option (List ℕ)) (before mid now : Roles) (old new : Option (List ℕ)) where
   -- What a join says of the streams of this call.
-  record Found (ended : Outcome) (left_ended right_ended : Bool) (grown : List ℕ) : Type 0 where
+  record Found (ended : Outcome) (left_failed right_failed left_ended right_ended : Bool) (grown : List ℕ) : Type 0 where
     pub of_left : Stream
     pub of_right : Stream
     pub streams : AreStreams names under before now of_left of_right
     pub text : WritesText ended grown (join_result query of_left of_right limit)
-    pub left_whole : fails_on ended side.Left ≡ false → left_ended ≡ true → of_left.whole ≡ true
-    pub right_whole : fails_on ended side.Right ≡ false → right_ended ≡ true → of_right.whole ≡ true
+    pub failed : FailsOn ended left_failed right_failed
+    pub left_whole : left_failed ≡ false → left_ended ≡ true → of_left.whole ≡ true
+    pub right_whole : right_failed ≡ false → right_ended ≡ true → of_right.whole ≡ true
     pub left_phase : (now role.Left).phase ≡ opened names.left left_ended
     pub right_phase : (now role.Right).phase ≡ opened names.right right_ended
     pub left_at_end : left_ended ≡ true → IsAtEnd (now role.Left).left
     pub right_at_end : right_ended ≡ true → IsAtEnd (now role.Right).left
-    pub left_fails : fails_on ended side.Left ≡ true → Fails role.Left before now
-    pub right_fails : fails_on ended side.Right ≡ true → Fails role.Right before now
+    pub left_fails : left_failed ≡ true → Fails role.Left before now
+    pub right_fails : right_failed ≡ true → Fails role.Right before now
 
-  found_by : (ended : Outcome) → AreOpened names under before mid → (joins : Joins ended query limit mid now old new) → Found ended joins.left_ended joins.right_ended joins.grown
+  found_by : (ended : Outcome) → AreOpened names under before mid → (joins : Joins ended query limit mid now old new) → Found ended joins.left_failed joins.right_failed joins.left_ended joins.right_ended joins.grown
   found_by ended are joins =
       let which = fails_or_none before now in
-      let l = behind names.left (under names.left) role.Left before mid now (fails_on ended side.Left) joins.left_ended joins.left_bytes are.of_left joins.left which in
-      let r = behind names.right (under names.right) role.Right before mid now (fails_on ended side.Right) joins.right_ended joins.right_bytes are.of_right joins.right which in
+      let l = behind names.left (under names.left) role.Left before mid now joins.left_failed joins.left_ended joins.left_bytes are.of_left joins.left which in
+      let r = behind names.right (under names.right) role.Right before mid now joins.right_failed joins.right_ended joins.right_bytes are.of_right joins.right which in
       record {
         of_left = in_front joins.left_bytes l.rest;
         of_right = in_front joins.right_bytes r.rest;
         streams = record { of_left = l.is; of_right = r.is };
         text = joins.text l.rest r.rest l.follows r.follows;
-        left_whole = λ none end. whole_behind (fails_on ended side.Left) joins.left_ended joins.left_bytes l.rest none end l.follows;
-        right_whole = λ none end. whole_behind (fails_on ended side.Right) joins.right_ended joins.right_bytes r.rest none end r.follows;
-        left_phase = phase_of names.left (under names.left) role.Left before mid now (fails_on ended side.Left) joins.left_ended joins.left_bytes are.of_left joins.left;
-        right_phase = phase_of names.right (under names.right) role.Right before mid now (fails_on ended side.Right) joins.right_ended joins.right_bytes are.of_right joins.right;
+        failed = joins.failed;
+        left_whole = λ none end. whole_behind joins.left_failed joins.left_ended joins.left_bytes l.rest none end l.follows;
+        right_whole = λ none end. whole_behind joins.right_failed joins.right_ended joins.right_bytes r.rest none end r.follows;
+        left_phase = phase_of names.left (under names.left) role.Left before mid now joins.left_failed joins.left_ended joins.left_bytes are.of_left joins.left;
+        right_phase = phase_of names.right (under names.right) role.Right before mid now joins.right_failed joins.right_ended joins.right_bytes are.of_right joins.right;
         left_at_end = joins.left.in_step.at_end;
         right_at_end = joins.right.in_step.at_end;
-        left_fails = fails_of names.left (under names.left) role.Left before mid now (fails_on ended side.Left) joins.left_ended joins.left_bytes are.of_left joins.left;
-        right_fails = fails_of names.right (under names.right) role.Right before mid now (fails_on ended side.Right) joins.right_ended joins.right_bytes are.of_right joins.right;
+        left_fails = fails_of names.left (under names.left) role.Left before mid now joins.left_failed joins.left_ended joins.left_bytes are.of_left joins.left;
+        right_fails = fails_of names.right (under names.right) role.Right before mid now joins.right_failed joins.right_ended joins.right_bytes are.of_right joins.right;
       }
 
   this : Call
   this = call under before now old new
 
-  module _ (ended : Outcome) (left_ended right_ended : Bool) (grown : List ℕ) (written : Appends old new grown) (found : Found ended left_ended right_ended grown) where
+  module _ (ended : Outcome) (left_failed right_failed left_ended right_ended : Bool) (grown : List ℕ) (written : Appends old new grown) (found : Found ended left_failed right_failed left_ended right_ended grown) where
     joined : JoinResult
     joined = join_result query found.of_left found.of_right limit
 
@@ -211,7 +213,7 @@ module _ (query : Parts) (limit : ℕ) (names : Names) (under : List ℕ → Opt
       written = subst (λ (bytes : List ℕ). Appends old new bytes) all written;
     }
 
-    writes_whole : fails_on ended side.Left ≡ false → fails_on ended side.Right ≡ false → left_ended ≡ true → right_ended ≡ true → grown ≡ joined.text → joined.ending ≡ clean → WritesWhole query limit names this
+    writes_whole : left_failed ≡ false → right_failed ≡ false → left_ended ≡ true → right_ended ≡ true → grown ≡ joined.text → joined.ending ≡ clean → WritesWhole query limit names this
     unfolding this joined
     writes_whole left_unfailed right_unfailed left_end right_end all ends = record {
       left = found.of_left;
@@ -236,22 +238,22 @@ module _ (query : Parts) (limit : ℕ) (names : Names) (under : List ℕ → Opt
     }
 
   -- the cause of the ending, and what was written
-  caused : (ended : Outcome) (left_ended right_ended : Bool) (grown : List ℕ) → Appends old new grown → Found ended left_ended right_ended grown → AreEnded ended left_ended right_ended
+  caused : (ended : Outcome) (left_failed right_failed left_ended right_ended : Bool) (grown : List ℕ) → Appends old new grown → Found ended left_failed right_failed left_ended right_ended grown → AreEnded ended left_ended right_ended
       → JoinCause (end_of limit ended) query limit names this × BeginsText grown query limit names this
   unfolding joined
-  caused (outcome.Done events) le re grown w f ends =
-      (writes_whole (outcome.Done events) le re grown w f refl refl ends.0 ends.1 f.text.0 f.text.1, begins_whole (outcome.Done events) le re grown w f f.text.0)
-  caused (outcome.Bad of at why) le re grown w f ends =
-      (writes_all (outcome.Bad of at why) le re grown w f (bad of at why) f.text.0 f.text.1, begins_whole (outcome.Bad of at why) le re grown w f f.text.0)
-  caused (outcome.SourceFault role.Query) le re grown w f ends = absurd f.text
-  caused (outcome.SourceFault role.Left) le re grown w f ends =
-      (fails_stream (outcome.SourceFault role.Left) le re grown w f side.Left (f.left_fails refl) f.text.0 f.text.1, begins_whole (outcome.SourceFault role.Left) le re grown w f f.text.0)
-  caused (outcome.SourceFault role.Right) le re grown w f ends =
-      (fails_stream (outcome.SourceFault role.Right) le re grown w f side.Right (f.right_fails refl) f.text.0 f.text.1, begins_whole (outcome.SourceFault role.Right) le re grown w f f.text.0)
-  caused outcome.SinkFault le re grown w f ends = (tt, begins outcome.SinkFault le re grown w f f.text)
-  caused outcome.TooMany le re grown w f ends =
-      ((refl, writes_all outcome.TooMany le re grown w f too_many f.text.0 f.text.1), begins_whole outcome.TooMany le re grown w f f.text.0)
-  caused outcome.Memory le re grown w f ends = (tt, begins outcome.Memory le re grown w f f.text)
+  caused (outcome.Done events) lf rf le re grown w f ends =
+      (writes_whole (outcome.Done events) lf rf le re grown w f f.failed.0 f.failed.1 ends.0 ends.1 f.text.0 f.text.1, begins_whole (outcome.Done events) lf rf le re grown w f f.text.0)
+  caused (outcome.Bad of at why) lf rf le re grown w f ends =
+      (writes_all (outcome.Bad of at why) lf rf le re grown w f (bad of at why) f.text.0 f.text.1, begins_whole (outcome.Bad of at why) lf rf le re grown w f f.text.0)
+  caused (outcome.SourceFault role.Query) lf rf le re grown w f ends = absurd f.text
+  caused (outcome.SourceFault role.Left) lf rf le re grown w f ends =
+      (fails_stream (outcome.SourceFault role.Left) lf rf le re grown w f side.Left (f.left_fails f.failed.0) f.text.0 f.text.1, begins_whole (outcome.SourceFault role.Left) lf rf le re grown w f f.text.0)
+  caused (outcome.SourceFault role.Right) lf rf le re grown w f ends =
+      (fails_stream (outcome.SourceFault role.Right) lf rf le re grown w f side.Right (f.right_fails f.failed.1) f.text.0 f.text.1, begins_whole (outcome.SourceFault role.Right) lf rf le re grown w f f.text.0)
+  caused outcome.SinkFault lf rf le re grown w f ends = (tt, begins outcome.SinkFault lf rf le re grown w f f.text)
+  caused outcome.TooMany lf rf le re grown w f ends =
+      ((refl, writes_all outcome.TooMany lf rf le re grown w f too_many f.text.0 f.text.1), begins_whole outcome.TooMany lf rf le re grown w f f.text.0)
+  caused outcome.Memory lf rf le re grown w f ends = (tt, begins outcome.Memory lf rf le re grown w f f.text)
 
   counts_sink : (ended : Outcome) (faults faults' : ℕ) → CountsSinkFault ended faults faults' → CountsSink (end_of limit ended) faults faults'
   counts_sink (outcome.Done events) faults faults' counts = counts
@@ -266,7 +268,7 @@ module _ (query : Parts) (limit : ℕ) (names : Names) (under : List ℕ → Opt
   unfolding this
   joins_as ended faults faults' are joins counts =
       let found = found_by ended are joins in
-      let came = caused ended joins.left_ended joins.right_ended joins.grown joins.written found joins.ends in
+      let came = caused ended joins.left_failed joins.right_failed joins.left_ended joins.right_ended joins.grown joins.written found joins.ends in
       record {
         cause = came.0;
         grown = joins.grown;

@@ -1,4 +1,8 @@
+pub mod HeldRead
 pub mod Joined
+pub mod MadeEvents
+pub mod MadeJoin
+pub mod MadeLines
 pub mod MemoryRoles
 pub mod NoteFront
 pub mod Prefixes
@@ -6,4 +10,3 @@ pub mod QueryReading
 pub mod RunningOrders
 pub mod Serving
 pub mod StreamOpening
-pub mod WindowWord

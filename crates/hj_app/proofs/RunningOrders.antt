@@ -1,7 +1,8 @@
 -- The run of an order, from that of its parts: getting the query, and joining the streams or writing the canonical text.
-use Rattle.std.proofs.Common.{◌≡◌, ◌≢◌, ℕ, List, [], Ok, Err, Result, Some, sym, ◌∙◌, ap, subst, inl, inr, refl}
+use Rattle.std.proofs.Common.{◌≡◌, ◌≢◌, ℕ, List, [], Ok, Err, Result, None, Some, sym, ◌∙◌, ap, subst, inl, inr, refl}
 use Rattle.std.proofs.KnownBytes.{Appends-nil}
 use Rattle.std.specs.Io.KnownBytes.{Appends}
+use Rattle.std.specs.Prelude.{option_map}
 use Rattle.std.specs.declared.option.Option.{Option}
 use Rattle.hj_base.specs.declared.numbers.Side.{Side}
 use Rattle.hj_base.specs.declared.numbers.Side.TheVariants as side
@@ -22,10 +23,12 @@ use Rattle.hj_app.specs.Calls.{Call, call}
 use Rattle.hj_app.specs.Joining.{BeginsText, WritesAll, WritesWhole}
 use Rattle.hj_app.specs.Opening.{GetsQuery, QueryCause}
 use Rattle.hj_app.specs.Queries.{IsQueryOf}
-use Rattle.hj_app.specs.Run.{Cause, CountsSink, JoinCause, JoinsStreams, RunsOrder}
-use Rattle.hj_app.specs.Serve.{Accepts, Begins, BeginsSource, HasRole, WritesFront, most_events, name_in, query_name}
+use Rattle.hj_app.specs.Run.{Cause, CountsSink, JoinCause, JoinsStreams, Runs, RunsOrder}
+use Rattle.hj_app.specs.Serve.{Accepts, Begins, BeginsSource, HasRole, WritesFront, name_in, query_name}
 use Rattle.hj_app.specs.Streams.{AreStreams, Fails, IsStream, IsStreamRead, IsWholeStream}
-use Rattle.hj_app.specs.Words.{Names, Order, Source, check_query, join_streams, keyed, named}
+use Rattle.hj_words.specs.declared.order.Order as spelled
+use Rattle.hj_words.specs.Orders as by_words
+use Rattle.hj_app.specs.Words.{Names, Order, Source, asked_by, check_query, join_streams, keyed, named, order_of, sum_up}
 use Rattle.hj_app.proofs.Prefixes.{begins_all}
 use Rattle.hj_app.proofs.StreamOpening.{Roles, begun-unbegun}
 
@@ -38,9 +41,9 @@ query_role-fails : (failed : Role) (before now : Roles) → failed ≡ role.Quer
 query_role-fails failed before now e rose = subst (λ (r : Role). Fails r before now) (sym e) rose
 
 -- the role of a query that is read under a name is one of a join's
-reads_query : (source : Source) (name : List ℕ) (names : Names) (of : Role) → name_in source ≡ Some name → HasRole (join_streams source names) of
-reads_query (keyed rows) name names of e = absurd cc
-reads_query (named given) name names of e = tt
+reads_query : (source : Source) (name : List ℕ) (names : Names) (limit : ℕ) (of : Role) → name_in source ≡ Some name → HasRole (join_streams source names limit) of
+reads_query (keyed rows) name names limit of e = absurd cc
+reads_query (named given) name names limit of e = tt
 
 module _ (under : List ℕ → Option (List ℕ)) (before now : Roles) (told : Option (List ℕ)) (faults : ℕ) where
   this : Call
@@ -88,15 +91,15 @@ module _ (under : List ℕ → Option (List ℕ)) (before now : Roles) (told : O
 
   module _ (unbegun_before : (of : Role) → (before of).phase ≡ unbegun) where
     -- a join
-    pub join_refused : (source : Source) (names : Names) (note : Note) → GetsQuery (Err note) source under before now
-        → RunsOrder (Err note) (join_streams source names) (call under before now told told) faults faults
+    pub join_refused : (source : Source) (names : Names) (limit : ℕ) (note : Note) → GetsQuery (Err note) source under before now
+        → RunsOrder (Err note) (join_streams source names limit) (call under before now told told) faults faults
     unfolding this
-    join_refused source names note gets =
+    join_refused source names limit note gets =
         let left : (now role.Left).phase ≡ unbegun = stays_unbegun role.Left (λ e. cc) gets.others (unbegun_before role.Left) in
         let right : (now role.Right).phase ≡ unbegun = stays_unbegun role.Right (λ e. cc) gets.others (unbegun_before role.Right) in
         record {
-          cause = refused_cause (join_streams source names) source refl (λ name e. reads_query source name names role.Query e) left right note gets.cause;
-          front = wrote_nothing (join_streams source names);
+          cause = refused_cause (join_streams source names limit) source refl (λ name e. reads_query source name names limit role.Query e) left right note gets.cause;
+          front = wrote_nothing (join_streams source names limit);
           roles = record {
             query = gets.begun;
             left = begun-unbegun names.left (now role.Left).phase left;
@@ -104,7 +107,7 @@ module _ (under : List ℕ → Option (List ℕ)) (before now : Roles) (told : O
             query_first = λ begun. absurd (begun left);
             left_first = λ begun. absurd (begun right);
           };
-          sink = no_fault (join_streams source names) source refl (λ name e. reads_query source name names role.Query e) left right note gets.cause;
+          sink = no_fault (join_streams source names limit) source refl (λ name e. reads_query source name names limit role.Query e) left right note gets.cause;
         }
 
     -- a check
@@ -171,28 +174,28 @@ module _ (names : Names) (under under' : List ℕ → Option (List ℕ)) (before
     begins_before grown b = record { left = b.left; right = b.right; streams = streams_before b.left b.right b.streams; begins = b.begins }
 
 -- a side's role is one of a join's
-reads_side : (source : Source) (names : Names) (of : Role) (side : Side) → of ≡ role_of side → HasRole (join_streams source names) of
-reads_side (keyed rows) names of side.Left e = λ is. cc
-reads_side (keyed rows) names of side.Right e = λ is. cc
-reads_side (named name) names of side e = tt
+reads_side : (source : Source) (names : Names) (limit : ℕ) (of : Role) (side : Side) → of ≡ role_of side → HasRole (join_streams source names limit) of
+reads_side (keyed rows) names limit of side.Left e = λ is. cc
+reads_side (keyed rows) names limit of side.Right e = λ is. cc
+reads_side (named name) names limit of side e = tt
 
-module _ (source : Source) (names : Names) (under under' : List ℕ → Option (List ℕ)) (before mid now : Roles) (old new : Option (List ℕ))
+module _ (source : Source) (names : Names) (limit : ℕ) (under under' : List ℕ → Option (List ℕ)) (before mid now : Roles) (old new : Option (List ℕ))
     (same : (of : Role) → (mid of).faults ≡ (before of).faults) (same_names : (name : List ℕ) → under' name ≡ under name) (query : Parts)
     (accepts : Accepts source query (call under before now old new)) where
-  cause_before : (ended : Result (Unit {0}) Note) → JoinCause ended query most_events names (call under' mid now old new) → Cause ended (join_streams source names) (call under before now old new)
-  cause_before (Ok done) cause = (query, accepts, whole_before names under under' before mid now old new same same_names query most_events cause)
+  cause_before : (ended : Result (Unit {0}) Note) → JoinCause ended query limit names (call under' mid now old new) → Cause ended (join_streams source names limit) (call under before now old new)
+  cause_before (Ok done) cause = (query, accepts, whole_before names under under' before mid now old new same same_names query limit cause)
   cause_before (Err (why.BadRecord of at found)) cause =
-      (query, accepts, all_before names under under' before mid now old new same same_names query most_events (λ e. e ≡ bad of at found) cause)
+      (query, accepts, all_before names under under' before mid now old new same same_names query limit (λ e. e ≡ bad of at found) cause)
   cause_before (Err (why.Source of)) cause = record {
-    has = reads_side source names of cause.side cause.is;
+    has = reads_side source names limit of cause.side cause.is;
     fails = fails_before before mid now same of cause.fails;
     unopened = cause.unopened;
-    opened = λ are. (cause.side, cause.is, (query, accepts, all_before names under under' before mid now old new same same_names query most_events (λ e. e ≡ unread cause.side) (cause.opened are)));
+    opened = λ are. (cause.side, cause.is, (query, accepts, all_before names under under' before mid now old new same same_names query limit (λ e. e ≡ unread cause.side) (cause.opened are)));
   }
   cause_before (Err why.Sink) cause = tt
   cause_before (Err why.Memory) cause = tt
-  cause_before (Err (why.TooManyEvents limit)) cause =
-      (cause.0, (query, accepts, all_before names under under' before mid now old new same same_names query most_events (λ e. e ≡ too_many) cause.1))
+  cause_before (Err (why.TooManyEvents most)) cause =
+      (cause.0, (query, accepts, all_before names under under' before mid now old new same same_names query limit (λ e. e ≡ too_many) cause.1))
   cause_before (Err why.Usage) cause = absurd cause
   cause_before (Err (why.BadQuery found)) cause = absurd cause
 
@@ -201,30 +204,29 @@ query_behind : (source : Source) (query : Parts) (under : List ℕ → Option (L
 query_behind source query under before mid now e is = subst (λ (s : RoleState). IsQueryOf source query under before s) (sym e) is
 
 pub join_runs : (ended : Result (Unit {0}) Note) (source : Source) (names : Names) (query : Parts) (limit : ℕ) (under under' : List ℕ → Option (List ℕ)) (before mid now : Roles) (old new : Option (List ℕ)) (faults faults' : ℕ)
-    → limit ≡ most_events → ((name : List ℕ) → under' name ≡ under name) → GetsQuery (Ok query) source under before mid → JoinsStreams ended query limit names (call under' mid now old new) faults faults'
-    → RunsOrder ended (join_streams source names) (call under before now old new) faults faults'
-join_runs ended source names query limit under under' before mid now old new faults faults' most same_names gets joins =
+    → ((name : List ℕ) → under' name ≡ under name) → GetsQuery (Ok query) source under before mid → JoinsStreams ended query limit names (call under' mid now old new) faults faults'
+    → RunsOrder ended (join_streams source names limit) (call under before now old new) faults faults'
+join_runs ended source names query limit under under' before mid now old new faults faults' same_names gets joins =
     let same : (of : Role) → (mid of).faults ≡ (before of).faults = faults_kept before mid gets.others gets.cause.1 in
     let accepts : Accepts source query (call under before now old new) = query_behind source query under (before role.Query) (mid role.Query) (now role.Query) joins.query_role gets.cause.0 in
-    let joins' : JoinsStreams ended query most_events names (call under' mid now old new) faults faults' = subst (λ (n : ℕ). JoinsStreams ended query n names (call under' mid now old new) faults faults') most joins in
     record {
-      cause = cause_before source names under under' before mid now old new same same_names query accepts ended joins'.cause;
+      cause = cause_before source names limit under under' before mid now old new same same_names query accepts ended joins.cause;
       front = record {
-        grown = joins'.grown;
-        written = joins'.written;
-        front = elim joins'.front [
+        grown = joins.grown;
+        written = joins.written;
+        front = elim joins.front [
           | inl none ↦ inl none
-          | inr begins ↦ inr (query, accepts, begins_before names under under' before mid now old new same same_names query most_events joins'.grown begins)
+          | inr begins ↦ inr (query, accepts, begins_before names under under' before mid now old new same same_names query limit joins.grown begins)
         ];
       };
       roles = record {
-        query = subst (λ (s : RoleState). BeginsSource source s.phase) (sym joins'.query_role) gets.begun;
-        left = joins'.left;
-        right = joins'.right;
+        query = subst (λ (s : RoleState). BeginsSource source s.phase) (sym joins.query_role) gets.begun;
+        left = joins.left;
+        right = joins.right;
         query_first = λ begun. (query, accepts);
-        left_first = joins'.left_first;
+        left_first = joins.left_first;
       };
-      sink = joins'.sink;
+      sink = joins.sink;
     }
 
 -- ---- a check that got its query
@@ -267,3 +269,55 @@ module _ (name : List ℕ) (under : List ℕ → Option (List ℕ)) (before now 
 
     pub check_memory : Sends sent.Memory text old new → CountsFaults sent.Memory faults faults' → RunsOrder (Err why.Memory) (check_query name) (call under before now old new) faults faults'
     check_memory w counts = record { cause = tt; front = begins_front w; roles = begins_query old new; sink = counts }
+
+-- ---- an order for which there was no memory
+
+module _ (under : List ℕ → Option (List ℕ)) (before : Roles) (told : Option (List ℕ)) (faults : ℕ) (unbegun_before : (of : Role) → (before of).phase ≡ unbegun) where
+  begins_source : (source : Source) → BeginsSource source (before role.Query).phase
+  begins_source (keyed rows) = unbegun_before role.Query
+  begins_source (named name) = begun-unbegun name (before role.Query).phase (unbegun_before role.Query)
+
+  begins_nothing : (order : Order) → Begins (Some order) (call under before before told told)
+  begins_nothing (join_streams source names limit) = record {
+    query = begins_source source;
+    left = begun-unbegun names.left (before role.Left).phase (unbegun_before role.Left);
+    right = begun-unbegun names.right (before role.Right).phase (unbegun_before role.Right);
+    query_first = λ begun. absurd (begun (unbegun_before role.Left));
+    left_first = λ begun. absurd (begun (unbegun_before role.Right));
+  }
+  begins_nothing (check_query name) = record {
+    query = begun-unbegun name (before role.Query).phase (unbegun_before role.Query);
+    left = unbegun_before role.Left;
+    right = unbegun_before role.Right;
+  }
+  begins_nothing (sum_up recipe) = λ of. refl
+
+  pub no_memory : (order : Option Order) → Runs (Err why.Memory) order (call under before before told told) faults faults
+  no_memory None = record { usage = inr refl; nothing = Appends-nil told; roles = unbegun_before; sink = refl }
+  no_memory (Some order) = record {
+    cause = tt;
+    front = record { grown = []; written = Appends-nil told; front = inl refl };
+    roles = begins_nothing order;
+    sink = refl;
+  }
+
+  -- and words that spell none
+  pub no_order : (order : Option Order) → order ≡ None → Runs (Err why.Usage) order (call under before before told told) faults faults
+  no_order None e = record { usage = inl refl; nothing = Appends-nil told; roles = unbegun_before; sink = refl }
+  no_order (Some order) e = absurd cc
+
+-- ---- the order that the words spell
+
+pub as_spelled : (ended : Result (Unit {0}) Note) (words : List (List ℕ)) (order : spelled.Order) (c : Call) (faults faults' : ℕ) → by_words.order_of words ≡ Some order
+    → RunsOrder ended (asked_by order) c faults faults' → Runs ended (order_of words) c faults faults'
+as_spelled ended words order c faults faults' is runs = subst (λ (o : Option spelled.Order). Runs ended (option_map asked_by o) c faults faults') (sym is) runs
+
+-- a join of the same parts
+pub same_join : (ended : Result (Unit {0}) Note) (source source' : Source) (left left' right right' : List ℕ) (limit limit' : ℕ) (c : Call) (faults faults' : ℕ)
+    → source ≡ source' → left ≡ left' → right ≡ right' → limit ≡ limit' → RunsOrder ended (join_streams source (record { left = left; right = right }) limit) c faults faults'
+    → RunsOrder ended (join_streams source' (record { left = left'; right = right' }) limit') c faults faults'
+same_join ended source source' left left' right right' limit limit' c faults faults' e l r n runs =
+    subst (λ (s : Source). RunsOrder ended (join_streams s (record { left = left'; right = right' }) limit') c faults faults') e
+    (subst (λ (xs : List ℕ). RunsOrder ended (join_streams source (record { left = xs; right = right' }) limit') c faults faults') l
+    (subst (λ (xs : List ℕ). RunsOrder ended (join_streams source (record { left = left; right = xs }) limit') c faults faults') r
+    (subst (λ (most : ℕ). RunsOrder ended (join_streams source (record { left = left; right = right }) most) c faults faults') n runs)))

@@ -1,5 +1,5 @@
 -- What a run says of the call of `serve` that made it, clause by clause.
-use Rattle.std.proofs.Common.{◌≡◌, ◌≢◌, ◌≤◌, ◌⊎◌, ◌↔◌, ℕ, List, Ok, Err, Result, None, Some, sym, ◌∙◌, ap, subst, inl, inr, refl, arith}
+use Rattle.std.proofs.Common.{◌≡◌, ◌≢◌, ◌≤◌, ◌⊎◌, ℕ, List, Ok, Err, Result, None, Some, sym, ◌∙◌, ap, subst, inl, inr, refl, arith}
 use Rattle.std.specs.Prelude.{IfSome}
 use Rattle.std.specs.declared.option.Option.{Option}
 use Rattle.hj_base.specs.Counts.{Rose}
@@ -13,12 +13,11 @@ use Rattle.hj_app.specs.declared.notes.Note.TheVariants as why
 use Rattle.hj_app.specs.Calls.{Call}
 use Rattle.hj_app.specs.NoteText.{status_of_end, text_of_end}
 use Rattle.hj_app.specs.NoteWritten.{NoteWritten}
-use Rattle.hj_app.specs.Notes.{events_note}
 use Rattle.hj_app.specs.Run.{Runs, RunsOrder}
-use Rattle.hj_app.specs.Serve.{Begins, EndsBy, FailsSource, IsBad, IsDecided, IsDone, IsNote, JoinsAll, Notes, RefusesQuery, Writes, most_events, status_of_ending}
+use Rattle.hj_app.specs.Serve.{Begins, EndsBy, FailsSource, IsBad, IsDecided, IsDone, IsNote, JoinsAll, Notes, RefusesQuery, Writes, status_of_ending}
 use Rattle.hj_app.specs.Serve as says
 use Rattle.hj_app.specs.Streams.{NoneFails}
-use Rattle.hj_app.specs.Words.{Names, Order, Source, check_query, join_streams}
+use Rattle.hj_app.specs.Words.{Names, Order, Source, check_query, join_streams, sum_up}
 
 abbrev pub End : Type 0
 End = Result (Unit {0}) Note
@@ -36,10 +35,11 @@ module _ (call : Call) (faults faults' : ℕ) where
   refuses_of _ order runs e = absurd (omega (arith, e))
 
   bad_all : (side : Side) (at : ℕ) (found : RecordFault) (order : Order) → JoinsAll (λ ending. ending ≡ bad side at found) order call → JoinsAll IsBad order call
-  bad_all side at found (join_streams source names) all =
+  bad_all side at found (join_streams source names limit) all =
       let w = all.2 in
       (all.0, all.1, record { left = w.left; right = w.right; streams = w.streams; ending = (side, at, found, w.ending); written = w.written })
   bad_all side at found (check_query name) all = absurd all
+  bad_all side at found (sum_up recipe) all = absurd all
 
   bad_of : (ended : End) (order : Order) → RunsOrder ended order call faults faults' → status_of_end ended ≡ 3 → JoinsAll IsBad order call
   bad_of (Err (why.BadRecord side at found)) order runs e = bad_all side at found order runs.cause
@@ -67,24 +67,30 @@ module _ (call : Call) (faults faults' : ℕ) where
 
   -- where nothing fails
 
-  ends_by : (ending : Ending) (source : Source) (names : Names) → JoinsAll (λ e. e ≡ ending) (join_streams source names) call → EndsBy (status_of_ending ending) source names call
-  ends_by ending source names all =
+  ends_by : (ending : Ending) (source : Source) (names : Names) (limit : ℕ) → JoinsAll (λ e. e ≡ ending) (join_streams source names limit) call → EndsBy (status_of_ending ending) source names limit call
+  ends_by ending source names limit all =
       let w = all.2 in
       record { query = all.0; accepted = all.1; left = w.left; right = w.right; streams = w.streams; ending = sym (ap status_of_ending w.ending) }
 
   done_decides : (order : Order) → IsDone order call → IsDecided 0 order call
-  done_decides (join_streams source names) done =
+  done_decides (join_streams source names limit) done =
       let w = done.2 in
       inr (record { query = done.0; accepted = done.1; left = w.left; right = w.right; streams = w.streams; ending = sym (ap status_of_ending w.ending) })
   done_decides (check_query name) done = inr (refl, done)
+  done_decides (sum_up recipe) done = (refl, done)
+
+  none_named : (name : List ℕ) → ¬ (◌≡◌ {A = Option (List ℕ)} None (Some name))
+  none_named name e = cc
 
   refusal_decides : (found : QueryFault) (order : Order) → RefusesQuery found order call → IsDecided 2 order call
-  refusal_decides found (join_streams source names) refuses = inl (refl, (found, refuses))
+  refusal_decides found (join_streams source names limit) refuses = inl (refl, (found, refuses))
   refusal_decides found (check_query name) refuses = inl (refl, (found, refuses))
+  refusal_decides found (sum_up recipe) refuses = absurd (none_named refuses.name refuses.named_so)
 
   ending_decides : (ending : Ending) (order : Order) → JoinsAll (λ e. e ≡ ending) order call → IsDecided (status_of_ending ending) order call
-  ending_decides ending (join_streams source names) all = inr (ends_by ending source names all)
+  ending_decides ending (join_streams source names limit) all = inr (ends_by ending source names limit all)
   ending_decides ending (check_query name) all = absurd all
+  ending_decides ending (sum_up recipe) all = absurd all
 
   decides : (ended : End) (order : Order) → RunsOrder ended order call faults faults' → NoneFails call.before call.now → ¬ (Rose faults faults')
       → (status_of_end ended ≡ 6) ⊎ IsDecided (status_of_end ended) order call
@@ -106,7 +112,7 @@ module _ (call : Call) (faults faults' : ℕ) where
   noted (Err (why.Source of)) order runs = says.source order of refl refl runs.cause refl
   noted (Err why.Sink) order runs = says.sink refl refl
   noted (Err why.Memory) order runs = says.memory refl refl
-  noted (Err (why.TooManyEvents limit)) order runs = says.events refl (ap events_note runs.cause.0)
+  noted (Err (why.TooManyEvents limit)) order runs = says.events order limit refl refl runs.cause.0 runs.cause.1 refl
   noted (Err why.Usage) order runs = absurd runs.cause
 
   -- ---- of the words
@@ -139,16 +145,20 @@ module _ (call : Call) (faults faults' : ℕ) where
     complete order runs = if_some (λ known. NoneFails call.before call.now → ¬ (Rose faults faults') → (status ≡ 6) ⊎ IsDecided status known call) order runs
         (λ known r sources sink. subst (λ (n : ℕ). (n ≡ 6) ⊎ IsDecided n known call) (sym is) (decides ended known r sources sink))
 
-    -- a run of no order ends in the usage
-    usage_status : ended ≡ Err why.Usage → status ≡ 1
-    usage_status e = is ∙ ap status_of_end e
+    -- a run of no order ends in the usage, or for want of memory
+    status_of_none : (ended ≡ Err why.Usage) ⊎ (ended ≡ Err why.Memory) → (status ≡ 1) ⊎ (status ≡ 6)
+    status_of_none ends = elim ends [ inl usage ↦ inl (is ∙ ap status_of_end usage) | inr memory ↦ inr (is ∙ ap status_of_end memory) ]
 
-    pub usage : (order : Option Order) → Runs ended order call faults faults' → (status ≡ 1) ↔ (order ≡ None)
-    usage None runs = (λ one. refl, λ none. usage_status runs.usage)
-    usage (Some known) runs = (λ one. absurd (no_usage ended known runs (as_ended 1 one)), λ none. absurd cc)
+    pub usage : (order : Option Order) → Runs ended order call faults faults' → status ≡ 1 → order ≡ None
+    usage None runs one = refl
+    usage (Some known) runs one = absurd (no_usage ended known runs (as_ended 1 one))
+
+    pub no_order : (order : Option Order) → Runs ended order call faults faults' → order ≡ None → (status ≡ 1) ⊎ (status ≡ 6)
+    no_order None runs none = status_of_none runs.usage
+    no_order (Some known) runs none = absurd cc
 
     pub failed_sink : (order : Option Order) → Runs ended order call faults faults' → status ≡ 5 → Rose faults faults'
-    failed_sink None runs e = absurd (let one : status ≡ 1 = usage_status runs.usage in omega (arith, one, e))
+    failed_sink None runs e = absurd (elim (status_of_none runs.usage) [ inl one ↦ omega (arith, one, e) | inr six ↦ omega (arith, six, e) ])
     failed_sink (Some known) runs e = sink_rose ended known runs (as_ended 5 e)
 
     pub kept_sink : (order : Option Order) → Runs ended order call faults faults' → status ≢ 5 → faults' ≡ faults
@@ -164,7 +174,10 @@ module _ (call : Call) (faults faults' : ℕ) where
     begins (Some known) runs = runs.roles
 
     is_note : (order : Option Order) → Runs ended order call faults faults' → IsNote (text_of_end ended) (status_of_end ended) order call
-    is_note None runs = subst (λ (e : End). IsNote (text_of_end e) (status_of_end e) None call) (sym runs.usage) (says.usage refl refl)
+    is_note None runs = elim runs.usage [
+      | inl usage ↦ subst (λ (e : End). IsNote (text_of_end e) (status_of_end e) None call) (sym usage) (says.usage refl refl)
+      | inr memory ↦ subst (λ (e : End). IsNote (text_of_end e) (status_of_end e) None call) (sym memory) (says.memory refl refl)
+    ]
     is_note (Some known) runs = noted ended known runs
 
     pub notes_of : (order : Option Order) (told told' : Option (List ℕ)) (refused refused' : ℕ) → Runs ended order call faults faults' → NoteWritten (text_of_end ended) told told' refused refused'

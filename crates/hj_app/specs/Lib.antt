@@ -1,5 +1,7 @@
 pub mod Calls
 pub mod Check
+pub mod Generating
+pub mod Held
 pub mod Joining
 pub mod NoteText
 pub mod NoteWritten

@@ -20,7 +20,7 @@ use Rattle.hj_event.specs.declared.fault.RecordFault.{RecordFault}
 use Rattle.hj_event.specs.declared.fault.RecordFault.TheVariants as fault
 
 abbrev pub usage_note : List ℕ
-usage_note = codes "usage: equi W LEFT RIGHT | join QUERY LEFT RIGHT | check QUERY\n"
+usage_note = codes "usage: equi W LEFT RIGHT | join [--cores N] [--threads N] [--flight N] [--max-events N] [--schedule SEED] QUERY LEFT RIGHT | check QUERY | gen N KEYS SEED W\n"
 
 abbrev pub side_name : Side → List ℕ
 side_name side.Left = codes "left"

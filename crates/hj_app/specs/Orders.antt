@@ -1,15 +1,14 @@
--- The order of words that were read.
+-- The parts of an order, as a run takes them.
 use Rattle.std.specs.Prelude.{ℕ}
-use Rattle.hj_app.specs.declared.keyed.Keyed.{Keyed}
-use Rattle.hj_app.specs.declared.words.Names.{Names}
-use Rattle.hj_app.specs.declared.words.Order.{Order}
-use Rattle.hj_app.specs.declared.words.Order.TheVariants as read
-use Rattle.hj_app.specs.declared.words.Source.{Source}
-use Rattle.hj_app.specs.declared.words.Source.TheVariants as source
+use Rattle.std.specs.declared.option.Option.{Option}
+use Rattle.std.specs.declared.option.Option.TheVariants.{None, Some}
+use Rattle.hj_chain.specs.declared.serial.Chooser.{Chooser}
+use Rattle.hj_chain.specs.declared.serial.Chooser.TheVariants as chooser
+use Rattle.hj_app.specs.declared.recipe.Recipe.{Recipe}
+use Rattle.hj_app.specs.declared.source.Names.{Names}
+use Rattle.hj_app.specs.declared.source.Source.{Source}
+use Rattle.hj_app.specs.declared.source.Source.TheVariants as source
 use Rattle.hj_app.specs.Words as words
-
-abbrev pub rows_seen : Keyed → ℕ
-rows_seen keyed = keyed.rows
 
 abbrev pub source_seen : Source → words.Source
 source_seen (source.Keyed keyed) = words.keyed keyed.rows
@@ -18,6 +17,10 @@ source_seen (source.Named name) = words.named name.now
 abbrev pub names_seen : Names → words.Names
 names_seen names = record { left = names.left.now; right = names.right.now }
 
-abbrev pub order_seen : Order → words.Order
-order_seen (read.Join source names) = words.join_streams (source_seen source) (names_seen names)
-order_seen (read.Check name) = words.check_query name.now
+abbrev pub recipe_seen : Recipe → words.Recipe
+recipe_seen recipe = record { rows = recipe.rows; keys = recipe.keys; seed = recipe.seed; window = recipe.window.rows }
+
+-- A seed draws the order of the steps; where none is given, the actors take turns.
+abbrev pub chooser_of : Option ℕ → Chooser
+chooser_of None = chooser.InTurn
+chooser_of (Some seed) = chooser.Seeded seed

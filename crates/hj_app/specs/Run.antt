@@ -16,7 +16,7 @@ use Rattle.hj_app.specs.declared.notes.Note.{Note}
 use Rattle.hj_app.specs.declared.notes.Note.TheVariants as note
 use Rattle.hj_app.specs.Calls.{Call}
 use Rattle.hj_app.specs.Joining.{BeginsText, WritesAll, WritesWhole}
-use Rattle.hj_app.specs.Serve.{AreOpen, Begins, FailsSource, IsDone, JoinsAll, RefusesQuery, WritesFront, most_events}
+use Rattle.hj_app.specs.Serve.{AreOpen, Begins, FailsSource, HasLimit, IsDone, JoinsAll, RefusesQuery, WritesFront}
 use Rattle.hj_app.specs.Streams.{Fails, IsBegunUnder}
 use Rattle.hj_app.specs.Words.{Names, Order}
 
@@ -79,7 +79,7 @@ Cause (Err (note.Source of)) order call = FailsSource of order call
 Cause (Err note.Sink) order call = Unit {0}
 Cause (Err note.Memory) order call = Unit {0}
 Cause (Err (note.TooManyEvents limit)) order call =
-    (limit ≡ most_events) × JoinsAll (λ ending. ending ≡ too_many) order call
+    HasLimit limit order × JoinsAll (λ ending. ending ≡ too_many) order call
 
 pub record RunsOrder (ended : Result (Unit {0}) Note) (order : Order) (call : Call)
     (faults_before faults_now : ℕ) : Type 0 where
@@ -88,9 +88,9 @@ pub record RunsOrder (ended : Result (Unit {0}) Note) (order : Order) (call : Ca
   pub roles : Begins (Some order) call
   pub sink : CountsSink ended faults_before faults_now
 
--- Words that spell no order do nothing.
+-- Words that spell no order do nothing, and are told as such unless memory ran out.
 pub record RunsNothing (ended : Result (Unit {0}) Note) (call : Call) (faults_before faults_now : ℕ) : Type 0 where
-  pub usage : ended ≡ Err note.Usage
+  pub usage : (ended ≡ Err note.Usage) ⊎ (ended ≡ Err note.Memory)
   pub nothing : Appends call.old call.new []
   pub roles : Begins None call
   pub sink : faults_now ≡ faults_before

@@ -16,15 +16,12 @@ use Rattle.hj_query.specs.Parts.{Parts}
 use Rattle.hj_record.specs.Pieces.{Stream}
 use Rattle.hj_app.specs.Calls.{Call}
 use Rattle.hj_app.specs.Check.{BeginsCanonical, WritesCanonical}
+use Rattle.hj_app.specs.Generating.{BeginsSummary, WritesSummary}
 use Rattle.hj_app.specs.Joining.{BeginsText, WritesAll, WritesWhole}
 use Rattle.hj_app.specs.Notes.{events_note, memory_note, query_note, record_note, sink_note, source_note, usage_note}
 use Rattle.hj_app.specs.Queries.{IsQueryOf, IsRefused}
 use Rattle.hj_app.specs.Streams.{AreStreams, Fails, IsBegunUnder}
-use Rattle.hj_app.specs.Words.{Names, Order, Source, check_query, join_streams, keyed, named}
-
--- how many events a join has at most
-unfoldable pub most_events : ℕ
-most_events = 4294967295
+use Rattle.hj_app.specs.Words.{Names, Order, Source, check_query, join_streams, keyed, most_events, named, sum_up}
 
 -- the query by which a call joins
 abbrev pub Accepts : Source → Parts → Call → Type 0
@@ -36,14 +33,22 @@ name_in (keyed rows) = None
 name_in (named name) = Some name
 
 abbrev pub query_name : Order → Option (List ℕ)
-query_name (join_streams source names) = name_in source
+query_name (join_streams source names limit) = name_in source
 query_name (check_query name) = Some name
+query_name (sum_up recipe) = None
 
 -- the roles that an order reads
 abbrev pub HasRole : Order → Role → Type 0
-HasRole (join_streams (keyed rows) names) of = of ≢ role.Query
-HasRole (join_streams (named name) names) of = Unit {0}
+HasRole (join_streams (keyed rows) names limit) of = of ≢ role.Query
+HasRole (join_streams (named name) names limit) of = Unit {0}
 HasRole (check_query name) of = of ≡ role.Query
+HasRole (sum_up recipe) of = ⊥
+
+-- a join has so many events at most
+abbrev pub HasLimit : ℕ → Order → Type 0
+HasLimit most (join_streams source names limit) = most ≡ limit
+HasLimit most (check_query name) = ⊥
+HasLimit most (sum_up recipe) = ⊥
 
 -- both streams of a join are open
 abbrev pub AreOpen : (Role → RoleState) → Type 0
@@ -51,15 +56,18 @@ AreOpen now = IsOpen (now role.Left).phase × IsOpen (now role.Right).phase
 
 -- A join under the accepted query, of streams whose events end so; the whole text was written.
 abbrev pub JoinsAll : (Ending → Type 0) → Order → Call → Type 0
-JoinsAll EndsSo (join_streams source names) call =
-    (query : Parts) × Accepts source query call × WritesAll EndsSo query most_events names call
+JoinsAll EndsSo (join_streams source names limit) call =
+    (query : Parts) × Accepts source query call × WritesAll EndsSo query limit names call
 JoinsAll EndsSo (check_query name) call = ⊥
+JoinsAll EndsSo (sum_up recipe) call = ⊥
 
--- What was done: a join of streams that ended well wrote the whole text, or a check the canonical text of a query.
+-- What was done: a join of streams that ended well wrote the whole text, a check the canonical text of a query, and
+-- `gen` the line that sums up the join of its streams.
 abbrev pub IsDone : Order → Call → Type 0
-IsDone (join_streams source names) call =
-    (query : Parts) × Accepts source query call × WritesWhole query most_events names call
+IsDone (join_streams source names limit) call =
+    (query : Parts) × Accepts source query call × WritesWhole query limit names call
 IsDone (check_query name) call = WritesCanonical name call
+IsDone (sum_up recipe) call = WritesSummary recipe most_events call
 
 -- The text of the order's query was read and has this first fault. No stream was begun, and nothing written.
 pub record RefusesQuery (found : QueryFault) (order : Order) (call : Call) : Type 0 where
@@ -91,30 +99,32 @@ status_of_ending (unread side) = 4
 status_of_ending too_many = 7
 
 -- The status is the one of the ending of the events of the streams.
-pub record EndsBy (status : ℕ) (source : Source) (names : Names) (call : Call) : Type 0 where
+pub record EndsBy (status : ℕ) (source : Source) (names : Names) (limit : ℕ) (call : Call) : Type 0 where
   pub query : Parts
   pub accepted : Accepts source query call
   pub left : Stream
   pub right : Stream
   pub streams : AreStreams names call.under call.before call.now left right
-  pub ending : status ≡ status_of_ending (join_result query left right most_events).ending
+  pub ending : status ≡ status_of_ending (join_result query left right limit).ending
 
--- The query is refused, or accepted; and then the ending of the events decides.
+-- The query is refused, or accepted; and then the ending of the events decides. The streams of `gen` end well.
 abbrev pub IsDecided : ℕ → Order → Call → Type 0
-IsDecided status (join_streams source names) call =
-    ((status ≡ 2) × ((found : QueryFault) × RefusesQuery found (join_streams source names) call))
-    ⊎ EndsBy status source names call
+IsDecided status (join_streams source names limit) call =
+    ((status ≡ 2) × ((found : QueryFault) × RefusesQuery found (join_streams source names limit) call))
+    ⊎ EndsBy status source names limit call
 IsDecided status (check_query name) call =
     ((status ≡ 2) × ((found : QueryFault) × RefusesQuery found (check_query name) call))
     ⊎ ((status ≡ 0) × WritesCanonical name call)
+IsDecided status (sum_up recipe) call = (status ≡ 0) × WritesSummary recipe most_events call
 
 -- What was written, whatever the status.
 
 -- The bytes are a front of the text of the order.
 abbrev pub IsFront : List ℕ → Order → Call → Type 0
-IsFront grown (join_streams source names) call =
-    (query : Parts) × Accepts source query call × BeginsText grown query most_events names call
+IsFront grown (join_streams source names limit) call =
+    (query : Parts) × Accepts source query call × BeginsText grown query limit names call
 IsFront grown (check_query name) call = BeginsCanonical grown name call
+IsFront grown (sum_up recipe) call = BeginsSummary grown recipe most_events
 
 -- Nothing was written, or a front of the text.
 pub record WritesFront (order : Order) (call : Call) : Type 0 where
@@ -148,15 +158,16 @@ pub record BeginsQuery (name : List ℕ) (now : Role → RoleState) : Type 0 whe
   pub left : (now role.Left).phase ≡ unbegun
   pub right : (now role.Right).phase ≡ unbegun
 
--- Words that spell no order begin nothing.
+-- Words that spell no order begin nothing, and `gen` leaves every role as it is.
 abbrev pub Begins : Option Order → Call → Type 0
 Begins None call = (of : Role) → (call.now of).phase ≡ unbegun
-Begins (Some (join_streams source names)) call = BeginsInOrder source names call
+Begins (Some (join_streams source names limit)) call = BeginsInOrder source names call
 Begins (Some (check_query name)) call = BeginsQuery name call.now
+Begins (Some (sum_up recipe)) call = (of : Role) → call.now of ≡ call.before of
 
 -- The notes.
 
--- The note of each status: it names the fault of the query, the bad record, or the role that failed.
+-- The note of each status: it names the fault of the query, the bad record, the role that failed, or the limit.
 pub data IsNote (note : List ℕ) (status : ℕ) (order : Option Order) (call : Call) : Type 0 where
   none : status ≡ 0 → note ≡ [] → IsNote note status order call
   usage : status ≡ 1 → note ≡ usage_note → IsNote note status order call
@@ -169,7 +180,8 @@ pub data IsNote (note : List ℕ) (status : ℕ) (order : Option Order) (call : 
       → FailsSource of known call → note ≡ source_note of → IsNote note status order call
   sink : status ≡ 5 → note ≡ sink_note → IsNote note status order call
   memory : status ≡ 6 → note ≡ memory_note → IsNote note status order call
-  events : status ≡ 7 → note ≡ events_note most_events → IsNote note status order call
+  events : (known : Order) (limit : ℕ) → status ≡ 7 → order ≡ Some known → HasLimit limit known
+      → JoinsAll (λ ending. ending ≡ too_many) known call → note ≡ events_note limit → IsNote note status order call
 
 -- The notes grew by a front of the note, and by all of it unless a write of them was refused.
 pub record Notes (status : ℕ) (order : Option Order) (call : Call) (old new : Option (List ℕ))

@@ -1,15 +1,22 @@
-//! Joins two streams of rows under a query, and writes each pair once, in one order; and writes the canonical text of a query.
+//! Joins two streams of rows under a query, and writes each pair once, in one order; writes the canonical text of a query; and
+//! sums up the join of two streams that a seed determines.
 #![tactic(auto)]
 
 mod check;
+mod generate;
+mod held;
 mod keyed;
 mod notes;
+#[cfg(test)]
+mod peer;
+mod plan;
 mod query;
+mod recipe;
 mod serve;
+mod source;
 mod streams;
 #[cfg(test)]
 mod tests;
-mod words;
 
 use hj_base::OpenGate;
 use hj_net::{Output, RealOutside, RealSink};

@@ -87,7 +87,9 @@ enum Part {
 
 const NOTHING: Part = Part::Words("");
 
-const USAGE: &str = "usage: equi W LEFT RIGHT | join QUERY LEFT RIGHT | check QUERY\n";
+const USAGE: &str = "\
+usage: equi W LEFT RIGHT | join [--cores N] [--threads N] [--flight N] [--max-events N] [--schedule SEED] QUERY LEFT RIGHT \
+| check QUERY | gen N KEYS SEED W\n";
 
 /// Writes a note. It takes no memory, and stops at the first refusal.
 pub fn write_note<N: Sink>(notes: &mut N, note: &Note)

@@ -6,32 +6,46 @@ ghost use Rattle.hj_app.specs.Orders.{names_seen};
 ghost use Rattle.hj_app.specs.Run.{end_of, JoinsStreams};
 
 use crate::notes::Note;
+use crate::plan::Plan;
 use crate::query::open;
-use crate::words::Names;
-use hj_base::{Outside, Role, Sink};
-use hj_engine::{Outcome, join};
+use crate::source::Names;
+use hj_base::{Gate, Outside, Role, Sink};
+use hj_engine::{Outcome, join_serial};
 use hj_query::Query;
 use std::alloc::Global;
 
-/// Opens the two streams of a join, the left one first, and joins them under its query, with at most `limit` events. The error
-/// is the note that says why that wasn't done: a stream, a record, the number of events, the sink, or memory.
-pub fn join_streams<O: Outside, K: Sink>(
+/// Opens the two streams of a join, the left one first, and joins them under its query on a chain of cores. The gate is passed
+/// before each step of a core. The error is the note that says why that wasn't done: a stream, a record, the number of
+/// events, the sink, or memory.
+pub fn join_streams<O: Outside, K: Sink, G: Gate>(
     alloc: Global,
     query: &Query,
-    limit: u64,
+    plan: Plan,
     names: Names<'_>,
     outside: &mut O,
     out: &mut K,
+    gate: &G,
 ) -> Result<(), Note>
     requires left { (O.state outside.old role.Left).phase ≡ unbegun }
     requires right { (O.state outside.old role.Right).phase ≡ unbegun }
-    ensures { JoinsStreams result query.now limit (names_seen names.entry)
+    ensures { JoinsStreams result query.now plan.limit (names_seen names.entry)
         (call (O.under outside.old) (O.state outside.old) (O.state outside.new) (K.told out.old) (K.told out.new))
         (K.faults out.old) (K.faults out.new) }
 {
     open(outside, Role::Left, names.left)?;
     open(outside, Role::Right, names.right)?;
-    end_of(limit, join(alloc, query, limit, outside, out))
+    let outcome = join_serial(
+        alloc,
+        query,
+        plan.cores,
+        plan.flight,
+        plan.limit,
+        plan.chooser,
+        outside,
+        out,
+        gate,
+    );
+    end_of(plan.limit, outcome)
 }
 
 /// The ending of a run whose join ended so.

@@ -9,8 +9,10 @@ ghost use Rattle.hj_base.specs.Outside.{unbegun};
 
 use crate::serve::serve;
 use hj_base::{MemOutside, MemSink, OpenGate, Role};
+use hj_gen::{streams, summary};
 use std::alloc::Global;
 use std::process::Abort;
+use std::test::Fail;
 
 const EQUI: &str = "equi 10 left right";
 
@@ -118,14 +120,21 @@ impl World {
         }
     }
 
-    /// Puts a text under a name.
+    /// Puts bytes under a name.
+    fn add(&mut self, rt: &impl Abort, name: &str, bytes: &[u8])
+        requires { (of : Role) → (role_at self.old.outside of).phase ≡ unbegun }
+        ensures { (of : Role) → (role_at self.new.outside of).phase ≡ unbegun }
+    {
+        self.outside.add(name, bytes).expect(rt, "memory");
+    }
+
+    /// Puts a text of a table under a name.
     fn put(&mut self, rt: &impl Abort, alloc: Global, name: &str, text: &str)
         requires { (of : Role) → (role_at self.old.outside of).phase ≡ unbegun }
         ensures { (of : Role) → (role_at self.new.outside of).phase ≡ unbegun }
     {
         if text != "?" {
-            let text = unescaped(rt, alloc, text);
-            self.outside.add(name, text.as_bytes()).expect(rt, "memory");
+            self.add(rt, name, unescaped(rt, alloc, text).as_bytes());
         }
     }
 
@@ -273,6 +282,12 @@ const QUERIES: &str = "\
 ;left (ts int, t text) right (ts int, t text) window left rows 10 window right rows 10 on l.t = r.t;1,a\"b/;;;left record 1: OpenQuote/;3
 ;left (ts int, t text) right (ts int, t text) window left rows 10 window right rows 10 on l.t = r.t;1,a~2,b/;;;left record 1: NotOneRecord/;3
 ;left (ts int, t text) right (ts int, t text) window left rows 10 window right rows 10 on l.t = r.t;\u{feff}1,a/;2,a/;1,a,2,a/;;0
+;12ab;1,7/;1,7/;;query: BadByte at 2/;2
+;left (ts int, ts int);1,7/;1,7/;;query: DoubleColumn at 14/;2
+;?;1,7/;1,7/;;source: query/;4";
+
+/// Trades, and the quotes near them.
+const TRADES: &str = "\
 ;left (ts int, sym text, px int, qty int) right (ts int, sym text, bid int, size int) window left rows 100 window right time 5000 \
 on l.sym = r.sym and l.px within 10 of r.bid and not l.qty < r.size;\
 1000,AB,100,50/1500,CD,200,10/2000,AB,105,30/3000,AB,120,80/4000,CD,195,40/6000,AB,98,60/7000,CD,207,25/9000,AB,111,90/;\
@@ -280,14 +295,51 @@ on l.sym = r.sym and l.px within 10 of r.bid and not l.qty < r.size;\
 1000,AB,100,50,1000,AB,101,40/1000,AB,100,50,2500,AB,108,30/2000,AB,105,30,2500,AB,108,30/4000,CD,195,40,1200,CD,205,20/\
 4000,CD,195,40,3500,CD,190,40/3000,AB,120,80,5000,AB,110,70/6000,AB,98,60,2500,AB,108,30/6000,AB,98,60,6000,AB,99,60/\
 4000,CD,195,40,7500,CD,200,20/7000,CD,207,25,7500,CD,200,20/9000,AB,111,90,5000,AB,110,70/3000,AB,120,80,9000,AB,115,50/\
-9000,AB,111,90,9000,AB,115,50/;;0
-;12ab;1,7/;1,7/;;query: BadByte at 2/;2
-;left (ts int, ts int);1,7/;1,7/;;query: DoubleColumn at 14/;2
-;?;1,7/;1,7/;;source: query/;4";
+9000,AB,111,90,9000,AB,115,50/;;0";
 
 #[test]
 fn joins_under_queries(rt: HostRuntime) {
     run_all(&rt, rt.alloc(), &[JOIN], QUERIES);
+    run_all(&rt, rt.alloc(), &[JOIN], TRADES);
+}
+
+#[test]
+fn writes_the_same_whatever_the_options(rt: HostRuntime) {
+    let alloc = rt.alloc();
+    for setup in [
+        "--cores 1",
+        "--cores=64",
+        "--threads 0",
+        "--threads=3 --cores 5",
+        "--flight 1",
+        "--threads 0 --flight=256 --max-events 20",
+    ] {
+        let command = format!(in alloc; "join {setup} query left right").expect(&rt, "memory");
+        run_once(&rt, alloc, &[&command], TRADES);
+    }
+    for seed in 1..=20 {
+        let command = format!(in alloc;
+            "join query --schedule {seed} left --threads 0 right"
+        ).expect(&rt, "memory");
+        run_once(&rt, alloc, &[&command], TRADES);
+    }
+}
+
+/// Runs up to a limit of three events, and past it.
+const LIMITED: &str = "\
+;on l.k = r.k;1,7/3,7/;2,7/;1,7,2,7/3,7,2,7/;;0
+;on l.k = r.k;1,7/3,7/4,7/;2,7/;1,7,2,7/3,7,2,7/;events: limit 3/;7
+write 2;on l.k = r.k;1,7/3,7/4,7/;2,7/;1,7,2,7/;sink/;5
+read left 3;on l.k = r.k;1,7/3,7/4,7/;2,7/;1,7,2,7/3,7,2,7/;source: left/;4
+read left 4;on l.k = r.k;1,7/3,7/4,7/;2,7/;1,7,2,7/3,7,2,7/;events: limit 3/;7";
+
+#[test]
+fn ends_at_the_limit(rt: HostRuntime) {
+    let commands = [
+        "join --max-events 3 query left right",
+        "join query left --cores=1 right --max-events=3",
+    ];
+    run_once(&rt, rt.alloc(), &commands, LIMITED);
 }
 
 /// Starts, reads and writes that fail.
@@ -394,18 +446,87 @@ fn bounds_the_text_of_a_query(rt: HostRuntime) {
     run_once(&rt, rt.alloc(), &["check query", JOIN], &texts);
 }
 
+/// Words that are no order: nothing is written but the usage.
+const REFUSED: &str = "\
+;12ab;1,7/;1,7/;;usage: equi W LEFT RIGHT | join [--cores N] [--threads N] [--flight N] [--max-events N] \
+[--schedule SEED] QUERY LEFT RIGHT | check QUERY | gen N KEYS SEED W/;1";
+
 #[test]
 fn refuses_words(rt: HostRuntime) {
     let refused = [
         "",
         "equi 0 left right",
+        "equi 1000001 left right",
         "equi 1 left",
+        "equi -1 left right",
         "join query left",
-        "join --cores=2 query left right",
+        "join --cores 65 query left right",
+        "join --schedule 3 query left right",
+        "join --schedule 3 --threads 1 query left right",
+        "join --cores 2 --cores 2 query left right",
+        "join --max-events 0 query left right",
         "check -a",
-        "gen 1 1 1 1",
+        "gen 1 0 1 1",
+        "gen 1 1 1",
     ];
-    let usage =
-        ";12ab;1,7/;1,7/;;usage: equi W LEFT RIGHT | join QUERY LEFT RIGHT | check QUERY/;1";
-    run_once(&rt, rt.alloc(), &refused, usage);
+    run_once(&rt, rt.alloc(), &refused, REFUSED);
+}
+
+#[test]
+fn takes_words(rt: HostRuntime) {
+    let pair = ";on l.k = r.k;1,7/;2,7/;1,7,2,7/;;0";
+    let taken = [
+        "equi 1000000 left right",
+        "equi 10 -- left right",
+        "join --cores=2 -- query left right",
+        "join query left right --cores 2",
+    ];
+    run_once(&rt, rt.alloc(), &taken, pair);
+    let named_with_a_dash = ";on l.k = r.k;1,7/;2,7/;;source: left/;4";
+    run_once(
+        &rt,
+        rt.alloc(),
+        &["join --cores=2 -- query -a right"],
+        named_with_a_dash,
+    );
+}
+
+#[test]
+fn sums_up_streams_that_it_makes(rt: HostRuntime) {
+    let one_row = ";?;?;?;events 2 pairs 1 bytes 8 mix 1416097205227/;;0";
+    run_all(&rt, rt.alloc(), &["gen 1 1 1 1"], one_row);
+    let no_row = ";?;?;?;events 0 pairs 0 bytes 0 mix 0/;;0";
+    run_all(&rt, rt.alloc(), &["gen 0 1 1 1"], no_row);
+    let refused = "write 1;?;?;?;;sink/;5";
+    run_once(&rt, rt.alloc(), &["gen 1 1 1 1"], refused);
+}
+
+/// What a command writes over streams that stand under `left` and `right`; it ends well.
+fn written(rt: &impl Abort, alloc: Global, command: &str, left: &[u8], right: &[u8]) -> MemSink {
+    let words = words_of(rt, alloc, command);
+    let chunks = Chunks {
+        read: 4_096,
+        write: 4_096,
+    };
+    let mut world = World::new(alloc, chunks);
+    world.add(rt, "left", left);
+    world.add(rt, "right", right);
+    let status = world.serve(alloc, &words);
+    assert_eq!(rt; status, 0);
+    world.out
+}
+
+#[test]
+fn sums_up_what_equi_writes(rt: HostRuntime) -> Result<(), Fail> {
+    let alloc = rt.alloc();
+    let made = streams(alloc, 2_000, 50, 1)?;
+    let (left, right) = (made.left.bytes(), made.right.bytes());
+    let text = written(&rt, alloc, "equi 64 left right", left, right);
+    // Of 2,000 rows of a side all but the last 64 expire.
+    let line = summary(alloc, 2 * (2_000 + 2_000 - 64), text.bytes())?;
+    let first = written(&rt, alloc, "gen 2000 50 1 64", b"", b"");
+    let again = written(&rt, alloc, "gen 2000 50 1 64", b"", b"");
+    assert_eq!(rt; first.bytes(), line.bytes());
+    assert_eq!(rt; again.bytes(), line.bytes());
+    Ok(())
 }

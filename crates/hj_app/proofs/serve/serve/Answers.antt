@@ -1,7 +1,7 @@
 use Rattle.hj_app.specs.Calls.{call}
 use Rattle.hj_app.specs.Words.{order_of}
 use Rattle.std.specs.Prelude.{map, string_bytes}
-use Rattle.hj_app.proofs.Serving.{bad_query, bad_record, begins, complete, done, events, failed_sink, failed_source, kept_sink, notes_of, statuses, usage, writes}
+use Rattle.hj_app.proofs.Serving.{bad_query, bad_record, begins, complete, done, events, failed_sink, failed_source, kept_sink, no_order, notes_of, statuses, usage, writes}
 use Rattle.hj_app.proofs.serve.serve.Goals as goal
 
 pub returns-clause-front : goal.returns-clause-front
@@ -12,6 +12,9 @@ returns-clause-done g c = done (call (g.O.Outside.under c.args.outside.now) (g.O
 
 pub returns-clause-usage : goal.returns-clause-usage
 returns-clause-usage g c = usage (call (g.O.Outside.under c.args.outside.now) (g.O.Outside.state c.args.outside.now) (g.O.Outside.state c.run-ended.new.outside) (g.K.Sink.told c.args.out.now) (g.K.Sink.told c.run-ended.new.out)) (g.K.Sink.faults c.args.out.now) (g.K.Sink.faults c.run-ended.new.out) c.report.result c.run-ended.result c.report.ensures.status (order_of (map string_bytes c.args.words.now)) c.run-ended.ensures
+
+pub returns-clause-no_order : goal.returns-clause-no_order
+returns-clause-no_order g c = no_order (call (g.O.Outside.under c.args.outside.now) (g.O.Outside.state c.args.outside.now) (g.O.Outside.state c.run-ended.new.outside) (g.K.Sink.told c.args.out.now) (g.K.Sink.told c.run-ended.new.out)) (g.K.Sink.faults c.args.out.now) (g.K.Sink.faults c.run-ended.new.out) c.report.result c.run-ended.result c.report.ensures.status (order_of (map string_bytes c.args.words.now)) c.run-ended.ensures
 
 pub returns-clause-bad_query : goal.returns-clause-bad_query
 returns-clause-bad_query g c = bad_query (call (g.O.Outside.under c.args.outside.now) (g.O.Outside.state c.args.outside.now) (g.O.Outside.state c.run-ended.new.outside) (g.K.Sink.told c.args.out.now) (g.K.Sink.told c.run-ended.new.out)) (g.K.Sink.faults c.args.out.now) (g.K.Sink.faults c.run-ended.new.out) c.report.result c.run-ended.result c.report.ensures.status (order_of (map string_bytes c.args.words.now)) c.run-ended.ensures
