@@ -1,4 +1,4 @@
 mod Comparing
 mod Needing
-mod Planning
+pub mod Planning
 mod Totals

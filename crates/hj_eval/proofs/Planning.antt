@@ -153,7 +153,7 @@ abs-neg (pos zero) = refl
 abs-neg (pos (suc n)) = refl
 abs-neg (negsuc n) = refl
 
-abs-turned : (x y : ℤ) → nat_abs (y -ℤ x) ≡ nat_abs (x -ℤ y)
+pub abs-turned : (x y : ℤ) → nat_abs (y -ℤ x) ≡ nat_abs (x -ℤ y)
 abs-turned x y =
     let turned : neg_ℤ (x -ℤ y) ≡ y -ℤ x = neg_ℤ-+ℤ x (neg_ℤ y) ∙ ap (λ z. neg_ℤ x +ℤ z) (neg_ℤ-neg_ℤ y) ∙ +ℤ_comm (neg_ℤ x) y in
     ap nat_abs (sym turned) ∙ abs-neg (x -ℤ y)
