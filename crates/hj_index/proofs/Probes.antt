@@ -4,15 +4,12 @@ use Rattle.std.proofs.lemmas.List.Elements.{All-nil, All-push, All-weaker}
 use Rattle.hj_msg.specs.declared.partner.Partner.{Partner}
 use Rattle.hj_msg.specs.Store.{by_number, settled_partners}
 use Rattle.hj_index.specs.declared.place.Rest.{Rest}
-use Rattle.hj_index.specs.ListStore.{joining, rows_of}
+use Rattle.hj_index.specs.Places.{joining, rows_of}
 use Rattle.hj_index.proofs.Rows.{Places}
 use Rattle.hj_msg.proofs.Gathering.{gather, insert_after, insert_after-last, gather-sorted}
 
 abbrev pub number : {P : Type 0} → Partner P → ℕ
 number partner = partner.no.0
-
-abbrev pub partner_of : {P : Type 0} → ℕ × P → Partner P
-partner_of entry = record { no = record { 0 = entry.0 }; row = entry.1 }
 
 abbrev pub partner : {P : Type 0} → ℕ → P → Partner P
 partner number row = record { no = record { 0 = number }; row = row }

@@ -1,5 +1,5 @@
 -- The rows of a list of places, through the changes of that list.
-use Rattle.std.proofs.Common.{◌≡◌, ℕ, Bool, true, false, cond, nat_eq, ◌||◌, List, [], ◌∷◌, None, Some, Option, All, filter, is_some, arith, refl, sym, ap, ◌∙◌}
+use Rattle.std.proofs.Common.{◌≡◌, ℕ, Bool, true, false, cond, nat_eq, ◌||◌, List, [], ◌∷◌, None, Some, Option, All, filter, is_some, option_map, option_and_then, slice_get, map, zero, suc, length, ◌≤◌, arith, refl, sym, ap, ◌∙◌}
 use Rattle.std.specs.Cmp.{nat_eq_equiv}
 use Rattle.std.specs.List.{IsDistinct, AllByRecursion}
 use Rattle.std.specs.Map.{keys_of, lookup, set_value, remove_entry}
@@ -12,7 +12,7 @@ use Rattle.std.proofs.lemmas.Map.Keys.{IsDistinct-head, IsDistinct-tail}
 use Rattle.indexmap.specs.IndexMap.{insert_entry}
 use Rattle.hj_msg.specs.Store.{Resting, AreDistinct, holds, with_entry, with_settled, without_entry}
 use Rattle.hj_index.specs.declared.place.Rest.{Rest}
-use Rattle.hj_index.specs.ListStore.{is_empty_place, rows_of, settled_place}
+use Rattle.hj_index.specs.Places.{entry_at, is_empty_place, row_at, rows_of, settled_place}
 
 abbrev pub Places : Type 0 → Type 0
 Places P = List (ℕ × Option (Rest P))
@@ -233,3 +233,71 @@ pub settled-at : {P : Type 0} (k : ℕ) (place : Option (Rest P)) (es : Places P
     → rows_of (set_value (nat_eq k) es (settled_place place)) ≡ with_settled k (rows_of es)
 settled-at k None es unique at = rw (same-empty k es at) (sym (settled-absent k (rows_of es) (holds-empty k es unique at)))
 settled-at k (Some rest) es unique at = rows-settled k rest es unique at
+
+-- ---- the entry of a number
+
+pub entry-absent : {P : Type 0} (k : ℕ) (es : Places P) → lookup (nat_eq k) es ≡ None → entry_at k (rows_of es) ≡ None
+entry-absent k [] at = refl
+entry-absent k ((n, None) ∷ es) at = entry-absent k es (none-tail k n None es at).1
+entry-absent k ((n, Some rest) ∷ es) at =
+    let t = none-tail k n (Some rest) es at in
+    rw (flipped k n false t.0) (entry-absent k es t.1)
+
+pub entry-found : {P : Type 0} (k : ℕ) (place : Option (Rest P)) (es : Places P) → IsDistinct nat_eq (keys_of es) → lookup (nat_eq k) es ≡ Some place
+    → entry_at k (rows_of es) ≡ option_map (row_of k) place
+entry-found k place [] unique at = cc
+entry-found {P = P} k place ((n, None) ∷ es) unique at = by (nat_eq k n) refl at (entry-found k place es (IsDistinct-tail nat_eq n (keys_of es) unique))
+  where
+    by : (b : Bool) → nat_eq k n ≡ b → cond b (Some None) (lookup (nat_eq k) es) ≡ Some place → (lookup (nat_eq k) es ≡ Some place → entry_at k (rows_of es) ≡ option_map (row_of k) place)
+        → entry_at k (rows_of es) ≡ option_map (row_of k) place
+    by true p h later =
+        let same : place ≡ None = cc in
+        rw same (entry-absent k es (past-head k n None es unique p))
+    by false p h later = later h
+entry-found {P = P} k place ((n, Some row) ∷ es) unique at = by (nat_eq k n) refl at (entry-found k place es (IsDistinct-tail nat_eq n (keys_of es) unique))
+  where
+    by : (b : Bool) → nat_eq k n ≡ b → cond b (Some (Some row)) (lookup (nat_eq k) es) ≡ Some place → (lookup (nat_eq k) es ≡ Some place → entry_at k (rows_of es) ≡ option_map (row_of k) place)
+        → cond (nat_eq n k) (Some (row_of n row)) (entry_at k (rows_of es)) ≡ option_map (row_of k) place
+    by true p h later =
+        let same : place ≡ Some row = cc in
+        rw (flipped k n true p, same) (ap (λ number. Some (row_of number row)) (sym (eqb-true k n p)))
+    by false p h later = rw (flipped k n false p) (later h)
+
+pub fewer-rows : {P : Type 0} (es : Places P) → length (rows_of es) ≤ length es
+fewer-rows [] = omega arith
+fewer-rows ((n, None) ∷ es) = omega (arith, fewer-rows es)
+fewer-rows ((n, Some row) ∷ es) = omega (arith, fewer-rows es)
+
+-- a row that was found first under its number, or none
+pub row-taken : {P : Type 0} (k : ℕ) (es : Places P) → is_empty_place (lookup (nat_eq k) es) ≡ false
+    → row_at k (rows_of es) ≡ option_map (λ (rest : Rest P). rest.row) (option_and_then (λ (place : Option (Rest P)). place) (lookup (nat_eq k) es))
+row-taken k [] full = refl
+row-taken {P = P} k ((n, None) ∷ es) full = by (nat_eq k n) refl full (row-taken k es)
+  where
+    by : (b : Bool) → nat_eq k n ≡ b → is_empty_place (cond b (Some None) (lookup (nat_eq k) es)) ≡ false
+        → (is_empty_place (lookup (nat_eq k) es) ≡ false → row_at k (rows_of es) ≡ option_map (λ (rest : Rest P). rest.row) (option_and_then (λ (place : Option (Rest P)). place) (lookup (nat_eq k) es)))
+        → row_at k (rows_of es) ≡ option_map (λ (rest : Rest P). rest.row) (option_and_then (λ (place : Option (Rest P)). place) (cond b (Some None) (lookup (nat_eq k) es)))
+    by true p h later = cc
+    by false p h later = later h
+row-taken {P = P} k ((n, Some row) ∷ es) full = by (nat_eq k n) refl full (row-taken k es)
+  where
+    by : (b : Bool) → nat_eq k n ≡ b → is_empty_place (cond b (Some (Some row)) (lookup (nat_eq k) es)) ≡ false
+        → (is_empty_place (lookup (nat_eq k) es) ≡ false → row_at k (rows_of es) ≡ option_map (λ (rest : Rest P). rest.row) (option_and_then (λ (place : Option (Rest P)). place) (lookup (nat_eq k) es)))
+        → option_map (λ (entry : Resting P). entry.row) (cond (nat_eq n k) (Some (row_of n row)) (entry_at k (rows_of es)))
+        ≡ option_map (λ (rest : Rest P). rest.row) (option_and_then (λ (place : Option (Rest P)). place) (cond b (Some (Some row)) (lookup (nat_eq k) es)))
+    by true p h later = rw (flipped k n true p) refl
+    by false p h later = rw (flipped k n false p) (later h)
+
+pub no-some : {A : Type 0} (o : Option A) → is_some o ≡ false → o ≡ None
+no-some None e = refl
+no-some (Some x) e = absurd cc
+
+-- a place that is found at an index
+pub row-indexed : {P : Type 0} (k at : ℕ) (es : Places P) → IsDistinct nat_eq (keys_of es) → slice_get (map (λ e. e.1) es) at ≡ lookup (nat_eq k) es
+    → (entry : ℕ × Option (Rest P)) → slice_get es at ≡ Some entry → entry_at k (rows_of es) ≡ option_map (row_of k) entry.1
+row-indexed k at es unique same entry found = entry-found k entry.1 es unique (sym same ∙ mapped es at found)
+  where
+    mapped : {A B : Type 0} → (xs : List (A × B)) (at : ℕ) {x : A × B} → slice_get xs at ≡ Some x → slice_get (map (λ (e : A × B). e.1) xs) at ≡ Some x.1
+    mapped [] at e = absurd cc
+    mapped {B = B} (x ∷ xs) zero e = ap (λ (o : Option _). option_map (λ p. p.1) o) e
+    mapped (x ∷ xs) (suc at) e = mapped xs at e

@@ -9,14 +9,14 @@ use Rattle.std.specs.Cmp.{nat_eq_equiv}
 use Rattle.std.proofs.lemmas.Map.Keys.{IsDistinct-tail}
 use Rattle.hj_msg.specs.declared.partner.Partner.{Partner}
 use Rattle.hj_index.specs.declared.place.Rest.{Rest}
-use Rattle.hj_index.specs.ListStore.{joining, rows_of}
+use Rattle.hj_index.specs.Places.{joining, partner_of, rows_of}
 use Rattle.hj_index.proofs.Rows.{Places, none-tail, past-head, flipped}
 use Rattle.hj_msg.proofs.Gathering.{insert_after}
-use Rattle.hj_index.proofs.Probes.{number, partner, partner_of, Finds, finds-joined, finds-nothing, finds-passed}
+use Rattle.hj_index.proofs.Probes.{number, partner, Finds, finds-joined, finds-nothing, finds-passed}
 use Rattle.hj_msg.specs.Store.{by_number, settled_partners}
 
 -- the numbers of two keys are equal
-is_at-nat : (n k : ℕ) → is_at (nat_cmp n) k ≡ nat_eq n k
+pub is_at-nat : (n k : ℕ) → is_at (nat_cmp n) k ≡ nat_eq n k
 is_at-nat n k = by (ltb n k) (nat_eq n k) refl refl
   where
     by : (less same : Bool) → ltb n k ≡ less → nat_eq n k ≡ same → is_at (nat_cmp n) k ≡ nat_eq n k

@@ -1,25 +1,22 @@
-ghost use Rattle.std.specs.Prelude.{◌≡◌, ◌<◌, [], nat_eq, IfOk, IfSome};
+ghost use Rattle.std.specs.Prelude.{◌≡◌, ◌<◌, [], IfOk};
 ghost use Rattle.std.specs.Option.{option_copied};
-ghost use Rattle.indexmap.specs.IndexMap.{get, spare, insert_entry, shift_remove_entry, IsUnique};
 ghost use Rattle.hj_msg.specs.Store.{joins, settled_matches};
-ghost use Rattle.hj_index.specs.ListStore.{joining, resting_rows, rows_of};
+ghost use Rattle.hj_index.specs.ListStore.{resting_rows};
+ghost use Rattle.hj_index.specs.Numbered.{room_in, rows_in};
+ghost use Rattle.hj_index.specs.Places.{joining};
 
-use crate::place::{Rest, settle_place, was_empty};
+use crate::numbered::Numbered;
+use crate::place::Rest;
 use hj_base::{EventNo, Memory, Share, Side};
 use hj_msg::{Join, Partner, Partners, Store};
-use indexmap::IndexMap;
 use std::alloc::Global;
 use std::collections::BTreeMap;
 
 /// A store that is walked whole by each probe, so it suits every join.
-///
-/// A removal leaves an empty place; all empty places are swept out at once when they are a quarter of all.
 #[derive(Drop)]
 pub struct ListStore<P> {
     alloc: Global,
-    places: IndexMap<u64, Option<Rest<P>>>,
-    /// How many places are empty.
-    empty: usize,
+    rows: Numbered<P>,
 }
 
 impl<P> ListStore<P> {
@@ -29,85 +26,38 @@ impl<P> ListStore<P> {
     {
         ListStore {
             alloc,
-            places: IndexMap::new(alloc),
-            empty: 0,
-        }
-    }
-}
-
-impl<P: Drop> ListStore<P> {
-    /// Counts a place that was emptied, and sweeps all empty places out where they are a quarter of all. The rows stay.
-    fn count_empty(&mut self)
-        ensures rows { rows_of self.new.places.entries ≡ rows_of self.old.places.entries }
-        ensures unique { IsUnique nat_eq self.new.places }
-    {
-        self.empty = self.empty.saturating_add(1);
-        if self.empty >= self.places.len() / 4 {
-            self.places.retain(|_, place| place.is_some());
-            self.empty = 0;
-        }
-    }
-
-    /// Moves the place of a number behind all others, which goes over all later ones. There is one to spare.
-    #[cold]
-    fn move_last(&mut self, no: u64)
-        requires { 0 < spare self.old.places }
-        ensures moved { IfSome (get nat_eq self.old.places no) (λ place.
-            self.new.places.entries ≡ insert_entry nat_eq (shift_remove_entry (nat_eq no) self.old.places.entries) no place) }
-        ensures unique { IsUnique nat_eq self.new.places }
-    {
-        if let Some(place) = self.places.shift_remove(&no)
-            && let Err(_) = self.places.insert(no, place)
-        {
-            unreachable!();
+            rows: Numbered::new(alloc),
         }
     }
 }
 
 impl<P: Share + Drop, J: Join<P>> Store<P, J> for ListStore<P> {
-    ghost entries = { λ store. rows_of store.places.entries };
+    ghost entries = { resting_rows };
 
-    ghost has_place = { λ store no row. 1 < spare store.places };
+    ghost has_place = { λ store no row. 1 < room_in store.rows };
 
     ghost suits = { λ store side join. Unit {0} };
 
     fn reserve(&mut self, _no: EventNo, _row: &P) -> Result<(), Memory> {
-        // One more than the row takes, for a number whose place is empty: it is put there, and then moved.
-        self.places.reserve(2)?;
-        Ok(())
+        self.rows.reserve()
     }
 
     fn insert(&mut self, no: EventNo, row: P, settled: bool) {
-        let Ok(old) = self.places.insert(no.0, Some(Rest { row, settled })) else {
-            unreachable!()
-        };
-        if was_empty(&old) {
-            self.move_last(no.0);
-        }
+        let _replaced = self.rows.insert(no.0, row, settled);
     }
 
     fn settle(&mut self, no: EventNo) -> bool {
-        let Some(place) = self.places.get_mut(&no.0) else {
-            return false;
-        };
-        settle_place(place)
+        self.rows.settle(no.0)
     }
 
     fn remove(&mut self, no: EventNo) -> bool {
-        let Some(place) = self.places.get_mut(&no.0) else {
-            return false;
-        };
-        if place.take().is_none() {
-            return false;
-        }
-        self.count_empty();
-        true
+        self.rows.remove(no.0).is_some()
     }
 
     fn probe(&self, side: Side, against: &P, join: &J) -> Result<Partners<P>, Memory> {
         let mut found = Partners::new(self.alloc);
         let mut last = 0;
-        for (no, place) in &self.places {
+        for (no, place) in &self.rows.places {
             if let Some(row) = joining_row(place, side, against, join) {
                 if *no < last {
                     return self.probe_sorted(side, against, join);
@@ -132,10 +82,10 @@ impl<P: Share + Drop> ListStore<P> {
         against: &P,
         join: &J,
     ) -> Result<Partners<P>, Memory>
-        ensures { IfOk result (λ partners. partners ≡ settled_matches (J.predicate join.now) side against.now (rows_of self.now.places.entries)) }
+        ensures { IfOk result (λ partners. partners ≡ settled_matches (J.predicate join.now) side against.now (rows_in self.now.rows)) }
     {
         let mut rows = BTreeMap::new(self.alloc);
-        for (no, place) in self.places.iter() {
+        for (no, place) in self.rows.places.iter() {
             if let Some(row) = joining_row(place, side, against, join) {
                 rows.insert(*no, row.share()?)?;
             }
@@ -169,7 +119,7 @@ fn joining_row<'a, P, J: Join<P>>(
 
 /// Whether a row of a side joins with a row of the other one.
 #[inline(always)]
-fn is_joined<P, J: Join<P>>(side: Side, row: &P, other: &P, join: &J) -> bool
+pub(crate) fn is_joined<P, J: Join<P>>(side: Side, row: &P, other: &P, join: &J) -> bool
     ensures { result ≡ joins (J.predicate join.now) side row.now other.now }
 {
     match side {

@@ -1,5 +1,5 @@
-ghost use Rattle.std.specs.Prelude.{◌≡◌, is_some};
-ghost use Rattle.hj_index.specs.ListStore.{is_empty_place, settled_place};
+ghost use Rattle.std.specs.Prelude.{◌≡◌, is_some, option_and_then, option_map};
+ghost use Rattle.hj_index.specs.Places.{is_empty_place, settled_place};
 
 /// A row at rest.
 #[derive(Drop)]
@@ -29,4 +29,15 @@ pub(crate) fn was_empty<P>(place: &Option<Option<Rest<P>>>) -> bool
     ensures { result ≡ is_empty_place place.now }
 {
     matches!(place, Some(None))
+}
+
+/// The row that stood in a place, where there was one.
+#[inline(always)]
+pub(crate) fn taken_place<P: Drop>(place: Option<Option<Rest<P>>>) -> Option<P>
+    ensures { result ≡ option_map (λ rest. rest.row) (option_and_then (λ place. place) place) }
+{
+    match place {
+        Some(Some(rest)) => Some(rest.row),
+        _ => None,
+    }
 }

@@ -1,4 +1,4 @@
-ghost use Rattle.std.specs.Prelude.{nat_eq, ◌/◌};
+ghost use Rattle.std.specs.Prelude.{◌≡◌, ◌/◌, nat_eq};
 
 use super::*;
 use hj_base::{EventNo, Memory, Share, Side};
@@ -157,7 +157,9 @@ fn rows_stay_through_sweeps(rt: HostRuntime) -> Result<(), Fail> {
 }
 
 /// Takes what may go to another thread.
-fn sent<T: Send>(value: T) -> T {
+pub(crate) fn sent<T: Send>(value: T) -> T
+    ensures { result ≡ value }
+{
     value
 }
 

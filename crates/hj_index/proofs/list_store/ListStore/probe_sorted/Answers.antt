@@ -5,7 +5,7 @@ use Rattle.hj_index.proofs.list_store.ListStore.probe_sorted.Goals as goal
 
 pub loop-no-init : goal.loop-no-init
 loop-no-init g c =
-    sorts-nothing (λ row. joins (g.J.Join.predicate c.args.join.now) c.args.side row c.args.against.now) c.new-rows.result.entries c.into_iter-no-iterator.result c.args.self.now.places.entries
+    sorts-nothing (λ row. joins (g.J.Join.predicate c.args.join.now) c.args.side row c.args.against.now) c.new-rows.result.entries c.into_iter-no-iterator.result c.args.self.now.rows.places.entries
     c.new-rows.ensures.empty (c.into_iter-no-iterator.ensures.into_iter_gives ∙ c.iter-no-items.ensures.rest) c.iter-no-items.ensures.unique
 
 pub loop-no-preserved-in_ok-insert-2 : goal.loop-no-preserved-in_ok-insert-2

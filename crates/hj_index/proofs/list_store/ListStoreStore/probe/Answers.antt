@@ -5,7 +5,7 @@ use Rattle.hj_index.proofs.list_store.ListStoreStore.probe.Goals as goal
 
 pub loop-no-init : goal.loop-no-init
 loop-no-init g c = (
-  finds-nothing (λ row. joins (g.J.Join.predicate c.args.join.now) c.args.side row c.args.against.now) c.new-found.result c.into_iter-no-iterator.result c.args.self.now.places.entries
+  finds-nothing (λ row. joins (g.J.Join.predicate c.args.join.now) c.args.side row c.args.against.now) c.new-found.result c.into_iter-no-iterator.result c.args.self.now.rows.places.entries
       c.new-found.ensures c.into_iter-no-iterator.ensures.into_iter_gives.0,
   none-above c.new-found.result 0 c.new-found.ensures,
 )

@@ -1,6 +1,6 @@
 use Rattle.std.proofs.Common.{◌≡◌, ◌≤◌, All}
 use Rattle.hj_msg.specs.Store.{joins, settled_partners, settled_matches}
-use Rattle.hj_index.specs.ListStore.{rows_of}
+use Rattle.hj_index.specs.Places.{rows_of}
 use Rattle.hj_index.proofs.Probes.{number}
 use Rattle.hj_msg.proofs.Gathering.{gather}
 use Rattle.hj_index.proofs.list_store.ListStoreStore.probe.Given as goal
@@ -9,5 +9,5 @@ use Rattle.hj_index.proofs.list_store.ListStoreStore.probe.Given as goal
 abbrev pub invariant-loop-no : goal.invariant-loop-no
 invariant-loop-no g l =
     (gather number l.found (settled_partners (λ row. joins (g.J.Join.predicate l.join) l.side row l.against) (rows_of l.no-iterator))
-    ≡ settled_matches (g.J.Join.predicate l.join) l.side l.against (rows_of l.self.places.entries))
+    ≡ settled_matches (g.J.Join.predicate l.join) l.side l.against (rows_of l.self.rows.places.entries))
     × All (λ partner. number partner ≤ l.last) l.found
