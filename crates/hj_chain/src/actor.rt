@@ -21,6 +21,7 @@ pub enum Actor {
 
 impl Actor {
     /// How many actors a chain of so many cores has.
+    #[inline(always)]
     pub(crate) fn count(cores: usize) -> usize
         requires { cores ≤ 64 }
         ensures { result ≡ length (actors cores) }
@@ -30,6 +31,7 @@ impl Actor {
 
     /// The actor at a place among those of a chain of so many cores: first the driver's put and its ports, then the ends of each
     /// core, and then the collection of each core's reports.
+    #[inline(always)]
     pub(crate) fn at(place: usize, cores: usize) -> Self
         requires few { cores ≤ 64 }
         requires within { place < length (actors cores) }
@@ -54,6 +56,7 @@ impl Actor {
     }
 
     /// The place behind this actor, among those of a chain of so many cores.
+    #[inline(always)]
     pub(crate) fn place_behind(self, cores: usize) -> usize
         requires { cores ≤ 64 }
         ensures { result ≡ place_behind cores self }

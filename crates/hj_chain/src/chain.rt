@@ -131,6 +131,7 @@ impl<P: Share + Drop, J: Join<P> + Drop, L: Store<P, J> + Drop, R: Store<P, J> +
 
     /// Makes a step of an actor, if it is enabled. A step that puts an event into the chain asks the feed for the next one where
     /// that is there; else the driver's next step asks, and puts nothing.
+    #[inline(always)]
     pub fn step<F: Feed<P>>(&mut self, actor: Actor, feed: &mut F) -> Stepped
         requires { GoesWith J.predicate self.old (F.state feed.old) }
         ensures step { Steps F.gives F.ready (J.predicate self.old.join) actor self.old.state feed.old result self.new.state feed.new }
@@ -173,6 +174,7 @@ impl<P: Share + Drop, J: Join<P> + Drop, L: Store<P, J> + Drop, R: Store<P, J> +
 
     /// Gives the next pair, in the order of the sequential join: None where none of the pairs that are kept is within the
     /// punctuation, and where memory ran out in a step. It takes no memory.
+    #[inline(always)]
     pub fn pair(&mut self) -> Option<Pair<P>>
         requires { (feed : FeedState) × GoesWith J.predicate self.old feed }
         ensures pair { (schedule : List Actors) (events : List (Event P)) (given : ℕ) (stands : StandsFor J.predicate self.old schedule events given) → result ≡ next_pair stands }
@@ -200,6 +202,7 @@ impl<P: Share + Drop, J: Join<P> + Drop, L: Store<P, J> + Drop, R: Store<P, J> +
     }
 
     /// The driver asks the feed where no answer is known, or puts the next event, or the closes.
+    #[inline(always)]
     fn admit<F: Feed<P>>(&mut self, feed: &mut F) -> Stepped
         requires goes { GoesWith J.predicate self.old (F.state feed.old) }
         requires going { self.old.state.over ≡ false }
@@ -251,6 +254,7 @@ impl<P: Share + Drop, J: Join<P> + Drop, L: Store<P, J> + Drop, R: Store<P, J> +
     }
 
     /// The driver takes a message out at a port.
+    #[inline(always)]
     fn receive(&mut self, port: Side) -> Stepped
         requires { IsGoing J.predicate self.old }
         ensures step { (answer : FeedAnswer P) → StepsTo (J.predicate self.old.join) (at_port port) answer self.old.state result self.new.state }
@@ -266,6 +270,7 @@ impl<P: Share + Drop, J: Join<P> + Drop, L: Store<P, J> + Drop, R: Store<P, J> +
     }
 
     /// A core handles the first message that comes in at one of its ends.
+    #[inline(always)]
     fn turn(&mut self, core: CoreNo, end: Side) -> Stepped
         requires { IsGoing J.predicate self.old }
         ensures step { (answer : FeedAnswer P) → StepsTo (J.predicate self.old.join) (Actor.Core core end) answer self.old.state result self.new.state }
@@ -295,6 +300,7 @@ impl<P: Share + Drop, J: Join<P> + Drop, L: Store<P, J> + Drop, R: Store<P, J> +
     }
 
     /// A core's first report is taken. The queue gives it up only once there is room for its pairs.
+    #[inline(always)]
     fn collect(&mut self, core: CoreNo) -> Stepped
         requires { IsGoing J.predicate self.old }
         ensures step { (answer : FeedAnswer P) → StepsTo (J.predicate self.old.join) (Actor.Collect core) answer self.old.state result self.new.state }
@@ -323,6 +329,7 @@ impl<P: Share + Drop, J: Join<P> + Drop, L: Store<P, J> + Drop, R: Store<P, J> +
 }
 
 /// The feed's next answer, if it is there.
+#[inline(always)]
 fn next_if_there<P, F: Feed<P>>(feed: &mut F) -> Option<Given<P>>
     ensures { (answer : FeedAnswer P) × (result ≡ if_there answer) × Tells F.gives F.ready F.state feed.old answer feed.new }
 {
@@ -334,6 +341,7 @@ fn next_if_there<P, F: Feed<P>>(feed: &mut F) -> Option<Given<P>>
 }
 
 /// Puts what a core sends on its links, and its report into its queue.
+#[inline(always)]
 fn put_sends<P: Drop>(links: &mut Links<P>, reports: &mut Reports<P>, place: usize, sends: Sends<P>)
     requires small { place < 2 ^ 16 }
     requires in_links { place + 1 < length links.old }

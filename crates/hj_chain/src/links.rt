@@ -41,6 +41,7 @@ impl<P: Drop> Links<P> {
     }
 
     /// The first message that comes in at an end of a core; None exactly where there is none, as past the last link.
+    #[inline(always)]
     pub fn incoming(&self, core: usize, end: Side) -> Option<&Msg<P>>
         requires { core < 2 ^ 16 }
         ensures { option_copied result ≡ first (incoming_of end core self.now) }
@@ -53,6 +54,7 @@ impl<P: Drop> Links<P> {
 
     /// The first message that comes out at a port of a chain of so many cores; None exactly where there is none, as past the
     /// last link.
+    #[inline(always)]
     pub fn outgoing(&self, port: Side, cores: usize) -> Option<&Msg<P>>
         ensures { option_copied result ≡ first (at_port port cores self.now) }
     {
@@ -63,6 +65,7 @@ impl<P: Drop> Links<P> {
     }
 
     /// Takes the first message that comes in at an end of a core.
+    #[inline(always)]
     pub fn take_in(&mut self, core: usize, end: Side) -> Option<Msg<P>>
         requires { core + 1 < length self.old }
         ensures first { result ≡ first (incoming_of end core self.old) }
@@ -75,6 +78,7 @@ impl<P: Drop> Links<P> {
     }
 
     /// Puts a message on a link to the right, if there is one.
+    #[inline(always)]
     pub fn put_right(&mut self, at: usize, msg: Option<Msg<P>>)
         requires in_range { at < length self.old }
         requires room { length (link_at self.old at).rightwards + length (option_to_list msg) ≤ (link_at self.old at).capacity }
@@ -88,6 +92,7 @@ impl<P: Drop> Links<P> {
     }
 
     /// Puts a message on a link to the left, if there is one.
+    #[inline(always)]
     pub fn put_left(&mut self, at: usize, msg: Option<Msg<P>>)
         requires in_range { at < length self.old }
         requires room { length (link_at self.old at).leftwards + length (option_to_list msg) ≤ (link_at self.old at).capacity }
@@ -101,6 +106,7 @@ impl<P: Drop> Links<P> {
     }
 
     /// Puts a message in at a port of a chain of so many cores.
+    #[inline(always)]
     pub fn put_in(&mut self, port: Side, cores: usize, msg: Msg<P>)
         requires in_range { cores < length self.old }
         requires room { HasRoomAt port cores self.old }
@@ -113,6 +119,7 @@ impl<P: Drop> Links<P> {
     }
 
     /// Takes the first message that comes out at a port of a chain of so many cores.
+    #[inline(always)]
     pub fn take_out(&mut self, port: Side, cores: usize) -> Option<Msg<P>>
         requires { cores < length self.old }
         ensures first { result ≡ first (at_port port cores self.old) }

@@ -41,6 +41,7 @@ impl<P: Drop> Reports<P> {
     }
 
     /// A core's first report; None exactly where it has none, as where there is no such core.
+    #[inline(always)]
     pub fn first(&self, core: usize) -> Option<&Report<P>>
         ensures { option_copied result ≡ first (queue_at self.now.queues core) }
     {
@@ -48,6 +49,7 @@ impl<P: Drop> Reports<P> {
     }
 
     /// Whether a core has as many reports as a queue holds. One that isn't there has none.
+    #[inline(always)]
     pub fn is_full(&self, core: usize) -> bool
         ensures { result ≡ (length (queue_at self.now.queues core) == self.now.capacity) }
     {
@@ -58,6 +60,7 @@ impl<P: Drop> Reports<P> {
     }
 
     /// Puts a core's report behind its others, if there is one.
+    #[inline(always)]
     pub fn put(&mut self, core: usize, report: Option<Report<P>>)
         requires in_range { core < length self.old.queues }
         requires room { length (queue_at self.old.queues core) < self.old.capacity }
@@ -71,6 +74,7 @@ impl<P: Drop> Reports<P> {
     }
 
     /// Drops a core's first report, if it has one.
+    #[inline(always)]
     pub fn drop_first(&mut self, core: usize)
         requires { core < length self.old.queues }
         ensures { self.new ≡ record self.old { queues = changed_at core (drop 1) self.old.queues } }

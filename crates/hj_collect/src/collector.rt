@@ -66,6 +66,7 @@ impl Collector {
     }
 
     /// The pairs of a report, each with rows of its own. A report without partners takes no memory.
+    #[inline(always)]
     pub fn pairs<P: Share + Drop>(&self, report: &Report<P>) -> Result<Vec<Pair<P>>, Memory>
         ensures { IfOk result (λ pairs. pairs.items ≡ pairs_of report.now) }
     {
@@ -73,6 +74,7 @@ impl Collector {
     }
 
     /// Takes note of the next report of a core: of the marks that it gives, or that the core stopped.
+    #[inline(always)]
     pub fn note<P>(&mut self, core: CoreNo, report: &Report<P>)
         requires { core.0 < length self.old.left }
         ensures { self.new ≡ after_report core report.now self.old }
@@ -98,6 +100,7 @@ impl Collector {
     }
 
     /// Up to which number all pairs have come: None where some core that hasn't ended hasn't reported both sides.
+    #[inline(always)]
     pub fn punctuation(&self) -> Option<Mark>
         ensures { meaning_of result ≡ least_mark self.now }
     {

@@ -31,6 +31,7 @@ impl Least {
     }
 
     /// The least of the marks and of one more.
+    #[inline(always)]
     pub(crate) fn with(self, mark: Option<Mark>) -> Self
         requires { self.holders + 1 < 2 ^ 64 }
         ensures { (marks : List (Option Meaning)) → IsLeast self marks → IsLeast result (meaning_of mark ∷ marks) }
@@ -46,6 +47,7 @@ impl Least {
     }
 
     /// The least of the marks but for one of them; None where no other of them is the least.
+    #[inline(always)]
     pub(crate) fn without(self, mark: Option<Mark>) -> Option<Self>
         ensures { (marks : List (Option Meaning)) → IsLeast self (meaning_of mark ∷ marks) → IfSome result (λ least. IsLeast least marks) }
     {

@@ -40,6 +40,7 @@ impl Marks {
     }
 
     /// The least mark; None where a core has none.
+    #[inline(always)]
     pub(crate) fn least(&self) -> Option<Mark>
         ensures { meaning_of result ≡ least_of self.now }
     {
@@ -47,6 +48,7 @@ impl Marks {
     }
 
     /// A core reported an arrival. Where it has ended, its mark stays past every number.
+    #[inline(always)]
     pub(crate) fn arrive(&mut self, core: usize, no: EventNo)
         requires { core < length self.old }
         ensures { self.new ≡ with_arrival core no.0 self.old }
@@ -65,6 +67,7 @@ impl Marks {
     }
 
     /// Gives a core another mark. Where its last one was the least alone, the least is looked for anew.
+    #[inline(always)]
     fn set(&mut self, core: usize, mark: Mark)
         requires { core < length self.old }
         ensures { self.new ≡ slice_set self.old core (meaning_of (Some mark)) }

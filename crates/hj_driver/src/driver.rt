@@ -61,6 +61,7 @@ impl Driver {
     }
 
     /// How many events are outstanding: put, and not yet left.
+    #[inline(always)]
     pub fn outstanding(&self) -> u32
         ensures { result ≡ count_of self.now }
     {
@@ -75,6 +76,7 @@ impl Driver {
     }
 
     /// Why `admit` of this event would answer Wait now; None exactly where it would answer Send.
+    #[inline(always)]
     pub fn waits<P>(&self, event: &Event<P>) -> Option<Why>
         ensures kept { result ≡ cause_of event.now self.now }
         ensures log { (log : List (DriverTurn P)) → StandsFor self.now log → IsWellFormed (admitted log ++ event.now ∷ []) → result ≡ cause_after self.now.flight event.now log }
@@ -83,6 +85,7 @@ impl Driver {
     }
 
     /// Puts the next event into the chain, or says why not.
+    #[inline(always)]
     pub fn admit<P>(&mut self, event: Event<P>) -> Admitted<P>
         // the events put so far, in some log that the driver stands for, and this one after them are well formed
         requires { (log : List (DriverTurn P)) × StandsFor self.old log × IsWellFormed (admitted log ++ event ∷ []) }
@@ -101,6 +104,7 @@ impl Driver {
     }
 
     /// Takes note of a message that was taken at a port.
+    #[inline(always)]
     pub fn took<P>(&mut self, port: Side, msg: &Msg<P>)
         ensures turn { (log : List (DriverTurn P)) → StandsFor self.old log → StandsFor self.new (log ++ receipt port msg.now ∷ []) }
         ensures others { ¬ (IsTrue (awaits port msg.now self.old)) → self.new ≡ self.old }
@@ -142,6 +146,7 @@ impl Driver {
     }
 
     /// Why an event waits, if it does.
+    #[inline(always)]
     fn cause<P>(&self, event: &Event<P>) -> Option<Why>
         ensures cause { result ≡ cause_of event.now self.now }
         ensures few { count_of self.now ≤ self.now.flight }
@@ -166,6 +171,7 @@ impl Driver {
     }
 
     /// An event is put: its message, and the end of the chain at which it is put.
+    #[inline(always)]
     fn put<P>(&mut self, event: Event<P>) -> (Side, Msg<P>)
         requires room { count_of self.old < self.old.flight }
         requires new { IsNew event self.old }
@@ -210,6 +216,7 @@ impl Driver {
     }
 
     /// A message was taken at the left port.
+    #[inline(always)]
     fn take_at_left<P>(&mut self, msg: &Msg<P>)
         ensures { self.new ≡ after_take Side.Left msg.now self.old }
     {
@@ -223,6 +230,7 @@ impl Driver {
     }
 
     /// A message was taken at the right port.
+    #[inline(always)]
     fn take_at_right<P>(&mut self, msg: &Msg<P>)
         ensures { self.new ≡ after_take Side.Right msg.now self.old }
     {

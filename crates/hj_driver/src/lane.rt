@@ -25,6 +25,7 @@ pub struct Arrival {
 
 impl Arrival {
     /// Whether its row is still to be taken.
+    #[inline(always)]
     fn is_before_its_row(self) -> bool
         ensures { result ≡ not (is_taken Part.Row self.taken) }
     {
@@ -32,6 +33,7 @@ impl Arrival {
     }
 
     /// The arrival behind one of its messages; None exactly where the other one was taken before, so that it has left.
+    #[inline(always)]
     fn after(self, part: Part) -> Option<Arrival>
         ensures { result ≡ with_part part self self.taken }
     {
@@ -85,6 +87,7 @@ impl Lane {
     }
 
     /// How many events are outstanding.
+    #[inline(always)]
     pub fn len(&self) -> usize
         requires { length self.now.arrivals + length self.now.expiries < 2 ^ 64 }
         ensures { result ≡ length self.now.arrivals + length self.now.expiries }
@@ -93,6 +96,7 @@ impl Lane {
     }
 
     /// Whether the row of an arrival is still to be taken.
+    #[inline(always)]
     pub fn waits_for_row(&self, no: EventNo) -> bool
         ensures { result ≡ list_any (waits_for no.0 Part.Row) self.now.arrivals }
     {
@@ -103,6 +107,7 @@ impl Lane {
     }
 
     /// An arrival is put.
+    #[inline(always)]
     pub fn arrive(&mut self, no: EventNo)
         requires room { length self.old.arrivals < self.old.room }
         requires rising { All (λ arrival. arrival.no.0 < no.0) self.old.arrivals }
@@ -113,6 +118,7 @@ impl Lane {
     }
 
     /// The expiry of a row is put.
+    #[inline(always)]
     pub fn expire(&mut self, of: EventNo)
         requires room { length self.old.expiries < self.old.room }
         requires once { ¬ (Contains self.old.expiries of) }
@@ -122,6 +128,7 @@ impl Lane {
     }
 
     /// A message of an arrival is taken.
+    #[inline(always)]
     pub fn take(&mut self, no: EventNo, part: Part)
         ensures { self.new ≡ record self.old { arrivals = filter_map (after_part no.0 part) self.old.arrivals } }
     {
@@ -135,6 +142,7 @@ impl Lane {
     }
 
     /// The message of the expiry of a row is taken.
+    #[inline(always)]
     pub fn take_expiry(&mut self, of: EventNo)
         ensures { self.new ≡ record self.old { expiries = filter (is_other of.0) self.old.expiries } }
     {
@@ -144,6 +152,7 @@ impl Lane {
     }
 
     /// The place of an arrival.
+    #[inline(always)]
     fn search(&self, no: EventNo) -> Result<usize, usize>
         ensures found { IfOk result (IsAt self.now.arrivals no.0) }
         ensures absent { IfErr result (λ _. IsAbsent self.now.arrivals no.0) }
@@ -153,6 +162,7 @@ impl Lane {
     }
 
     /// The place of an expiry: in a chain its message comes out as the first of its side.
+    #[inline(always)]
     fn find(&self, of: EventNo) -> Option<usize>
         ensures { result ≡ position (λ other. of.0 == other.0) self.now.expiries }
     {

@@ -45,6 +45,7 @@ impl<P> Ordered<P> {
 
 impl<P: Drop> Ordered<P> {
     /// Keeps these pairs too. After a refusal nothing changed, and the pairs are dropped.
+    #[inline(always)]
     pub fn add(&mut self, pairs: Vec<Pair<P>>) -> Result<(), Memory>
         ensures ok { OnOk result (IsPermutation (self.old ++ pairs.items) self.new) }
         ensures err { OnErr result (self.new ≡ self.old) }
@@ -56,6 +57,7 @@ impl<P: Drop> Ordered<P> {
 
     /// Takes out a pair that is due: one whose later number is within the mark, and before which no kept pair comes by its
     /// later number and then by its earlier one. None where no later number is within the mark.
+    #[inline(always)]
     pub fn release(&mut self, up_to: Mark) -> Option<Pair<P>>
         ensures kept { IfSome result (λ pair. IsPermutation self.old (pair ∷ self.new)) }
         ensures first { IfSome result (λ pair. All (λ other. comes_before other pair ≡ false) self.old) }
@@ -72,6 +74,7 @@ impl<P: Drop> Ordered<P> {
 }
 
 /// Puts pairs into a heap that has room for them.
+#[inline(always)]
 fn push_all<P: Drop>(heap: &mut BinaryHeap<Kept<P>>, pairs: Vec<Pair<P>>)
     requires { heap_len heap.old + vec_len pairs ≤ heap_capacity heap.old }
     ensures pairs { IsPermutation (pairs_in (heap_items heap.old) ++ pairs.items) (pairs_in (heap_items heap.new)) }
@@ -85,6 +88,7 @@ fn push_all<P: Drop>(heap: &mut BinaryHeap<Kept<P>>, pairs: Vec<Pair<P>>)
 }
 
 /// Whether a number is within a mark.
+#[inline(always)]
 fn is_within(number: u64, mark: Mark) -> bool
     ensures { result ≡ is_within (Some (meaning mark)) number }
 {

@@ -46,7 +46,7 @@ impl<M> PlainLink<M> {
     }
 
     /// Puts a message behind those under way to the right; hands it back exactly where there are as many as the capacity.
-    #[inline]
+    #[inline(always)]
     pub fn put_right(&mut self, m: M) -> Result<(), Full<M>>
         ensures room { IsOk result ↔ (length self.old.rightwards < self.old.capacity) }
         ensures put { OnOk result (self.new ≡ record self.old { rightwards = self.old.rightwards ++ m ∷ [] }) }
@@ -60,7 +60,7 @@ impl<M> PlainLink<M> {
     }
 
     /// Takes the first message under way to the right; None exactly where there is none.
-    #[inline]
+    #[inline(always)]
     pub fn take_right(&mut self) -> Option<M>
         ensures first { result ≡ slice_get self.old.rightwards 0 }
         ensures rest { self.new ≡ record self.old { rightwards = drop 1 self.old.rightwards } }
@@ -71,7 +71,7 @@ impl<M> PlainLink<M> {
     }
 
     /// The first message under way to the right, which stays; None exactly where there is none.
-    #[inline]
+    #[inline(always)]
     pub fn look_right(&self) -> Option<&M>
         ensures first { option_copied result ≡ slice_get self.now.rightwards 0 }
         ensures empty { IsNone result ↔ (self.now.rightwards ≡ []) }
@@ -80,7 +80,7 @@ impl<M> PlainLink<M> {
     }
 
     /// Puts a message behind those under way to the left; hands it back exactly where there are as many as the capacity.
-    #[inline]
+    #[inline(always)]
     pub fn put_left(&mut self, m: M) -> Result<(), Full<M>>
         ensures room { IsOk result ↔ (length self.old.leftwards < self.old.capacity) }
         ensures put { OnOk result (self.new ≡ record self.old { leftwards = self.old.leftwards ++ m ∷ [] }) }
@@ -94,7 +94,7 @@ impl<M> PlainLink<M> {
     }
 
     /// Takes the first message under way to the left; None exactly where there is none.
-    #[inline]
+    #[inline(always)]
     pub fn take_left(&mut self) -> Option<M>
         ensures first { result ≡ slice_get self.old.leftwards 0 }
         ensures rest { self.new ≡ record self.old { leftwards = drop 1 self.old.leftwards } }
@@ -105,7 +105,7 @@ impl<M> PlainLink<M> {
     }
 
     /// The first message under way to the left, which stays; None exactly where there is none.
-    #[inline]
+    #[inline(always)]
     pub fn look_left(&self) -> Option<&M>
         ensures first { option_copied result ≡ slice_get self.now.leftwards 0 }
         ensures empty { IsNone result ↔ (self.now.leftwards ≡ []) }

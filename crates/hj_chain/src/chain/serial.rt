@@ -90,6 +90,7 @@ impl<P: Share + Drop, J: Join<P> + Drop, L: Store<P, J> + Drop, R: Store<P, J> +
     }
 
     /// Gives the pairs that are due to the drain, one after the other, up to the first one that it refuses.
+    #[inline(always)]
     fn release<D: Drain<P>>(&mut self, drain: &mut D) -> Drained
         requires { (feed : FeedState) × GoesWith J.predicate self.old feed }
         ensures releases { (schedule : List Actors) (events : List (Event P)) (given : ℕ) (stood : StandsFor J.predicate self.old schedule events given) → Releases D.takes stood drain.old result self.new drain.new }
@@ -105,6 +106,7 @@ impl<P: Share + Drop, J: Join<P> + Drop, L: Store<P, J> + Drop, R: Store<P, J> +
     }
 
     /// Whether an actor is enabled.
+    #[inline(always)]
     fn is_enabled(&self, actor: Actor) -> bool
         ensures { result ≡ is_enabled self.now.state actor }
     {
@@ -130,6 +132,7 @@ impl<P: Share + Drop, J: Join<P> + Drop, L: Store<P, J> + Drop, R: Store<P, J> +
     }
 
     /// Whether the driver would wait for the feed.
+    #[inline(always)]
     fn would_wait<F: Feed<P>>(&self, feed: &F) -> bool
         ensures { result ≡ would_wait (F.ready feed.now) self.now.state }
     {
@@ -137,6 +140,7 @@ impl<P: Share + Drop, J: Join<P> + Drop, L: Store<P, J> + Drop, R: Store<P, J> +
     }
 
     /// Whether the driver may put the next event, or the closes where none is to come, or ask the feed which it is.
+    #[inline(always)]
     fn may_put(&self) -> bool
         ensures { result ≡ is_none (admit_cause self.now.state.driver self.now.state.next) }
     {
@@ -162,6 +166,7 @@ impl<P: Share + Drop, J: Join<P> + Drop, L: Store<P, J> + Drop, R: Store<P, J> +
     }
 
     /// The first enabled actor from this place on, all the way round; the driver's put comes last where it would wait.
+    #[inline(always)]
     fn first_from(&self, place: usize, waits: bool) -> Option<Actor>
         requires { place ≤ length (actors (length self.now.state.cores)) }
         ensures { result ≡ slice_get (filter (is_enabled self.now.state) (in_turn (length self.now.state.cores) waits place)) 0 }
@@ -176,6 +181,7 @@ impl<P: Share + Drop, J: Join<P> + Drop, L: Store<P, J> + Drop, R: Store<P, J> +
     }
 
     /// The first enabled actor from this place on, all the way round, without the first `passed` actors.
+    #[inline(always)]
     fn first_round(&self, place: usize, passed: usize) -> Option<Actor>
         requires { place ≤ length (actors (length self.now.state.cores)) }
         ensures { result ≡ slice_get (filter (is_enabled self.now.state) (drop place (actors (length self.now.state.cores)) ++ take (place - passed) (drop passed (actors (length self.now.state.cores))))) 0 }
@@ -187,6 +193,7 @@ impl<P: Share + Drop, J: Join<P> + Drop, L: Store<P, J> + Drop, R: Store<P, J> +
     }
 
     /// The first enabled actor among those from this place on and before that one.
+    #[inline(always)]
     fn first_enabled(&self, from: usize, to: usize) -> Option<Actor>
         requires { to ≤ length (actors (length self.now.state.cores)) }
         ensures { result ≡ slice_get (filter (is_enabled self.now.state) (take (to - from) (drop from (actors (length self.now.state.cores))))) 0 }
@@ -203,6 +210,7 @@ impl<P: Share + Drop, J: Join<P> + Drop, L: Store<P, J> + Drop, R: Store<P, J> +
 }
 
 /// Before a step of a core the gate is passed.
+#[inline(always)]
 fn pass<G: Gate>(gate: &G, actor: Actor, made: u64) {
     if let Actor::Core(core, _) = actor {
         gate.pass(core, made);
@@ -229,6 +237,7 @@ impl Rule {
     }
 
     /// The enabled actor that makes the next step, where the driver's put would wait or not; None where none is enabled.
+    #[inline(always)]
     fn next<P: Share + Drop, J: Join<P> + Drop, L: Store<P, J> + Drop, R: Store<P, J> + Drop>(
         &mut self,
         chain: &Chain<P, J, L, R>,
