@@ -1,6 +1,5 @@
 -- A chain that was just made stands for no step, and for the first event of its feed.
-use Rattle.std.proofs.Common.{◌≡◌, ℕ, zero, suc, ◌+◌, ◌≤◌, List, [], ◌∷◌, length, map, replicate, Some, Ok, Err, Result, refl, sym, ap, subst, ◌∙◌, arith}
-use Rattle.std.specs.Result.{IfOk}
+use Rattle.std.proofs.Common.{◌≡◌, ℕ, zero, suc, ◌+◌, ◌≤◌, List, [], ◌∷◌, length, map, replicate, Some, refl, sym, ap, subst, ◌∙◌, arith}
 use Rattle.std.specs.List.{range_with_len}
 use Rattle.std.specs.List.Sorted.{IsPermutation}
 use Rattle.std.proofs.lemmas.List.{length-replicate}
@@ -46,13 +45,12 @@ stands_first query n flight first some =
       released = subst (λ (pairs : List (Pair (List Field))). IsPermutation [] pairs) (sym nothing_met) (IsPermutation-refl []);
     }
 
-pub has_begun : {F E : Type 0} (gives : F → Given (List Field) → F → Type 0) (query join : Parts) (n flight : ℕ) (result : Result (Contents (List Field) Parts) E) (from to : F) → 1 ≤ n → join ≡ query
-    → IfOk result (λ chain. (first : Given (List Field)) × (chain ≡ record { join = join; state = empty_chain n flight first; collector = nothing_taken n; kept = [] }) × gives from first to)
-    → IfOk result (λ chain. IsBegun gives query chain from to)
-has_begun gives query join n flight (Err e) from to some is begun = tt
-has_begun gives query join n flight (Ok chain) from to some is begun = record {
-  join = ap (λ (c : Contents (List Field) Parts). c.join) begun.1 ∙ is;
-  first = begun.0;
-  given = begun.2;
-  stands = subst (λ (c : Contents (List Field) Parts). StandsFor holds c [] (events_of (Some begun.0)) 0) (sym begun.1) (stands_first join n flight begun.0 some);
+pub has_begun : {F : Type 0} (gives : F → Given (List Field) → F → Type 0) (query join : Parts) (n flight : ℕ) (chain : Contents (List Field) Parts) (from to : F) → 1 ≤ n → join ≡ query
+    → (first : Given (List Field)) × (chain ≡ record { join = join; state = empty_chain n flight first; collector = nothing_taken n; kept = [] }) × gives from first to
+    → IsBegun gives query chain from to
+has_begun gives query join n flight chain from to some is (first, made, given) = record {
+  join = ap (λ (c : Contents (List Field) Parts). c.join) made ∙ is;
+  first = first;
+  given = given;
+  stands = subst (λ (c : Contents (List Field) Parts). StandsFor holds c [] (events_of (Some first)) 0) (sym made) (stands_first join n flight first some);
 }

@@ -1,7 +1,6 @@
 -- A run of a chain from its beginning joins the events that its feed gave.
-use Rattle.std.proofs.Common.{◌≡◌, ℕ, zero, suc, ◌+◌, ◌≤◌, Bool, true, false, cond, List, [], ◌∷◌, ◌++◌, length, map, take, drop, replicate, None, Some, inl, inr, Ok, Err, Result, refl, sym, ap, subst, ◌∙◌, take-append-drop, arith}
+use Rattle.std.proofs.Common.{◌≡◌, ℕ, zero, suc, ◌+◌, ◌≤◌, Bool, true, false, cond, List, [], ◌∷◌, ◌++◌, length, map, take, drop, replicate, None, Some, inl, inr, refl, sym, ap, subst, ◌∙◌, take-append-drop, arith}
 use Rattle.std.specs.List.{slice_get}
-use Rattle.std.specs.Result.{OnErr}
 use Rattle.std.proofs.lemmas.List.{take_all}
 use Rattle.std.proofs.lemmas.Option.{slice_get_cases}
 use Rattle.hj_base.specs.Journals.{IsPrefix}
@@ -31,14 +30,10 @@ use Rattle.hj_chain.proofs.Finishing.{emission_begins, emission_whole}
 use Rattle.hj_engine.specs.Running.{EndsJoin, IsBegun, RunsJoin, events_in, pairs_in}
 use Rattle.hj_engine.proofs.Prefixes.{IsPrefix-trans}
 
-pub err_says : {X E : Type 0} (result : Result X E) (P : Type 0) → OnErr result P → ((x : X) → result ≡ Ok x → ⊥) → P
-err_says (Ok x) P says not_ok = absurd (not_ok x refl)
-err_says (Err e) P says not_ok = says
-
 -- nothing was done for want of memory
-pub nothing_ran : {P F D : Type 0} (gives : F → Given P → F → Type 0) (state : F → FeedState) (takes : D → Pair P → Drained → D → Type 0) (matches : P → P → Bool) (from to : F) (drain : D) → to ≡ from
-    → RunsJoin gives state takes matches fin.Memory from to drain drain
-nothing_ran gives state takes matches from to drain same = record { answers = []; feed = same; taken = []; drain = refl; ends = λ well. (refl, record { rest = kang matches []; is = refl }) }
+pub nothing_ran : {P F D : Type 0} (gives : F → Given P → F → Type 0) (state : F → FeedState) (takes : D → Pair P → Drained → D → Type 0) (matches : P → P → Bool) (from to : F) (unfilled filled : D) → to ≡ from → filled ≡ unfilled
+    → RunsJoin gives state takes matches fin.Memory from to unfilled filled
+nothing_ran gives state takes matches from to unfilled filled not_asked not_filled = record { answers = []; feed = not_asked; taken = []; drain = not_filled; ends = λ well. (refl, record { rest = kang matches []; is = refl }) }
 
 no_events : {P : Type 0} (stops : ℕ) → events_in {P = P} (replicate stops Stop) ≡ []
 no_events zero = refl

@@ -6,3 +6,4 @@ pub mod Joining
 pub mod JoinText
 pub mod Output
 pub mod Running
+pub mod Stores

@@ -88,6 +88,7 @@ impl<O: Outside> Feed<SharedRow> for EventFeed<'_, O> {
 
     ghost ready = { λ f. f.ready };
 
+    #[inline(always)]
     fn next(&mut self) -> Given<SharedRow> {
         if self.ended.is_some() {
             return Given::Stop;
@@ -111,6 +112,7 @@ impl<O: Outside> Feed<SharedRow> for EventFeed<'_, O> {
         Given::Stop
     }
 
+    #[inline(always)]
     fn is_ready(&self) -> bool {
         self.ready
     }

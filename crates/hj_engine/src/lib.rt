@@ -6,7 +6,9 @@ mod feed;
 mod history;
 mod outcome;
 mod output;
+mod run;
 mod serial;
+mod stores;
 
 pub use outcome::Outcome;
 pub use output::{Sent, put_all};

@@ -1,46 +1,26 @@
-ghost use Rattle.std.specs.Prelude.{◌≡◌, ◌≤◌, [], None, false, All, IfOk, OnErr, List, ℕ, length};
+ghost use Rattle.std.specs.Prelude.{◌≡◌, ◌≤◌, [], None, false, List, ℕ};
 ghost use Rattle.hj_base.specs.declared.outside.Role.TheVariants as role;
 ghost use Rattle.hj_engine.specs.declared.output.Sent.TheVariants as sent;
-ghost use Rattle.hj_index.specs.ListStore.{resting_rows};
-ghost use Rattle.hj_chain.specs.Steps.{GoesWith, IsFresh};
 ghost use Rattle.hj_event.specs.Merger.{IsNew};
 ghost use Rattle.hj_event.specs.Roles.{IsInStep};
-ghost use Rattle.hj_eval.specs.Holds.{holds};
 ghost use Rattle.hj_engine.specs.Joining.{Joins, CountsSinkFault};
-ghost use Rattle.hj_engine.specs.Running.{IsBegun, RunsJoin};
 
 use crate::Outcome;
 use crate::drain::LineDrain;
 use crate::feed::EventFeed;
-use hj_base::{Gate, Memory, Outside, Sink};
-use hj_chain::{Chain, Chooser, Fin};
-use hj_eval::QueryJoin;
+use crate::run::{Plan, run_chain};
+use hj_base::{Gate, Outside, Sink};
+use hj_chain::{Chooser, Fin};
 use hj_event::Merger;
-use hj_index::ListStore;
-use hj_msg::{Drain, Feed};
 use hj_query::Query;
-use hj_value::SharedRow;
 use std::alloc::Global;
-
-/// How a join is run on a serial chain.
-#[derive(Clone, Copy)]
-struct Plan {
-    cores: u16,
-    flight: u16,
-    /// How many events are numbered at most.
-    limit: u64,
-    chooser: Chooser,
-    ghost some_cores: { 1 ≤ cores },
-    ghost few_cores: { cores ≤ 64 },
-    ghost some_flight: { 1 ≤ flight },
-    ghost low_flight: { flight ≤ 256 },
-}
 
 /// Joins the streams Left and Right of `outside` under a query, and writes the line of each pair to `out`: each pair of the
 /// sequential sliding-window join (Kang, Naughton and Viglas, ICDE 2003) over the streams' numbered events once, in its order.
-/// At most `limit` events are numbered. The rows pass along the serial chain of 1 to 64 cores, with two list stores each and at
-/// most `flight` events outstanding, from 1 to 256; `chooser` is the order of its steps, and `gate` is passed before each step of
-/// a core. Either stream is read only as far as its next row. `Outcome` says why the join ended.
+/// At most `limit` events are numbered. The rows pass along the serial chain of 1 to 64 cores, with two stores each, of a kind that
+/// suits the query's condition, and at most `flight` events outstanding, from 1 to 256; `chooser` is the order of its steps, and
+/// `gate` is passed before each step of a core. Either stream is read only as far as its next row. `Outcome` says why the join
+/// ended.
 pub fn join_serial<O: Outside, K: Sink, G: Gate>(
     alloc: Global,
     query: &Query,
@@ -122,54 +102,4 @@ fn join_feed<O: Outside, K: Sink, G: Gate>(
         Fin::Refused => drain.outcome(),
         Fin::Memory => Outcome::Memory,
     }
-}
-
-/// Runs a new chain between a feed that gave no event yet and a drain.
-fn run_chain<F: Feed<SharedRow>, D: Drain<SharedRow>, G: Gate>(
-    alloc: Global,
-    query: &Query,
-    plan: Plan,
-    feed: &mut F,
-    drain: &mut D,
-    gate: &G,
-) -> Fin
-    requires { IsFresh (F.state feed.old) }
-    ensures { RunsJoin F.gives F.state D.takes (holds query.now) result feed.old feed.new drain.old drain.new }
-{
-    let Ok(mut chain) = new_chain(alloc, query, plan, feed) else {
-        return Fin::Memory;
-    };
-    chain.run_serial(plan.chooser, feed, drain, gate)
-}
-
-/// Rows that pass along a serial chain, from list store to list store.
-type RowChain<'a> = Chain<SharedRow, QueryJoin<'a>, ListStore<SharedRow>, ListStore<SharedRow>>;
-
-/// The empty chain of a plan, under a query. It asks the feed for the first event; where memory runs out the feed was not asked.
-fn new_chain<'a, F: Feed<SharedRow>>(
-    alloc: Global,
-    query: &'a Query,
-    plan: Plan,
-    feed: &mut F,
-) -> Result<RowChain<'a>, Memory>
-    requires { IsFresh (F.state feed.old) }
-    ensures begins { IfOk result (λ chain. IsBegun F.gives query.now chain feed.old feed.new) }
-    ensures goes { IfOk result (λ chain. GoesWith holds chain (F.state feed.new)) }
-    ensures refused { OnErr result (feed.new ≡ feed.old) }
-{
-    let left = list_stores(alloc, plan.cores)?;
-    let right = list_stores(alloc, plan.cores)?;
-    Chain::new(alloc, QueryJoin::new(query), left, right, plan.flight, feed)
-}
-
-/// So many stores with no rows.
-fn list_stores(alloc: Global, count: u16) -> Result<Vec<ListStore<SharedRow>>, Memory>
-    ensures count { IfOk result (λ stores. length stores.items ≡ count) }
-    ensures empty { IfOk result (λ stores. All (λ store. resting_rows store ≡ []) stores.items) }
-{
-    let mut stores = Vec::with_capacity(alloc, usize::from(count))?;
-    for _ in 0..count {
-        stores.push(ListStore::new(alloc))?;
-    }
-    Ok(stores)
 }

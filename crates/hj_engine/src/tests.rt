@@ -96,6 +96,43 @@ fn joins_trades_with_quotes_by_every_chain(rt: HostRuntime) -> Result<(), Fail> 
     Ok(())
 }
 
+/// How conditions on the last columns of two rows a side join them: by `=`, by `within`, and by neither.
+const CONDITIONS: [(&str, &str); 3] = [
+    (
+        "left (ts int, k int) right (ts int, n int, k int) window left rows 10 window right rows 10 on l.k = r.k",
+        "3,9,4,0,9\n",
+    ),
+    (
+        "left (ts int, k int) right (ts int, n int, k int) window left rows 10 window right rows 10 on l.k within 2 of r.k",
+        "1,5,2,0,7\n3,9,2,0,7\n3,9,4,0,9\n",
+    ),
+    (
+        "left (ts int, k int) right (ts int, n int, k int) window left rows 10 window right rows 10 on l.k < r.k",
+        "1,5,2,0,7\n1,5,4,0,9\n",
+    ),
+];
+
+#[test]
+fn joins_by_each_kind_of_condition(rt: HostRuntime) -> Result<(), Fail> {
+    let engine = Engine {
+        cores: 2,
+        flight: 32,
+        chooser: Chooser::InTurn,
+    };
+    for (query, text) in CONDITIONS {
+        let streams = Streams {
+            query,
+            limit: 4,
+            left: "1,5\n3,9\n",
+            right: "2,0,7\n4,0,9\n",
+        };
+        let (ended, written) = joined(rt.alloc(), engine, streams, &OpenGate)?;
+        assert_eq!(rt; ended, Some(Outcome::Done { events: 4 }));
+        assert_eq!(rt; written.bytes(), text.as_bytes());
+    }
+    Ok(())
+}
+
 /// Counts its calls for each of two cores.
 #[derive(Drop)]
 struct CountingGate {
