@@ -121,6 +121,7 @@ impl Cutter {
     /// Takes the next bytes of the stream, up to the end of a piece, and copies none of a piece that lies whole in front
     /// of them. After an answer `Piece` the bytes of the piece stand in `piece`: call `clear` then. After it and after
     /// `Lent` go on with the bytes that weren't taken.
+    #[inline(always)]
     pub fn cut(&mut self, bytes: &[u8]) -> Cut
         requires { self.old.whole ≡ false }
         ensures takes { Cuts result bytes.now self.old self.new }
@@ -144,6 +145,7 @@ impl Cutter {
     }
 
     /// Whether the piece has its end in these bytes, where they come next.
+    #[inline(always)]
     pub fn has_end(&self, bytes: &[u8]) -> bool
         ensures { IsTrue result ↔ HasEnd bytes.now self.now }
     {
@@ -170,6 +172,7 @@ impl Cutter {
     }
 
     /// The first line feed outside quotes among the bytes that the piece may still take.
+    #[inline(always)]
     fn find(&self, bytes: &[u8]) -> LineEnd
         ensures { FindsFor result bytes.now self.now }
     {
@@ -205,6 +208,7 @@ impl Cutter {
     }
 
     /// How many bytes the piece may still take.
+    #[inline(always)]
     fn spare(&self) -> usize
         ensures { result ≡ min self.now.room most_in_piece - length self.now.piece }
     {

@@ -58,6 +58,7 @@ impl Fields {
     }
 
     /// Adds a field at the end. After a refusal nothing changed.
+    #[inline(always)]
     pub fn push(&mut self, field: &[u8]) -> Result<(), Memory>
         ensures ok { OnOk result (self.new ≡ self.old ++ field.now ∷ []) }
         ensures err { OnErr result (self.new ≡ self.old) }

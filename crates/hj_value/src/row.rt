@@ -56,6 +56,7 @@ impl Row {
     }
 
     /// How many fields it has.
+    #[inline(always)]
     pub fn len(&self) -> usize
         ensures { result ≡ length self.now }
     {
@@ -63,6 +64,7 @@ impl Row {
     }
 
     /// The field at a place, counted from 0; None exactly at or past the length.
+    #[inline(always)]
     pub fn get(&self, at: usize) -> Option<Field<'_>>
         ensures { result ≡ slice_get self.now at }
     {
@@ -94,6 +96,7 @@ impl Row {
     }
 
     /// The row's time, in the stream's own units: its first field; 0 where that is no number.
+    #[inline(always)]
     pub fn time(&self) -> i64
         ensures { result ≡ time_of self.now }
     {

@@ -24,6 +24,7 @@ impl Model for SharedRow {
 
 impl SharedRow {
     /// The row, ready to be shared. After a refusal it is gone.
+    #[inline(always)]
     pub fn new(alloc: Global, row: Row) -> Result<Self, Memory>
         ensures { IfOk result (λ shared. shared ≡ row) }
     {
@@ -33,6 +34,7 @@ impl SharedRow {
     }
 
     /// The row that is shared.
+    #[inline(always)]
     pub fn row(&self) -> &Row
         ensures { result.now ≡ self.now }
     {
@@ -41,6 +43,7 @@ impl SharedRow {
 }
 
 impl Share for SharedRow {
+    #[inline(always)]
     fn share(&self) -> Result<Self, Memory>
         ensures { IfOk result (λ shared. shared ≡ self.now) }
     {

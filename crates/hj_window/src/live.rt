@@ -53,6 +53,7 @@ impl Live {
     /// A row of a side arrives at a time, in the streams' own units; answers which rows expire by that. `no` is the number
     /// that the row has if none expires before it; each that does takes a number, and the row is kept under the next one.
     /// Where memory runs out, nothing changed.
+    #[inline(always)]
     pub fn arrive(&mut self, side: Side, time: i64, no: EventNo) -> Result<Expired, Memory>
         requires above { AllBelow no.0 self.old.rows }
         requires small { no.0 < 2 ^ 63 }
@@ -97,6 +98,7 @@ impl Live {
 
 /// Takes out the rows of both sides that are gone by their age, and puts a row behind the others of its own side; answers the
 /// number of the row that expires by that. Where memory runs out, nothing changed.
+#[inline(always)]
 fn enter(own: &mut SideRows, other: &mut SideRows, held: HeldRow) -> Result<Option<EventNo>, Memory>
     ensures windows { (own.new.window ≡ own.old.window) × (other.new.window ≡ other.old.window) }
     ensures gone { IfOk result (λ gone. gone ≡ (overflow own.old.window (entered own.old held)).gone) }

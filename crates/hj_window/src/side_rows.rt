@@ -102,6 +102,7 @@ impl SideRows {
     }
 
     /// Puts a row behind the others. Where the window then has one row too many, takes out the oldest, and answers its number.
+    #[inline(always)]
     pub(crate) fn enter(&mut self, held: HeldRow) -> Option<EventNo>
         requires { 0 < self.old.room }
         ensures window { self.new.window ≡ self.old.window }
@@ -114,6 +115,7 @@ impl SideRows {
     }
 
     /// Whether it is known that the times never fall, also with this row behind the others.
+    #[inline(always)]
     fn stays_in_time(&self, held: HeldRow) -> bool
         ensures { OnceInTime result (self.now.rows ++ held ∷ []) }
     {
@@ -153,6 +155,7 @@ fn pop_overflow(rows: &mut VecDeque<HeldRow>, window: Window) -> Option<EventNo>
 }
 
 /// Whether a row of this time is gone by its age. An age may pass 64 bits.
+#[inline(always)]
 fn is_aged(window: Window, now: i64, time: i64) -> bool
     ensures { result ≡ is_gone_at window (now -ℤ time) }
 {
