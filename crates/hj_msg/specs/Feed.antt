@@ -1,6 +1,7 @@
 -- Where the events of a chain come from: what is seen of a feed, and what its answers mean.
-use Rattle.std.specs.Prelude.{◌≡◌, ℕ, ◌+◌, ◌<◌, ◌≤◌, Bool, true, false, not, ◌==◌, List, [], ◌∷◌, ◌++◌, filter, map, fold, replicate}
-use Rattle.std.specs.List.{Contains}
+use Rattle.std.specs.Prelude.{◌≡◌, ℕ, ◌+◌, ◌<◌, ◌≤◌, Bool, true, false, not, ◌==◌, List, [], ◌∷◌, ◌++◌, filter, map, fold, replicate, None, Some}
+use Rattle.std.specs.declared.option.Option.{Option}
+use Rattle.std.specs.List.{Contains, flat_map}
 use Rattle.hj_base.specs.declared.numbers.Side.TheVariants.{Left, Right}
 use Rattle.hj_msg.specs.declared.event.Event as event
 use Rattle.hj_msg.specs.declared.event.Event.TheVariants.{Arrive, Expire}
@@ -46,6 +47,10 @@ pub record FeedState : Type 0 where
   -- whether it has answered Stop
   pub stopped : Bool
 
+-- No event was given yet.
+abbrev pub IsFresh : FeedState → Type 0
+IsFresh feed = feed.numbering ≡ first_numbering
+
 -- The next event carries the next number, and is one of those that remained.
 pub record GivesEvent {P : Type 0} (event : event.Event P) (old new : FeedState) : Type 0 where
   pub going : old.stopped ≡ false
@@ -74,3 +79,18 @@ GoesOverAnswers {F} gives old (answer ∷ later) new = (mid : F) × gives old an
 pub record GoesOver {F P : Type 0} (gives : F → Given P → F → Type 0) (old : F) (events : List (event.Event P)) (new : F) : Type 0 where
   pub stops : ℕ
   pub answers : GoesOverAnswers gives old (map Event events ++ replicate stops Stop) new
+
+-- The event that is known to come next, where one is; and whether it is known that none comes any more.
+abbrev pub event_in : {P : Type 0} → Option (Given P) → List (event.Event P)
+event_in None = []
+event_in (Some (Event event)) = event ∷ []
+event_in (Some Stop) = []
+
+abbrev pub is_stop : {P : Type 0} → Option (Given P) → Bool
+is_stop None = false
+is_stop (Some (Event event)) = false
+is_stop (Some Stop) = true
+
+-- the events among these answers of a feed
+abbrev pub events_in : {P : Type 0} → List (Given P) → List (event.Event P)
+events_in answers = flat_map (λ answer. event_in (Some answer)) answers

@@ -15,6 +15,7 @@ pub mod Order
 pub mod Overtaking
 pub mod Punctuation
 pub mod Run
+pub mod RunsJoin
 pub mod Store
 pub mod Turns
 pub mod Valid

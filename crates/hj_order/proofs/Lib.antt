@@ -1,1 +1,4 @@
+pub mod Due
 mod DueOrder
+pub mod Emissions
+pub mod Shuffles
