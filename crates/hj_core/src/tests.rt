@@ -2,8 +2,8 @@ ghost use Rattle.std.specs.Prelude.{◌<◌, true};
 
 use super::*;
 use hj_base::{CoreNo, EventNo, Memory, Share};
-use hj_index::ListStore;
 use hj_msg::{Join, Msg, Store};
+use hj_rows::ListStore;
 use std::alloc::Global;
 use std::process::Abort;
 use std::test::Fail;

@@ -23,14 +23,14 @@ use Rattle.hj_msg.proofs.Sorting.{from_sorted, sorted, sorted_ranked}
 use Rattle.hj_value.specs.declared.field.Field.{Field}
 use Rattle.hj_value.specs.declared.field.Field.TheVariants as field
 use Rattle.hj_index.specs.declared.ordered_index.OrderedIndex.{OrderedIndex}
-use Rattle.hj_index.specs.declared.place.Rest.{Rest}
+use Rattle.hj_rows.specs.declared.place.Rest.{Rest}
 use Rattle.hj_index.specs.OrderedIndex.{holds_key, is_key, key_cmp, key_of, number_at, number_of, AreWithin, Key}
 use Rattle.hj_index.specs.OrderedStore.{key_at, rest_at, rest_of, AreOrdered, JoinsNear}
-use Rattle.hj_index.specs.Places.{entry_at, joining, rows_of}
+use Rattle.hj_rows.specs.Places.{entry_at, joining, rows_of}
 use Rattle.hj_index.proofs.OrderedKeys.{key_equiv, key_found, key_itself, key_total, same_key}
-use Rattle.hj_index.proofs.Probes.{finds-nothing, finds-passed, finds-pushed, number, partner, Finds}
-use Rattle.hj_index.proofs.Rows.{Places}
-use Rattle.hj_index.proofs.SortedProbes.{sorts-joined, sorts-nothing, sorts-passed, Sorts}
+use Rattle.hj_rows.proofs.Probes.{finds-nothing, finds-passed, finds-pushed, number, partner, Finds}
+use Rattle.hj_rows.proofs.Rows.{Places}
+use Rattle.hj_rows.proofs.SortedProbes.{sorts-joined, sorts-nothing, sorts-passed, Sorts}
 use Rattle.hj_index.proofs.Walking.{none-suffice}
 
 -- ---- rows of which the numbers differ

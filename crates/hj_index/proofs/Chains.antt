@@ -9,9 +9,9 @@ use Rattle.hj_index.specs.declared.links.Ends.{Ends}
 use Rattle.hj_index.specs.declared.links.Link.{Link}
 use Rattle.hj_index.specs.declared.links.Linked.{Linked}
 use Rattle.hj_index.specs.Links.{before_set, behind_set, chain, ends_of, has_key, head_or, joined_ends, last_or, left_ends, link_at, members, relinked_if, with_link, with_link_of, with_neighbours, AreChained, IsLinked}
-use Rattle.hj_index.specs.Places.{entry_at}
+use Rattle.hj_rows.specs.Places.{entry_at}
 use Rattle.hj_index.proofs.Chaining.{changed-not, changed_if, ends-joined, ends-left, joined, keyed, leaves, mem, mem-append, neighboured, not-head, not-last, own-link, same, Apart}
-use Rattle.hj_index.proofs.Rows.{without-absent}
+use Rattle.hj_rows.proofs.Rows.{without-absent}
 
 -- ---- numbers
 

@@ -11,7 +11,7 @@ use Rattle.hj_index.specs.declared.links.Linked.{Linked}
 use Rattle.hj_index.specs.HashStore.{plain_rows, AreIndexed, AreKeyed}
 use Rattle.hj_index.specs.Keys.{key_at}
 use Rattle.hj_index.specs.Links.{chain, ends_of, has_key, joined_ends, last_or, left_ends, link_at, link_by, link_keys, tail_link, with_link, with_neighbours, AreChained}
-use Rattle.hj_index.specs.Places.{entry_at, row_at}
+use Rattle.hj_rows.specs.Places.{entry_at, row_at}
 use Rattle.hj_index.proofs.Chaining.{last-is, Apart}
 use Rattle.hj_index.proofs.Chains.{apart-distinct, chain-append, chain-with, chain-without, cut, distinct-apart, entry-cut, entry-missing, joins_chain, leaves_chain, link-missing, link-other, link-there, numbers, put-cut, put-last, without-cut, Cut}
 use Rattle.hj_index.proofs.Relinking.{key_in, keyed-cut, keyed-last, keyed-put, keyed-same, keys-neighboured, linked-cut, numbers-neighboured, plain-linked, plain-neighboured, plain-numbers, replaced, same_chains, with_own}

@@ -7,10 +7,10 @@ use Rattle.std.proofs.lemmas.Map.Keys.{IsDistinct-tail}
 use Rattle.hj_msg.specs.Store.{Resting, holds}
 use Rattle.hj_index.specs.declared.links.Link.{Link}
 use Rattle.hj_index.specs.declared.links.Linked.{Linked}
-use Rattle.hj_index.specs.declared.place.Rest.{Rest}
+use Rattle.hj_rows.specs.declared.place.Rest.{Rest}
 use Rattle.hj_index.specs.Links.{linked_place, relinked_if, with_link}
-use Rattle.hj_index.specs.Places.{rows_of}
-use Rattle.hj_index.proofs.Rows.{Places, flipped, holds-absent, past-head, row_of}
+use Rattle.hj_rows.specs.Places.{rows_of}
+use Rattle.hj_rows.proofs.Rows.{Places, flipped, holds-absent, past-head, row_of}
 
 module _ {R : Type 0} (change : Option Link → Option Link) where
   pub unlinked-absent : (k : ℕ) (rows : List (Resting (Linked R))) → holds k rows ≡ false → with_link k change rows ≡ rows

@@ -10,7 +10,7 @@ use Rattle.std.proofs.lemmas.Cmp.{eq_by_cmp_equiv}
 use Rattle.std.proofs.lemmas.Map.Lookups.{exact_pairs, exact_signed, exact_unsigned}
 use Rattle.hj_value.specs.declared.field.Field.{Field}
 use Rattle.hj_index.specs.OrderedIndex.{is_key, key_cmp, key_of, number_at, Key}
-use Rattle.hj_index.proofs.SortedProbes.{is_at-nat}
+use Rattle.hj_rows.proofs.SortedProbes.{is_at-nat}
 
 pub key_total : IsTotalOrder key_cmp
 key_total = then_total (on_total (λ (key : Key). key.0) int_cmp_total) (on_total (λ (key : Key). key.1) nat_cmp_total)

@@ -6,7 +6,7 @@ use Rattle.hj_msg.specs.Store.{Resting, with_entry, with_settled, without_entry,
 use Rattle.hj_index.specs.declared.ordered_index.OrderedIndex.{OrderedIndex}
 use Rattle.hj_index.specs.OrderedIndex.{is_key, key_of, stands, Key}
 use Rattle.hj_index.specs.OrderedStore.{key_at, AreOrdered}
-use Rattle.hj_index.specs.Places.{row_at}
+use Rattle.hj_rows.specs.Places.{row_at}
 use Rattle.hj_index.proofs.OrderedKeys.{other_number}
 
 -- ---- the row of a number

@@ -11,18 +11,18 @@ use Rattle.hj_value.specs.declared.field.Field.{Field}
 use Rattle.hj_index.specs.declared.links.Ends.{Ends}
 use Rattle.hj_index.specs.declared.links.Link.{Link}
 use Rattle.hj_index.specs.declared.links.Linked.{Linked}
-use Rattle.hj_index.specs.declared.place.Rest.{Rest}
+use Rattle.hj_rows.specs.declared.place.Rest.{Rest}
 use Rattle.hj_index.specs.HashStore.{first_in, number_behind, plain, plain_rows, AreIndexed, AreKeyed, JoinsEqual}
 use Rattle.hj_index.specs.Keys.{key_at, key_of}
 use Rattle.hj_index.specs.Links.{chain, ends_of, has_key, head_or, link_at, members, AreChained, IsLinked}
-use Rattle.hj_index.specs.Places.{entry_at, rows_of}
+use Rattle.hj_rows.specs.Places.{entry_at, rows_of}
 use Rattle.hj_index.proofs.Chaining.{mem, Apart}
 use Rattle.hj_index.proofs.Chains.{chain-apart, chain-cons, distinct-apart, link-cons, numbers}
 use Rattle.hj_index.proofs.Indexing.{distinct-same, Entries}
-use Rattle.hj_index.proofs.Probes.{finds-nothing, Finds}
+use Rattle.hj_rows.proofs.Probes.{finds-nothing, Finds}
 use Rattle.hj_index.proofs.Relinking.{key_in, plain-numbers, same_chains}
-use Rattle.hj_index.proofs.Rows.{Places}
-use Rattle.hj_index.proofs.SortedProbes.{sorts-nothing, Sorts}
+use Rattle.hj_rows.proofs.Rows.{Places}
+use Rattle.hj_rows.proofs.SortedProbes.{sorts-nothing, Sorts}
 
 pub distinct_plain_rows : (rows : Entries) → AreDistinct rows → AreDistinct (plain_rows rows)
 distinct_plain_rows rows h = distinct-same rows (plain_rows rows) (plain-numbers rows) h

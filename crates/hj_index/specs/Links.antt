@@ -5,8 +5,8 @@ use Rattle.hj_msg.specs.Store.{Resting}
 use Rattle.hj_index.specs.declared.links.Ends.{Ends}
 use Rattle.hj_index.specs.declared.links.Link.{Link}
 use Rattle.hj_index.specs.declared.links.Linked.{Linked}
-use Rattle.hj_index.specs.declared.place.Rest.{Rest}
-use Rattle.hj_index.specs.Places.{row_at}
+use Rattle.hj_rows.specs.declared.place.Rest.{Rest}
+use Rattle.hj_rows.specs.Places.{row_at}
 
 -- One chain.
 

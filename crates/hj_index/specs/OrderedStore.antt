@@ -9,9 +9,9 @@ use Rattle.hj_eval.specs.declared.store_plan.StorePlan.TheVariants as plans
 use Rattle.hj_eval.specs.Plan.{AreNear}
 use Rattle.hj_msg.specs.Store.{Resting, joins, AreDistinct}
 use Rattle.hj_index.specs.declared.ordered_index.OrderedIndex.{OrderedIndex}
-use Rattle.hj_index.specs.declared.place.Rest.{Rest}
+use Rattle.hj_rows.specs.declared.place.Rest.{Rest}
 use Rattle.hj_index.specs.OrderedIndex.{is_key, key_of, stands, Key}
-use Rattle.hj_index.specs.Places.{entry_at, row_at}
+use Rattle.hj_rows.specs.Places.{entry_at, row_at}
 
 -- what an ordered store is seen as
 pub record OrderedRows : Type 0 where

@@ -3,11 +3,11 @@ ghost use Rattle.std.specs.HashMap.{get, spare};
 ghost use Rattle.hj_msg.specs.Store.{holds, with_entry, without_entry, AreDistinct};
 ghost use Rattle.hj_index.specs.HashStore.{plain_rows, AreIndexed};
 ghost use Rattle.hj_index.specs.Links.{has_key, link_at, link_by, link_keys, neighbours, tail_link, with_link, AreChained};
-ghost use Rattle.hj_index.specs.Numbered.{room_in, rows_in};
+ghost use Rattle.hj_rows.specs.Numbered.{room_in, rows_in};
 
 use crate::keys::key_at;
 use crate::links::{Ends, Link, Linked, join, leave, set_link};
-use crate::numbered::Numbered;
+use hj_rows::Numbered;
 use hj_value::SharedRow;
 use std::collections::HashMap;
 

@@ -6,18 +6,16 @@ ghost use Rattle.hj_eval.specs.Holds.{holds};
 ghost use Rattle.hj_eval.specs.Plan.{plan_of};
 ghost use Rattle.hj_index.specs.HashStore.{equal_plan, first_in, number_behind, JoinsEqual};
 ghost use Rattle.hj_index.specs.Keys.{key_at};
-ghost use Rattle.hj_index.specs.Places.{joining, partner_of};
+ghost use Rattle.hj_rows.specs.Places.{joining, partner_of};
 ghost use Rattle.hj_msg.specs.Store.{joins, settled_matches};
 ghost use Rattle.hj_query.specs.Parts.{Parts};
 
 use crate::hash_index::{put, take};
 use crate::keys::key_at;
 use crate::links::{Ends, Link, Linked};
-use crate::list_store::is_joined;
-use crate::numbered::Numbered;
-use crate::place::Rest;
 use hj_base::{EventNo, Memory, Share, Side};
 use hj_msg::{Join, Partner, Partners, Store};
+use hj_rows::{Numbered, Rest, is_joined};
 use hj_value::SharedRow;
 use std::alloc::Global;
 use std::collections::{BTreeMap, HashMap};
@@ -44,7 +42,7 @@ impl Model for HashStore {
     ghost use Rattle.std.specs.Prelude.{nat_eq};
     ghost use Rattle.std.specs.HashMap.{get, spare};
     ghost use Rattle.hj_index.specs.HashStore.{plain_rows, AreIndexed, HashRows};
-    ghost use Rattle.hj_index.specs.Numbered.{room_in, rows_in};
+    ghost use Rattle.hj_rows.specs.Numbered.{room_in, rows_in};
 
     ghost Value = { HashRows };
 

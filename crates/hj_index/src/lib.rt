@@ -1,21 +1,13 @@
-//! Stores of the rows that rest at a core.
+//! Stores of the rows that rest at a core, in which a probe looks only at rows that may match.
 #![tactic(auto)]
 
 mod hash_index;
 mod hash_store;
 mod keys;
 mod links;
-mod list_store;
-mod numbered;
 mod ordered_index;
 mod ordered_store;
-mod place;
 
 pub use hash_store::HashStore;
-pub use list_store::ListStore;
+pub use hj_rows::ListStore;
 pub use ordered_store::OrderedStore;
-
-#[cfg(test)]
-mod query_tests;
-#[cfg(test)]
-mod tests;

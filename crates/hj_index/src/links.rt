@@ -1,10 +1,9 @@
 ghost use Rattle.std.specs.Prelude.{◌≡◌, ℕ, ◌<◌, ◌≤◌, ◌==◌, Some, nat_eq, cond, option_map};
 ghost use Rattle.std.specs.HashMap.{get, spare};
 ghost use Rattle.hj_index.specs.Links.{before_set, behind_set, joined_ends, left_ends, linked_place, with_link, with_neighbours};
-ghost use Rattle.hj_index.specs.Numbered.{room_in, rows_in};
+ghost use Rattle.hj_rows.specs.Numbered.{room_in, rows_in};
 
-use crate::numbered::Numbered;
-use crate::place::Rest;
+use hj_rows::{Numbered, Rest};
 use std::collections::HashMap;
 
 /// Where a row stands in the chain of its key: the numbers of the rows before and behind it.

@@ -3,18 +3,17 @@ ghost use Rattle.std.specs.Option.{option_copied};
 ghost use Rattle.hj_base.specs.declared.numbers.Side.{Side};
 ghost use Rattle.hj_eval.specs.Holds.{holds};
 ghost use Rattle.hj_eval.specs.Plan.{plan_of};
-ghost use Rattle.hj_index.specs.Numbered.{rows_in};
+ghost use Rattle.hj_rows.specs.Numbered.{rows_in};
 ghost use Rattle.hj_index.specs.OrderedIndex.{key_of, number_at, HasPlace};
 ghost use Rattle.hj_index.specs.OrderedStore.{band_plan, rest_of, JoinsNear};
-ghost use Rattle.hj_index.specs.Places.{joining, partner_of};
+ghost use Rattle.hj_rows.specs.Places.{joining, partner_of};
 ghost use Rattle.hj_msg.specs.Store.{joins, settled_matches};
 ghost use Rattle.hj_query.specs.Parts.{Parts};
 
-use crate::list_store::is_joined;
-use crate::numbered::Numbered;
 use crate::ordered_index::{Key, OrderedIndex, band, key_of, key_of_held, number_at};
 use hj_base::{EventNo, Memory, Share, Side};
 use hj_msg::{Join, Partner, Partners, Store};
+use hj_rows::{Numbered, is_joined};
 use hj_value::SharedRow;
 use std::alloc::Global;
 use std::collections::BTreeMap;
@@ -36,7 +35,7 @@ pub struct OrderedStore {
 }
 
 impl Model for OrderedStore {
-    ghost use Rattle.hj_index.specs.Numbered.{room_in, rows_in};
+    ghost use Rattle.hj_rows.specs.Numbered.{room_in, rows_in};
     ghost use Rattle.hj_index.specs.OrderedStore.{AreOrdered, OrderedRows};
 
     ghost Value = { OrderedRows };

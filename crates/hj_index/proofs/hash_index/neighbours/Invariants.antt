@@ -1,7 +1,7 @@
 use Rattle.std.proofs.Common.{◌≡◌, None}
 use Rattle.hj_index.specs.Links.{neighbours}
-use Rattle.hj_index.specs.Numbered.{rows_in}
-use Rattle.hj_index.specs.Places.{rows_of}
+use Rattle.hj_rows.specs.Numbered.{rows_in}
+use Rattle.hj_rows.specs.Places.{rows_of}
 use Rattle.hj_index.proofs.Scanning.{seen}
 use Rattle.hj_index.proofs.hash_index.neighbours.Given as goal
 

@@ -7,7 +7,7 @@ use Rattle.hj_index.specs.declared.links.Linked.{Linked}
 use Rattle.hj_index.specs.HashStore.{plain_rows, AreIndexed}
 use Rattle.hj_index.specs.Keys.{key_at}
 use Rattle.hj_index.specs.Links.{link_by, link_keys, with_link, with_neighbours, AreChained}
-use Rattle.hj_index.specs.Numbered.{rows_in}
+use Rattle.hj_rows.specs.Numbered.{rows_in}
 use Rattle.hj_index.proofs.Chains.{distinct-apart}
 use Rattle.hj_index.proofs.Indexing.{put_bare, put_held, put_linked, put_relinked, put_replaced, row-missing, Entries}
 use Rattle.hj_index.proofs.Relinking.{plain-neighboured, plain-put}

@@ -1,7 +1,7 @@
 use Rattle.std.proofs.Common.{Some, option_map, ap, sym, ◌∙◌}
 use Rattle.hj_index.specs.declared.links.Link.{Link}
 use Rattle.hj_index.specs.Links.{link_by}
-use Rattle.hj_index.specs.Numbered.{rows_in}
+use Rattle.hj_rows.specs.Numbered.{rows_in}
 use Rattle.hj_index.proofs.Chains.{numbers}
 use Rattle.hj_index.proofs.Indexing.{distinct-plain}
 use Rattle.hj_index.proofs.Relinking.{keys-over, plain-holds, plain-numbers}

@@ -2,11 +2,11 @@ use Rattle.std.proofs.Common.{◌≡◌, nat_eq, false, is_some, ap, subst, subs
 use Rattle.std.specs.HashMap.{get}
 use Rattle.hj_index.specs.HashStore.{plain_rows, AreIndexed}
 use Rattle.hj_index.specs.Links.{with_neighbours}
-use Rattle.hj_index.specs.Numbered.{rows_in}
+use Rattle.hj_rows.specs.Numbered.{rows_in}
 use Rattle.hj_msg.specs.Store.{holds, AreDistinct}
 use Rattle.hj_index.proofs.Indexing.{taken_bare, taken_linked, Entries}
 use Rattle.hj_index.proofs.Relinking.{plain-holds, plain-neighboured, plain-without}
-use Rattle.hj_index.proofs.Rows.{without-absent}
+use Rattle.hj_rows.proofs.Rows.{without-absent}
 use Rattle.hj_index.proofs.hash_index.take.Goals as goal
 use Rattle.hj_index.proofs.hash_index.take.Goals.{in-Some-link, in_default}
 

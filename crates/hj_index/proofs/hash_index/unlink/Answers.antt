@@ -3,7 +3,7 @@ use Rattle.std.specs.HashMap.{get}
 use Rattle.hj_index.specs.declared.links.Link.{Link}
 use Rattle.hj_index.specs.HashStore.{plain_rows}
 use Rattle.hj_index.specs.Links.{link_at, link_keys, with_link, with_neighbours, AreChained}
-use Rattle.hj_index.specs.Numbered.{rows_in}
+use Rattle.hj_rows.specs.Numbered.{rows_in}
 use Rattle.hj_index.proofs.Chains.{distinct-apart}
 use Rattle.hj_index.proofs.Indexing.{Entries}
 use Rattle.hj_index.proofs.Relinking.{keys-neighboured, missing-neighboured, missing_own, plain-linked, plain-neighboured, unlinks}

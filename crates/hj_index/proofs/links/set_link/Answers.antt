@@ -1,9 +1,9 @@
 use Rattle.std.proofs.Common.{◌≡◌, nat_eq, None, sym, ap, ◌∙◌}
 use Rattle.std.specs.Option.{option_copied_mut}
 use Rattle.std.specs.Map.{lookup}
-use Rattle.hj_index.specs.Places.{rows_of}
+use Rattle.hj_rows.specs.Places.{rows_of}
 use Rattle.hj_index.proofs.LinkedPlaces.{linked-at, unlinked-absent}
-use Rattle.hj_index.proofs.Rows.{holds-absent}
+use Rattle.hj_rows.proofs.Rows.{holds-absent}
 use Rattle.hj_index.proofs.links.set_link.Goals as goal
 
 pub returns-in-Some-clause-rows : goal.returns-in-Some-clause-rows

@@ -7,9 +7,9 @@ use Rattle.hj_msg.specs.Store.{joins, settled_matches}
 use Rattle.hj_index.specs.HashStore.{plain_rows, HashRows, JoinsEqual}
 use Rattle.hj_index.specs.Keys.{key_at}
 use Rattle.hj_index.specs.Links.{members}
-use Rattle.hj_index.specs.Numbered.{rows_in}
-use Rattle.hj_index.proofs.Rows.{Places}
-use Rattle.hj_index.proofs.Probes.{finds-passed, finds-pushed, none-above, number, partner, Finds}
+use Rattle.hj_rows.specs.Numbered.{rows_in}
+use Rattle.hj_rows.proofs.Rows.{Places}
+use Rattle.hj_rows.proofs.Probes.{finds-passed, finds-pushed, none-above, number, partner, Finds}
 use Rattle.hj_index.proofs.Walking.{all_seen, finds_first, goes_on, is_there, one_seen, over, places_of, starts}
 use Rattle.hj_index.proofs.hash_store.HashStore.probe_chain.Goals as goal
 use Rattle.hj_index.proofs.hash_store.HashStore.probe_chain.Goals.{in-Some-joining_row+else-no-last+in_ok-share+in_ok-push, in_default-joining_row}

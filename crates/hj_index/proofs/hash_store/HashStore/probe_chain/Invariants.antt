@@ -2,8 +2,8 @@ use Rattle.std.proofs.Common.{◌≡◌, ◌≤◌, All, drop, slice_get}
 use Rattle.hj_msg.specs.Store.{joins, settled_matches}
 use Rattle.hj_index.specs.HashStore.{plain_rows}
 use Rattle.hj_index.specs.Links.{chain, members}
-use Rattle.hj_index.specs.Numbered.{rows_in}
-use Rattle.hj_index.proofs.Probes.{number, Finds}
+use Rattle.hj_rows.specs.Numbered.{rows_in}
+use Rattle.hj_rows.proofs.Probes.{number, Finds}
 use Rattle.hj_index.proofs.Walking.{places_of}
 use Rattle.hj_index.proofs.hash_store.HashStore.probe_chain.Given as goal
 

@@ -6,9 +6,9 @@ use Rattle.hj_msg.specs.Store.{joins, settled_matches}
 use Rattle.hj_index.specs.HashStore.{plain_rows, HashRows, JoinsEqual}
 use Rattle.hj_index.specs.Keys.{key_at}
 use Rattle.hj_index.specs.Links.{members}
-use Rattle.hj_index.specs.Numbered.{rows_in}
-use Rattle.hj_index.proofs.Rows.{Places}
-use Rattle.hj_index.proofs.SortedProbes.{sorts-joined, sorts-passed, Sorts}
+use Rattle.hj_rows.specs.Numbered.{rows_in}
+use Rattle.hj_rows.proofs.Rows.{Places}
+use Rattle.hj_rows.proofs.SortedProbes.{sorts-joined, sorts-passed, Sorts}
 use Rattle.hj_index.proofs.Walking.{all_seen, goes_on, is_there, one_seen, over, places_of, sorts_first, starts}
 use Rattle.hj_index.proofs.hash_store.HashStore.sorted_rows.Goals as goal
 use Rattle.hj_index.proofs.hash_store.HashStore.sorted_rows.Goals.{in-Some-joining_row+in_ok-share+in_ok-insert+in-Some-1, in-Some-joining_row+in_ok-share+in_ok-insert+in-None-1, in_default-joining_row}

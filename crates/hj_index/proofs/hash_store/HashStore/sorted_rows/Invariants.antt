@@ -2,8 +2,8 @@ use Rattle.std.proofs.Common.{◌≡◌, drop, slice_get}
 use Rattle.hj_msg.specs.Store.{joins, settled_matches}
 use Rattle.hj_index.specs.HashStore.{plain_rows}
 use Rattle.hj_index.specs.Links.{chain, members}
-use Rattle.hj_index.specs.Numbered.{rows_in}
-use Rattle.hj_index.proofs.SortedProbes.{Sorts}
+use Rattle.hj_rows.specs.Numbered.{rows_in}
+use Rattle.hj_rows.proofs.SortedProbes.{Sorts}
 use Rattle.hj_index.proofs.Walking.{places_of}
 use Rattle.hj_index.proofs.hash_store.HashStore.sorted_rows.Given as goal
 

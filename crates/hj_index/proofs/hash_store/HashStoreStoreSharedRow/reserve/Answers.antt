@@ -1,4 +1,4 @@
-use Rattle.hj_index.specs.Numbered.{rows_in}
+use Rattle.hj_rows.specs.Numbered.{rows_in}
 use Rattle.hj_index.proofs.Walking.{distinct_plain_rows}
 use Rattle.hj_index.proofs.hash_store.HashStoreStoreSharedRow.reserve.Goals as goal
 

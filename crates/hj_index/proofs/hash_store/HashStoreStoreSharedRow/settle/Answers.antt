@@ -2,7 +2,7 @@ use Rattle.std.proofs.Common.{nat_eq, ap, subst, sym, ◌∙◌}
 use Rattle.std.specs.HashMap.{get}
 use Rattle.hj_msg.specs.Store.{holds, with_settled}
 use Rattle.hj_index.specs.HashStore.{plain_rows, AreIndexed, HashRows}
-use Rattle.hj_index.specs.Numbered.{rows_in}
+use Rattle.hj_rows.specs.Numbered.{rows_in}
 use Rattle.hj_index.proofs.Indexing.{Entries}
 use Rattle.hj_index.proofs.Relinking.{plain-holds, plain-settled}
 use Rattle.hj_index.proofs.Walking.{distinct_plain_rows, settled_indexed}

@@ -3,11 +3,11 @@ use Rattle.std.specs.BTreeMap.Range.{range_contains}
 use Rattle.std.specs.Int.{w64}
 use Rattle.std.proofs.lemmas.Int.{to_z-of_z}
 use Rattle.hj_msg.specs.Store.{joins, settled_matches}
-use Rattle.hj_index.specs.Numbered.{rows_in}
+use Rattle.hj_rows.specs.Numbered.{rows_in}
 use Rattle.hj_index.specs.OrderedIndex.{key_cmp, number_at, AreWithin, Key}
 use Rattle.hj_index.specs.OrderedStore.{JoinsNear, OrderedRows}
 use Rattle.hj_index.proofs.Banding.{finds_first, near_pushed}
-use Rattle.hj_index.proofs.Probes.{none-above, partner}
+use Rattle.hj_rows.proofs.Probes.{none-above, partner}
 use Rattle.hj_index.proofs.ordered_store.OrderedStore.probe_band.Goals as goal
 
 pub loop-key-init : goal.loop-key-init

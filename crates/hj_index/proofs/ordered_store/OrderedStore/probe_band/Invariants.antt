@@ -1,8 +1,8 @@
 use Rattle.std.proofs.Common.{◌≤◌, All}
 use Rattle.hj_msg.specs.Store.{joins, settled_matches}
-use Rattle.hj_index.specs.Numbered.{rows_in}
+use Rattle.hj_rows.specs.Numbered.{rows_in}
 use Rattle.hj_index.proofs.Banding.{places_left}
-use Rattle.hj_index.proofs.Probes.{number, Finds}
+use Rattle.hj_rows.proofs.Probes.{number, Finds}
 use Rattle.hj_index.proofs.ordered_store.OrderedStore.probe_band.Given as goal
 
 -- what was found, with what is left of the band, is all that joins; and what was found isn't above the last number

@@ -1,5 +1,5 @@
 use Rattle.std.proofs.Common.{◌≡◌, map, ◌++◌}
-use Rattle.hj_index.specs.Places.{partner_of}
+use Rattle.hj_rows.specs.Places.{partner_of}
 use Rattle.hj_index.proofs.ordered_store.OrderedStore.probe_sorted.Given as goal
 
 abbrev pub invariant-loop-no : goal.invariant-loop-no

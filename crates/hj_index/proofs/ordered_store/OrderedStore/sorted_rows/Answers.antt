@@ -3,7 +3,7 @@ use Rattle.std.specs.BTreeMap.Range.{range_contains}
 use Rattle.std.specs.Int.{w64}
 use Rattle.std.proofs.lemmas.Int.{to_z-of_z}
 use Rattle.hj_msg.specs.Store.{joins, settled_matches}
-use Rattle.hj_index.specs.Numbered.{rows_in}
+use Rattle.hj_rows.specs.Numbered.{rows_in}
 use Rattle.hj_index.specs.OrderedIndex.{key_cmp, number_at, AreWithin, Key}
 use Rattle.hj_index.specs.OrderedStore.{JoinsNear, OrderedRows}
 use Rattle.hj_index.proofs.Banding.{near_sort_passed, near_sorted, sorts_first}

@@ -1,0 +1,3 @@
+pub mod ListStore
+pub mod Numbered
+pub mod Places
