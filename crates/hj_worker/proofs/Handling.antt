@@ -1,0 +1,188 @@
+-- What a call does, put together from what its parts did.
+use Rattle.std.proofs.Common.{◌≡◌, ℕ, ◌+◌, ◌-◌, ◌<◌, Bool, false, List, [], ◌∷◌, ◌++◌, length, refl, ap, ap₂, sym, ◌∙◌, subst, arith, append-nil}
+use Rattle.hj_base.specs.declared.numbers.Side.{Side}
+use Rattle.hj_base.specs.declared.numbers.Side.TheVariants.{Left, Right}
+use Rattle.hj_base.specs.Journals.{put}
+use Rattle.hj_msg.specs.declared.message.Msg.{Msg}
+use Rattle.hj_msg.specs.declared.message.Report.{Report}
+use Rattle.hj_msg.specs.declared.message.Report.TheVariants.{NoMemory}
+use Rattle.hj_msg.specs.Core as step
+use Rattle.hj_core.specs.declared.sends.Sends.{Sends}
+use Rattle.hj_core.specs.Contents.{Contents, KeepsPlace}
+use Rattle.hj_core.specs.Sent.{sent}
+use Rattle.hj_link.specs.Seen.{EndSeen, SenderSeen}
+use Rattle.hj_worker.specs.declared.answers.Place.{Place}
+use Rattle.hj_worker.specs.declared.answers.Place.TheVariants.{Link, Reports}
+use Rattle.hj_worker.specs.declared.ends.Ends.{Ends}
+use Rattle.hj_worker.specs.declared.hand.Hand.{Hand}
+use Rattle.hj_worker.specs.declared.hand.Hand.TheVariants.{Nothing, Rest, Refused}
+use Rattle.hj_worker.specs.Outgoing.{Outgoing, Journals, in_order, outgoing, with_puts, with_take}
+use Rattle.hj_worker.specs.Hands.{InHand, unput, in_hand, things_of}
+use Rattle.hj_worker.specs.Seen.{WorkerSeen, journals_of, full_looks, has_ended}
+use Rattle.hj_worker.specs.Standing.{Begins, IsBetween, IsInTheMidst, IsOutOfMemory, Stands}
+use Rattle.hj_worker.specs.Turning.{AreBlocked, FindsNone, Handles, Puts, PutsInHand, Takes}
+use Rattle.hj_worker.proofs.Standings.{unput-is, refused-isnt, none-left, finished}
+
+module _ {P : Type 0} (matches : P → P → Bool) (place n : ℕ) where
+  -- where a worker stands, by what is in hand
+  pub midst-of : (state : step.State P) (journals : Journals P) (taken : ℕ) (hand : Hand P) (sends : Sends P) → hand ≡ Rest sends → Stands matches place n state journals taken hand
+      → IsInTheMidst matches place n state journals taken (things_of sends)
+  midst-of state journals taken hand sends is stands = subst (Stands matches place n state journals taken) is stands
+
+  pub between-of : (state : step.State P) (journals : Journals P) (taken : ℕ) (hand : Hand P) → in_hand hand ≡ unput [] → Stands matches place n state journals taken hand
+      → IsBetween matches place n state journals taken
+  between-of state journals taken Nothing nothing stands = stands
+  between-of state journals taken (Rest sends) nothing stands = absurd (none-left (things_of sends) (unput-is (things_of sends) [] nothing) stands.some)
+  between-of state journals taken (Refused message) nothing stands = absurd (refused-isnt message [] nothing)
+
+  pub nothing-of : (state : step.State P) (journals : Journals P) (taken : ℕ) (hand : Hand P) → in_hand hand ≡ unput [] → Stands matches place n state journals taken hand → hand ≡ Nothing
+  nothing-of state journals taken Nothing nothing stands = refl
+  nothing-of state journals taken (Rest sends) nothing stands = absurd (none-left (things_of sends) (unput-is (things_of sends) [] nothing) stands.some)
+  nothing-of state journals taken (Refused message) nothing stands = absurd (refused-isnt message [] nothing)
+
+module _ {P : Type 0} where
+  journals-same : (a b : Journals P) → a.left ≡ b.left → a.right ≡ b.right → a.reports ≡ b.reports → a ≡ b
+  journals-same a b left right reports = ap₂ (λ l r. record a { left = l; right = r }) left right ∙ ap (λ rs. record b { reports = rs }) reports
+
+  -- what a look leaves that finds room for a report
+  pub record Looked (old new : Ends P) : Type 0 where
+    pub left : new.left ≡ old.left
+    pub right : new.right ≡ old.right
+    pub reports : new.reports.journal ≡ old.reports.journal
+    pub full : new.reports.full_looks ≡ old.reports.full_looks
+
+  looked-journals : (old new : Ends P) → Looked old new → journals_of new ≡ journals_of old
+  looked-journals old new looked =
+      journals-same (journals_of new) (journals_of old) (ap (λ (e : EndSeen (Msg P)). e.journal) looked.left) (ap (λ (e : EndSeen (Msg P)). e.journal) looked.right) looked.reports
+
+  looked-none : (end : Side) (old mid new : Ends P) → Looked old mid → FindsNone end mid new → FindsNone end old new
+  looked-none Left old mid new looked none = none ∙ ap (λ (e : EndSeen (Msg P)). e.empty_looks + 1) looked.left
+  looked-none Right old mid new looked none = none ∙ ap (λ (e : EndSeen (Msg P)). e.empty_looks + 1) looked.right
+
+  looked-takes : (number : ℕ) (first : Side) (message : Msg P) (old mid new : Ends P) → Looked old mid → Takes number first message mid new → Takes number first message old new
+  looked-takes number first message old mid new looked takes = record {
+    end = takes.end;
+    journals = takes.journals ∙ ap (with_take number takes.end message) (looked-journals old mid looked);
+    order = λ other. looked-none first old mid new looked (takes.order other);
+  }
+
+  -- neither that look nor a take finds a place full
+  pub full-kept : (place : Place) (old mid new : Ends P) → Looked old mid → (new.left.full_looks ≡ mid.left.full_looks) × (new.right.full_looks ≡ mid.right.full_looks) → new.reports ≡ mid.reports
+      → full_looks place new ≡ full_looks place old
+  full-kept (Link Left) old mid new looked kept same = kept.0 ∙ ap (λ (e : EndSeen (Msg P)). e.full_looks) looked.left
+  full-kept (Link Right) old mid new looked kept same = kept.1 ∙ ap (λ (e : EndSeen (Msg P)). e.full_looks) looked.right
+  full-kept Reports old mid new looked kept same = ap (λ (s : SenderSeen (Report P)). s.full_looks) same ∙ looked.full
+
+  pub blocked-since : (place : Place) (items : List (Outgoing P)) (old mid new : Ends P) → full_looks place mid ≡ full_looks place old → AreBlocked place items mid new → AreBlocked place items old new
+  blocked-since place items old mid new same blocked = record { first = blocked.first; later = blocked.later; are = blocked.are; at = blocked.at; full = blocked.full ∙ ap (λ looks. looks + 1) same }
+
+  pub some-blocked : (place : Place) (items : List (Outgoing P)) (old new : Ends P) → AreBlocked place items old new → 0 < length items
+  some-blocked place items old new blocked = let longer : length items ≡ length (blocked.first ∷ blocked.later) = ap length blocked.are in omega arith
+
+  -- all was put
+  pub puts-all : (number : ℕ) (items : List (Outgoing P)) (old new : Journals P) → new ≡ with_puts number old items → Puts number items old [] new
+  puts-all number items old new is = record { done = items; all = sym (append-nil items); journals = is }
+
+module _ {P J L R : Type 0} (predicate : J → P → P → Bool) (rows : Contents P J L R → step.State P) where
+  -- what is seen of a worker
+  abbrev pub seen : Contents P J L R → Ends P → InHand P → ℕ → ℕ → WorkerSeen P J
+  seen core ends hand taken calls = record { join = core.join; place = core.place; cores = core.cores; state = rows core; ends = ends; hand = hand; taken = taken; calls = calls }
+
+  -- a core that keeps its place
+  kept-core : (Q : (P → P → Bool) → ℕ → ℕ → step.State P → Type 0) (core new : Contents P J L R) (state : step.State P) → KeepsPlace core new → rows new ≡ state → Q (predicate core.join) core.place core.cores state
+      → Q (predicate new.join) new.place new.cores (rows new)
+  kept-core Q core new state kept is has =
+      subst (λ j. Q (predicate j) new.place new.cores (rows new)) (sym kept.join)
+      (subst (λ p. Q (predicate core.join) p new.cores (rows new)) (sym kept.place)
+      (subst (λ n. Q (predicate core.join) core.place n (rows new)) (sym kept.cores) (subst (λ s. Q (predicate core.join) core.place core.cores s) (sym is) has)))
+
+  -- A worker with nothing in hand took a message.
+  pub record Took (core : Contents P J L R) (number : ℕ) (first : Side) (message : Msg P) (old new : Ends P) : Type 0 where
+    pub takes : Takes number first message old new
+    pub begins : Begins (predicate core.join) core.place core.cores (rows core) message number (journals_of new)
+
+  pub took : (core : Contents P J L R) (number : ℕ) (first : Side) (message : Msg P) (hand : Hand P) (old mid new : Ends P) → in_hand hand ≡ unput [] → has_ended (rows core) ≡ false
+      → Stands (predicate core.join) core.place core.cores (rows core) (journals_of old) number hand → Looked old mid → Takes number first message mid new → Took core number first message old new
+  took core number first message hand old mid new nothing unended stands looked takes =
+      let between = between-of (predicate core.join) core.place core.cores (rows core) (journals_of old) number hand nothing stands in
+      let took : Takes number first message old new = looked-takes number first message old mid new looked takes in
+      record {
+        takes = took;
+        begins = record { turns = between.turns; earlier = journals_of old; are = between.are; unended = unended; counted = between.counted; end = took.end; taken = took.journals };
+      }
+
+  -- Its core handled the message.
+  pub record Handled (core new : Contents P J L R) (message : Msg P) (sends : Sends P) : Type 0 where
+    pub kept : KeepsPlace core new
+    pub things : things_of sends ≡ outgoing (predicate core.join) core.place core.cores (rows core) message
+    pub state : rows new ≡ step.after core.place core.cores (rows core) message
+
+  pub handled : (core prepared new : Contents P J L R) (message : Msg P) (sends : Sends P) → KeepsPlace core prepared → rows prepared ≡ rows core → KeepsPlace prepared new
+      → rows new ≡ step.after prepared.place prepared.cores (rows prepared) message → sent sends ≡ step.sends prepared.place prepared.cores message
+      → sends.entry ≡ step.report (predicate prepared.join) (rows prepared) message → Handled core new message sends
+  handled core prepared new message sends kept same kept' state_is sent_is entry_is = record {
+    kept = record { join = kept'.join ∙ kept.join; place = kept'.place ∙ kept.place; cores = kept'.cores ∙ kept.cores };
+    things = ap₂ (λ s e. in_order s e) (sent_is ∙ ap₂ (λ p n. step.sends p n message) kept.place kept.cores) (entry_is ∙ ap₂ (λ j s. step.report (predicate j) s message) kept.join same);
+    state = state_is ∙ ap₂ (λ p n. step.after p n (rows prepared) message) kept.place kept.cores ∙ ap (λ s. step.after core.place core.cores s message) same;
+  }
+
+  -- All that it made of the message was put.
+  pub all_put : {core new : Contents P J L R} {number : ℕ} {first : Side} {message : Msg P} {old mid : Ends P} {sends : Sends P} (last : Journals P) → Took core number first message old mid → Handled core new message sends
+      → last ≡ with_puts number (journals_of mid) (things_of sends) → IsBetween (predicate new.join) new.place new.cores (rows new) last (number + 1)
+  all_put {core = core} {new = new} {number = number} {message = message} {mid = mid} last took handled puts =
+      kept-core (λ m p n s. IsBetween m p n s last (number + 1)) core new (step.after core.place core.cores (rows core) message) handled.kept handled.state
+      (finished took.begins last (puts ∙ ap (with_puts number (journals_of mid)) handled.things) (number + 1) refl)
+
+  -- Some of it is left.
+  pub some_left : {core new : Contents P J L R} {number : ℕ} {first : Side} {message : Msg P} {old mid : Ends P} {sends : Sends P} (others : List (Outgoing P)) (last : Journals P) → Took core number first message old mid
+      → Handled core new message sends → Puts number (things_of sends) (journals_of mid) others last → 0 < length others → IsInTheMidst (predicate new.join) new.place new.cores (rows new) last (number + 1) others
+  some_left {core = core} {new = new} {number = number} {message = message} {mid = mid} others last took handled puts some =
+      kept-core (λ m p n s. IsInTheMidst m p n s last (number + 1) others) core new (step.after core.place core.cores (rows core) message) handled.kept handled.state
+      (record {
+        before = rows core;
+        message = message;
+        number = number;
+        begun = journals_of mid;
+        begins = took.begins;
+        done = puts.done;
+        all = sym handled.things ∙ puts.all;
+        some = some;
+        put = puts.journals;
+        reached = refl;
+        counted = refl;
+      })
+
+  pub handles : {core new : Contents P J L R} {number : ℕ} {first : Side} {message : Msg P} {ends mid : Ends P} {sends : Sends P} (old : WorkerSeen P J) (last : Ends P) (others : List (Outgoing P)) (hand hand' : InHand P)
+      (calls calls' : ℕ) → seen core ends hand number calls ≡ old → Took core number first message ends mid → Handled core new message sends → Puts number (things_of sends) (journals_of mid) others (journals_of last)
+      → (0 < length others → (place : Place) × AreBlocked place others ends last) → hand' ≡ unput others → Handles (predicate old.join) first old (seen new last hand' (number + 1) calls')
+  handles {core = core} {new = new} {number = number} {first = first} {message = message} {mid = mid} old last others hand hand' calls calls' is took handled puts waits hand_is =
+      subst (λ (v : WorkerSeen P J). Handles (predicate v.join) first v (seen new last hand' (number + 1) calls')) is
+      (record {
+        message = message;
+        between = mid;
+        takes = took.takes;
+        others = others;
+        puts = subst (λ items. Puts number items (journals_of mid) others (journals_of last)) handled.things puts;
+        waits = waits;
+        state = handled.state;
+        hand = hand_is;
+        taken = refl;
+      })
+
+  -- Memory ran out.
+  pub ran_out : {core : Contents P J L R} {number : ℕ} {first : Side} {message : Msg P} {old mid : Ends P} (prepared : Contents P J L R) (reports : SenderSeen (Report P)) → Took core number first message old mid
+      → KeepsPlace core prepared → rows prepared ≡ rows core → reports.journal ≡ mid.reports.journal ++ put number NoMemory ∷ []
+      → IsOutOfMemory (predicate prepared.join) prepared.place prepared.cores (rows prepared) (journals_of (record mid { reports = reports })) (number + 1) message
+  ran_out {core = core} {number = number} {message = message} {mid = mid} prepared reports took kept same put_is =
+      kept-core (λ m p n s. IsOutOfMemory m p n s (journals_of (record mid { reports = reports })) (number + 1) message) core prepared (rows core) kept same
+      (record { number = number; begun = journals_of mid; begins = took.begins; put = ap (λ rs. record (journals_of mid) { reports = rs }) put_is; counted = refl })
+
+  -- What was in hand was put, up to these others.
+  pub puts-in_hand : (core : Contents P J L R) (old : WorkerSeen P J) (ends last : Ends P) (hand hand' : InHand P) (taken calls : ℕ) (items others : List (Outgoing P)) → seen core ends hand taken calls ≡ old
+      → hand ≡ unput items → Puts (taken - 1) items (journals_of ends) others (journals_of last) → hand' ≡ unput others → (items' : List (Outgoing P)) → old.hand ≡ unput items' → 0 < length items'
+      → PutsInHand items' old others (seen core last hand' taken calls)
+  puts-in_hand core old ends last hand hand' taken calls items others is hand_is puts others_are =
+      subst (λ (v : WorkerSeen P J). (items' : List (Outgoing P)) → v.hand ≡ unput items' → 0 < length items' → PutsInHand items' v others (seen core last hand' taken calls)) is
+      (λ items' are some.
+      subst (λ xs. PutsInHand xs (seen core ends hand taken calls) others (seen core last hand' taken calls)) (unput-is items items' (sym hand_is ∙ are))
+      (record { puts = puts; state = refl; hand = others_are; taken = refl }))

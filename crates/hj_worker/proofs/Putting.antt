@@ -1,0 +1,135 @@
+-- What puts leave in the journals.
+use Rattle.std.proofs.Common.{◌≡◌, ℕ, ◌+◌, List, [], ◌∷◌, ◌++◌, length, map, Option, Some, refl, ap, ap₂, sym, ◌∙◌, arith, append-nil, append_assoc, length-append}
+use Rattle.std.specs.Option.{option_to_list}
+use Rattle.std.proofs.lemmas.List.{map-append}
+use Rattle.std.proofs.lemmas.List.Sums.{fold-append}
+use Rattle.hj_base.specs.declared.numbers.Side.{Side}
+use Rattle.hj_base.specs.declared.numbers.Side.TheVariants.{Left, Right}
+use Rattle.hj_base.specs.Journals.{Entry, put, taken}
+use Rattle.hj_msg.specs.declared.message.Msg.{Msg}
+use Rattle.hj_msg.specs.declared.message.Report.{Report}
+use Rattle.hj_msg.specs.Turns.{only_at}
+use Rattle.hj_core.specs.declared.sends.Sends.{Sends}
+use Rattle.hj_worker.specs.Outgoing.{Outgoing, leftwards, rightwards, reported, Journals, with_put, with_puts, with_take, entries_in}
+use Rattle.hj_worker.specs.Hands.{things_of}
+use Rattle.hj_worker.specs.Turning.{Puts}
+
+module _ {P : Type 0} where
+  -- of some things, the messages that go to each side, and the reports
+  abbrev pub lefts : List (Outgoing P) → List (Msg P)
+  lefts [] = []
+  lefts (leftwards message ∷ items) = message ∷ lefts items
+  lefts (rightwards message ∷ items) = lefts items
+  lefts (reported entry ∷ items) = lefts items
+
+  abbrev pub rights : List (Outgoing P) → List (Msg P)
+  rights [] = []
+  rights (leftwards message ∷ items) = rights items
+  rights (rightwards message ∷ items) = message ∷ rights items
+  rights (reported entry ∷ items) = rights items
+
+  abbrev pub reports_in : List (Outgoing P) → List (Report P)
+  reports_in [] = []
+  reports_in (leftwards message ∷ items) = reports_in items
+  reports_in (rightwards message ∷ items) = reports_in items
+  reports_in (reported entry ∷ items) = entry ∷ reports_in items
+
+  pub puts-left : (number : ℕ) (js : Journals P) (items : List (Outgoing P)) → (with_puts number js items).left ≡ js.left ++ map (put number) (lefts items)
+  puts-left number js [] = sym (append-nil js.left)
+  puts-left number js (leftwards m ∷ items) = puts-left number (with_put number js (leftwards m)) items ∙ append_assoc js.left (put number m ∷ []) (map (put number) (lefts items))
+  puts-left number js (rightwards m ∷ items) = puts-left number (with_put number js (rightwards m)) items
+  puts-left number js (reported r ∷ items) = puts-left number (with_put number js (reported r)) items
+
+  pub puts-right : (number : ℕ) (js : Journals P) (items : List (Outgoing P)) → (with_puts number js items).right ≡ js.right ++ map (put number) (rights items)
+  puts-right number js [] = sym (append-nil js.right)
+  puts-right number js (leftwards m ∷ items) = puts-right number (with_put number js (leftwards m)) items
+  puts-right number js (rightwards m ∷ items) = puts-right number (with_put number js (rightwards m)) items ∙ append_assoc js.right (put number m ∷ []) (map (put number) (rights items))
+  puts-right number js (reported r ∷ items) = puts-right number (with_put number js (reported r)) items
+
+  pub puts-reports : (number : ℕ) (js : Journals P) (items : List (Outgoing P)) → (with_puts number js items).reports ≡ js.reports ++ map (put number) (reports_in items)
+  puts-reports number js [] = sym (append-nil js.reports)
+  puts-reports number js (leftwards m ∷ items) = puts-reports number (with_put number js (leftwards m)) items
+  puts-reports number js (rightwards m ∷ items) = puts-reports number (with_put number js (rightwards m)) items
+  puts-reports number js (reported r ∷ items) = puts-reports number (with_put number js (reported r)) items ∙ append_assoc js.reports (put number r ∷ []) (map (put number) (reports_in items))
+
+  pub take-left : (number : ℕ) (end : Side) (m : Msg P) (js : Journals P) → (with_take number end m js).left ≡ js.left ++ only_at end Left (taken number m)
+  take-left number Left m js = refl
+  take-left number Right m js = sym (append-nil js.left)
+
+  pub take-right : (number : ℕ) (end : Side) (m : Msg P) (js : Journals P) → (with_take number end m js).right ≡ js.right ++ only_at end Right (taken number m)
+  take-right number Left m js = sym (append-nil js.right)
+  take-right number Right m js = refl
+
+  pub take-reports : (number : ℕ) (end : Side) (m : Msg P) (js : Journals P) → (with_take number end m js).reports ≡ js.reports
+  take-reports number Left m js = refl
+  take-reports number Right m js = refl
+
+  -- puts upon puts
+  pub puts-append : (number : ℕ) (js : Journals P) (xs ys : List (Outgoing P)) → with_puts number (with_puts number js xs) ys ≡ with_puts number js (xs ++ ys)
+  puts-append number js xs ys = sym (fold-append (with_put number) js xs ys)
+
+  -- puts in order
+  puts-leftwards : (number : ℕ) (js : Journals P) (ms : List (Msg P)) → with_puts number js (map leftwards ms) ≡ record js { left = js.left ++ map (put number) ms }
+  puts-leftwards number js [] = ap (λ l. record js { left = l }) (sym (append-nil js.left))
+  puts-leftwards number js (m ∷ ms) = puts-leftwards number (with_put number js (leftwards m)) ms ∙ ap (λ l. record js { left = l }) (append_assoc js.left (put number m ∷ []) (map (put number) ms))
+
+  puts-rightwards : (number : ℕ) (js : Journals P) (ms : List (Msg P)) → with_puts number js (map rightwards ms) ≡ record js { right = js.right ++ map (put number) ms }
+  puts-rightwards number js [] = ap (λ l. record js { right = l }) (sym (append-nil js.right))
+  puts-rightwards number js (m ∷ ms) = puts-rightwards number (with_put number js (rightwards m)) ms ∙ ap (λ l. record js { right = l }) (append_assoc js.right (put number m ∷ []) (map (put number) ms))
+
+  puts-messages : (number : ℕ) (js : Journals P) (ls rs : List (Msg P)) → with_puts number js (map leftwards ls ++ map rightwards rs) ≡ record js { left = js.left ++ map (put number) ls; right = js.right ++ map (put number) rs }
+  puts-messages number js ls rs =
+      fold-append (with_put number) js (map leftwards ls) (map rightwards rs) ∙ ap (λ ks. with_puts number ks (map rightwards rs)) (puts-leftwards number js ls)
+      ∙ puts-rightwards number (record js { left = js.left ++ map (put number) ls }) rs
+
+  -- the second message to the right finds it full
+  pub second_blocked : (number : ℕ) (js : Journals P) (left right right' : List (Entry (Msg P))) (sends : Sends P) (m : Msg P)
+      → left ≡ js.left ++ map (put number) (option_to_list sends.to_left) → right ≡ js.right ++ map (put number) (option_to_list sends.to_right) → sends.to_right_then ≡ Some m → right' ≡ right
+      → Puts number (things_of sends) js (rightwards m ∷ map reported (option_to_list sends.entry)) (record { left = left; right = right'; reports = js.reports })
+  second_blocked number js left right right' sends m lefts_put rights_put is same =
+      let ls = option_to_list sends.to_left in
+      let rs = option_to_list sends.to_right in
+      let es = map {B = Outgoing P} reported (option_to_list sends.entry) in
+      record {
+        done = map leftwards ls ++ map rightwards rs;
+        all =
+            ap (λ (o : Option (Msg P)). map leftwards ls ++ (map rightwards (rs ++ option_to_list o) ++ es)) is
+            ∙ ap (λ xs. map leftwards ls ++ (xs ++ es)) (map-append {B = Outgoing P} rightwards rs (m ∷ []))
+            ∙ ap (λ xs. map leftwards ls ++ xs) (append_assoc (map rightwards rs) (rightwards m ∷ []) es)
+            ∙ sym (append_assoc (map leftwards ls) (map rightwards rs) (rightwards m ∷ es));
+        journals = ap₂ (λ l r. record js { left = l; right = r }) lefts_put (same ∙ rights_put) ∙ sym (puts-messages number js ls rs);
+      }
+
+  -- the report finds its queue full
+  pub report_blocked : (number : ℕ) (js : Journals P) (left right right' : List (Entry (Msg P))) (reports : List (Entry (Report P))) (sends : Sends P) (r : Report P)
+      → left ≡ js.left ++ map (put number) (option_to_list sends.to_left) → right ≡ js.right ++ map (put number) (option_to_list sends.to_right)
+      → right' ≡ right ++ map (put number) (option_to_list sends.to_right_then) → sends.entry ≡ Some r → reports ≡ js.reports
+      → Puts number (things_of sends) js (reported r ∷ []) (record { left = left; right = right'; reports = reports })
+  report_blocked number js left right right' reports sends r lefts_put rights_put then_put is same =
+      let ls = option_to_list sends.to_left in
+      let rs = option_to_list sends.to_right in
+      let ts = option_to_list sends.to_right_then in
+      let rights_are : right' ≡ js.right ++ map (put number) (rs ++ ts)
+      = then_put ∙ ap (λ xs. xs ++ map (put number) ts) rights_put ∙ append_assoc js.right (map (put number) rs) (map (put number) ts) ∙ ap (λ xs. js.right ++ xs) (sym (map-append (put number) rs ts)) in
+      record {
+        done = map leftwards ls ++ map rightwards (rs ++ ts);
+        all =
+            ap (λ (o : Option (Report P)). map leftwards ls ++ (map rightwards (rs ++ ts) ++ map reported (option_to_list o))) is
+            ∙ sym (append_assoc (map leftwards ls) (map rightwards (rs ++ ts)) (reported r ∷ []));
+        journals = ap₂ (λ l rs'. record { left = l; right = rs'; reports = reports }) lefts_put rights_are
+            ∙ ap (λ es. record { left = js.left ++ map (put number) ls; right = js.right ++ map (put number) (rs ++ ts); reports = es }) same ∙ sym (puts-messages number js ls (rs ++ ts));
+      }
+
+  -- a put or a take is one entry more
+  pub entries-put : (number : ℕ) (js : Journals P) (item : Outgoing P) → entries_in (with_put number js item) ≡ entries_in js + 1
+  entries-put number js (leftwards m) = omega (arith, length-append js.left (put number m ∷ []))
+  entries-put number js (rightwards m) = omega (arith, length-append js.right (put number m ∷ []))
+  entries-put number js (reported r) = omega (arith, length-append js.reports (put number r ∷ []))
+
+  pub entries-puts : (number : ℕ) (js : Journals P) (items : List (Outgoing P)) → entries_in (with_puts number js items) ≡ entries_in js + length items
+  entries-puts number js [] = omega arith
+  entries-puts number js (item ∷ items) = omega (arith, entries-puts number (with_put number js item) items, entries-put number js item)
+
+  pub entries-take : (number : ℕ) (end : Side) (m : Msg P) (js : Journals P) → entries_in (with_take number end m js) ≡ entries_in js + 1
+  entries-take number Left m js = omega (arith, length-append js.left (taken number m ∷ []))
+  entries-take number Right m js = omega (arith, length-append js.right (taken number m ∷ []))

@@ -1,0 +1,5 @@
+pub mod Hands
+pub mod Outgoing
+pub mod Seen
+pub mod Standing
+pub mod Turning

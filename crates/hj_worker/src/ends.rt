@@ -1,0 +1,168 @@
+//! The ends of a worker.
+ghost use Rattle.std.specs.Prelude.{◌≡◌, ◌+◌, ◌<◌, ◌++◌, [], map, option_to_list, Some, IfSome, IfNone, MatchOption};
+ghost use Rattle.hj_base.specs.Journals.{put};
+
+use crate::answers::Place;
+use hj_base::Side;
+use hj_core::Sends;
+use hj_link::{Full, LeftEnd, RightEnd, Sender};
+use hj_msg::{Msg, Report};
+
+/// Where a worker takes its messages and puts its own.
+#[derive(Drop)]
+pub struct Ends<P: Drop> {
+    /// The right end of the link to the left.
+    pub(crate) left: RightEnd<Msg<P>>,
+    /// The left end of the link to the right.
+    pub(crate) right: LeftEnd<Msg<P>>,
+    pub(crate) reports: Sender<Report<P>>,
+}
+
+/// What wasn't put, with the place that was full.
+#[derive(Drop)]
+pub struct Unput<P> {
+    pub(crate) place: Place,
+    pub(crate) sends: Sends<P>,
+}
+
+impl<P: Drop> Ends<P> {
+    ghost use Rattle.std.specs.Prelude.{ℕ};
+    ghost use Rattle.hj_base.specs.declared.numbers.Side.TheVariants.{Left as OnLeft, Right as OnRight};
+    ghost use Rattle.hj_worker.specs.Hands.{things_of};
+    ghost use Rattle.hj_worker.specs.Outgoing.{with_puts};
+    ghost use Rattle.hj_worker.specs.Seen.{journals_of};
+    ghost use Rattle.hj_worker.specs.Turning.{KeepsLinks, Puts, AreBlocked, FindsNone, Takes};
+
+    /// Takes a message under a turn. It looks at the first of its links, and only where there is none at the other one.
+    #[inline(always)]
+    pub(crate) fn take(&mut self, turn: u64, first: Side) -> Option<Msg<P>>
+        ensures links { KeepsLinks self.old self.new }
+        ensures taken { IfSome result (λ message. Takes turn first message self.old self.new) }
+        ensures none { IfNone result ((journals_of self.new ≡ journals_of self.old) × FindsNone OnLeft self.old self.new × FindsNone OnRight self.old self.new) }
+        ensures full_looks { (self.new.left.full_looks ≡ self.old.left.full_looks) × (self.new.right.full_looks ≡ self.old.right.full_looks) }
+        ensures reports { self.new.reports ≡ self.old.reports }
+    {
+        match first {
+            Side::Left => match self.left.take(turn) {
+                Some(message) => Some(message),
+                None => self.right.take(turn),
+            },
+            Side::Right => match self.right.take(turn) {
+                Some(message) => Some(message),
+                None => self.left.take(turn),
+            },
+        }
+    }
+
+    /// Puts what a core sends for a message, in order, up to the first full place; then its report.
+    #[inline(always)]
+    pub(crate) fn put_all(&mut self, turn: u64, sends: Sends<P>) -> Option<Unput<P>>
+        ensures links { KeepsLinks self.old self.new }
+        ensures all { IfNone result (journals_of self.new ≡ with_puts turn (journals_of self.old) (things_of sends)) }
+        ensures some { IfSome result (λ unput. Puts turn (things_of sends) (journals_of self.old) (things_of unput.sends) (journals_of self.new)) }
+        ensures blocked { IfSome result (λ unput. AreBlocked unput.place (things_of unput.sends) self.old self.new) }
+    {
+        let Sends {
+            to_left,
+            to_right,
+            to_right_then,
+            entry,
+        } = sends;
+        if let Some(message) = put_left(&mut self.left, turn, to_left) {
+            return Some(Unput {
+                place: Place::Link(Side::Left),
+                sends: Sends {
+                    to_left: Some(message),
+                    to_right,
+                    to_right_then,
+                    entry,
+                },
+            });
+        }
+        if let Some(message) = put_right(&mut self.right, turn, to_right) {
+            return Some(Unput {
+                place: Place::Link(Side::Right),
+                sends: Sends {
+                    to_left: None,
+                    to_right: Some(message),
+                    to_right_then,
+                    entry,
+                },
+            });
+        }
+        if let Some(message) = put_right(&mut self.right, turn, to_right_then) {
+            return Some(Unput {
+                place: Place::Link(Side::Right),
+                sends: Sends {
+                    to_left: None,
+                    to_right: None,
+                    to_right_then: Some(message),
+                    entry,
+                },
+            });
+        }
+        if let Some(report) = put_report(&mut self.reports, turn, entry) {
+            return Some(Unput {
+                place: Place::Reports,
+                sends: Sends {
+                    to_left: None,
+                    to_right: None,
+                    to_right_then: None,
+                    entry: Some(report),
+                },
+            });
+        }
+        None
+    }
+}
+
+/// Puts a message, if there is one. Hands it back where the link is full.
+#[inline(always)]
+fn put_left<P: Drop>(
+    end: &mut RightEnd<Msg<P>>,
+    turn: u64,
+    message: Option<Msg<P>>,
+) -> Option<Msg<P>>
+    ensures link { (end.new.link ≡ end.old.link) × (end.new.capacity ≡ end.old.capacity) }
+    ensures put { IfNone result ((end.new.journal ≡ end.old.journal ++ map (put turn) (option_to_list message)) × (end.new.full_looks ≡ end.old.full_looks)) }
+    ensures back { IfSome result (λ back. (message ≡ Some back) × (end.new.journal ≡ end.old.journal) × (end.new.full_looks ≡ end.old.full_looks + 1)) }
+{
+    match end.put(turn, message?) {
+        Ok(()) => None,
+        Err(Full(back)) => Some(back),
+    }
+}
+
+/// Puts a message, if there is one. Hands it back where the link is full.
+#[inline(always)]
+fn put_right<P: Drop>(
+    end: &mut LeftEnd<Msg<P>>,
+    turn: u64,
+    message: Option<Msg<P>>,
+) -> Option<Msg<P>>
+    ensures link { (end.new.link ≡ end.old.link) × (end.new.capacity ≡ end.old.capacity) }
+    ensures put { IfNone result ((end.new.journal ≡ end.old.journal ++ map (put turn) (option_to_list message)) × (end.new.full_looks ≡ end.old.full_looks)) }
+    ensures back { IfSome result (λ back. (message ≡ Some back) × (end.new.journal ≡ end.old.journal) × (end.new.full_looks ≡ end.old.full_looks + 1)) }
+{
+    match end.put(turn, message?) {
+        Ok(()) => None,
+        Err(Full(back)) => Some(back),
+    }
+}
+
+/// Puts a report, if there is one. Hands it back where the queue is full.
+#[inline(always)]
+fn put_report<P: Drop>(
+    reports: &mut Sender<Report<P>>,
+    turn: u64,
+    report: Option<Report<P>>,
+) -> Option<Report<P>>
+    ensures link { (reports.new.link ≡ reports.old.link) × (reports.new.capacity ≡ reports.old.capacity) }
+    ensures put { IfNone result ((reports.new.journal ≡ reports.old.journal ++ map (put turn) (option_to_list report)) × (reports.new.full_looks ≡ reports.old.full_looks)) }
+    ensures back { IfSome result (λ back. (report ≡ Some back) × (reports.new.journal ≡ reports.old.journal) × (reports.new.full_looks ≡ reports.old.full_looks + 1)) }
+{
+    match reports.put(turn, report?) {
+        Ok(()) => None,
+        Err(Full(back)) => Some(back),
+    }
+}

@@ -1,0 +1,233 @@
+ghost use Rattle.hj_worker.specs.Seen.{first_end};
+ghost use Rattle.std.specs.Prelude.{◌≡◌, ◌≢◌, ◌+◌, ◌-◌, ◌^◌, ◌<◌, ◌==◌, ◌↔◌, [], true, false, min, length, None, Contains};
+
+use crate::answers::{Place, Turn};
+use crate::ends::Ends;
+use crate::hand::Hand;
+use hj_base::{CoreNo, Gate, Share, Side};
+use hj_core::Core;
+use hj_link::{LeftEnd, RightEnd, Sender};
+use hj_msg::{Join, Msg, Report, Store};
+use std::marker::Model;
+use std::mem;
+
+/// A core between its two links, with the queue of its reports. It handles one message a turn.
+#[derive(Drop)]
+pub struct Worker<P: Drop, J: Join<P>, L: Store<P, J>, R: Store<P, J>> {
+    core: Core<P, J, L, R>,
+    ends: Ends<P>,
+    hand: Hand<P>,
+    taken: u64,
+    calls: u64,
+}
+
+impl<P: Drop, J: Join<P>, L: Store<P, J>, R: Store<P, J>> Model for Worker<P, J, L, R> {
+    ghost use Rattle.hj_core.specs.Contents.{state_of};
+    ghost use Rattle.hj_worker.specs.Hands.{in_hand};
+    ghost use Rattle.hj_worker.specs.Seen.{WorkerSeen, journals_of};
+    ghost use Rattle.hj_worker.specs.Standing.{Stands};
+
+    ghost Value = { WorkerSeen P J };
+
+    ghost view = { λ w. record {
+      join = w.core.join;
+      place = w.core.place;
+      cores = w.core.cores;
+      state = state_of L.entries R.entries w.core;
+      ends = w.ends;
+      hand = in_hand w.hand;
+      taken = w.taken;
+      calls = w.calls;
+    } };
+
+    ghost invariant = { λ w. Stands (J.predicate w.core.join) w.core.place w.core.cores (state_of L.entries R.entries w.core) (journals_of w.ends) w.taken w.hand };
+}
+
+/// The ends of a worker, handed back.
+#[derive(Drop)]
+pub struct Parts<P: Drop> {
+    /// The place of its core.
+    pub place: CoreNo,
+    /// The right end of the link to the left.
+    pub left: RightEnd<Msg<P>>,
+    /// The left end of the link to the right.
+    pub right: LeftEnd<Msg<P>>,
+    pub reports: Sender<Report<P>>,
+}
+
+impl<P: Share + Drop, J: Join<P> + Drop, L: Store<P, J> + Drop, R: Store<P, J> + Drop> Worker<
+    P,
+    J,
+    L,
+    R,
+> {
+    ghost use Rattle.std.specs.Prelude.{List};
+    ghost use Rattle.hj_base.specs.declared.numbers.Side.TheVariants.{Left as OnLeft, Right as OnRight};
+    ghost use Rattle.hj_base.specs.Journals.{puts};
+    ghost use Rattle.hj_msg.specs.declared.message.Msg.{Msg as Message};
+    ghost use Rattle.hj_msg.specs.declared.message.Report.TheVariants.{Ended};
+    ghost use Rattle.hj_msg.specs.Core.{empty_state};
+    ghost use Rattle.hj_msg.specs.Turns.{Turns, TakesTurns};
+    ghost use Rattle.hj_core.specs.Contents.{state_of};
+    ghost use Rattle.hj_worker.specs.declared.answers.Place.{Place as Places};
+    ghost use Rattle.hj_worker.specs.Outgoing.{Outgoing, entries_in};
+    ghost use Rattle.hj_worker.specs.Hands.{unput, refused};
+    ghost use Rattle.hj_worker.specs.Seen.{first_end, full_looks, has_ended, journals_of};
+    ghost use Rattle.hj_worker.specs.Turning.{FindsNone, StaysItself, IsUnmoved, PutsOn, TurnsOn};
+
+    /// The worker of a core that has handled nothing, over ends that have taken and put nothing.
+    pub fn new(
+        core: Core<P, J, L, R>,
+        left: RightEnd<Msg<P>>,
+        right: LeftEnd<Msg<P>>,
+        reports: Sender<Report<P>>,
+    ) -> Self
+        requires core { state_of L.entries R.entries core ≡ empty_state }
+        requires left { left.journal ≡ [] }
+        requires right { right.journal ≡ [] }
+        requires reports { reports.journal ≡ [] }
+        ensures { result ≡ record {
+          join = core.join;
+          place = core.place;
+          cores = core.cores;
+          state = empty_state;
+          ends = record { left = left; right = right; reports = reports };
+          hand = unput [];
+          taken = 0;
+          calls = 0;
+        } }
+    {
+        Worker {
+            core,
+            ends: Ends {
+                left,
+                right,
+                reports,
+            },
+            hand: Hand::Nothing,
+            taken: 0,
+            calls: 0,
+        }
+    }
+
+    /// Puts what is in hand. With nothing in hand it takes a message, handles it, and puts what its core sends and reports of it.
+    pub fn turn<G: Gate>(&mut self, gate: &G) -> Turn
+        requires { self.old.taken ≢ 2 ^ 64 - 1 }
+        ensures itself { StaysItself self.old self.new }
+        ensures calls { self.new.calls ≡ min (self.old.calls + 1) (2 ^ 64 - 1) }
+        ensures no_memory { (message : Message P) → self.old.hand ≡ refused message → (result ≡ Turn.NoMemory) × IsUnmoved self.old self.new }
+        ensures in_hand { (items : List (Outgoing P)) → self.old.hand ≡ unput items → 0 < length items → PutsOn items self.old result self.new }
+        ensures goes_on { self.old.hand ≡ unput [] → has_ended self.old.state ≡ false → TurnsOn (J.predicate self.old.join) (first_end self.old.calls) self.old result self.new }
+
+        // when each answer comes
+        ensures did { result ≡ Turn.Did → entries_in (journals_of self.old.ends) < entries_in (journals_of self.new.ends) }
+        ensures idle { result ≡ Turn.Idle → (self.old.hand ≡ unput []) × FindsNone OnLeft self.old.ends self.new.ends × FindsNone OnRight self.old.ends self.new.ends }
+        ensures blocked { (place : Places) → result ≡ Turn.Blocked place → full_looks place self.new.ends ≡ full_looks place self.old.ends + 1 }
+        ensures ended { (result ≡ Turn.Ended) ↔ ((self.old.hand ≡ unput []) × (has_ended self.old.state ≡ true)) }
+        ensures ended_reported { result ≡ Turn.Ended → Contains (puts self.new.ends.reports.journal) Ended }
+        ensures ended_stays { result ≡ Turn.Ended → IsUnmoved self.old self.new }
+    {
+        let calls = self.calls;
+        self.calls = calls.saturating_add(1);
+        gate.pass(self.core.place(), calls);
+        match &self.hand {
+            Hand::Nothing => {
+                if self.core.ended() {
+                    Turn::Ended
+                } else {
+                    self.handle_next(first_look(calls))
+                }
+            }
+            Hand::Rest(_) => self.put_rest(),
+            Hand::Refused(_) => Turn::NoMemory,
+        }
+    }
+
+    /// Whether it took 2^64 - 1 messages, and so has no number left for a turn.
+    pub fn spent(&self) -> bool
+        ensures { result ≡ (self.now.taken == 2 ^ 64 - 1) }
+    {
+        self.taken == u64::MAX
+    }
+
+    /// Hands back its ends. What is in hand is dropped.
+    pub fn parts(self) -> Parts<P>
+        ensures place { result.place.0 ≡ self.place }
+        ensures ends { (result.left ≡ self.ends.left) × (result.right ≡ self.ends.right) × (result.reports ≡ self.ends.reports) }
+        ensures turns { (turns : Turns P) × TakesTurns (J.predicate self.join) self.place self.cores turns result.left.journal result.right.journal result.reports.journal
+            × (self.hand ≡ unput [] ↔ turns.cut ≡ None) }
+        ensures ended { Contains (puts result.reports.journal) Ended → self.hand ≡ unput [] }
+    {
+        Parts {
+            place: self.core.place(),
+            left: self.ends.left,
+            right: self.ends.right,
+            reports: self.ends.reports,
+        }
+    }
+
+    /// Puts what is in hand, under the number of the message that was taken last.
+    fn put_rest(&mut self) -> Turn
+        requires { (items : List (Outgoing P)) × (self.old.hand ≡ unput items) × (0 < length items) }
+        ensures itself { StaysItself self.old self.new }
+        ensures calls { self.new.calls ≡ self.old.calls }
+        ensures in_hand { (items : List (Outgoing P)) → self.old.hand ≡ unput items → 0 < length items → PutsOn items self.old result self.new }
+    {
+        let Hand::Rest(sends) = mem::replace(&mut self.hand, Hand::Nothing) else {
+            unreachable!()
+        };
+        match self.ends.put_all(self.taken - 1, sends) {
+            None => Turn::Did,
+            Some(unput) => {
+                self.hand = Hand::Rest(unput.sends);
+                Turn::Blocked(unput.place)
+            }
+        }
+    }
+
+    /// Takes a message and handles it, where there is room for a report. It looks at the first of its links, then at the other one.
+    fn handle_next(&mut self, first: Side) -> Turn
+        requires hand { self.old.hand ≡ unput [] }
+        requires open { has_ended self.old.state ≡ false }
+        requires number { self.old.taken ≢ 2 ^ 64 - 1 }
+        ensures itself { StaysItself self.old self.new }
+        ensures calls { self.new.calls ≡ self.old.calls }
+        ensures goes_on { TurnsOn (J.predicate self.old.join) first self.old result self.new }
+    {
+        if !self.ends.reports.room() {
+            return Turn::Blocked(Place::Reports);
+        }
+        let number = self.taken;
+        let Some(message) = self.ends.take(number, first) else {
+            return Turn::Idle;
+        };
+        self.taken = number + 1;
+        let Ok(prepared) = self.core.prepare(&message) else {
+            let Ok(()) = self.ends.reports.put(number, Report::NoMemory) else {
+                unreachable!()
+            };
+            self.hand = Hand::Refused(message);
+            return Turn::NoMemory;
+        };
+        let sends = self.core.commit(message, prepared);
+        match self.ends.put_all(number, sends) {
+            None => Turn::Did,
+            Some(unput) => {
+                self.hand = Hand::Rest(unput.sends);
+                Turn::Did
+            }
+        }
+    }
+}
+
+/// The link at which a call looks first, after so many calls.
+#[inline(always)]
+fn first_look(calls: u64) -> Side
+    ensures { result ≡ first_end calls }
+{
+    if calls % 2 == 0 {
+        Side::Left
+    } else {
+        Side::Right
+    }
+}
