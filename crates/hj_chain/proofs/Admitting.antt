@@ -7,7 +7,7 @@ use Rattle.hj_msg.specs.declared.feed.Given.{Given}
 use Rattle.hj_msg.specs.declared.feed.Given.TheVariants as given
 use Rattle.hj_msg.specs.declared.message.Msg.{Msg}
 use Rattle.hj_msg.specs.Event.{IsWellFormed}
-use Rattle.hj_msg.specs.Feed.{FeedState}
+use Rattle.hj_msg.specs.Feed.{FeedState, event_in}
 use Rattle.hj_msg.specs.Driver.{DriverTurn, admission, admitted, message_of, port_of}
 use Rattle.hj_driver.specs.declared.answers.Admitted.{Admitted}
 use Rattle.hj_driver.specs.declared.answers.Admitted.TheVariants as admitted_as
@@ -20,7 +20,6 @@ use Rattle.hj_chain.specs.declared.actor.NotNow.TheVariants.{Waits}
 use Rattle.hj_chain.specs.declared.actor.Stepped.TheVariants.{Did, NotEnabled}
 use Rattle.hj_chain.specs.Links.{put_in}
 use Rattle.hj_chain.specs.Chain.{FeedAnswer, ChainState, Contents, if_there}
-use Rattle.hj_chain.specs.Reached.{events_of}
 use Rattle.hj_chain.specs.Steps.{GoesWith, IsGoing, StepsTo, asks}
 use Rattle.hj_chain.proofs.Drivers.{wait-same, never_waits, sent}
 use Rattle.hj_chain.proofs.Standing.{log, driving}
@@ -49,7 +48,7 @@ module _ {P J : Type 0} (predicate : J → P → P → Bool) (opened now : Conte
 
   well : IsWellFormed (admitted past ++ event ∷ [])
   unfolding past
-  well = subst IsWellFormed ((driving predicate opened going_on).events_are ∙ ap (λ (g : Option (Given P)). admitted (log predicate opened going_on) ++ events_of g) next) going_on.well_formed
+  well = subst IsWellFormed ((driving predicate opened going_on).events_are ∙ ap (λ (g : Option (Given P)). admitted (log predicate opened going_on) ++ event_in g) next) going_on.well_formed
 
   pub admitting-log : (l : List (DriverTurn P)) × StandsFor chain.driver l × IsWellFormed (admitted l ++ event ∷ [])
   admitting-log = (past, stood, well)

@@ -23,7 +23,8 @@ use Rattle.hj_chain.specs.declared.actor.Actor.{Actor}
 use Rattle.hj_chain.specs.Reports.{queue_at}
 use Rattle.hj_chain.specs.Chain.{ChainState}
 use Rattle.hj_chain.specs.Progress.{IsDone}
-use Rattle.hj_chain.specs.Reached.{Reached, history_of, run_of, events_of}
+use Rattle.hj_chain.specs.Reached.{Reached, history_of, run_of}
+use Rattle.hj_msg.specs.Feed.{event_in}
 use Rattle.hj_chain.proofs.Driving.{driven, turns_of}
 use Rattle.hj_chain.proofs.Journals.{puts-append, puts-puts}
 use Rattle.hj_chain.proofs.Projection.{is_run, log_is, uncut}
@@ -120,7 +121,7 @@ module _ {P : Type 0} (matches : P → P → Bool) (n most : ℕ) {schedule : Li
       let d = driven matches n most reached well in
       let turns : turns_of (history_of reached).log ≡ turns_of (is_run matches n most reached well).log = ap turns_of (sym (log_is matches n most reached well)) in
       let closes = both_taken (turns_of (history_of reached).log) (ap is_finished (sym d.stands.closes) ∙ done.finished) in
-      let all : admitted (turns_of (history_of reached).log) ≡ events = sym (d.events_are ∙ ap (λ (g : Option (Given P)). admitted (turns_of (history_of reached).log) ++ events_of g) (d.last (finished-sent chain.driver.closes done.finished)) ∙ append-nil _) in (
+      let all : admitted (turns_of (history_of reached).log) ≡ events = sym (d.events_are ∙ ap (λ (g : Option (Given P)). admitted (turns_of (history_of reached).log) ++ event_in g) (d.last (finished-sent chain.driver.closes done.finished)) ∙ append-nil _) in (
         is_run matches n most reached well,
         record {
           uncut = λ k low. uncut matches n most reached well k;

@@ -12,7 +12,8 @@ use Rattle.hj_queue.specs.Queues.{Queues, no_messages}
 use Rattle.hj_chain.specs.declared.actor.Actor.{Actor}
 use Rattle.hj_chain.specs.Links.{incoming}
 use Rattle.hj_chain.specs.Chain.{FeedAnswer, ChainState, Action, drives, handles, collects, after_action, empty_chain, capacity, asks}
-use Rattle.hj_chain.specs.Reached.{Reached, History, no_history, recorded, history_of, events_of, turn_at}
+use Rattle.hj_chain.specs.Reached.{Reached, History, no_history, recorded, history_of, turn_at}
+use Rattle.hj_msg.specs.Feed.{event_in}
 use Rattle.hj_chain.proofs.Doing.{Doing, inquires, admits, shuts, receives, works, gathers, taken_by}
 use Rattle.hj_chain.proofs.Shape.{Shape, links-length}
 use Rattle.hj_chain.proofs.Induction.{by_steps}
@@ -76,7 +77,7 @@ module _ {P : Type 0} (matches : P → P → Bool) (n most : ℕ) where
   abbrev Kept : ℕ → List (Event P) → ChainState P → History P → Type 0
   Kept number events chain history = Directed n chain history
 
-  begin : (first : Given P) → Kept 0 (events_of (Some first)) (empty_chain n most first) no_history
+  begin : (first : Given P) → Kept 0 (event_in (Some first)) (empty_chain n most first) no_history
   begin first = record {
     rightwards = λ k within. ap (λ (q : Queues (Msg P)). count goes_left q.rightwards) (get_or-replicate (n + 1) k (no_messages (capacity most)) (no_messages 0) (omega (arith, within)));
     leftwards = λ k within. ap (λ (q : Queues (Msg P)). count goes_right q.leftwards) (get_or-replicate (n + 1) k (no_messages (capacity most)) (no_messages 0) (omega (arith, within)));

@@ -21,7 +21,8 @@ use Rattle.hj_chain.specs.declared.actor.NotNow.TheVariants.{Waits, ReportsFull,
 use Rattle.hj_chain.specs.Links.{at_port, incoming}
 use Rattle.hj_chain.specs.Reports.{queue_at}
 use Rattle.hj_chain.specs.Chain.{FeedAnswer, ChainState, Action, if_there, next_action, asks, drives, handles, collects, action_of, first, cause, cause_of, admit_cause, closing_cause, or_empty, at_core, full_cause, capacity}
-use Rattle.hj_chain.specs.Reached.{events_of, asked}
+use Rattle.hj_chain.specs.Reached.{asked}
+use Rattle.hj_msg.specs.Feed.{event_in}
 
 -- The driver asks the feed, or puts the next event, or the closes, or takes the first message at a port; a core handles the first message at one of
 -- its ends; or a core's first report is taken.
@@ -36,8 +37,8 @@ pub data Doing {P : Type 0} (chain : ChainState P) : Action P → Type 0 where
 
 -- the events that an action takes from the feed
 abbrev pub taken_by : {P : Type 0} → Action P → FeedAnswer P → List (Event P)
-taken_by asks answer = events_of (Some answer.given)
-taken_by (drives (admission event)) answer = events_of (if_there answer)
+taken_by asks answer = event_in (Some answer.given)
+taken_by (drives (admission event)) answer = event_in (if_there answer)
 taken_by (drives (receipt port message)) answer = []
 taken_by (drives closing) answer = []
 taken_by (handles place end message) answer = []

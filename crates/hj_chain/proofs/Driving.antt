@@ -24,7 +24,8 @@ use Rattle.hj_driver.proofs.Standing.{stands-new, stands-admission, stands-recei
 use Rattle.hj_driver.proofs.States.{length-filter_map, length-filter}
 use Rattle.hj_chain.specs.declared.actor.Actor.{Actor}
 use Rattle.hj_chain.specs.Chain.{FeedAnswer, ChainState, Action, if_there, asks, drives, after_action, empty_chain}
-use Rattle.hj_chain.specs.Reached.{Reached, History, no_history, recorded, history_of, events_of}
+use Rattle.hj_chain.specs.Reached.{Reached, History, no_history, recorded, history_of}
+use Rattle.hj_msg.specs.Feed.{event_in}
 use Rattle.hj_chain.proofs.Doing.{Doing, inquires, admits, shuts, receives, works, gathers, taken_by}
 use Rattle.hj_chain.proofs.Shape.{Shape}
 use Rattle.hj_chain.proofs.Induction.{by_steps}
@@ -36,7 +37,7 @@ turns_of log = map (λ entry. entry.turn) log
 -- The driver stands for the log, all events were put but the next one, and none is to come once the closes were put.
 pub record Driven {P : Type 0} (events : List (Event P)) (chain : ChainState P) (log : List (DriverTurn P)) : Type 0 where
   pub stands : StandsFor chain.driver log
-  pub events_are : events ≡ admitted log ++ events_of chain.next
+  pub events_are : events ≡ admitted log ++ event_in chain.next
   pub last : is_sent chain.driver.closes ≡ true → chain.next ≡ Some given.Stop
   pub few : count_of chain.driver ≤ chain.driver.flight
 
@@ -100,7 +101,7 @@ sent-take Right (EndR at) state = refl
 sent-take Right (ExpR at) state = refl
 
 module _ {P : Type 0} (matches : P → P → Bool) (n most : ℕ) where
-  driven-begin : (first : Given P) → DrivenIfWell 0 (events_of (Some first)) (empty_chain n most first) no_history
+  driven-begin : (first : Given P) → DrivenIfWell 0 (event_in (Some first)) (empty_chain n most first) no_history
   driven-begin first well = record {
     stands = stands-new P most;
     events_are = refl;
@@ -110,15 +111,15 @@ module _ {P : Type 0} (matches : P → P → Bool) (n most : ℕ) where
 
   driven-admission : (number : ℕ) (events : List (Event P)) (chain : ChainState P) (history : History P) (event : Event P) (answer : FeedAnswer P) → chain.next ≡ Some (given.Event event)
       → Driven events chain (turns_of history.log) → IsWellFormed events → Doing chain (drives (admission event))
-      → Driven (events ++ events_of (if_there answer)) (after_action matches chain (Some (drives (admission event))) answer) (turns_of history.log ++ admission event ∷ [])
+      → Driven (events ++ event_in (if_there answer)) (after_action matches chain (Some (drives (admission event))) answer) (turns_of history.log ++ admission event ∷ [])
   driven-admission number events chain history event answer next old well (admits put is free) =
       let log = turns_of history.log in
-      let now : events ≡ admitted log ++ event ∷ [] = old.events_are ∙ ap (λ (g : Option (Given P)). admitted log ++ events_of g) next in
+      let now : events ≡ admitted log ++ event ∷ [] = old.events_are ∙ ap (λ (g : Option (Given P)). admitted log ++ event_in g) next in
       let may = no_cause event chain.driver free in
       let behind : IsWellFormed (admitted log ++ event ∷ []) = subst IsWellFormed now well in
       record {
         stands = stands-admission chain.driver log event old.stands behind may.unsent (omega (arith, may.below, old.few)) (has_come_out event log (sym (row_cause-not_out event chain.driver log old.stands behind) ∙ may.no_row));
-        events_are = ap (λ (es : List (Event P)). es ++ events_of (if_there answer)) (now ∙ sym (admitted-push log (admission event)));
+        events_are = ap (λ (es : List (Event P)). es ++ event_in (if_there answer)) (now ∙ sym (admitted-push log (admission event)));
         last = λ sent. absurd (true≢false (sym sent ∙ ap is_sent (closes-put event chain.driver) ∙ may.unsent));
         few = omega (arith, may.below, old.few, count-put event chain.driver, flight-put event chain.driver);
       }
@@ -131,16 +132,16 @@ module _ {P : Type 0} (matches : P → P → Bool) (n most : ℕ) where
       let may = may_close chain.driver free in
       record {
         stands = stands-closing chain.driver log old.stands may.0 may.1;
-        events_are = old.events_are ∙ ap (λ (es : List (Event P)). es ++ events_of chain.next) (sym (append-nil (admitted log)) ∙ sym (admitted-push log closing));
+        events_are = old.events_are ∙ ap (λ (es : List (Event P)). es ++ event_in chain.next) (sym (append-nil (admitted log)) ∙ sym (admitted-push log closing));
         last = λ sent. next;
         few = old.few;
       }
 
   driven-asks : (events : List (Event P)) (chain : ChainState P) (log : List (DriverTurn P)) (answer : FeedAnswer P) → chain.next ≡ None
-      → Driven events chain log → Driven (events ++ events_of (Some answer.given)) (after_action matches chain (Some asks) answer) log
+      → Driven events chain log → Driven (events ++ event_in (Some answer.given)) (after_action matches chain (Some asks) answer) log
   driven-asks events chain log answer next old = record {
     stands = old.stands;
-    events_are = ap (λ (es : List (Event P)). es ++ events_of (Some answer.given)) (old.events_are ∙ ap (λ (g : Option (Given P)). admitted log ++ events_of g) next ∙ append-nil (admitted log));
+    events_are = ap (λ (es : List (Event P)). es ++ event_in (Some answer.given)) (old.events_are ∙ ap (λ (g : Option (Given P)). admitted log ++ event_in g) next ∙ append-nil (admitted log));
     last = λ sent. absurd (cc (old.last sent, next));
     few = old.few;
   }
@@ -152,7 +153,7 @@ module _ {P : Type 0} (matches : P → P → Bool) (n most : ℕ) where
       let log = turns_of history.log in
       record {
         stands = stands-receipt chain.driver log port message old.stands;
-        events_are = old.events_are ∙ ap (λ (es : List (Event P)). es ++ events_of chain.next) (sym (append-nil (admitted log)) ∙ sym (admitted-push log (receipt port message)));
+        events_are = old.events_are ∙ ap (λ (es : List (Event P)). es ++ event_in chain.next) (sym (append-nil (admitted log)) ∙ sym (admitted-push log (receipt port message)));
         last = λ sent. old.last (sym (sent-take port message chain.driver.closes) ∙ sent);
         few = omega (arith, old.few, count-take port message chain.driver);
       }
@@ -171,9 +172,9 @@ module _ {P : Type 0} (matches : P → P → Bool) (n most : ℕ) where
       → Shape n most chain → Doing chain action → DrivenIfWell number events chain history
       → DrivenIfWell (suc number) (events ++ taken_by action answer) (after_action matches chain (Some action) answer) (recorded matches chain number (Some action) history)
   driven-step number events chain history action answer shape (inquires is) before well =
-      driven-asks events chain (turns_of history.log) answer is (before (front_is_well_formed events (events_of (Some answer.given)) well))
+      driven-asks events chain (turns_of history.log) answer is (before (front_is_well_formed events (event_in (Some answer.given)) well))
   driven-step number events chain history action answer shape (admits event is free) before well =
-      let well_before = front_is_well_formed events (events_of (if_there answer)) well in
+      let well_before = front_is_well_formed events (event_in (if_there answer)) well in
       pushed _ _ history number (admission event) (driven-admission number events chain history event answer is (before well_before) well_before (admits event is free))
   driven-step number events chain history action answer shape (shuts is free) before well =
       pushed _ _ history number closing (unchanged events _ _ (driven-shut events chain history answer (before (front_is_well_formed events [] well)) (shuts is free)))

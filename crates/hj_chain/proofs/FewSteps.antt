@@ -22,7 +22,8 @@ use Rattle.hj_driver.proofs.MayClose.{may_close}
 use Rattle.hj_chain.specs.declared.actor.Actor.{Actor}
 use Rattle.hj_chain.specs.Reports.{queue_at}
 use Rattle.hj_chain.specs.Chain.{FeedAnswer, ChainState, Action, after_action, empty_chain, capacity, if_there}
-use Rattle.hj_chain.specs.Reached.{Reached, History, recorded, events_of}
+use Rattle.hj_chain.specs.Reached.{Reached, History, recorded}
+use Rattle.hj_msg.specs.Feed.{event_in}
 use Rattle.hj_chain.proofs.Doing.{Doing, admits, shuts, receives, works, gathers, taken_by, inquires}
 use Rattle.hj_chain.proofs.Driving.{closes-put, sent-take}
 use Rattle.hj_chain.proofs.Induction.{by_steps}
@@ -146,13 +147,13 @@ asked_once (Some given) = omega arith
 -- The steps that are still to come of what is under way, of the reports, of the next event or the question for it, and of the
 -- closes.
 abbrev pub to_come : {P : Type 0} → ℕ → ChainState P → ℕ
-to_come n chain = load (works_of n) chain.links + waiting chain.reports + (4 * n + 4) * length (events_of chain.next) + asking chain.next + closing_work n chain.driver
+to_come n chain = load (works_of n) chain.links + waiting chain.reports + (4 * n + 4) * length (event_in chain.next) + asking chain.next + closing_work n chain.driver
 
 -- With the steps made they are no more than the events and the closes bring.
 abbrev Paid : {P : Type 0} → ℕ → ℕ → List (Event P) → ChainState P → Type 0
 Paid n number events chain = number + to_come n chain ≤ (4 * n + 4) * length events + (4 * n + 3)
 
-paid-begin : {P : Type 0} (n most : ℕ) (first : Given P) → Paid n 0 (events_of (Some first)) (empty_chain n most first)
+paid-begin : {P : Type 0} (n most : ℕ) (first : Given P) → Paid n 0 (event_in (Some first)) (empty_chain n most first)
 paid-begin {P} n most first =
     let queues : List (List (Report P)) = replicate n [] in
     omega (
@@ -167,11 +168,11 @@ module _ {P : Type 0} (matches : P → P → Bool) (chain : ChainState P) (answe
 
   -- a step leaves fewer, but for those that a new event brings
   pub fewer-come : (action : Action P) → Doing chain action → to_come n (after_action matches chain (Some action) answer) + 1 ≤ to_come n chain + (4 * n + 4) * length (taken_by action answer)
-  fewer-come action (inquires is) = omega (arith, ap (λ (g : Option (Given P)). (4 * n + 4) * length (events_of g)) is, ap (λ (g : Option (Given P)). asking g) is)
+  fewer-come action (inquires is) = omega (arith, ap (λ (g : Option (Given P)). (4 * n + 4) * length (event_in g)) is, ap (λ (g : Option (Given P)). asking g) is)
   fewer-come action (admits event is free) =
       omega (
         arith,
-        ap (λ (g : Option (Given P)). (4 * n + 4) * length (events_of g)) is,
+        ap (λ (g : Option (Given P)). (4 * n + 4) * length (event_in g)) is,
         ap (λ (g : Option (Given P)). asking g) is,
         asked_once (if_there answer),
         load-put_in (works_of n) n chain.links all (port_of event) (message_of event),

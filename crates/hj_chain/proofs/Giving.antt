@@ -7,7 +7,7 @@ use Rattle.hj_msg.specs.declared.event.Event.{Event}
 use Rattle.hj_msg.specs.declared.event.Pair.{Pair}
 use Rattle.hj_msg.specs.Valid.{later}
 use Rattle.hj_msg.specs.Kang.{kang}
-use Rattle.hj_msg.specs.Feed.{FeedState}
+use Rattle.hj_msg.specs.Feed.{FeedState, is_stop}
 use Rattle.hj_msg.specs.Run.{IsRun}
 use Rattle.hj_msg.specs.Met.{met}
 use Rattle.hj_msg.specs.Punctuation.{Mark, punctuation}
@@ -19,10 +19,10 @@ use Rattle.hj_collect.proofs.Following.{least_follows}
 use Rattle.hj_chain.specs.declared.actor.Actor.{Actor}
 use Rattle.hj_chain.specs.Chain.{Contents}
 use Rattle.hj_chain.specs.Reached.{StandsFor, collected_of, next_pair, run_of}
-use Rattle.hj_chain.specs.Steps.{GoesWith, is_stop}
+use Rattle.hj_chain.specs.Steps.{GoesWith}
 use Rattle.hj_chain.proofs.Projection.{is_run, all_collected}
-use Rattle.hj_chain.proofs.Emissions.{within}
-use Rattle.hj_chain.proofs.Due.{AreApart, apart-kept, none-due, one-due, one-more, still-released}
+use Rattle.hj_order.proofs.Emissions.{within}
+use Rattle.hj_order.proofs.Due.{AreApart, apart-kept, none-due, one-due, one-more, still-released}
 use Rattle.hj_chain.proofs.Goings.{Sound}
 
 -- what is released of the kept pairs by a mark

@@ -23,7 +23,7 @@ use Rattle.hj_collect.specs.Collector.{CollectorState, after_report, least_mark}
 use Rattle.hj_collect.specs.StandsFor.{with_report}
 use Rattle.hj_collect.specs.StandsFor as collect
 use Rattle.hj_msg.specs.Event.{IsWellFormed}
-use Rattle.hj_msg.specs.Feed.{FeedState, Answers, GoesOver, numbering_of}
+use Rattle.hj_msg.specs.Feed.{FeedState, Answers, GoesOver, numbering_of, event_in, is_stop}
 use Rattle.hj_chain.specs.declared.actor.Actor.{Actor}
 use Rattle.hj_chain.specs.declared.actor.Actor.TheVariants.{Admit, PortLeft, PortRight, Core, Collect}
 use Rattle.hj_chain.specs.declared.actor.NotNow.{NotNow}
@@ -33,15 +33,15 @@ use Rattle.hj_chain.specs.declared.actor.Stepped.TheVariants.{Did, NotEnabled, M
 use Rattle.hj_chain.specs.Links.{at_port, incoming}
 use Rattle.hj_chain.specs.Reports.{queue_at}
 use Rattle.hj_chain.specs.Chain.{FeedAnswer, ChainState, Contents, Action, action_of, after, after_action, cause, cause_of, drives, handles, collects, first, next_after, turn_of, if_there, next_action}
-use Rattle.hj_chain.specs.Reached.{Reached, steps, StandsFor, asked, events_of, history_of, run_of, collected_of}
-use Rattle.hj_chain.specs.Steps.{GoesWith, Gathers, HasRoom, StepsTo, asks, is_stop}
+use Rattle.hj_chain.specs.Reached.{Reached, steps, StandsFor, asked, history_of, run_of, collected_of}
+use Rattle.hj_chain.specs.Steps.{GoesWith, Gathers, HasRoom, StepsTo, asks}
 use Rattle.hj_chain.proofs.Shape.{Shape, shape}
 use Rattle.hj_chain.proofs.Room.{has_room}
 use Rattle.hj_chain.proofs.Projection.{is_run, all_collected}
 use Rattle.hj_chain.proofs.Doing.{in_range, non_empty}
 use Rattle.hj_chain.proofs.Gathered.{one-each, told, told-recorded}
 use Rattle.hj_chain.proofs.Accounts.{Accounts, Grows, accounts-more, emitted-more, grows}
-use Rattle.hj_chain.proofs.Feeding.{well-push, numbering-push}
+use Rattle.hj_driver.proofs.Feeding.{well-push, numbering-push}
 
 -- steps that lead to a state, with what they took of the cores' reports
 pub record Leads {P : Type 0} (matches : P → P → Bool) (n most : ℕ) (schedule : List Actor) (events : List (Event P)) (state : ChainState P) (lists : List (List (Report P))) : Type 0 where
@@ -287,7 +287,7 @@ module _ {P J : Type 0} (predicate : J → P → P → Bool) (old new : Contents
 
 -- the events that a step takes from the feed
 module _ {P F : Type 0} (gives : F → Given P → F → Type 0) (from to : F) where
-  one_answer : (ready : Bool) (answer : Given P) → MatchBool ready (gives from answer to) (to ≡ from) → GoesOver gives from (events_of (cond ready (Some answer) None)) to
+  one_answer : (ready : Bool) (answer : Given P) → MatchBool ready (gives from answer to) (to ≡ from) → GoesOver gives from (event_in (cond ready (Some answer) None)) to
   one_answer true (given.Event event) feed = record { stops = 0; answers = (to, feed, refl) }
   one_answer true given.Stop feed = record { stops = 1; answers = (to, feed, refl) }
   one_answer false answer feed = record { stops = 0; answers = feed }
@@ -349,7 +349,7 @@ feed_same {P} events next feed well numbering stopped = record {
   stopped = stopped;
 }
 
-pub feed_asked : {P : Type 0} (events : List (Event P)) (answer : Given P) (old new : FeedState) → IsWellFormed events → old.numbering ≡ numbering_of events → Answers answer old new → FeedAfter events (events_of (Some answer)) (Some answer) new
+pub feed_asked : {P : Type 0} (events : List (Event P)) (answer : Given P) (old new : FeedState) → IsWellFormed events → old.numbering ≡ numbering_of events → Answers answer old new → FeedAfter events (event_in (Some answer)) (Some answer) new
 feed_asked events (given.Event event) old new well numbering gives = record {
   well_formed = well-push events event old new well numbering gives;
   numbering = numbering-push events event old new numbering gives;
@@ -362,7 +362,7 @@ feed_asked {P} events given.Stop old new well numbering gives = record {
 }
 
 feed_there : {P : Type 0} (events : List (Event P)) (ready : Bool) (answer : Given P) (old new : FeedState) → IsWellFormed events → old.numbering ≡ numbering_of events
-    → MatchBool ready (Answers answer old new) (new ≡ old) → FeedAfter events (events_of (cond ready (Some answer) None)) (cond ready (Some answer) None) new
+    → MatchBool ready (Answers answer old new) (new ≡ old) → FeedAfter events (event_in (cond ready (Some answer) None)) (cond ready (Some answer) None) new
 feed_there events true answer old new well numbering feed = feed_asked events answer old new well numbering feed
 feed_there events false answer old new well numbering feed = subst (FeedAfter events [] None) (sym feed) (feed_same events None old well numbering (λ stop. absurd (cc)))
 

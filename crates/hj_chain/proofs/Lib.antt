@@ -15,11 +15,7 @@ pub mod Doing
 pub mod Draining
 pub mod Drivers
 pub mod Driving
-pub mod Due
-pub mod Emissions
 pub mod EndsLast
-pub mod Examples
-pub mod Feeding
 pub mod FewSteps
 pub mod Finishing
 pub mod Gathered
@@ -51,7 +47,6 @@ pub mod Running
 pub mod Sending
 pub mod SerialRuns
 pub mod Shape
-pub mod Shuffles
 pub mod Standing
 pub mod Starting
 pub mod Stepping

@@ -16,7 +16,8 @@ use Rattle.hj_msg.specs.Turns.{Turn, at_reports}
 use Rattle.hj_msg.specs.Run.{LogEntry}
 use Rattle.hj_chain.specs.declared.actor.Actor.{Actor}
 use Rattle.hj_chain.specs.Chain.{FeedAnswer, ChainState, Action, asks, drives, handles, collects, after_action, empty_chain}
-use Rattle.hj_chain.specs.Reached.{Reached, History, no_history, recorded, history_of, events_of, turn_at, left_end, right_end}
+use Rattle.hj_chain.specs.Reached.{Reached, History, no_history, recorded, history_of, turn_at, left_end, right_end}
+use Rattle.hj_msg.specs.Feed.{event_in}
 use Rattle.hj_chain.proofs.Doing.{Doing, taken_by}
 use Rattle.hj_chain.proofs.Shape.{Shape}
 use Rattle.hj_chain.proofs.Induction.{by_steps}
@@ -122,7 +123,7 @@ module _ {P : Type 0} (matches : P → P → Bool) (n most : ℕ) where
   abbrev Kept : ℕ → List (Event P) → ChainState P → History P → Type 0
   Kept number events chain history = Numbered n number history
 
-  begin : (first : Given P) → Kept 0 (events_of (Some first)) (empty_chain n most first) no_history
+  begin : (first : Given P) → Kept 0 (event_in (Some first)) (empty_chain n most first) no_history
   begin first = record {
     log = rises-nothing;
     turns = λ k. rises-nothing;

@@ -15,7 +15,8 @@ use Rattle.hj_driver.proofs.ComingOut.{no_cause}
 use Rattle.hj_driver.proofs.MayClose.{may_close}
 use Rattle.hj_chain.specs.declared.actor.Actor.{Actor}
 use Rattle.hj_chain.specs.Chain.{FeedAnswer, ChainState, Action, after_action, empty_chain}
-use Rattle.hj_chain.specs.Reached.{Reached, History, no_history, recorded, history_of, events_of}
+use Rattle.hj_chain.specs.Reached.{Reached, History, no_history, recorded, history_of}
+use Rattle.hj_msg.specs.Feed.{event_in}
 use Rattle.hj_chain.proofs.Balance.{is_waiting}
 use Rattle.hj_chain.proofs.Carrying.{rights, lefts}
 use Rattle.hj_chain.proofs.Counts.{count}
@@ -39,7 +40,7 @@ module _ {P : Type 0} (matches : P → P → Bool) (n most : ℕ) where
   abbrev Kept : ℕ → List (Event P) → ChainState P → History P → Type 0
   Kept number events chain history = AreGone chain.driver
 
-  begin : (first : Given P) → Kept 0 (events_of (Some first)) (empty_chain n most first) no_history
+  begin : (first : Given P) → Kept 0 (event_in (Some first)) (empty_chain n most first) no_history
   begin first sent = refl
 
   step : (number : ℕ) (events : List (Event P)) (chain : ChainState P) (history : History P) (action : Action P) (answer : FeedAnswer P)

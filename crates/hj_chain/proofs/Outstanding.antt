@@ -9,7 +9,8 @@ use Rattle.hj_driver.proofs.ComingOut.{is_new}
 use Rattle.hj_driver.proofs.MayClose.{may_close}
 use Rattle.hj_chain.specs.declared.actor.Actor.{Actor}
 use Rattle.hj_chain.specs.Chain.{FeedAnswer, ChainState, Action, after_action}
-use Rattle.hj_chain.specs.Reached.{Reached, begins, steps, History, recorded, history_of, events_of, asked}
+use Rattle.hj_chain.specs.Reached.{Reached, begins, steps, History, recorded, history_of, asked}
+use Rattle.hj_msg.specs.Feed.{event_in}
 use Rattle.hj_chain.proofs.Doing.{Doing, Deed, deed, inquires, admits, shuts, receives, works, gathers}
 use Rattle.hj_chain.proofs.Shape.{shape}
 use Rattle.hj_chain.proofs.Driving.{Driven, driven, turns_of}
@@ -21,7 +22,7 @@ module _ {P : Type 0} (matches : P → P → Bool) (n most : ℕ) where
       → Balanced (after_action matches chain (Some action) answer).driver (recorded matches chain number (Some action) history).log
   balanced-step number events chain history action answer (inquires is) driving well old = old
   balanced-step number events chain history action answer (admits event next free) driving well old =
-      let now : events ≡ admitted (turns_of history.log) ++ event ∷ [] = driving.events_are ∙ ap (λ (g : Option (Given P)). admitted (turns_of history.log) ++ events_of g) next in
+      let now : events ≡ admitted (turns_of history.log) ++ event ∷ [] = driving.events_are ∙ ap (λ (g : Option (Given P)). admitted (turns_of history.log) ++ event_in g) next in
       balanced-admission chain.driver history.log number old event (is_new event chain.driver (turns_of history.log) driving.stands (subst IsWellFormed now well))
   balanced-step number events chain history action answer (shuts next free) driving well old = balanced-closing chain.driver history.log number old (may_close chain.driver free).0
   balanced-step number events chain history action answer (receives port message rest is) driving well old = balanced-receipt chain.driver history.log number old port message

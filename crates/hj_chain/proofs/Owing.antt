@@ -13,7 +13,8 @@ use Rattle.hj_driver.specs.Driver.{DriverState, new_driver, after_put, after_tak
 use Rattle.hj_chain.specs.declared.actor.Actor.{Actor}
 use Rattle.hj_chain.specs.Links.{changed_at}
 use Rattle.hj_chain.specs.Chain.{FeedAnswer, ChainState, Action, after_action, empty_chain}
-use Rattle.hj_chain.specs.Reached.{Reached, History, no_history, recorded, events_of}
+use Rattle.hj_chain.specs.Reached.{Reached, History, no_history, recorded}
+use Rattle.hj_msg.specs.Feed.{event_in}
 use Rattle.hj_chain.proofs.Doing.{Doing, admits, shuts, receives, works, gathers, taken_by, inquires}
 use Rattle.hj_chain.proofs.Induction.{by_steps}
 use Rattle.hj_chain.proofs.Shape.{Shape, links-length}
@@ -64,7 +65,7 @@ module _ {P : Type 0} (weights : Weights (Msg P)) (owed : DriverState → List (
     abbrev Kept : ℕ → List (Event P) → ChainState P → History P → Type 0
     Kept number events chain history = Carried chain
 
-    begin : (first : Given P) → Kept 0 (events_of (Some first)) (empty_chain n most first) no_history
+    begin : (first : Given P) → Kept 0 (event_in (Some first)) (empty_chain n most first) no_history
     begin first = omega (arith, owes.beginning most)
 
     step : (number : ℕ) (events : List (Event P)) (chain : ChainState P) (history : History P) (action : Action P) (answer : FeedAnswer P)

@@ -17,7 +17,8 @@ use Rattle.hj_driver.proofs.Logs.{is_sent-closes_of}
 use Rattle.hj_chain.specs.declared.actor.Actor.{Actor}
 use Rattle.hj_chain.specs.Reports.{queue_at}
 use Rattle.hj_chain.specs.Chain.{ChainState}
-use Rattle.hj_chain.specs.Reached.{Reached, History, history_of, events_of, left_end, right_end, run_of, collected_of}
+use Rattle.hj_chain.specs.Reached.{Reached, History, history_of, left_end, right_end, run_of, collected_of}
+use Rattle.hj_msg.specs.Feed.{event_in}
 use Rattle.hj_chain.proofs.Shape.{shape, some_core}
 use Rattle.hj_chain.proofs.Driving.{Driven, driven, turns_of}
 use Rattle.hj_chain.proofs.Carrying.{rights, lefts, carried}
@@ -38,14 +39,14 @@ lawful : {P : Type 0} (events : List (Event P)) (chain : ChainState P) (log : Li
 lawful {P} events chain log most same d =
     let law : IsLawful most (admitted log) log = subst (λ (f : ℕ). IsLawful f (admitted log) log) same d.stands.lawful in
     record {
-      in_order = record { rest = events_of chain.next; is = d.events_are };
+      in_order = record { rest = event_in chain.next; is = d.events_are };
       in_flight = law.in_flight;
       come_out = law.come_out;
       closes = λ earlier later is.
           let last = law.closes earlier later is in
           let sent : is_sent chain.driver.closes ≡ true = ap is_sent d.stands.closes ∙ is_sent-closes_of log ∙ ap (list_any is_closing) is ∙ has_closing earlier later in
           record {
-            all = last.all ∙ sym (d.events_are ∙ ap (λ (g : Option (Given P)). admitted log ++ events_of g) (d.last sent) ∙ append-nil (admitted log));
+            all = last.all ∙ sym (d.events_are ∙ ap (λ (g : Option (Given P)). admitted log ++ event_in g) (d.last sent) ∙ append-nil (admitted log));
             none_outstanding = last.none_outstanding;
             once = last.once;
           };

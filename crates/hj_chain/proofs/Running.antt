@@ -5,13 +5,13 @@ use Rattle.std.specs.Bool.{MatchBool}
 use Rattle.hj_msg.specs.declared.event.Event.{Event}
 use Rattle.hj_msg.specs.declared.feed.Given.{Given}
 use Rattle.hj_msg.specs.declared.feed.Given.TheVariants as given
-use Rattle.hj_msg.specs.Feed.{GoesOver}
+use Rattle.hj_msg.specs.Feed.{GoesOver, event_in}
 use Rattle.hj_chain.specs.declared.actor.Actor.{Actor}
 use Rattle.hj_chain.specs.declared.actor.Actor.TheVariants.{Admit, PortLeft, PortRight, Core, Collect}
 use Rattle.hj_chain.specs.declared.actor.Stepped.{Stepped}
 use Rattle.hj_chain.specs.declared.actor.Stepped.TheVariants.{Did, NotEnabled, Memory}
 use Rattle.hj_chain.specs.Chain.{ChainState, Contents, FeedAnswer}
-use Rattle.hj_chain.specs.Reached.{StandsFor, asked, events_of}
+use Rattle.hj_chain.specs.Reached.{StandsFor, asked}
 use Rattle.hj_chain.specs.declared.actor.NotNow.{NotNow}
 use Rattle.hj_chain.specs.Steps.{Gathers, Ran, RunsOver, ended, did, passed_over, stopped, Steps, asks}
 use Rattle.hj_chain.proofs.Goings.{Sound, stands-did, stands-stays, next-of, next_known}
@@ -22,7 +22,7 @@ module _ {P F : Type 0} (gives : F → Given P → F → Type 0) (from mid to : 
   same_feed same = subst (λ (f : F). GoesOver gives f later to) same rest
 
   one_further : (ready : Bool) (answer : Given P) → MatchBool ready (gives from answer mid) (mid ≡ from) → (cond ready (Some answer) None ≡ Some given.Stop → (later ≡ []) × (to ≡ mid))
-      → GoesOver gives from (events_of (cond ready (Some answer) None) ++ later) to
+      → GoesOver gives from (event_in (cond ready (Some answer) None) ++ later) to
   one_further true (given.Event event) feed quiet = record { stops = rest.stops; answers = (mid, feed, rest.answers) }
   one_further true given.Stop feed quiet =
       let none = quiet refl in

@@ -16,7 +16,7 @@ use Rattle.hj_msg.specs.declared.feed.Given.TheVariants as given
 use Rattle.hj_msg.specs.declared.message.Report.{Report}
 use Rattle.hj_msg.specs.Drain.{Drainage}
 use Rattle.hj_msg.specs.Emission.{emitted, is_within}
-use Rattle.hj_msg.specs.Feed.{FeedState, Answers, GoesOver, GoesOverAnswers}
+use Rattle.hj_msg.specs.Feed.{FeedState, Answers, GoesOver, GoesOverAnswers, event_in, is_stop}
 use Rattle.hj_msg.specs.Met.{met}
 use Rattle.hj_msg.specs.Punctuation.{punctuation}
 use Rattle.hj_msg.specs.Valid.{later}
@@ -29,19 +29,19 @@ use Rattle.hj_chain.specs.declared.actor.Stepped.{Stepped}
 use Rattle.hj_chain.specs.declared.actor.Stepped.TheVariants.{Did, NotEnabled, Memory}
 use Rattle.hj_chain.specs.declared.serial.Chooser.{Chooser}
 use Rattle.hj_chain.specs.declared.serial.Chooser.TheVariants as chooser
-use Rattle.hj_chain.specs.declared.serial.Fin.{Fin}
-use Rattle.hj_chain.specs.declared.serial.Fin.TheVariants as fin
+use Rattle.hj_msg.specs.declared.fin.Fin.{Fin}
+use Rattle.hj_msg.specs.declared.fin.Fin.TheVariants as fin
 use Rattle.hj_chain.specs.Chain.{FeedAnswer, ChainState, Contents, Action, action_of, after_action, cause}
 use Rattle.hj_chain.specs.Progress.{IsDone}
-use Rattle.hj_chain.specs.Reached.{Reached, steps, StandsFor, asked, collected_of, events_of, next_pair}
+use Rattle.hj_chain.specs.Reached.{Reached, steps, StandsFor, asked, collected_of, next_pair}
 use Rattle.hj_chain.specs.Serial.{Choosing, IsWithin, MakesSteps, begins, goes_on, runs_out, Releases, RunsSerially, chosen, choosing_after, first_choosing, Ends}
-use Rattle.hj_chain.specs.Steps.{GoesWith, Gathers, Steps, asks, is_stop, was_asked}
+use Rattle.hj_chain.specs.Steps.{GoesWith, Gathers, Steps, asks, was_asked}
 use Rattle.hj_chain.proofs.ChosenActors.{chosen-enabled, none-enabled}
 use Rattle.hj_chain.proofs.Doing.{deed, taken_by}
 use Rattle.hj_chain.proofs.Draining.{Gave, all-kept, answer_in, gave-nothing, last_of, map-both, pair_in, take-both, takes-both}
 use Rattle.hj_chain.proofs.Driving.{driven}
-use Rattle.hj_chain.proofs.Due.{rest}
-use Rattle.hj_chain.proofs.Emissions.{within}
+use Rattle.hj_order.proofs.Due.{rest}
+use Rattle.hj_order.proofs.Emissions.{within}
 use Rattle.hj_chain.proofs.FewSteps.{fewer-come, to_come}
 use Rattle.hj_chain.proofs.Gathered.{told}
 use Rattle.hj_chain.proofs.Giving.{gives-none}
@@ -124,7 +124,7 @@ module _ {P F : Type 0} (gives : F → Given P → F → Type 0) (from mid to : 
   unfed next same fed =
       subst (λ (f : F). Fed gives from (taken ++ []) next f) (sym same) (subst (λ (es : List (Event P)). Fed gives from es next mid) (sym (append-nil taken)) fed)
 
-  one-more : (ready : Bool) (answer : Given P) → MatchBool ready (gives mid answer to) (to ≡ mid) → Fed gives from taken None mid → Fed gives from (taken ++ events_of (cond ready (Some answer) None)) (cond ready (Some answer) None) to
+  one-more : (ready : Bool) (answer : Given P) → MatchBool ready (gives mid answer to) (to ≡ mid) → Fed gives from taken None mid → Fed gives from (taken ++ event_in (cond ready (Some answer) None)) (cond ready (Some answer) None) to
   one-more true (given.Event other) gave fed =
       let longer : map given.Event (taken ++ other ∷ []) ≡ map given.Event taken ++ given.Event other ∷ [] = map-both given.Event taken (other ∷ []) in
       let goes : GoesOverAnswers gives from (map given.Event (taken ++ other ∷ [])) to =
@@ -353,12 +353,12 @@ match-same : (b : Bool) (What Same Other : Type 0) → (Same → Other) → Matc
 match-same true What Same Other onward fact = fact
 match-same false What Same Other onward fact = onward fact
 
-event-bill : {P : Type 0} (k : ℕ) (answer : Given P) (before later : FeedState) → Answers answer before later → k * length (events_of (Some answer)) + k * later.remaining ≤ k * before.remaining
+event-bill : {P : Type 0} (k : ℕ) (answer : Given P) (before later : FeedState) → Answers answer before later → k * length (event_in (Some answer)) + k * later.remaining ≤ k * before.remaining
 event-bill k (given.Event event) before later gives = omega (arith, mul-add k 1 later.remaining, mul-le-mul_left k gives.remaining)
 event-bill k given.Stop before later gives = omega (arith, mul-le-mul_left k gives.remaining)
 
 bill-there : {P : Type 0} (k : ℕ) (ready : Bool) (answer : Given P) (before later : FeedState) → MatchBool ready (Answers answer before later) (later ≡ before)
-    → k * length (events_of (cond ready (Some answer) None)) + k * later.remaining ≤ k * before.remaining
+    → k * length (event_in (cond ready (Some answer) None)) + k * later.remaining ≤ k * before.remaining
 bill-there k true answer before later feed = event-bill k answer before later feed
 bill-there k false answer before later feed = omega (arith, ap (λ (f : FeedState). k * f.remaining) feed)
 

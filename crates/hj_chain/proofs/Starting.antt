@@ -4,7 +4,7 @@ use Rattle.hj_msg.specs.declared.feed.Given.{Given}
 use Rattle.hj_msg.specs.declared.message.Msg.{Msg}
 use Rattle.hj_msg.specs.declared.message.Report.{Report}
 use Rattle.hj_msg.specs.Core as core
-use Rattle.hj_msg.specs.Feed.{FeedState, Answers}
+use Rattle.hj_msg.specs.Feed.{IsFresh, FeedState, Answers, event_in}
 use Rattle.hj_driver.specs.Driver.{DriverState, new_driver}
 use Rattle.hj_queue.specs.Queues.{Queues, no_messages}
 use Rattle.hj_msg.specs.declared.event.Pair.{Pair}
@@ -15,9 +15,9 @@ use Rattle.std.specs.List.{range_with_len}
 use Rattle.std.specs.List.Sorted.{IsPermutation}
 use Rattle.std.proofs.lemmas.List.Sorted.{IsPermutation-refl}
 use Rattle.hj_chain.specs.Chain.{Contents, capacity, empty_chain}
-use Rattle.hj_chain.specs.Reached.{begins, events_of}
-use Rattle.hj_chain.specs.Steps.{GoesWith, IsFresh}
-use Rattle.hj_chain.proofs.Feeding.{well-nothing}
+use Rattle.hj_chain.specs.Reached.{begins}
+use Rattle.hj_chain.specs.Steps.{GoesWith}
+use Rattle.hj_driver.proofs.Feeding.{well-nothing}
 use Rattle.hj_chain.proofs.Accounts.{Accounts}
 use Rattle.hj_chain.proofs.Goings.{FeedAfter, feed_asked, stands-state}
 
@@ -46,14 +46,14 @@ no-accounts {P} n = record {
 pub goes-first : {P J : Type 0} (predicate : J → P → P → Bool) (chain : Contents P J) (n flight : ℕ) (join : J) (first : Given P) (old new : FeedState) → 1 ≤ n → IsFresh old → Answers first old new
     → chain ≡ record { join = join; state = empty_chain n flight first; collector = nothing_taken n; kept = [] } → GoesWith predicate chain new
 goes-first {P} {J} predicate chain n flight join first old new some fresh answers is =
-    let feed : FeedAfter [] (events_of (Some first)) (Some first) new = feed_asked [] first old new (well-nothing P) fresh answers in
+    let feed : FeedAfter [] (event_in (Some first)) (Some first) new = feed_asked [] first old new (well-nothing P) fresh answers in
     subst (λ (c : Contents P J). GoesWith predicate c new) (sym is)
     (record {
       schedule = [];
-      events = events_of (Some first);
+      events = event_in (Some first);
       given = 0;
       stands =
-          stands-state predicate (record { join = join; state = empty_chain n flight first; collector = nothing_taken n; kept = [] }) n flight [] (events_of (Some first)) 0 (replicate n [])
+          stands-state predicate (record { join = join; state = empty_chain n flight first; collector = nothing_taken n; kept = [] }) n flight [] (event_in (Some first)) 0 (replicate n [])
           (record { reached = begins some first; are = nothing 0 n }) (no-accounts n);
       well_formed = feed.well_formed;
       numbering = feed.numbering;

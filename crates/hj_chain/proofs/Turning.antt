@@ -16,7 +16,8 @@ use Rattle.hj_chain.specs.declared.actor.Actor.{Actor}
 use Rattle.hj_chain.specs.Links.{changed_at}
 use Rattle.hj_chain.specs.Reports.{queue_at}
 use Rattle.hj_chain.specs.Chain.{FeedAnswer, ChainState, Action, handles, collects, after_action, empty_chain, capacity}
-use Rattle.hj_chain.specs.Reached.{Reached, History, no_history, recorded, history_of, events_of, turn_at}
+use Rattle.hj_chain.specs.Reached.{Reached, History, no_history, recorded, history_of, turn_at}
+use Rattle.hj_msg.specs.Feed.{event_in}
 use Rattle.hj_chain.proofs.Doing.{Doing, inquires, admits, shuts, receives, works, gathers, taken_by}
 use Rattle.hj_chain.proofs.Shape.{Shape}
 use Rattle.hj_chain.proofs.Induction.{by_steps}
@@ -141,7 +142,7 @@ module _ {P : Type 0} (matches : P → P → Bool) (n most : ℕ) where
   abbrev Kept : ℕ → List (Event P) → ChainState P → History P → Type 0
   Kept number events chain history = Turned matches n most chain history
 
-  begin : (first : Given P) → Kept 0 (events_of (Some first)) (empty_chain n most first) no_history
+  begin : (first : Given P) → Kept 0 (event_in (Some first)) (empty_chain n most first) no_history
   begin first k within =
       turned-as matches n most k (get_or-replicate n k core.empty_state core.empty_state within) (get_or-replicate n k [] [] within) refl refl
       (record { whole = tt; keeps = refl; reports = refl; room = omega arith })

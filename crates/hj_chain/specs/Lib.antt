@@ -1,5 +1,4 @@
 pub mod Chain
-pub mod Examples
 pub mod Links
 pub mod Placed
 pub mod Progress

@@ -13,6 +13,7 @@ use Rattle.hj_msg.specs.declared.feed.Given.TheVariants as given
 use Rattle.hj_msg.specs.declared.message.Msg.{Msg}
 use Rattle.hj_msg.specs.declared.message.Report.{Report}
 use Rattle.hj_msg.specs.Core.{empty_state, sends, report}
+use Rattle.hj_msg.specs.Feed.{event_in}
 use Rattle.hj_msg.specs.Turns.{Turn, at_left, at_right, at_reports}
 use Rattle.hj_msg.specs.Run.{Run, LogEntry, port_journal}
 use Rattle.hj_msg.specs.Met.{met}
@@ -22,17 +23,11 @@ use Rattle.hj_chain.specs.declared.actor.Actor.{Actor}
 use Rattle.hj_chain.specs.declared.actor.Actor.TheVariants.{Admit, PortLeft, PortRight, Core, Collect}
 use Rattle.hj_chain.specs.Chain.{Action, FeedAnswer, if_there, asks, drives, handles, collects, ChainState, Contents, action_of, after, cause, empty_chain}
 
--- the event that an answer of the feed gives, if there is one
-abbrev pub events_of : {P : Type 0} → Option (Given P) → List (Event P)
-events_of None = []
-events_of (Some (given.Event event)) = event ∷ []
-events_of (Some given.Stop) = []
-
 -- the events that a step takes from the feed: the driver asks for the next one where it knows none, and where it puts one in and
 -- the next one is there
 abbrev pub asked : {P : Type 0} → Actor → Option (Given P) → FeedAnswer P → List (Event P)
-asked Admit None answer = events_of (Some answer.given)
-asked Admit (Some (given.Event event)) answer = events_of (if_there answer)
+asked Admit None answer = event_in (Some answer.given)
+asked Admit (Some (given.Event event)) answer = event_in (if_there answer)
 asked Admit (Some given.Stop) answer = []
 asked PortLeft next answer = []
 asked PortRight next answer = []
@@ -42,7 +37,7 @@ asked (Collect place) next answer = []
 -- A schedule of steps, each of an actor that is enabled then, leads from the empty chain of n cores to this one. The events are
 -- those that were taken from the feed.
 pub data Reached {P : Type 0} (matches : P → P → Bool) (n flight : ℕ) : List Actor → List (Event P) → ChainState P → Type 0 where
-  begins : 1 ≤ n → (first : Given P) → Reached matches n flight [] (events_of (Some first)) (empty_chain n flight first)
+  begins : 1 ≤ n → (first : Given P) → Reached matches n flight [] (event_in (Some first)) (empty_chain n flight first)
   steps : (schedule : List Actor) (events : List (Event P)) (chain : ChainState P) (actor : Actor) (answer : FeedAnswer P)
       → Reached matches n flight schedule events chain → cause chain actor ≡ None
       → Reached matches n flight (schedule ++ actor ∷ []) (events ++ asked actor chain.next answer) (after matches chain actor answer)

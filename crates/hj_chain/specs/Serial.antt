@@ -12,7 +12,7 @@ use Rattle.hj_msg.specs.declared.event.Pair.{Pair}
 use Rattle.hj_msg.specs.declared.feed.Given.{Given}
 use Rattle.hj_msg.specs.Drain.{Drainage, TakesAll}
 use Rattle.hj_msg.specs.Emission.{emitted}
-use Rattle.hj_msg.specs.Feed.{GoesOver}
+use Rattle.hj_msg.specs.Feed.{GoesOver, is_stop}
 use Rattle.hj_chain.specs.declared.actor.Actor.{Actor}
 use Rattle.hj_chain.specs.declared.actor.Actor.TheVariants.{Admit, PortLeft, PortRight, Core, Collect}
 use Rattle.hj_chain.specs.declared.actor.Stepped.TheVariants as stepped
@@ -20,12 +20,12 @@ use Rattle.hj_chain.specs.declared.chain.serial.Rule.{Rule}
 use Rattle.hj_chain.specs.declared.chain.serial.Rule.TheVariants.{InTurn, Seeded}
 use Rattle.hj_chain.specs.declared.serial.Chooser.{Chooser}
 use Rattle.hj_chain.specs.declared.serial.Chooser.TheVariants as chooser
-use Rattle.hj_chain.specs.declared.serial.Fin.{Fin}
-use Rattle.hj_chain.specs.declared.serial.Fin.TheVariants as fin
+use Rattle.hj_msg.specs.declared.fin.Fin.{Fin}
+use Rattle.hj_msg.specs.declared.fin.Fin.TheVariants as fin
 use Rattle.hj_chain.specs.Chain.{ChainState, Contents, cause}
 use Rattle.hj_chain.specs.Progress.{IsDone}
 use Rattle.hj_chain.specs.Reached.{StandsFor, collected_of, next_pair}
-use Rattle.hj_chain.specs.Steps.{Steps, is_stop}
+use Rattle.hj_chain.specs.Steps.{Steps}
 
 abbrev pub core_no : ℕ → CoreNo
 core_no place = record { 0 = place }

@@ -8,7 +8,7 @@ use Rattle.hj_msg.specs.declared.feed.Given.{Given}
 use Rattle.hj_msg.specs.declared.feed.Given.TheVariants as given
 use Rattle.hj_msg.specs.Event.{IsWellFormed}
 use Rattle.hj_msg.specs.Met.{pairs_of}
-use Rattle.hj_msg.specs.Feed.{FeedState, GoesOver, first_numbering, numbering_of, Answers}
+use Rattle.hj_msg.specs.Feed.{FeedState, GoesOver, numbering_of, Answers, is_stop}
 use Rattle.hj_chain.specs.declared.actor.Actor.{Actor}
 use Rattle.hj_chain.specs.declared.actor.Actor.TheVariants.{Admit, PortLeft, PortRight, Core, Collect}
 use Rattle.hj_chain.specs.declared.actor.NotNow.{NotNow}
@@ -19,12 +19,6 @@ use Rattle.hj_collect.specs.Collector.{after_report}
 use Rattle.hj_chain.specs.Reports.{queue_at}
 use Rattle.hj_chain.specs.Chain.{ChainState, Contents, FeedAnswer, after, cause, first}
 use Rattle.hj_chain.specs.Reached.{StandsFor}
-
--- whether no event is to come
-abbrev pub is_stop : {P : Type 0} → Option (Given P) → Bool
-is_stop None = false
-is_stop (Some (given.Event event)) = false
-is_stop (Some given.Stop) = true
 
 -- A feed goes with a chain: the chain stands for well-formed events, with which the feed's numbering goes on, and the feed has
 -- stopped where no event is to come.
@@ -45,10 +39,6 @@ pub record IsGoing {P J : Type 0} (predicate : J → P → P → Bool) (chain : 
   pub stands : StandsFor predicate chain schedule events given
   pub well_formed : IsWellFormed events
   pub going : chain.state.over ≡ false
-
--- No event was given yet.
-abbrev pub IsFresh : FeedState → Type 0
-IsFresh feed = feed.numbering ≡ first_numbering
 
 -- The feed is asked for the next event where the driver knows none, and where it puts one in and the next one is there (`ready`).
 abbrev pub asks : {P : Type 0} → Actor → Option (Given P) → Bool → Bool

@@ -4,7 +4,7 @@ ghost use Rattle.hj_base.specs.declared.numbers.Side.TheVariants.{Left, Right};
 ghost use Rattle.hj_msg.specs.declared.event.Event.{Event};
 ghost use Rattle.hj_chain.specs.declared.actor.Actor.{Actor as Actors};
 ghost use Rattle.hj_msg.specs.Core.{empty_state};
-ghost use Rattle.hj_msg.specs.Feed.{Answers, FeedState};
+ghost use Rattle.hj_msg.specs.Feed.{IsFresh, Answers, FeedState};
 ghost use Rattle.hj_core.specs.Contents.{state_of};
 ghost use Rattle.hj_core.specs.Sent.{sent};
 ghost use Rattle.hj_chain.specs.Placed.{ArePlaced};
@@ -14,7 +14,7 @@ ghost use Rattle.hj_chain.specs.Reached.{StandsFor, next_pair};
 ghost use Rattle.hj_chain.specs.Progress.{IsDone};
 ghost use Rattle.hj_chain.specs.Links.{changed_at, link_at, send_out};
 ghost use Rattle.hj_chain.specs.Reports.{queue_at};
-ghost use Rattle.hj_chain.specs.Steps.{at_port, GoesWith, Gathers, HasRoom, IsFresh, IsGoing, Ran, StandsFurther, Steps, StepsTo, Tells, was_asked};
+ghost use Rattle.hj_chain.specs.Steps.{at_port, GoesWith, Gathers, HasRoom, IsGoing, Ran, StandsFurther, Steps, StepsTo, Tells, was_asked};
 
 use crate::links::Links;
 use crate::reports::Reports;
@@ -30,8 +30,6 @@ use std::marker::Model;
 use std::mem;
 
 mod serial;
-#[cfg(test)]
-mod tests;
 
 /// A chain of cores, with the driver at its ends. Its actors make their steps one at a time, in whatever order they are asked
 /// to, so that any interleaving of a run can be played.

@@ -7,14 +7,3 @@ pub enum Chooser {
     /// The one that is drawn, by a generator that begins with this seed.
     Seeded(u64),
 }
-
-/// How a serial run ended.
-#[derive(Clone, Copy, Debug, PartialEq, Eq)]
-pub enum Fin {
-    /// All is done, and every pair was given.
-    Done,
-    /// A pair was refused.
-    Refused,
-    /// Memory ran out.
-    Memory,
-}

@@ -16,7 +16,8 @@ use Rattle.hj_collect.specs.Collector.{nothing_taken}
 use Rattle.hj_collect.specs.StandsFor as collect
 use Rattle.hj_collect.proofs.Following.{new_follows}
 use Rattle.hj_chain.specs.Chain.{Contents, empty_chain}
-use Rattle.hj_chain.specs.Reached.{Reached, StandsFor, begins, collected_of, events_of}
+use Rattle.hj_chain.specs.Reached.{Reached, StandsFor, begins, collected_of}
+use Rattle.hj_msg.specs.Feed.{event_in}
 use Rattle.hj_engine.specs.Running.{IsBegun}
 
 nothing : {X : Type 0} (from n : ℕ) → map (λ k. []) (range_with_len from n) ≡ replicate {A = List X} n []
@@ -29,11 +30,11 @@ none_met (suc n) = none_met n
 
 -- no step was made, and nothing was taken of any core's reports
 record NoStep (query : Parts) (flight : ℕ) (first : Given (List Field)) (n cores : ℕ) : Type 0 where
-  reached : Reached (holds query) cores flight [] (events_of (Some first)) (empty_chain n flight first)
+  reached : Reached (holds query) cores flight [] (event_in (Some first)) (empty_chain n flight first)
   nothing_collected : collected_of reached ≡ replicate n []
 
 stands_first : (query : Parts) (n flight : ℕ) (first : Given (List Field)) → 1 ≤ n
-    → StandsFor holds (record { join = query; state = empty_chain n flight first; collector = nothing_taken n; kept = [] }) [] (events_of (Some first)) 0
+    → StandsFor holds (record { join = query; state = empty_chain n flight first; collector = nothing_taken n; kept = [] }) [] (event_in (Some first)) 0
 stands_first query n flight first some =
     let none : NoStep query flight first n (length (replicate n (empty_state {P = List Field}))) =
     subst (λ cores. NoStep query flight first n cores) (sym (length-replicate n (empty_state {P = List Field}))) (record { reached = begins some first; nothing_collected = nothing 0 n }) in
@@ -52,5 +53,5 @@ has_begun gives query join n flight chain from to some is (first, made, given) =
   join = ap (λ (c : Contents (List Field) Parts). c.join) made ∙ is;
   first = first;
   given = given;
-  stands = subst (λ (c : Contents (List Field) Parts). StandsFor holds c [] (events_of (Some first)) 0) (sym made) (stands_first join n flight first some);
+  stands = subst (λ (c : Contents (List Field) Parts). StandsFor holds c [] (event_in (Some first)) 0) (sym made) (stands_first join n flight first some);
 }

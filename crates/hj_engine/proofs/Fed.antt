@@ -9,15 +9,13 @@ use Rattle.hj_msg.specs.declared.event.Event as event
 use Rattle.hj_msg.specs.declared.feed.Given.{Given}
 use Rattle.hj_msg.specs.declared.feed.Given.TheVariants.{Event, Stop}
 use Rattle.hj_msg.specs.Event.{IsWellFormed}
-use Rattle.hj_msg.specs.Feed.{GoesOverAnswers}
+use Rattle.hj_msg.specs.Feed.{GoesOverAnswers, event_in, events_in}
 use Rattle.hj_query.specs.Parts.{Parts}
 use Rattle.hj_event.specs.declared.merger.Next.{Next}
 use Rattle.hj_event.specs.Merger.{Merging, IsNew, TakesNext}
 use Rattle.hj_event.specs.Roles.{IsInStep}
-use Rattle.hj_chain.specs.Reached.{events_of}
 use Rattle.hj_engine.specs.declared.outcome.Outcome.{Outcome}
 use Rattle.hj_engine.specs.Feeding.{Feeding, Gives, GivesFrom, outcome_by}
-use Rattle.hj_engine.specs.Running.{events_in}
 use Rattle.hj_engine.proofs.Reading.{Reads, reads_begin, reads_more, well_formed}
 
 abbrev Events : Type 0
@@ -51,7 +49,7 @@ fed_well (Some outcome) query limit before events now fed = well_formed query li
 
 module _ (query : Parts) (limit : ℕ) (before : Role → RoleState) where
   -- one answer more
-  fed_from : (was : Option Outcome) (events : Events) (answer : Given (List Field)) (old new : Feeding) → old.ended ≡ was → Fed was query limit before events old → GivesFrom was answer old new → Fed new.ended query limit before (events ++ events_of (Some answer)) new
+  fed_from : (was : Option Outcome) (events : Events) (answer : Given (List Field)) (old new : Feeding) → old.ended ≡ was → Fed was query limit before events old → GivesFrom was answer old new → Fed new.ended query limit before (events ++ event_in (Some answer)) new
   fed_from None events (Event one) old new is fed gives =
       subst (λ (ended : Option Outcome). Fed ended query limit before (events ++ one ∷ []) new) (sym gives.going)
       (record {
@@ -82,8 +80,8 @@ module _ (query : Parts) (limit : ℕ) (before : Role → RoleState) where
         subst (λ (f : F). Fed (view f).ended query limit before (events ++ []) (view f)) (sym goes)
         (subst (λ (l : Events). Fed (view from).ended query limit before l (view from)) (sym (append-nil events)) fed)
     fed_all events (answer ∷ answers) from to fed goes =
-        subst (λ (l : Events). Fed (view to).ended query limit before l (view to)) (append_assoc events (events_of (Some answer)) (events_in answers))
-        (fed_all (events ++ events_of (Some answer)) answers goes.0 to (fed_from (view from).ended events answer (view from) (view goes.0) refl fed (each from answer goes.0 goes.1)) goes.2)
+        subst (λ (l : Events). Fed (view to).ended query limit before l (view to)) (append_assoc events (event_in (Some answer)) (events_in answers))
+        (fed_all (events ++ event_in (Some answer)) answers goes.0 to (fed_from (view from).ended events answer (view from) (view goes.0) refl fed (each from answer goes.0 goes.1)) goes.2)
 
 -- what every answer keeps, all keep
 pub kept_all : {P F X : Type 0} (gives : F → Given P → F → Type 0) (of : F → X) → ((old : F) (answer : Given P) (new : F) → gives old answer new → of new ≡ of old) → (answers : List (Given P)) (from to : F) → GoesOverAnswers gives from answers to → of to ≡ of from

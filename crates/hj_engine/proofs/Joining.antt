@@ -15,7 +15,7 @@ use Rattle.hj_msg.specs.declared.drain.Drained.{Drained}
 use Rattle.hj_msg.specs.declared.event.Event.{Event}
 use Rattle.hj_msg.specs.declared.event.Pair.{Pair}
 use Rattle.hj_msg.specs.declared.feed.Given.{Given}
-use Rattle.hj_msg.specs.Feed.{FeedState}
+use Rattle.hj_msg.specs.Feed.{FeedState, events_in}
 use Rattle.hj_msg.specs.Kang.{kang, kang_from, windows_after}
 use Rattle.hj_msg.proofs.Windows.{join_of_both}
 use Rattle.hj_query.specs.Parts.{Parts}
@@ -29,10 +29,10 @@ use Rattle.hj_event.specs.Merger.{Merging, IsNew, TakesNext, IsAllRead, events_f
 use Rattle.hj_event.specs.Roles.{IsInStep}
 use Rattle.hj_event.specs.Sides.{in_front}
 use Rattle.hj_event.specs.Calls.{GivesAll, then_events}
-use Rattle.hj_event.proofs.CallLemmas.{ends}
+use Rattle.hj_event.proofs.CallLemmas.{before_call, ends}
 use Rattle.hj_event.proofs.RoleLemmas.{not_read, read_more}
-use Rattle.hj_chain.specs.declared.serial.Fin.{Fin}
-use Rattle.hj_chain.specs.declared.serial.Fin.TheVariants as fin
+use Rattle.hj_msg.specs.declared.fin.Fin.{Fin}
+use Rattle.hj_msg.specs.declared.fin.Fin.TheVariants as fin
 use Rattle.hj_engine.specs.declared.outcome.Outcome.{Outcome}
 use Rattle.hj_engine.specs.declared.outcome.Outcome.TheVariants as outcome
 use Rattle.hj_engine.specs.declared.output.Sent.{Sent}
@@ -41,12 +41,13 @@ use Rattle.hj_engine.specs.Draining.{TakesLine, refusal_of}
 use Rattle.hj_engine.specs.Feeding.{Feeding, Gives, outcome_by}
 use Rattle.hj_engine.specs.JoinText.{JoinResult, text, text_of, join_result}
 use Rattle.hj_engine.specs.Joining.{CountsSinkFault, FailsOn, WritesText, AreEnded, Joins}
+use Rattle.hj_msg.specs.Drain.{pairs_in}
 use Rattle.hj_engine.specs.Output.{AppendsFront, CountsFaults}
-use Rattle.hj_engine.specs.Running.{EndsJoin, RunsJoin, events_in, pairs_in}
+use Rattle.hj_msg.specs.RunsJoin.{EndsJoin, RunsJoin}
 use Rattle.hj_engine.proofs.Drained.{Draining, all_kept, last_refused}
 use Rattle.hj_engine.proofs.Fed.{Fed, HasEnded, fed_all, fed_first, fed_well}
 use Rattle.hj_engine.proofs.Prefixes.{IsPrefix-trans}
-use Rattle.hj_engine.proofs.Reading.{Reads, before_call}
+use Rattle.hj_engine.proofs.Reading.{Reads}
 
 -- The whole text goes on behind that of the first events.
 text-then : (query : Parts) (events : List (Event (List Field))) (all others : Numbered) → all ≡ then_events events others

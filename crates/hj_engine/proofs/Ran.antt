@@ -10,24 +10,25 @@ use Rattle.hj_msg.specs.declared.event.Event as event
 use Rattle.hj_msg.specs.declared.event.Pair.{Pair}
 use Rattle.hj_msg.specs.declared.feed.Given.{Given}
 use Rattle.hj_msg.specs.declared.feed.Given.TheVariants.{Event, Stop}
-use Rattle.hj_msg.specs.Drain.{Drainage}
+use Rattle.hj_msg.specs.Drain.{Drainage, pairs_in}
 use Rattle.hj_msg.specs.Emission.{emitted}
 use Rattle.hj_msg.specs.Event.{IsWellFormed}
-use Rattle.hj_msg.specs.Feed.{FeedState}
+use Rattle.hj_msg.specs.Feed.{FeedState, event_in, is_stop, events_in}
 use Rattle.hj_msg.specs.Kang.{kang}
 use Rattle.hj_query.specs.Parts.{Parts}
 use Rattle.hj_eval.specs.Holds.{holds}
 use Rattle.hj_chain.specs.declared.serial.Chooser.{Chooser}
-use Rattle.hj_chain.specs.declared.serial.Fin.{Fin}
-use Rattle.hj_chain.specs.declared.serial.Fin.TheVariants as fin
+use Rattle.hj_msg.specs.declared.fin.Fin.{Fin}
+use Rattle.hj_msg.specs.declared.fin.Fin.TheVariants as fin
 use Rattle.hj_chain.specs.Chain.{Contents}
 use Rattle.hj_chain.specs.Progress.{IsDone}
 use Rattle.hj_chain.specs.declared.actor.Actor.{Actor}
-use Rattle.hj_chain.specs.Reached.{StandsFor, collected_of, events_of, next_pair}
+use Rattle.hj_msg.specs.RunsJoin.{EndsJoin, RunsJoin}
+use Rattle.hj_chain.specs.Reached.{StandsFor, collected_of, next_pair}
 use Rattle.hj_chain.specs.Serial.{Ends, RunsSerially}
-use Rattle.hj_chain.specs.Steps.{GoesWith, is_stop}
+use Rattle.hj_chain.specs.Steps.{GoesWith}
 use Rattle.hj_chain.proofs.Finishing.{emission_begins, emission_whole}
-use Rattle.hj_engine.specs.Running.{EndsJoin, IsBegun, RunsJoin, events_in, pairs_in}
+use Rattle.hj_engine.specs.Running.{IsBegun}
 use Rattle.hj_engine.proofs.Prefixes.{IsPrefix-trans}
 
 -- nothing was done for want of memory
@@ -64,9 +65,9 @@ ends_by fin.Memory pairs stands stopped joined ends begins whole stops = (ends.0
 
 module _ {F D : Type 0} (gives : F → Given (List Field) → F → Type 0) (is_ready : F → Bool) (state : F → FeedState) (takes : D → Pair (List Field) → Drained → D → Type 0) (query : Parts) (rule : Chooser)
     (old new : Contents (List Field) Parts) (from mid to : F) (unfilled filled : D) (begun : IsBegun gives query old from mid) (join : new.join ≡ old.join) (goes : GoesWith holds new (state to)) where
-  module _ (ended : Fin) (runs : RunsSerially gives is_ready takes holds rule [] (events_of (Some begun.first)) 0 old mid unfilled ended new to filled) where
+  module _ (ended : Fin) (runs : RunsSerially gives is_ready takes holds rule [] (event_in (Some begun.first)) 0 old mid unfilled ended new to filled) where
     abbrev events : List (event.Event (List Field))
-    events = events_of (Some begun.first) ++ runs.taken
+    events = event_in (Some begun.first) ++ runs.taken
 
     abbrev joined : List (Pair (List Field))
     joined = kang (holds query) events
@@ -92,7 +93,7 @@ module _ {F D : Type 0} (gives : F → Given (List Field) → F → Type 0) (is_
 
     pub ran : RunsJoin gives state takes (holds query) ended from to unfilled filled
     ran =
-        let all : events_in (begun.first ∷ (map Event runs.taken ++ replicate runs.feed.stops Stop)) ≡ events = ap (λ (later : List (event.Event (List Field))). events_of (Some begun.first) ++ later) (events_given runs.taken runs.feed.stops) in
+        let all : events_in (begun.first ∷ (map Event runs.taken ++ replicate runs.feed.stops Stop)) ≡ events = ap (λ (later : List (event.Event (List Field))). event_in (Some begun.first) ++ later) (events_given runs.taken runs.feed.stops) in
         record {
           answers = begun.first ∷ (map Event runs.taken ++ replicate runs.feed.stops Stop);
           feed = (mid, begun.given, runs.feed.answers);

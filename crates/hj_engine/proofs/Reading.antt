@@ -4,7 +4,6 @@ use Rattle.std.proofs.lemmas.List.{length-take}
 use Rattle.std.proofs.lemmas.Bool.Decides.{nat_tests}
 use Rattle.std.specs.declared.option.Option.{Option}
 use Rattle.hj_value.specs.declared.field.Field.{Field}
-use Rattle.hj_base.specs.declared.numbers.Side.TheVariants.{Left, Right}
 use Rattle.hj_base.specs.declared.outside.Role.{Role}
 use Rattle.hj_base.specs.declared.outside.Role.TheVariants as role
 use Rattle.hj_base.specs.Outside.{RoleState}
@@ -18,7 +17,7 @@ use Rattle.hj_event.specs.declared.merger.Next.TheVariants as next
 use Rattle.hj_event.specs.declared.stop.Last.{Last}
 use Rattle.hj_event.specs.Arrivals.{too_many}
 use Rattle.hj_event.specs.Events.{Numbered, events_of, all_events_of}
-use Rattle.hj_event.specs.Merger.{Merging, IsNew, Answers, AnswersFrom, TakesNext, events_from, fails_next}
+use Rattle.hj_event.specs.Merger.{Merging, IsNew, Answers, AnswersFrom, TakesNext, events_from}
 use Rattle.hj_event.specs.Roles.{IsInStep, IsReadOn}
 use Rattle.hj_event.specs.Sides.{in_front, at_its_end, MayFollow, Follows}
 use Rattle.hj_event.specs.Calls.{HasGiven, then_events}
@@ -77,20 +76,6 @@ follows_before failed bytes true ended before now stream reads follows =
     let at_end : MayFollow ended stream = subst (λ (f : Bool). Follows f ended stream) none.2 follows in
     let is : stream ≡ at_its_end = subst (λ (e : Bool). MayFollow e stream) none.0 at_end in
     ap (λ (s : Stream). in_front bytes s) is ∙ ap (λ (xs : List ℕ). in_front xs at_its_end) none.1
-
-both_in_front : (xs ys : List ℕ) (stream : Stream) → in_front (xs ++ ys) stream ≡ in_front xs (in_front ys stream)
-both_in_front xs ys stream = ap (λ (bytes : List ℕ). record { bytes = bytes; whole = stream.whole }) (append_assoc xs ys stream.bytes)
-
--- after any call, the events of both streams are those given before it, and then those that were to come
-pub before_call : (query : Parts) (limit : ℕ) (left right : List ℕ) (events : List (Event (List Field))) (answer : Next) (old new : Merging) (before now : Role → RoleState) → HasGiven query limit left right events old → (takes : TakesNext answer old new before now) → (l r : Stream)
-    → Follows (fails_next answer Left) new.sides.left.reading.ended l → Follows (fails_next answer Right) new.sides.right.reading.ended r
-    → events_of query (in_front (left ++ takes.left_bytes) l) (in_front (right ++ takes.right_bytes) r) limit ≡ then_events events (events_from old (in_front takes.left_bytes l) (in_front takes.right_bytes r))
-before_call query limit left right events answer old new before now given takes l r l_follows r_follows =
-    ap (λ (s : Stream). events_of query s (in_front (right ++ takes.right_bytes) r) limit) (both_in_front left takes.left_bytes l)
-    ∙ (ap (λ (s : Stream). events_of query (in_front left (in_front takes.left_bytes l)) s limit) (both_in_front right takes.right_bytes r)
-    ∙ given (in_front takes.left_bytes l) (in_front takes.right_bytes r)
-    (follows_before (fails_next answer Left) takes.left_bytes old.sides.left.reading.ended new.sides.left.reading.ended (before role.Left) (now role.Left) l takes.left l_follows)
-    (follows_before (fails_next answer Right) takes.right_bytes old.sides.right.reading.ended new.sides.right.reading.ended (before role.Right) (now role.Right) r takes.right r_follows))
 
 -- the end may come at any time
 pub end_follows : (ended : Bool) → MayFollow ended at_its_end

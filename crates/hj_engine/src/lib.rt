@@ -13,6 +13,3 @@ mod stores;
 pub use outcome::Outcome;
 pub use output::{Sent, put_all};
 pub use serial::join_serial;
-
-#[cfg(test)]
-mod tests;

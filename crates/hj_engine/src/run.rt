@@ -1,15 +1,15 @@
 ghost use Rattle.std.specs.Prelude.{◌≡◌, ◌≤◌, IfOk, OnErr};
-ghost use Rattle.hj_chain.specs.Steps.{IsFresh};
+ghost use Rattle.hj_msg.specs.Feed.{IsFresh};
 ghost use Rattle.hj_eval.specs.Holds.{holds};
-ghost use Rattle.hj_engine.specs.Running.{RunsJoin};
+ghost use Rattle.hj_msg.specs.RunsJoin.{RunsJoin};
 ghost use Rattle.hj_engine.specs.Stores.{AreReady};
 
 use crate::stores::{Stores, repeat_with};
 use hj_base::{Gate, Memory};
-use hj_chain::{Chain, Chooser, Fin};
+use hj_chain::{Chain, Chooser};
 use hj_eval::{QueryJoin, StorePlan};
 use hj_index::{HashStore, ListStore, OrderedStore};
-use hj_msg::{Drain, Feed, Store};
+use hj_msg::{Drain, Feed, Fin, Store};
 use hj_query::Query;
 use hj_value::SharedRow;
 use std::alloc::Global;

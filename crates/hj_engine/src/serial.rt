@@ -10,8 +10,9 @@ use crate::drain::LineDrain;
 use crate::feed::EventFeed;
 use crate::run::{Plan, run_chain};
 use hj_base::{Gate, Outside, Sink};
-use hj_chain::{Chooser, Fin};
+use hj_chain::Chooser;
 use hj_event::Merger;
+use hj_msg::Fin;
 use hj_query::Query;
 use std::alloc::Global;
 

@@ -11,6 +11,3 @@ mod value;
 pub use condition::holds;
 pub use join::QueryJoin;
 pub use store_plan::{StorePlan, plan};
-
-#[cfg(test)]
-mod tests;

@@ -34,8 +34,8 @@ both_in_front xs ys stream = ap (λ (bytes : List ℕ). record { bytes = bytes; 
 pub begins : (query : Parts) (limit : ℕ) (now : Merging) → IsNew query limit now → HasGiven query limit [] [] [] now
 begins query limit now new l r l_follows r_follows = sym (new.events l r)
 
--- the events of both streams, where these bytes are taken
-before_call : (query : Parts) (limit : ℕ) (left right : List ℕ) (events : List (Event (List Field))) (answer : Next) (old new : Merging) (before now : Roles) → HasGiven query limit left right events old → (takes : TakesNext answer old new before now) → (l r : Stream)
+-- after any call, the events of both streams are those given before it, and then those that were to come
+pub before_call : (query : Parts) (limit : ℕ) (left right : List ℕ) (events : List (Event (List Field))) (answer : Next) (old new : Merging) (before now : Roles) → HasGiven query limit left right events old → (takes : TakesNext answer old new before now) → (l r : Stream)
     → Follows (fails_next answer Left) new.sides.left.reading.ended l → Follows (fails_next answer Right) new.sides.right.reading.ended r
     → events_of query (in_front (left ++ takes.left_bytes) l) (in_front (right ++ takes.right_bytes) r) limit ≡ then_events events (events_from old (in_front takes.left_bytes l) (in_front takes.right_bytes r))
 before_call query limit left right events answer old new before now given takes l r l_follows r_follows =

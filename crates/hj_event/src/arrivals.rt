@@ -39,6 +39,7 @@ impl Rows {
     }
 
     /// Takes the first row; None at the end of the stream.
+    #[inline(always)]
     fn take<O: Outside>(&mut self, side: Side, outside: &mut O) -> Result<Option<SharedRow>, Stop>
         requires { IsInStep self.old.reading.ended (O.state outside.old (role_of side)) }
         ensures head { self.new.head ≡ None }
@@ -53,12 +54,14 @@ impl Rows {
     }
 
     /// Puts back the row that was taken last.
+    #[inline(always)]
     fn put_back(&mut self, row: SharedRow)
         ensures { self.new ≡ record self.old { head = Some row } }
     {
         self.head = Some(row);
     }
 
+    #[inline(always)]
     fn is_ready(&self) -> bool {
         self.head.is_some() || self.source.is_ready()
     }
@@ -92,6 +95,7 @@ impl Arrivals {
 
     /// Takes the next arrival: of the heads of both sides the one with the lesser time, on a tie the left one. The left head
     /// is looked at first. A role is read only where its side's head isn't known.
+    #[inline(always)]
     pub(crate) fn next_arrival<O: Outside>(
         &mut self,
         outside: &mut O,
@@ -126,6 +130,7 @@ impl Arrivals {
     }
 
     /// Whether the next arrival can be told without a read.
+    #[inline(always)]
     pub(crate) fn is_ready(&self) -> bool {
         self.left.is_ready() && self.right.is_ready()
     }

@@ -42,6 +42,7 @@ impl Due {
     }
 
     /// What comes of the arrival of a row by which these rows expire.
+    #[inline(always)]
     pub(crate) fn of_arrival(side: Side, row: SharedRow, expired: Expired) -> Self
         ensures { result ≡ due_of side row expired.before expired.after }
     {
@@ -54,6 +55,7 @@ impl Due {
     }
 
     /// Whether anything is due.
+    #[inline(always)]
     pub(crate) fn is_some(&self) -> bool
         ensures { result ≡ has_due self.now }
     {
@@ -61,6 +63,7 @@ impl Due {
     }
 
     /// Takes the first event that is due, under the number `no`.
+    #[inline(always)]
     pub(crate) fn take(&mut self, no: EventNo) -> Option<Event<SharedRow>>
         ensures { TakesDue result no.0 self.old self.new }
     {

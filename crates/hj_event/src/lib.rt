@@ -18,6 +18,3 @@ pub use laws::{
     calls_give_events, cut_stream_gives_prefix, events_are_well_formed, rows_expire_in_turn,
 };
 pub use merger::{Merger, Next};
-
-#[cfg(test)]
-mod tests;

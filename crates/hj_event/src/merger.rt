@@ -70,6 +70,7 @@ impl Merger {
 
     /// The next event of the two streams, or how they end. It reads a role only where it doesn't know that side's next row, at
     /// most 4,096 bytes a read. Every answer other than an event is given again by every later call, which reads nothing.
+    #[inline(always)]
     pub fn next<O: Outside>(&mut self, outside: &mut O) -> Next
         requires left { IsInStep self.old.sides.left.reading.ended (O.state outside.old role.Left) }
         requires right { IsInStep self.old.sides.right.reading.ended (O.state outside.old role.Right) }
@@ -89,11 +90,13 @@ impl Merger {
     }
 
     /// Whether the next answer can be given without a read, as far as that can be told without one.
+    #[inline(always)]
     pub fn is_ready(&self) -> bool {
         self.over.is_some() || self.numbering.has_due() || self.arrivals.is_ready()
     }
 
     /// The next event, or the last answer.
+    #[inline(always)]
     fn step<O: Outside>(&mut self, outside: &mut O) -> Result<Event<SharedRow>, Last>
         requires left { IsInStep self.old.sides.left.reading.ended (O.state outside.old role.Left) }
         requires right { IsInStep self.old.sides.right.reading.ended (O.state outside.old role.Right) }

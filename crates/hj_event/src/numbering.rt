@@ -49,6 +49,7 @@ impl Numbering {
     }
 
     /// Whether an event is due.
+    #[inline(always)]
     pub(crate) fn has_due(&self) -> bool
         ensures { result ≡ has_due self.now.due }
     {
@@ -56,6 +57,7 @@ impl Numbering {
     }
 
     /// Takes a row that arrives on a side, whose events are due then.
+    #[inline(always)]
     pub(crate) fn arrive(&mut self, side: Side, row: SharedRow) -> Result<(), Last>
         requires { has_due self.old.due ≡ false }
         ensures ok { OnOk result ((arrivals : Arrivals) → numbered_ahead self.old (then_arrivals side row arrivals) ≡ numbered_ahead self.new arrivals) }
@@ -72,6 +74,7 @@ impl Numbering {
     }
 
     /// Takes the next event that is due, unless that is one too many.
+    #[inline(always)]
     pub(crate) fn give(&mut self) -> Result<Event<SharedRow>, Last>
         requires { has_due self.old.due ≡ true }
         ensures { (arrivals : Arrivals) → Gives result (numbered_ahead self.old arrivals) (numbered_ahead self.new arrivals) }

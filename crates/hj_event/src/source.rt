@@ -72,6 +72,7 @@ impl Source {
     }
 
     /// Takes the next row; None at the end of the stream. It reads only where the bytes that were read give no row.
+    #[inline(always)]
     pub(crate) fn next_row<O: Outside>(
         &mut self,
         side: Side,
@@ -94,6 +95,7 @@ impl Source {
     }
 
     /// Whether a row, or the end, can be told without a read.
+    #[inline(always)]
     pub(crate) fn is_ready(&self) -> bool {
         self.ended || self.cutter.has_end(&self.portion[self.taken..self.filled])
     }
@@ -185,6 +187,7 @@ impl Source {
     }
 
     /// Counts the row of a piece, and gives it to be shared.
+    #[inline(always)]
     fn hold(&mut self, row: Result<Option<Row>, RecordFault>) -> Result<Found, Stop>
         ensures { Holds row result self.old self.new }
     {

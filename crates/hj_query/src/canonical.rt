@@ -107,6 +107,3 @@ fn push_span(text: &mut Vec<u8>, window: Window) -> Result<(), Memory>
         }
     }
 }
-
-#[cfg(test)]
-mod tests;

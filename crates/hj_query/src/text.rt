@@ -50,6 +50,3 @@ fn query(alloc: Global, text: &[u8]) -> Result<Query, QueryFault>
     let pred = condition(alloc, &schemas, &mut cursor)?;
     Ok(Query::new(schemas, left_window, right_window, pred))
 }
-
-#[cfg(test)]
-mod tests;

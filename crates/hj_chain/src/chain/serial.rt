@@ -7,10 +7,10 @@ ghost use Rattle.hj_chain.specs.Reached.{StandsFor};
 ghost use Rattle.hj_chain.specs.Serial.{Choosing, IsWithin, Releases, RunsSerially, actors, chosen, choosing_after, choosing_of, drawn_from, enabled, first_choosing, in_turn, is_enabled, would_wait};
 ghost use Rattle.hj_chain.specs.Steps.{GoesWith};
 
-use crate::{Actor, Chain, Chooser, Fin, Stepped};
+use crate::{Actor, Chain, Chooser, Stepped};
 use hj_base::{Gate, Lcg, Share, Side};
 use hj_driver::Closing;
-use hj_msg::{Drain, Drained, Feed, Given, Join, Store};
+use hj_msg::{Drain, Drained, Feed, Fin, Given, Join, Store};
 
 impl<P: Share + Drop, J: Join<P> + Drop, L: Store<P, J> + Drop, R: Store<P, J> + Drop> Chain<
     P,

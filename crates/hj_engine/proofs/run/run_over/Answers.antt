@@ -1,5 +1,5 @@
 use Rattle.std.proofs.Common.{◌≤◌, [], Some, length, arith}
-use Rattle.hj_chain.specs.Reached.{events_of}
+use Rattle.hj_msg.specs.Feed.{event_in}
 use Rattle.hj_engine.specs.Running.{IsBegun}
 use Rattle.hj_engine.proofs.Beginning.{has_begun}
 use Rattle.hj_engine.proofs.Ran.{ran}
@@ -12,4 +12,4 @@ returns-clause-runs g c =
     has_begun g.F.Feed.gives c.args.query.now c.new-join.result (length c.args.stores.left.items) c.args.plan.flight c.in_ok-chain.chain c.args.feed.now c.new.new.feed some c.new-join.ensures c.in_ok-chain.ensures.begins in
     ran g.F.Feed.gives g.F.Feed.ready g.F.Feed.state g.D.Drain.takes c.args.query.now c.args.plan.chooser c.in_ok-chain.chain c.run_serial.new.self c.args.feed.now c.new.new.feed c.run_serial.new.feed c.args.drain.now c.run_serial.new.drain
     begun c.run_serial.ensures.join c.run_serial.ensures.goes c.run_serial.result
-    (c.run_serial.ensures.runs [] (events_of (Some begun.first)) 0 begun.stands)
+    (c.run_serial.ensures.runs [] (event_in (Some begun.first)) 0 begun.stands)

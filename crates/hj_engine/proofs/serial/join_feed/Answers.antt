@@ -9,8 +9,8 @@ use Rattle.hj_query.specs.Parts.{Parts}
 use Rattle.hj_eval.specs.Holds.{holds}
 use Rattle.hj_event.specs.Merger.{IsNew}
 use Rattle.hj_event.specs.Roles.{IsInStep}
-use Rattle.hj_chain.specs.declared.serial.Fin.{Fin}
-use Rattle.hj_chain.specs.declared.serial.Fin.TheVariants as fin
+use Rattle.hj_msg.specs.declared.fin.Fin.{Fin}
+use Rattle.hj_msg.specs.declared.fin.Fin.TheVariants as fin
 use Rattle.hj_engine.specs.declared.drain.LineDrain.{LineDrain}
 use Rattle.hj_engine.specs.declared.feed.EventFeed.{EventFeed}
 use Rattle.hj_engine.specs.declared.outcome.Outcome.{Outcome}
@@ -19,7 +19,7 @@ use Rattle.hj_engine.specs.declared.output.Sent.TheVariants as sent
 use Rattle.hj_engine.specs.Draining.{TakesLine, refusal_of}
 use Rattle.hj_engine.specs.Feeding.{Feeding, Gives}
 use Rattle.hj_engine.specs.Joining.{CountsSinkFault, Joins}
-use Rattle.hj_engine.specs.Running.{RunsJoin}
+use Rattle.hj_msg.specs.RunsJoin.{RunsJoin}
 use Rattle.hj_engine.proofs.Drained.{Draining, kept_by_all}
 use Rattle.hj_engine.proofs.Fed.{kept_all}
 use Rattle.hj_engine.proofs.Joining.{has_stopped, joins_done, joins_memory, joins_refused, was_refused}

@@ -1,7 +1,7 @@
 use Rattle.std.proofs.Common.{◌≡◌, ◌≢◌, ◌+◌, ◌*◌, ◌<◌, ◌≤◌, false, length, ap, sym, ◌∙◌, subst, rules}
 use Rattle.hj_msg.specs.declared.drain.Drained.TheVariants.{Kept, Refused}
 use Rattle.hj_chain.specs.declared.actor.Stepped.TheVariants.{Memory}
-use Rattle.hj_chain.specs.declared.serial.Fin.{Fin}
+use Rattle.hj_msg.specs.declared.fin.Fin.{Fin}
 use Rattle.hj_chain.specs.Chain.{ChainState, Contents}
 use Rattle.hj_chain.specs.Serial.{RunsSerially, choosing_of}
 use Rattle.hj_chain.proofs.Draining.{was-kept}
