@@ -1,5 +1,5 @@
 -- What was read of both streams while a join runs, and which events this gave.
-use Rattle.std.proofs.Common.{◌≡◌, ℕ, ◌≤◌, Bool, true, false, cond, ltb, List, [], ◌∷◌, ◌++◌, length, take, None, refl, sym, ap, subst, ◌∙◌, append_assoc, arith}
+use Rattle.std.proofs.Common.{◌≡◌, ℕ, ◌≤◌, Bool, true, false, cond, ltb, List, [], ◌∷◌, ◌++◌, length, take, None, refl, sym, subst, ◌∙◌, append_assoc, arith}
 use Rattle.std.proofs.lemmas.List.{length-take}
 use Rattle.std.proofs.lemmas.Bool.Decides.{nat_tests}
 use Rattle.std.specs.declared.option.Option.{Option}
@@ -19,7 +19,7 @@ use Rattle.hj_event.specs.Arrivals.{too_many}
 use Rattle.hj_event.specs.Events.{Numbered, events_of, all_events_of}
 use Rattle.hj_event.specs.Merger.{Merging, IsNew, Answers, AnswersFrom, TakesNext, events_from}
 use Rattle.hj_event.specs.Roles.{IsInStep, IsReadOn}
-use Rattle.hj_event.specs.Sides.{in_front, at_its_end, MayFollow, Follows}
+use Rattle.hj_event.specs.Sides.{in_front, at_its_end, MayFollow}
 use Rattle.hj_event.specs.Calls.{HasGiven, then_events}
 use Rattle.hj_event.proofs.CallLemmas.{begins, goes_on}
 use Rattle.hj_event.proofs.RoleLemmas.{not_read, read_more}
@@ -67,15 +67,6 @@ reads_more query limit events event old new before mid now reads takes = record 
   right = read_more false reads.right_bytes takes.right_bytes false old.sides.right.reading.ended new.sides.right.reading.ended (before role.Right) (mid role.Right) (now role.Right) reads.right takes.right;
   query_role = takes.query ∙ reads.query_role;
 }
-
--- what may come behind the bytes of a call may come behind those before it
-pub follows_before : (failed : Bool) (bytes : List ℕ) (was ended : Bool) (before now : RoleState) (stream : Stream) → IsReadOn failed bytes was ended before now → Follows failed ended stream → MayFollow was (in_front bytes stream)
-follows_before failed bytes false ended before now stream reads follows = tt
-follows_before failed bytes true ended before now stream reads follows =
-    let none = reads.no_more refl in
-    let at_end : MayFollow ended stream = subst (λ (f : Bool). Follows f ended stream) none.2 follows in
-    let is : stream ≡ at_its_end = subst (λ (e : Bool). MayFollow e stream) none.0 at_end in
-    ap (λ (s : Stream). in_front bytes s) is ∙ ap (λ (xs : List ℕ). in_front xs at_its_end) none.1
 
 -- the end may come at any time
 pub end_follows : (ended : Bool) → MayFollow ended at_its_end

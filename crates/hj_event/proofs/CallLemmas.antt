@@ -20,7 +20,7 @@ abbrev pub Roles : Type 0
 Roles = Role → RoleState
 
 -- what may come behind the bytes of a call may come behind those before it
-follows_before : (failed : Bool) (bytes : List ℕ) (was ended : Bool) (before now : RoleState) (stream : Stream) → IsReadOn failed bytes was ended before now → Follows failed ended stream → MayFollow was (in_front bytes stream)
+pub follows_before : (failed : Bool) (bytes : List ℕ) (was ended : Bool) (before now : RoleState) (stream : Stream) → IsReadOn failed bytes was ended before now → Follows failed ended stream → MayFollow was (in_front bytes stream)
 follows_before failed bytes false ended before now stream reads follows = tt
 follows_before failed bytes true ended before now stream reads follows =
     let none = reads.no_more refl in

@@ -31,9 +31,10 @@ impl<P> Numbered<P> {
         }
     }
 
-    /// How many places there are: no fewer than rows.
+    /// How many places there are: one for each row, and the empty ones.
     pub fn places(&self) -> usize
-        ensures { length (rows_in self.now) ≤ result }
+        ensures counted { result ≡ length self.now.places.entries }
+        ensures enough { length (rows_in self.now) ≤ result }
     {
         self.places.len()
     }

@@ -35,13 +35,13 @@ fn letter(side: Side) -> char {
 fn push_expiries(text: &mut String, numbers: &Numbers) -> Result<(), AllocError> {
     for at in 0..numbers.len() {
         if let Some((side, no)) = numbers.get(at) {
-            write!(text, "-{}{} ", letter(*side), no.0)?;
+            write!(text, "-{}{} ", no.0, letter(*side))?;
         }
     }
     Ok(())
 }
 
-/// The events of these arrivals: `+` and `-` for an arrival and an expiry, then the row's side and number, a blank behind each.
+/// The events of these arrivals: `+` and `-` for an arrival and an expiry, then the row's number and the letter of its side, a blank behind each.
 fn events(
     alloc: Global,
     windows: (Window, Window),
@@ -57,10 +57,10 @@ fn events(
         let expired = live.arrive(*side, *time, EventNo(next))?;
         push_expiries(&mut text, &expired.before)?;
         next += expired.before.len() as u64;
-        write!(text, "+{}{} ", letter(*side), next)?;
+        write!(text, "+{}{} ", next, letter(*side))?;
         next += 1;
         if let Some(no) = expired.after {
-            write!(text, "-{}{} ", letter(*side), no.0)?;
+            write!(text, "-{}{} ", no.0, letter(*side))?;
             next += 1;
         }
     }
@@ -74,18 +74,18 @@ fn rows_expire_in_turn(rt: HostRuntime) -> Result<(), Fail> {
         (
             (Window::Rows(1), Window::Rows(1)),
             [(Left, 1), (Left, 2), (Right, 3)].as_slice(),
-            "+L0 +L1 -L0 +R3 ",
+            "+0L +1L -0L +3R ",
         ),
         (
             (Window::Rows(2), Window::Rows(1)),
             [(Left, 1), (Right, 1), (Left, 2), (Left, 2), (Right, 2)].as_slice(),
-            "+L0 +R1 +L2 +L3 -L0 +R5 -R1 ",
+            "+0L +1R +2L +3L -0L +5R -1R ",
         ),
         // A row of age exactly the window's length is gone.
         (
             (Window::Time(5), Window::Rows(10)),
             [(Left, 0), (Right, 4), (Right, 5)].as_slice(),
-            "+L0 +R1 -L0 +R3 ",
+            "+0L +1R -0L +3R ",
         ),
         // Both sides, in the order of arrival.
         (
@@ -99,7 +99,7 @@ fn rows_expire_in_turn(rt: HostRuntime) -> Result<(), Fail> {
                 (Left, 6),
             ]
             .as_slice(),
-            "+R0 +L1 +L2 +R3 +R4 -R0 -L1 -L2 -R3 +L9 ",
+            "+0R +1L +2L +3R +4R -0R -1L -2L -3R +9L ",
         ),
         // Trades and quotes.
         (
@@ -123,7 +123,7 @@ fn rows_expire_in_turn(rt: HostRuntime) -> Result<(), Fail> {
                 (Right, 9000),
             ]
             .as_slice(),
-            "+L0 +R1 +R2 +L3 +L4 +R5 +L6 +R7 +L8 +R9 -R1 +L11 +R12 -R2 +L14 -R5 +R16 -R7 +L18 +R19 ",
+            "+0L +1R +2R +3L +4L +5R +6L +7R +8L +9R -1R +11L +12R -2R +14L -5R +16R -7R +18L +19R ",
         ),
         // Times that fall: a row is gone by its own age, wherever it stands.
         (
@@ -137,13 +137,13 @@ fn rows_expire_in_turn(rt: HostRuntime) -> Result<(), Fail> {
                 (Right, 13),
             ]
             .as_slice(),
-            "+L0 +L1 -L0 -L1 +R4 +R5 +L6 -R5 -L6 +R9 ",
+            "+0L +1L -0L -1L +4R +5R +6L -5R -6L +9R ",
         ),
         // Windows that hold no row.
         (
             (Window::Rows(0), Window::Time(0)),
             [(Left, 7), (Right, 7), (Right, 6), (Left, 7)].as_slice(),
-            "+L0 -L0 +R2 +R3 -R2 -R3 +L6 -L6 ",
+            "+0L -0L +2R +3R -2R -3R +6L -6L ",
         ),
     ];
     for (windows, arrivals, wanted) in cases {
@@ -159,12 +159,12 @@ fn ages_pass_64_bits(rt: HostRuntime) -> Result<(), Fail> {
     let most = i64::MAX;
     let longest = u64::MAX;
     let cases = [
-        (longest, least, most, "+L0 -L0 +R2 "),
-        (longest, least + 1, most, "+L0 +R1 "),
-        (1 << 63, least, -1, "+L0 +R1 "),
-        (1 << 63, least, 0, "+L0 -L0 +R2 "),
-        (1, most, least, "+L0 +R1 "),
-        (1 << 62, -1 << 62, 0, "+L0 -L0 +R2 "),
+        (longest, least, most, "+0L -0L +2R "),
+        (longest, least + 1, most, "+0L +1R "),
+        (1 << 63, least, -1, "+0L +1R "),
+        (1 << 63, least, 0, "+0L -0L +2R "),
+        (1, most, least, "+0L +1R "),
+        (1 << 62, -1 << 62, 0, "+0L -0L +2R "),
     ];
     for (span, first, second, wanted) in cases {
         let arrivals = [(Left, first), (Right, second)];

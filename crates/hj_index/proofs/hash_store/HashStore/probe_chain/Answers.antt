@@ -63,6 +63,6 @@ pub returns : goal.returns
 returns g c =
     let rows = rows_in c.self.inside.rows in
     let ends = get nat_eq c.self.inside.ends in
-    let none = all_seen c.args.key rows ends c.self.invariant.distinct c.self.invariant.chained c.loop-step.next c.loop-step._step c.loop-step.invariant.0 c.places-step-end.result c.places-step-end.ensures c.loop-step-test.false in
+    let none = all_seen c.args.key rows ends c.self.invariant.distinct c.self.invariant.chained c.loop-step.next c.loop-step._step c.loop-step.invariant.0 c.places-step-end.result c.places-step-end.ensures.enough c.loop-step-test.false in
     subst (λ (es : Places (List Field)). Finds (λ row. joins (g.J.Join.predicate c.args.join.now) c.args.side row c.args.against.now) (settled_matches (g.J.Join.predicate c.args.join.now) c.args.side c.args.against.now (plain_rows rows)) c.loop-step.found es) none c.loop-step.invariant.1
     ∙ ap (λ (store : HashRows). settled_matches (g.J.Join.predicate c.args.join.now) c.args.side c.args.against.now store.rows) c.self.view_is
