@@ -1,0 +1,11 @@
+pub mod Asking
+pub mod Collecting
+pub mod Driving
+pub mod Going
+pub mod InTurn
+pub mod Numbers
+pub mod Releasing
+pub mod Rounds
+pub mod Runs
+pub mod Starting
+pub mod Whole

@@ -1,0 +1,64 @@
+-- The numbers of turns: each is above those before it.
+use Rattle.std.proofs.Common.{◌≡◌, ◌≤◌, ℕ, zero, suc, ◌+◌, ◌-◌, ◌<◌, inl, inr, List, [], ◌∷◌, ◌++◌, length, map, get_or, sym, subst, ap, ◌∙◌, arith, length-append}
+use Rattle.std.specs.List.{All}
+use Rattle.std.specs.List.Sorted.{IsStrictlyIncreasing, IsNonDecreasing}
+use Rattle.std.proofs.Math.Seq.{get_or-append_seam}
+use Rattle.std.proofs.lemmas.Bool.Decides.{eqb_tells}
+use Rattle.std.proofs.lemmas.List.{get_or_append_left, map-append}
+use Rattle.std.proofs.lemmas.List.Elements.{All-push, All-weaker}
+use Rattle.std.proofs.lemmas.List.Sorted.{IsNonDecreasingBy-push}
+use Rattle.hj_base.specs.Journals.{Entry, taken}
+use Rattle.hj_desk.specs.Desk.{IsBefore}
+
+module _ (bound next : ℕ) (is : next ≡ bound + 1) where
+  pub below-more : (xs : List ℕ) → All (λ x. x < bound) xs → All (λ x. x < next) xs
+  below-more xs old = All-weaker (λ x. x < bound) (λ x. x < next) (λ x less. omega (arith, less, is)) xs old
+
+  pub below-push : (xs : List ℕ) → All (λ x. x < bound) xs → All (λ x. x < next) (xs ++ bound ∷ [])
+  below-push xs old = All-push (λ x. x < next) xs bound (below-more xs old) (omega (arith, is))
+
+  module _ {M : Type 0} (journal : List (Entry M)) (old : IsBefore bound journal) where
+    pub before-more : IsBefore next journal
+    before-more = record { in_turn = old.in_turn; before = below-more (map (λ (e : Entry M). e.turn) journal) old.before }
+
+    pub before-taken : (message : M) → IsBefore next (journal ++ taken bound message ∷ [])
+    before-taken message =
+        let xs = map (λ (e : Entry M). e.turn) journal in
+        let pushed : map (λ (e : Entry M). e.turn) (journal ++ taken bound message ∷ []) ≡ map (λ (e : Entry M). e.turn) journal ++ bound ∷ [] = map-append (λ (e : Entry M). e.turn) journal (taken bound message ∷ []) in
+        record {
+          in_turn = subst IsNonDecreasing (sym pushed) (IsNonDecreasingBy-push (λ x. x) xs bound old.in_turn (λ d some. omega (arith, old.before (length xs - 1) d (omega arith))));
+          before = subst (All (λ x. x < next)) (sym pushed) (below-push xs old.before);
+        }
+
+pub increasing-push : (bound : ℕ) (xs : List ℕ) → IsStrictlyIncreasing xs → All (λ x. x < bound) xs → IsStrictlyIncreasing (xs ++ bound ∷ [])
+increasing-push bound xs rising below = λ k low. elim (eqb_tells (k + 1) (length xs)) [
+  | inl w ↦
+      let here : k < length xs = omega (arith, w.1) in
+      omega (
+        arith,
+        below k 0 here,
+        get_or_append_left xs (bound ∷ []) 0 k here,
+        ap (λ j. get_or (xs ++ bound ∷ []) j 0) w.1 ∙ get_or-append_seam xs bound [] 0,
+      )
+  | inr w ↦
+      let next : k + 1 < length xs = omega (arith, w.1, low, length-append xs (bound ∷ [])) in
+      let here : k < length xs = omega (arith, next) in
+      omega (arith, rising k next, get_or_append_left xs (bound ∷ []) 0 k here, get_or_append_left xs (bound ∷ []) 0 (k + 1) next)
+]
+
+-- each number is at most the next
+abbrev pub NoFall : ℕ → List ℕ → Type 0
+NoFall low [] = Unit {0}
+NoFall low (x ∷ xs) = (low ≤ x) × NoFall x xs
+
+no_fall_from : (low : ℕ) (xs : List ℕ) → NoFall low xs → (j d : ℕ) → j < length xs → low ≤ get_or xs j d
+no_fall_from low [] all j d within = absurd (omega arith)
+no_fall_from low (x ∷ xs) all zero d within = all.0
+no_fall_from low (x ∷ xs) all (suc j) d within = omega (arith, all.0, no_fall_from x xs all.1 j d (omega arith))
+
+pub non_decreasing : (low : ℕ) (xs : List ℕ) → NoFall low xs → IsNonDecreasing xs
+non_decreasing low [] all i j d below within = absurd (omega arith)
+non_decreasing low (x ∷ xs) all zero zero d below within = omega arith
+non_decreasing low (x ∷ xs) all zero (suc j) d below within = no_fall_from x xs all.1 j d (omega arith)
+non_decreasing low (x ∷ xs) all (suc i) zero d below within = absurd (omega arith)
+non_decreasing low (x ∷ xs) all (suc i) (suc j) d below within = non_decreasing x xs all.1 i j d (omega arith) (omega arith)

@@ -1,0 +1,187 @@
+-- A desk and the workers make a run, in which the pairs given begin the sequential join.
+use Rattle.std.proofs.Common.{◌≡◌, ℕ, zero, suc, ◌+◌, ◌<◌, ◌≤◌, ◌⊎◌, inl, inr, true, cond, List, [], ◌∷◌, ◌++◌, length, map, get_or, Contains, All, Some, None, Option, refl, ap, sym, ◌∙◌, subst, arith, append-nil, add-one, true≢false}
+use Rattle.std.specs.List.{list_any}
+use Rattle.std.specs.List.Sorted.{IsStrictlyIncreasing}
+use Rattle.std.proofs.Math.ListN as listn
+use Rattle.std.proofs.lemmas.Bool.Decides.{eqb_tells}
+use Rattle.std.proofs.lemmas.List.{length-map}
+use Rattle.std.proofs.lemmas.List.Elements.{All-map, Contains-append_right}
+use Rattle.hj_base.specs.declared.numbers.Side.{Side}
+use Rattle.hj_base.specs.declared.numbers.Side.TheVariants.{Left, Right}
+use Rattle.hj_base.specs.Journals.{Entry, IsInTurn, IsPrefix, put, taken, takes, puts}
+use Rattle.hj_msg.specs.declared.event.Event.{Event}
+use Rattle.hj_msg.specs.declared.feed.Given.{Given}
+use Rattle.hj_msg.specs.declared.feed.Given.TheVariants as given
+use Rattle.hj_msg.specs.declared.message.Msg.{Msg}
+use Rattle.hj_msg.specs.declared.message.Report.{Report}
+use Rattle.hj_msg.specs.Driver.{DriverTurn, admission, receipt, closing, admitted, message_of, port_of, IsLawful}
+use Rattle.hj_msg.specs.Feed.{FeedState, event_in, is_stop}
+use Rattle.hj_msg.specs.Kang.{kang}
+use Rattle.hj_msg.specs.Met.{AreAllReportsOf}
+use Rattle.hj_msg.specs.Emission.{emitted}
+use Rattle.hj_msg.specs.Run.{Run, IsRun, LogEntry, at_port, close_of, port_journal}
+use Rattle.hj_msg.specs.Turns.{TakesTurns, only_at}
+use Rattle.hj_msg.proofs.Emitting.{emits_prefix}
+use Rattle.hj_msg.proofs.Members.{Contains-head, any_of}
+use Rattle.hj_driver.specs.StandsFor.{is_closing}
+use Rattle.hj_link.specs.Seen.{ReceiverSeen}
+use Rattle.hj_desk.specs.declared.desk.Desk.{Desk}
+use Rattle.hj_desk.specs.Desk.{History, IsBefore, IsFed, StandsFor, collected, numbers_of, turns_of}
+use Rattle.hj_desk.specs.Runs.{Workers, DoTheirPart, cores_of, left_end, right_end, run_of, taken_of}
+use Rattle.hj_desk.proofs.Collecting.{prefix-trans}
+use Rattle.hj_desk.proofs.Numbers.{NoFall, non_decreasing}
+
+-- ---- the log is lawful over the events that the feed gave
+
+module _ {P : Type 0} where
+  no_event : (next : Option (Given P)) → is_stop next ≡ true → event_in next ≡ []
+  no_event None is = refl
+  no_event (Some (given.Event event)) is = absurd (true≢false (sym is))
+  no_event (Some given.Stop) is = refl
+
+  pub all_put : (next : Option (Given P)) (feed : FeedState) (turns : List (DriverTurn P)) (events : List (Event P)) → IsFed next feed turns events → is_stop next ≡ true → admitted turns ≡ events
+  all_put next feed turns events fed stop = sym (fed.are ∙ ap (λ es. admitted turns ++ es) (no_event next stop) ∙ append-nil (admitted turns))
+
+  pub lawful-over : (flight : ℕ) (next : Option (Given P)) (feed : FeedState) (turns : List (DriverTurn P)) (events : List (Event P)) → IsLawful flight (admitted turns) turns → IsFed next feed turns events → IsLawful flight events turns
+  lawful-over flight next feed turns events lawful fed = record {
+    in_order = record { rest = event_in next; is = fed.are };
+    in_flight = lawful.in_flight;
+    come_out = lawful.come_out;
+    closes = λ earlier later is.
+        let last = lawful.closes earlier later is in
+        let sent : list_any is_closing turns ≡ true = any_of is_closing turns closing (subst (λ ts. Contains ts closing) (sym is) (Contains-append_right earlier (closing ∷ later) closing (Contains-head closing later))) refl in
+        record { all = last.all ∙ all_put next feed turns events fed (fed.closed sent); none_outstanding = last.none_outstanding; once = last.once };
+  }
+
+-- ---- the turns don't fall in the journals of the driver's ends
+
+pub tail_rises : (x : ℕ) (xs : List ℕ) → IsStrictlyIncreasing (x ∷ xs) → IsStrictlyIncreasing xs
+tail_rises x xs rising k within =
+    let next : get_or (x ∷ xs) (k + 1) 0 < get_or (x ∷ xs) ((k + 1) + 1) 0 = rising (k + 1) (omega arith) in
+    let here : get_or (x ∷ xs) (k + 1) 0 ≡ get_or xs k 0 = rw (add-one k) refl in
+    let there : get_or (x ∷ xs) ((k + 1) + 1) 0 ≡ get_or xs (k + 1) 0 = rw (add-one (k + 1)) refl in
+    omega arith
+
+pub no_fall-lower : (low high : ℕ) (xs : List ℕ) → low ≤ high → NoFall high xs → NoFall low xs
+no_fall-lower low high [] less all = tt
+no_fall-lower low high (x ∷ xs) less all = (omega (arith, less, all.0), all.1)
+
+module _ {M : Type 0} where
+  abbrev turns_in : List (Entry M) → List ℕ
+  turns_in journal = map (λ entry. entry.turn) journal
+
+  -- nothing, or one entry under a number
+  abbrev IsOneUnder : ℕ → List (Entry M) → Type 0
+  IsOneUnder number entries = (entries ≡ []) ⊎ ((entry : Entry M) × (entries ≡ entry ∷ []) × (entry.turn ≡ number))
+
+  no_fall-entry : (low number : ℕ) (entries rest : List (Entry M)) → IsOneUnder number entries → low ≤ number → NoFall number (turns_in rest) → NoFall low (turns_in (entries ++ rest))
+  no_fall-entry low number entries rest (inl none) less all = subst (λ es. NoFall low (turns_in (es ++ rest))) (sym none) (no_fall-lower low number (turns_in rest) less all)
+  no_fall-entry low number entries rest (inr (entry, is, under)) less all =
+      subst (λ es. NoFall low (turns_in (es ++ rest))) (sym is) (omega (arith, less, under), subst (λ n. NoFall n (turns_in rest)) (sym under) all)
+
+  only-one : (end side : Side) (number : ℕ) (entry : Entry M) → entry.turn ≡ number → IsOneUnder number (only_at end side entry)
+  only-one Left Left number entry is = inr (entry, refl, is)
+  only-one Left Right number entry is = inl refl
+  only-one Right Left number entry is = inl refl
+  only-one Right Right number entry is = inr (entry, refl, is)
+
+module _ {P : Type 0} (side : Side) where
+  at_port-one : (number : ℕ) (turn : DriverTurn P) → IsOneUnder number (at_port side number turn)
+  at_port-one number (admission event) = only-one (port_of event) side number (put number (message_of event)) refl
+  at_port-one number (receipt from message) = only-one from side number (taken number message) refl
+  at_port-one number closing = inr (put number (close_of side), refl, refl)
+
+  no_fall-log : (low : ℕ) (log : List (LogEntry P)) → IsStrictlyIncreasing (low ∷ numbers_of log) → NoFall low (turns_in (port_journal side log))
+  no_fall-log low [] rising = tt
+  no_fall-log low (entry ∷ log) rising =
+      let first : low < entry.number = rising 0 (omega arith) in
+      no_fall-entry low entry.number (at_port side entry.number entry.turn) (port_journal side log) (at_port-one entry.number entry.turn) (omega (arith, first))
+      (no_fall-log entry.number log (tail_rises low (entry.number ∷ numbers_of log) rising))
+
+  pub port-in_turn : (log : List (LogEntry P)) → IsStrictlyIncreasing (numbers_of log) → IsInTurn (port_journal side log)
+  port-in_turn [] rising = non_decreasing 0 [] tt
+  port-in_turn (entry ∷ log) rising =
+      non_decreasing entry.number (turns_in (port_journal side (entry ∷ log)))
+      (no_fall-entry entry.number entry.number (at_port side entry.number entry.turn) (port_journal side log) (at_port-one entry.number entry.turn) (omega arith) (no_fall-log entry.number log rising))
+
+-- ---- what was taken of the cores' reports
+
+map-twice : {X Y Z : Type 0} (f : X → Y) (g : Y → Z) (xs : List X) → map g (map f xs) ≡ map (λ x. g (f x)) xs
+map-twice f g [] = refl
+map-twice f g (x ∷ xs) = ap (λ l. g (f x) ∷ l) (map-twice f g xs)
+
+module _ {P : Type 0} (receivers : List (ReceiverSeen (Report P))) (k : ℕ) where
+  abbrev journal_in : ReceiverSeen (Report P) → List (Entry (Report P))
+  journal_in receiver = receiver.journal
+
+  pub collected-at : get_or (collected receivers) k [] ≡ takes (get_or (map journal_in receivers) k [])
+  collected-at =
+      ap (λ (l : List (List (Report P))). get_or l k []) (sym (map-twice journal_in takes receivers))
+      ∙ listn.get_or-map takes (map journal_in receivers) k []
+
+  pub taken-in_turn : (turn : ℕ) → k < length receivers → All (λ (r : ReceiverSeen (Report P)). IsBefore turn r.journal) receivers → IsInTurn (get_or (map journal_in receivers) k [])
+  taken-in_turn turn low all = (All-map (IsBefore turn) journal_in receivers all k [] (omega (arith, low, length-map receivers journal_in))).in_turn
+
+-- ---- the run
+
+module _ {P : Type 0} (workers : Workers P) (desk : Desk P) (feed : FeedState) (history : History P) (stood : StandsFor desk feed history) (parts : DoTheirPart workers desk history.events) where
+  abbrev run : Run P
+  run = run_of workers desk history.events
+
+  pub right_inner : (k : ℕ) → k < cores_of desk → right_end workers desk k ≡ workers.left k
+  right_inner k low = elim (eqb_tells k (cores_of desk)) [
+    | inl w ↦ absurd (omega (arith, low, w.1))
+    | inr w ↦ ap (λ b. cond b desk.ports.right.journal (workers.left k)) w.0
+  ]
+
+  pub right_last : right_end workers desk (cores_of desk) ≡ desk.ports.right.journal
+  right_last = elim (eqb_tells (cores_of desk) (cores_of desk)) [
+    | inl w ↦ ap (λ b. cond b desk.ports.right.journal (workers.left (cores_of desk))) w.0
+    | inr w ↦ absurd (w.1 refl)
+  ]
+
+  pub left_in_turn : (k : ℕ) → k ≤ cores_of desk → IsInTurn (left_end workers desk k)
+  left_in_turn zero within = subst IsInTurn (sym stood.drives.left) (port-in_turn Left history.log stood.drives.rising)
+  left_in_turn (suc k) within = (parts.in_turn k (omega (arith, within))).1
+
+  pub right_in_turn : (k : ℕ) → k ≤ cores_of desk → IsInTurn (right_end workers desk k)
+  right_in_turn k within = elim (eqb_tells k (cores_of desk)) [
+    | inl w ↦ subst IsInTurn (sym (ap (λ b. cond b desk.ports.right.journal (workers.left k)) w.0 ∙ stood.drives.right)) (port-in_turn Right history.log stood.drives.rising)
+    | inr w ↦ subst IsInTurn (sym (ap (λ b. cond b desk.ports.right.journal (workers.left k)) w.0)) (parts.in_turn k (omega (arith, within, w.1))).0
+  ]
+
+  pub steps : (k : ℕ) → k < cores_of desk → TakesTurns workers.matches k (cores_of desk) (parts.turns k) (right_end workers desk k) (left_end workers desk (k + 1)) (workers.reports k)
+  steps k low =
+      subst (λ (j : ℕ). TakesTurns workers.matches k (cores_of desk) (parts.turns k) (right_end workers desk k) (left_end workers desk j) (workers.reports k)) (sym (add-one k))
+      (subst (λ (journal : List (Entry (Msg P))). TakesTurns workers.matches k (cores_of desk) (parts.turns k) journal (workers.right k) (workers.reports k)) (sym (right_inner k low)) (parts.steps k low))
+
+  unfoldable pub is_run : IsRun run
+  is_run = record {
+    some_core = parts.some_core;
+    well_formed = stood.fed.well_formed;
+    links = parts.links;
+    links_in_turn = λ k within. (left_in_turn k within, right_in_turn k within);
+    queues = parts.queues;
+    queues_in_turn = λ k low. ((parts.in_turn k low).2, taken-in_turn desk.reports.items k desk.turns low stood.gathered.in_turn);
+    turns = parts.turns;
+    steps = steps;
+    log = history.log;
+    rising = stood.drives.rising;
+    left_port = stood.drives.left;
+    right_port = right_last ∙ stood.drives.right;
+    lawful = lawful-over desk.driver.flight desk.next feed (turns_of history.log) history.events stood.drives.stands.lawful stood.fed;
+  }
+
+  pub all_reports : AreAllReportsOf run (collected desk.reports.items)
+  all_reports = record {
+    of_run = record {
+      one_each = length-map desk.reports.items (λ (r : ReceiverSeen (Report P)). takes r.journal);
+      prefixes = λ k low. subst (λ (rs : List (Report P)). IsPrefix rs (puts (workers.reports k))) (sym (collected-at desk.reports.items k)) (parts.queues k low).flows.taken;
+    };
+    all_taken = λ k low. record { rest = []; is = collected-at desk.reports.items k ∙ sym (append-nil (takes (taken_of desk k))) };
+  }
+
+  pub begins_join : IsPrefix history.given (kang workers.matches history.events)
+  begins_join =
+      prefix-trans history.given (emitted (collected desk.reports.items)) (kang workers.matches history.events)
+      (stood.gathered.pairs.in_order run is_run all_reports.of_run) (emits_prefix run is_run (collected desk.reports.items) all_reports.of_run)

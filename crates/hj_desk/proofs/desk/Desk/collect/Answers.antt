@@ -1,0 +1,32 @@
+use Rattle.std.proofs.Common.{◌≡◌, ◌+◌, ◌++◌, true, refl, sym, ◌∙◌, IsPermutation, true≢false}
+use Rattle.hj_msg.specs.Met.{pairs_of}
+use Rattle.hj_desk.proofs.Collecting.{finds-none, granted, refused, takes-report}
+use Rattle.hj_desk.proofs.desk.Desk.collect.Goals as goal
+
+pub returns-in_default : goal.returns-in_default
+returns-in_default g c =
+    finds-none c.args.self.now c.args.core c.from.result c.from.ensures c.index_mut.result.now c.take.new.self c.requires.in_range c.index_mut.ensures.value c.take.ensures.link.0 c.take.ensures.link.1 c.in_default.ensures.same c.in_default.ensures.empty.0
+    c.in_default.ensures.empty.2
+
+pub returns-then-is_err : goal.returns-then-is_err
+returns-then-is_err g c =
+    let old = c.args.self.now in
+    let same : c.keep_pairs.new.kept ≡ old.kept = refused c.keep_pairs.result (c.keep_pairs.new.kept ≡ old.kept) (sym c.is_err.ensures.value ∙ c.if-is_err.true) c.keep_pairs.ensures.err in (
+      c.in-Some.report,
+      takes-report old c.args.core c.from.result c.from.ensures c.index_mut.result.now c.take.new.self c.requires.in_range c.index_mut.ensures.value c.take.ensures.link.0 c.take.ensures.link.1 c.in-Some.report (old.turns + 1) refl c.in-Some.ensures.taken.0 c.note.new.self
+          c.note.ensures true c.keep_pairs.new.kept (λ lasts. absurd (true≢false lasts)),
+      refl,
+      same,
+    )
+
+pub returns : goal.returns
+returns g c =
+    let old = c.args.self.now in
+    let more : IsPermutation (old.kept ++ pairs_of c.in-Some.report) c.keep_pairs.new.kept =
+    granted c.keep_pairs.result (IsPermutation (old.kept ++ pairs_of c.in-Some.report) c.keep_pairs.new.kept) (sym c.is_err.ensures.value ∙ c.if-is_err.false) c.keep_pairs.ensures.ok in (
+      c.in-Some.report,
+      takes-report old c.args.core c.from.result c.from.ensures c.index_mut.result.now c.take.new.self c.requires.in_range c.index_mut.ensures.value c.take.ensures.link.0 c.take.ensures.link.1 c.in-Some.report (old.turns + 1) refl c.in-Some.ensures.taken.0 c.note.new.self
+          c.note.ensures old.over c.keep_pairs.new.kept (λ lasts. (lasts, more)),
+      refl,
+      more,
+    )

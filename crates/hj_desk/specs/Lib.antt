@@ -1,0 +1,5 @@
+pub mod Caller
+pub mod Desk
+pub mod Ports
+pub mod Runs
+pub mod Steps

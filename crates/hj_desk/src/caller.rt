@@ -1,0 +1,157 @@
+//! The calling thread of a run: what it does in a round, between the feed, the chain and the drain.
+ghost use Rattle.std.specs.Prelude.{◌<◌, ◌≤◌, [], length};
+ghost use Rattle.hj_msg.specs.declared.feed.Given.{Given as Answer};
+
+use crate::desk::Desk;
+use crate::step::Step;
+use hj_base::{CoreNo, Share, Side};
+use hj_msg::{Drain, Drained, Feed, Fin};
+
+/// How many messages, reports or events in a row are handled at one place.
+const BATCH: u32 = 64;
+
+/// What came of a round.
+#[derive(Clone, Copy, Debug, PartialEq, Eq)]
+pub enum Round {
+    /// Something was taken or put.
+    GotOn,
+    /// There was nothing to take, and nothing that may be put now.
+    Waits,
+    /// The run has ended.
+    Over(Fin),
+}
+
+/// What the calling thread has of a run.
+#[derive(Drop)]
+pub struct Caller<P: Drop, F, D> {
+    pub desk: Desk<P>,
+    /// Where the events come from.
+    pub feed: F,
+    /// Where the pairs go.
+    pub drain: D,
+    /// How many reports are still to come of the rows that were put.
+    pub awaited: u64,
+}
+
+impl<P: Share + Drop, F: Feed<P>, D: Drain<P>> Caller<P, F, D> {
+    ghost use Rattle.hj_desk.specs.Desk.{Stands};
+    ghost use Rattle.hj_desk.specs.Caller.{Goes, GoesRound, GoesOnAsking};
+
+    /// One round: takes what came out of the chain and what the cores reported, gives the pairs that are due, and puts events.
+    /// It waits for the feed only where all that was put has left the chain, every report of it was taken, and every pair that
+    /// is due was given.
+    pub fn round(&mut self) -> Round
+        requires stands { Stands self.old.desk (F.state self.old.feed) }
+        requires few { length self.old.desk.reports.items ≤ 64 }
+        ensures { GoesRound F.gives F.state D.takes result self.old self.new }
+    {
+        let at_left = self.receive_from(Side::Left);
+        let at_right = self.receive_from(Side::Right);
+        let collected = self.collect_all();
+        if self.desk.release(&mut self.drain) == Drained::Refused {
+            return Round::Over(Fin::Refused);
+        }
+        if let Some(fin) = self.desk.end() {
+            return Round::Over(fin);
+        }
+        let put = self.admit_all();
+        if at_left || at_right || collected || put {
+            Round::GotOn
+        } else {
+            Round::Waits
+        }
+    }
+
+    /// Takes the messages that stand at a port, and answers whether there was one.
+    fn receive_from(&mut self, port: Side) -> bool
+        ensures { Goes F.gives F.state D.takes self.old [] [] self.new }
+    {
+        for taken in 0..BATCH {
+            if self.desk.receive(port) != Step::Did {
+                return taken > 0;
+            }
+        }
+        true
+    }
+
+    /// Takes the reports of all cores that stand in their queues, and answers whether there was one.
+    fn collect_all(&mut self) -> bool
+        requires stands { Stands self.old.desk (F.state self.old.feed) }
+        requires few { length self.old.desk.reports.items ≤ 64 }
+        ensures { Goes F.gives F.state D.takes self.old [] [] self.new }
+    {
+        let mut collected = false;
+        for place in 0..self.desk.cores() {
+            if self.collect_from(CoreNo(place)) {
+                collected = true;
+            }
+        }
+        collected
+    }
+
+    /// Takes the reports of a core that stand in its queue, and answers whether there was one.
+    fn collect_from(&mut self, core: CoreNo) -> bool
+        requires stands { Stands self.old.desk (F.state self.old.feed) }
+        requires in_range { core.0 < length self.old.desk.reports.items }
+        ensures { Goes F.gives F.state D.takes self.old [] [] self.new }
+    {
+        for taken in 0..BATCH {
+            if self.desk.collect(core) != Step::Did {
+                return taken > 0;
+            }
+            self.awaited = self.awaited.saturating_sub(1);
+        }
+        true
+    }
+
+    /// Puts events one after another, as long as that may be done, and answers whether it put one.
+    fn admit_all(&mut self) -> bool
+        requires { Stands self.old.desk (F.state self.old.feed) }
+        ensures { GoesOnAsking F.gives F.state D.takes self.old self.new }
+    {
+        for put in 0..BATCH {
+            if !self.admit_next() {
+                return put > 0;
+            }
+        }
+        true
+    }
+
+    /// Puts the next event, or the closes where none is to come, and answers whether it did.
+    #[inline(always)]
+    fn admit_next(&mut self) -> bool
+        requires { Stands self.old.desk (F.state self.old.feed) }
+        ensures { GoesOnAsking F.gives F.state D.takes self.old self.new }
+    {
+        if !self.knows_next() {
+            return false;
+        }
+        let reports = self.desk.reports_of_next();
+        if self.desk.admit() != Step::Did {
+            return false;
+        }
+        self.awaited = self.awaited.saturating_add(reports);
+        true
+    }
+
+    /// Whether it is known what is to be put next. The feed is asked for it, where that needn't wait or nothing else is to do.
+    #[inline(always)]
+    fn knows_next(&mut self) -> bool
+        ensures { GoesOnAsking F.gives F.state D.takes self.old self.new }
+    {
+        if !self.desk.is_unasked() {
+            return true;
+        }
+        if !self.feed.is_ready() && !self.is_quiet() {
+            return false;
+        }
+        self.desk.ask(&mut self.feed);
+        true
+    }
+
+    /// Whether all that was put has left the chain, and every report of it was taken.
+    #[inline(always)]
+    fn is_quiet(&self) -> bool {
+        self.awaited == 0 && self.desk.outstanding() == 0
+    }
+}

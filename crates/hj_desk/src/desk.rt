@@ -1,0 +1,305 @@
+//! What the calling thread does of a run: it drives the chain at its two ends, takes the cores' reports and gives the pairs.
+ghost use Rattle.std.specs.Prelude.{◌≡◌, ◌↔◌, ◌+◌, ◌<◌, ◌≤◌, ◌++◌, ◌∷◌, ◌&&◌, true, false, [], length, Some, None, All, IfOk, IfSome, IfNone, OnOk, OnErr, IsPermutation};
+ghost use Rattle.hj_msg.specs.Driver.{port_of};
+ghost use Rattle.hj_msg.specs.Met.{pairs_of};
+ghost use Rattle.hj_driver.specs.Driver.{cause_of, closing_of, count_of, is_finished};
+ghost use Rattle.hj_collect.specs.Collector.{has_ended};
+
+use crate::ports::Ports;
+use crate::step::Step;
+use hj_base::{CoreNo, Memory, Share, Side};
+use hj_collect::Collector;
+use hj_driver::{Admitted, Closing, Driver};
+use hj_link::{LeftEnd, Receiver, RightEnd};
+use hj_msg::{Drain, Drained, Event, Feed, Fin, Given, Msg, Pair, Report};
+use hj_order::Ordered;
+use std::alloc::Global;
+
+/// The calling thread's part of a run. It holds the two ends of the chain and the receivers of the cores' reports, and no thread.
+#[derive(Drop)]
+pub struct Desk<P: Drop> {
+    pub driver: Driver,
+    pub ports: Ports<P>,
+    /// The receiver of each core's reports, by the place of the core.
+    pub reports: Vec<Receiver<Report<P>>>,
+    pub collector: Collector,
+    /// The pairs that were met and weren't given yet.
+    pub kept: Ordered<P>,
+    /// What the feed said last, where it isn't used up.
+    pub next: Option<Given<P>>,
+    /// The number of the next turn.
+    pub turns: u64,
+    /// Whether memory ran out for the pairs of a report.
+    pub over: bool,
+}
+
+impl<P: Share + Drop> Desk<P> {
+    ghost use Rattle.std.specs.Prelude.{ℕ};
+    ghost use Rattle.hj_msg.specs.declared.event.Event.{Event as SomeEvent};
+    ghost use Rattle.hj_msg.specs.declared.feed.Given.{Given as Answer};
+    ghost use Rattle.hj_msg.specs.Feed.{FeedState, event_in, first_numbering};
+    ghost use Rattle.hj_desk.specs.Ports.{end_at};
+    ghost use Rattle.hj_desk.specs.Desk.{History, StandsFor, Stands, nothing_happened};
+    ghost use Rattle.hj_desk.specs.Steps.{IsSpent, Turns, Receives, Admits, Collects, NoneDue, GivesPairs, end_of, reports_of, with_events, with_pairs};
+
+    /// The part of a run in which nothing happened yet, over the two ends of the chain and the receivers of the cores' reports,
+    /// with at most `flight` events outstanding.
+    pub fn new(
+        alloc: Global,
+        flight: u16,
+        left: LeftEnd<Msg<P>>,
+        right: RightEnd<Msg<P>>,
+        reports: Vec<Receiver<Report<P>>>,
+    ) -> Result<Self, Memory>
+        requires few { length reports.items ≤ 64 }
+        requires left_unused { left.journal ≡ [] }
+        requires right_unused { right.journal ≡ [] }
+        requires reports_unused { All (λ receiver. receiver.journal ≡ []) reports.items }
+        ensures stands { IfOk result (λ desk. (feed : FeedState) → feed.numbering ≡ first_numbering → StandsFor desk feed nothing_happened) }
+        ensures parts { IfOk result (λ desk. (desk.ports.left ≡ left) × (desk.ports.right ≡ right) × (desk.reports ≡ reports)) }
+        ensures flight { IfOk result (λ desk. desk.driver.flight ≡ flight) }
+        ensures unasked { IfOk result (λ desk. (desk.next ≡ None) × (desk.turns ≡ 0) × (desk.over ≡ false)) }
+    {
+        let cores = reports.len() as u16;
+        let driver = Driver::new(alloc, cores, flight)?;
+        let collector = Collector::new(alloc, cores)?;
+        Ok(Desk {
+            driver,
+            ports: Ports { left, right },
+            reports,
+            collector,
+            kept: Ordered::new(alloc),
+            next: None,
+            turns: 0,
+            over: false,
+        })
+    }
+
+    /// Whether no turn number is left. Then no step puts or takes any more.
+    #[inline(always)]
+    pub fn is_spent(&self) -> bool
+        ensures { (result ≡ true) ↔ IsSpent self.now }
+    {
+        self.turns == u64::MAX
+    }
+
+    /// Whether the feed is to be asked before the driver can put anything.
+    #[inline(always)]
+    pub fn is_unasked(&self) -> bool
+        ensures { (result ≡ true) ↔ (self.now.next ≡ None) }
+    {
+        self.next.is_none()
+    }
+
+    /// The driver takes the first message that comes out at a port.
+    #[inline(always)]
+    pub fn receive(&mut self, port: Side) -> Step
+        ensures { Receives port result self.old self.new }
+    {
+        if self.is_spent() {
+            return Step::Spent;
+        }
+        let Some(message) = self.ports.take(port, self.turns) else {
+            return Step::Idle;
+        };
+        self.turns += 1;
+        self.driver.took(port, &message);
+        Step::Did
+    }
+
+    /// Asks the feed for the next event.
+    pub fn ask<F: Feed<P>>(&mut self, feed: &mut F)
+        requires { self.old.next ≡ None }
+        ensures gives { (given : Answer P) × (self.new ≡ record self.old { next = Some given }) × F.gives feed.old given feed.new }
+        ensures stands { (history : History P) → StandsFor self.old (F.state feed.old) history → StandsFor self.new (F.state feed.new) (with_events (event_in self.new.next) history) }
+    {
+        self.next = Some(feed.next());
+    }
+
+    /// The driver puts the next event, or both closes where no event is to come: where it may, and the links have room.
+    #[inline(always)]
+    pub fn admit(&mut self) -> Step
+        requires { (feed : FeedState) × Stands self.old feed }
+        ensures { Admits result self.old self.new }
+    {
+        if self.is_spent() {
+            return Step::Spent;
+        }
+        match &self.next {
+            None => Step::Idle,
+            Some(Given::Stop) => self.close(),
+            Some(Given::Event(event)) => {
+                if self.driver.waits(event).is_some() {
+                    return Step::Idle;
+                }
+                let port = port_of(event);
+                if !self.ports.has_room(port) {
+                    return Step::Idle;
+                }
+                self.put_event();
+                Step::Did
+            }
+        }
+    }
+
+    /// The next report of a core is taken, and its pairs are kept. Where memory runs out for them, they are lost.
+    #[inline(always)]
+    pub fn collect(&mut self, core: CoreNo) -> Step
+        requires stands { (feed : FeedState) × Stands self.old feed }
+        requires in_range { core.0 < length self.old.reports.items }
+        ensures { Collects core result self.old self.new }
+    {
+        if self.is_spent() {
+            return Step::Spent;
+        }
+        let Some(report) = self.reports[usize::from(core.0)].take(self.turns) else {
+            return Step::Idle;
+        };
+        self.turns += 1;
+        self.collector.note(core, &report);
+        if keep_pairs(&self.collector, &mut self.kept, &report).is_err() {
+            self.over = true;
+            return Step::Memory;
+        }
+        Step::Did
+    }
+
+    /// Gives the pairs that are due to the drain, one after the other, up to the first one that it refuses.
+    pub fn release<D: Drain<P>>(&mut self, drain: &mut D) -> Drained
+        ensures { GivesPairs D.takes self.old drain.old result self.new drain.new }
+    {
+        while let Some(pair) = self.pair() {
+            if drain.pair(pair) == Drained::Refused {
+                return Drained::Refused;
+            }
+        }
+        Drained::Kept
+    }
+
+    /// Whether the driver took both closes, and of each core the report of its end was taken.
+    pub fn is_done(&self) -> bool
+        ensures { result ≡ (is_finished self.now.driver.closes && has_ended self.now.collector) }
+    {
+        self.driver.finished() && self.collector.ended()
+    }
+
+    /// How the run ended, if it did: memory ran out, at the desk or at a core; or all is done.
+    pub fn end(&self) -> Option<Fin>
+        ensures { result ≡ end_of self.now }
+    {
+        if self.over || self.collector.stopped().is_some() {
+            return Some(Fin::Memory);
+        }
+        self.is_done().then_some(Fin::Done)
+    }
+
+    /// How many cores there are.
+    pub fn cores(&self) -> u16
+        requires { length self.now.reports.items ≤ 64 }
+        ensures { result ≡ length self.now.reports.items }
+    {
+        self.reports.len() as u16
+    }
+
+    /// How many events are outstanding.
+    #[inline(always)]
+    pub fn outstanding(&self) -> u32
+        ensures { result ≡ count_of self.now.driver }
+    {
+        self.driver.outstanding()
+    }
+
+    /// How many reports come of what is known next: each core reports a row that arrives.
+    #[inline(always)]
+    pub fn reports_of_next(&self) -> u64
+        ensures { result ≡ reports_of self.now.next (length self.now.reports.items) }
+    {
+        match &self.next {
+            Some(Given::Event(Event::Arrive { .. })) => self.reports.len() as u64,
+            _ => 0,
+        }
+    }
+
+    /// Puts the next event, which needn't wait and has room.
+    fn put_event(&mut self)
+        requires number { ¬ (IsSpent self.old) }
+        requires stands { (feed : FeedState) × Stands self.old feed }
+        requires event { (event : SomeEvent P) × (self.old.next ≡ Some (Given.Event event)) × (cause_of event self.old.driver ≡ None) × (0 < (end_at (port_of event) self.old.ports).room) }
+        ensures { Admits Step.Did self.old self.new }
+    {
+        let Some(Given::Event(event)) = self.next.take() else {
+            unreachable!()
+        };
+        let Admitted::Send(port, message) = self.driver.admit(event) else {
+            unreachable!()
+        };
+        self.ports.put(port, self.turns, message);
+        self.turns += 1;
+    }
+
+    /// Puts both closes, where no event is outstanding and both links have room.
+    fn close(&mut self) -> Step
+        requires number { ¬ (IsSpent self.old) }
+        requires last { self.old.next ≡ Some Given.Stop }
+        ensures { Admits result self.old self.new }
+    {
+        if self.driver.closing() != Closing::Send {
+            return Step::Idle;
+        }
+        if !self.ports.has_room(Side::Left) {
+            return Step::Idle;
+        }
+        if !self.ports.has_room(Side::Right) {
+            return Step::Idle;
+        }
+        self.driver.close();
+        self.ports.put_closes(self.turns);
+        self.turns += 1;
+        Step::Did
+    }
+
+    /// The next pair that is due, if there is one.
+    fn pair(&mut self) -> Option<Pair<P>>
+        ensures stands { IfSome result (λ pair. (feed : FeedState) (history : History P) → StandsFor self.old feed history → StandsFor self.new feed (with_pairs (pair ∷ []) history)) }
+        ensures fewer { IfSome result (λ pair. IsPermutation self.old.kept (pair ∷ self.new.kept)) }
+        ensures none { IfNone result (NoneDue self.old × (self.new ≡ self.old)) }
+        ensures others { self.new ≡ record self.old { kept = self.new.kept } }
+    {
+        if self.over {
+            return None;
+        }
+        let mark = self.collector.punctuation()?;
+        self.kept.release(mark)
+    }
+}
+
+/// The port at which an event is put.
+#[inline(always)]
+fn port_of<P>(event: &Event<P>) -> Side
+    ensures { result ≡ port_of event.now }
+{
+    match event {
+        Event::Arrive { side, .. } => *side,
+        Event::Expire {
+            side: Side::Left,
+            ..
+        } => Side::Right,
+        Event::Expire {
+            side: Side::Right,
+            ..
+        } => Side::Left,
+    }
+}
+
+/// Keeps the pairs of a report. Where memory runs out none of them is kept.
+#[inline(always)]
+fn keep_pairs<P: Share + Drop>(
+    collector: &Collector,
+    kept: &mut Ordered<P>,
+    report: &Report<P>,
+) -> Result<(), Memory>
+    ensures ok { OnOk result (IsPermutation (kept.old ++ pairs_of report.now) kept.new) }
+    ensures err { OnErr result (kept.new ≡ kept.old) }
+{
+    kept.add(collector.pairs(report)?)
+}

@@ -1,0 +1,12 @@
+/// What a step did.
+#[derive(Clone, Copy, Debug, PartialEq, Eq)]
+pub enum Step {
+    /// It put or took.
+    Did,
+    /// There was nothing to take, or nothing that may be put now.
+    Idle,
+    /// No turn number is left, so nothing was put or taken, and never will be.
+    Spent,
+    /// A report was taken, and memory ran out for its pairs. No pair is given from now on.
+    Memory,
+}
