@@ -11,6 +11,3 @@ mod sends;
 pub use one_core::Core;
 pub use prepared::Prepared;
 pub use sends::Sends;
-
-#[cfg(test)]
-mod tests;

@@ -8,6 +8,3 @@ mod worker;
 
 pub use answers::{Place, Turn};
 pub use worker::{Parts, Worker};
-
-#[cfg(test)]
-mod tests;

@@ -1,0 +1,5 @@
+//! Joins of whole streams, over the public calls of crates below: a crate that has tests of its own is proved twice.
+#![tactic(auto)]
+
+#[cfg(test)]
+mod joins;
