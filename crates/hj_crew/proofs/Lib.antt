@@ -1,0 +1,11 @@
+pub mod Chained
+pub mod ClosedLinks
+pub mod Dealing
+pub mod HandingIn
+pub mod Keeping
+pub mod Linking
+pub mod MadeTeams
+pub mod Manning
+pub mod Running
+pub mod Staying
+pub mod Teaming

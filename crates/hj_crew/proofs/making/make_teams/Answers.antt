@@ -1,0 +1,62 @@
+use Rattle.std.proofs.Common.{◌≡◌, ℕ, ◌+◌, ◌∷◌, [], List, arith, length, ap, sym, ◌∙◌, subst, replicate}
+use Rattle.std.proofs.lemmas.List.{length-map, length-replicate}
+use Rattle.std.proofs.lemmas.List.Elements.{All-pop}
+use Rattle.hj_base.specs.declared.numbers.Side.TheVariants.{Left, Right}
+use Rattle.hj_worker.specs.Seen.{WorkerSeen}
+use Rattle.hj_crew.specs.declared.team.Team.{Team}
+use Rattle.hj_crew.specs.Cores.{MakesTeams}
+use Rattle.hj_crew.specs.Deal.{dealt}
+use Rattle.hj_crew.specs.Teams.{workers_in}
+use Rattle.hj_crew.proofs.MadeTeams.{ends-left, makes-more, makes-none, unused-left}
+use Rattle.hj_crew.proofs.Staying.{written_back}
+use Rattle.hj_crew.proofs.making.make_teams.Goals as goal
+
+pub loop-left_store-init : goal.loop-left_store-init
+loop-left_store-init g c =
+    let teams = c.in_ok-teams.teams.items in
+    let none : List (WorkerSeen g.row.P.Denot g.row.J.Denot) = [] in
+    let count : length teams ≡ c.args.count =
+    sym (length-map teams (λ (team : Team g.row.P.Denot g.row.J.Denot g.row.L.Denot g.row.R.Denot). team.workers.items)) ∙ ap length c.in_ok-teams.ensures ∙ length-replicate c.args.count none in
+    record {
+      same = c.requires.same;
+      left_empty = c.requires.left_empty;
+      right_empty = c.requires.right_empty;
+      left_suits = c.requires.left_suits;
+      right_suits = c.requires.right_suits;
+      unused = c.requires.unused;
+      ends = c.requires.ends;
+      count = count;
+      made = makes-none c.args.join.now (length c.args.left.items) c.args.ends.now teams (c.in_ok-teams.ensures ∙ ap (λ k. replicate k none) (sym count));
+    }
+
+pub loop-left_store-preserved : goal.loop-left_store-preserved
+loop-left_store-preserved g c =
+    let before = c.loop-left_store.invariant in
+    let place = length c.pop.new.self.items in
+    let fewer : length c.loop-left_store.left.items ≡ place + 1 = omega (arith, c.in-Some.ensures.len) in
+    let right_fewer : length c.loop-left_store.right.items ≡ length c.pop-in-Some.new.self.items + 1 = omega (arith, c.in-Some-pop.ensures.len) in
+    let worker = c.last_worker.result in
+    let given = c.last_worker.ensures.ends in
+    let held = c.as_mut_slice.result.now in
+    let back = written_back c.loop-left_store.teams.items c.deal.new.teams c.loop-left_store.teams.len (omega (arith, c.deal.auto.teams, ap length c.as_mut_slice.ensures.value)) (omega arith) in
+    let made : MakesTeams c.args.join.now (length c.args.left.items) (length c.loop-left_store.left.items) c.args.ends.now c.loop-left_store.ends held =
+    subst (MakesTeams c.args.join.now (length c.args.left.items) (length c.loop-left_store.left.items) c.args.ends.now c.loop-left_store.ends) (sym c.as_mut_slice.ensures.value) before.made in
+    let at : c.len-place.result ≡ place = omega (arith, c.len-place.ensures, c.pop.new.self.ok.0) in
+    let deals =
+    subst (λ (k : ℕ). (later : List (WorkerSeen g.row.P.Denot g.row.J.Denot)) → workers_in held ≡ dealt (length held) (k + 1) later → workers_in c.deal.new.teams ≡ dealt (length held) k (worker ∷ later))
+    at c.in_ok-deal.ensures in
+    record {
+      same = omega (arith, before.same, fewer, right_fewer);
+      left_empty = (All-pop (λ store. g.L.Store.entries store ≡ []) _ _ c.pop.result c.pop.ensures.items before.left_empty).0;
+      right_empty = (All-pop (λ store. g.R.Store.entries store ≡ []) _ _ c.pop-in-Some.result c.pop-in-Some.ensures.items before.right_empty).0;
+      left_suits = (All-pop (λ store. g.L.Store.suits store Left c.args.join.now) _ _ c.pop.result c.pop.ensures.items before.left_suits).0;
+      right_suits = (All-pop (λ store. g.R.Store.suits store Right c.args.join.now) _ _ c.pop-in-Some.result c.pop-in-Some.ensures.items before.right_suits).0;
+      unused = unused-left (worker ∷ []) c.loop-left_store.ends c.last_worker.new.ends given before.unused;
+      ends = ends-left (worker ∷ []) c.loop-left_store.ends c.last_worker.new.ends given (length c.loop-left_store.left.items) place fewer before.ends;
+      count = ap length back ∙ omega (arith, c.deal.auto.teams, ap length c.as_mut_slice.ensures.value, before.count);
+      made =
+          subst (MakesTeams c.args.join.now (length c.args.left.items) place c.args.ends.now c.last_worker.new.ends) (sym back)
+          (makes-more c.args.join.now (length c.args.left.items) place (length c.loop-left_store.left.items) c.args.ends.now c.loop-left_store.ends c.last_worker.new.ends held c.deal.new.teams worker fewer made
+          (c.last_worker.ensures.core.0 ∙ c.new-core.ensures.join ∙ c.in_ok-share.ensures) (c.last_worker.ensures.core.1 ∙ omega (arith, c.new-core.ensures.place, at))
+          (c.last_worker.ensures.core.2 ∙ omega (arith, c.new-core.ensures.cores, c.len-cores.ensures, c.args.left.ok.0)) given (omega (arith, c.deal.auto.teams)) deals);
+    }

@@ -1,0 +1,93 @@
+-- The workers of the cores of a chain.
+use Rattle.std.specs.Prelude.{◌≡◌, ℕ, ◌+◌, Bool, List, [], ◌∷◌, ◌++◌, All, Contains, length, map, None}
+use Rattle.hj_base.specs.Journals.{puts}
+use Rattle.hj_base.specs.Link.{Agrees, AgreesOneWay}
+use Rattle.hj_msg.specs.declared.message.Msg.{Msg}
+use Rattle.hj_msg.specs.declared.message.Report.{Report}
+use Rattle.hj_msg.specs.declared.message.Report.TheVariants.{Ended}
+use Rattle.hj_msg.specs.Turns.{Turns, TakesTurns}
+use Rattle.hj_link.specs.Seen.{EndSeen, SenderSeen}
+use Rattle.hj_worker.specs.Seen.{WorkerSeen}
+use Rattle.hj_crew.specs.declared.ends.ChainEnds.{ChainEnds}
+use Rattle.hj_crew.specs.declared.team.Team.{Team}
+use Rattle.hj_desk.specs.declared.desk.Desk.{Desk}
+use Rattle.hj_crew.specs.Deal.{dealt}
+use Rattle.hj_crew.specs.Ends.{FormChain}
+use Rattle.hj_crew.specs.Links.{closed_links, closed_queues}
+use Rattle.hj_crew.specs.Ran.{RanSeen}
+use Rattle.hj_crew.specs.Teams.{workers_in}
+
+module _ {P J : Type 0} where
+  -- their ends, in order
+  abbrev pub left_of : List (WorkerSeen P J) → List (EndSeen (Msg P))
+  left_of workers = map (λ worker. worker.ends.left) workers
+
+  abbrev pub right_of : List (WorkerSeen P J) → List (EndSeen (Msg P))
+  right_of workers = map (λ worker. worker.ends.right) workers
+
+  abbrev pub reports_of : List (WorkerSeen P J) → List (SenderSeen (Report P))
+  reports_of workers = map (λ worker. worker.ends.reports) workers
+
+  -- They are those of the cores from a place on, each of n cores and with this join.
+  abbrev pub AreCores : J → ℕ → ℕ → List (WorkerSeen P J) → Type 0
+  AreCores join n place [] = Unit {0}
+  AreCores join n place (worker ∷ others) = (worker.join ≡ join) × (worker.place ≡ place) × (worker.cores ≡ n) × AreCores join n (place + 1) others
+
+  -- They were given the last ones of the ends: to their right the left ends of links, and to their left the right ones.
+  pub record GivesEnds (workers : List (WorkerSeen P J)) (old new : ChainEnds P) : Type 0 where
+    pub left : old.left.items ≡ new.left.items ++ right_of workers
+    pub right : old.right.items ≡ new.right.items ++ left_of workers
+    pub senders : old.senders.items ≡ new.senders.items ++ reports_of workers
+    pub receivers : new.receivers ≡ old.receivers
+
+-- Nothing was put or taken at these ends.
+pub record AreUnused {P : Type 0} (ends : ChainEnds P) : Type 0 where
+  pub left : All (λ end. end.journal ≡ []) ends.left.items
+  pub right : All (λ end. end.journal ≡ []) ends.right.items
+  pub senders : All (λ sender. sender.journal ≡ []) ends.senders.items
+
+-- These are the ends for so many cores, and one left end more.
+pub record AreEndsFor {P : Type 0} (cores : ℕ) (ends : ChainEnds P) : Type 0 where
+  pub left : length ends.left.items ≡ cores + 1
+  pub right : length ends.right.items ≡ cores
+  pub senders : length ends.senders.items ≡ cores
+
+-- The workers of the cores from a place on are made, and dealt to teams.
+pub record MakesTeams {P J L R : Type 0} (join : J) (n place : ℕ) (old new : ChainEnds P) (teams : List (Team P J L R)) : Type 0 where
+  pub workers : List (WorkerSeen P J)
+  pub many : place + length workers ≡ n
+  pub cores : AreCores join n place workers
+  pub ends : GivesEnds workers old new
+  pub dealt_out : workers_in teams ≡ dealt (length teams) place workers
+
+-- A desk and the workers of these teams are the crew of a chain: each core of n has its worker, which has this join, and what
+-- they have are the ends of the chain, on which so many events may be outstanding.
+pub record AreCrew {P J L R : Type 0} (join : J) (n in_flight : ℕ) (desk : Desk P) (teams : List (Team P J L R)) : Type 0 where
+  pub workers : List (WorkerSeen P J)
+  pub many : length workers ≡ n
+  pub cores : AreCores join n 0 workers
+  pub dealt_out : workers_in teams ≡ dealt (length teams) 0 workers
+  pub chain : FormChain desk (left_of workers) (right_of workers) (reports_of workers)
+  pub flight : desk.driver.flight ≡ in_flight
+
+-- The ends of a worker show turns of its core, the last of which isn't cut where the core's end was reported.
+abbrev pub TakesItsTurns : {P J : Type 0} → (J → P → P → Bool) → WorkerSeen P J → Type 0
+TakesItsTurns {P} predicate worker =
+    (turns : Turns P)
+    × TakesTurns (predicate worker.join) worker.place worker.cores turns worker.ends.left.journal worker.ends.right.journal worker.ends.reports.journal
+    × (Contains (puts worker.ends.reports.journal) Ended → turns.cut ≡ None)
+
+-- The ends of a worker were handed in, behind those of others.
+pub record TakesIn {P J : Type 0} (worker : WorkerSeen P J) (old new : ChainEnds P) : Type 0 where
+  pub left : new.left.items ≡ old.left.items ++ worker.ends.right ∷ []
+  pub right : new.right.items ≡ old.right.items ++ worker.ends.left ∷ []
+  pub senders : new.senders.items ≡ old.senders.items ++ worker.ends.reports ∷ []
+  pub receivers : new.receivers ≡ old.receivers
+
+-- What a desk and workers had is closed.
+pub record AreClosed {P J : Type 0} (predicate : J → P → P → Bool) (desk : Desk P) (workers : List (WorkerSeen P J)) (ran : RanSeen P) : Type 0 where
+  pub links : ran.links ≡ closed_links (desk.ports.left ∷ right_of workers) (left_of workers ++ desk.ports.right ∷ [])
+  pub queues : ran.queues ≡ closed_queues (reports_of workers) desk.reports.items
+  pub links_agree : All (λ link. Agrees link.capacity link.link) ran.links
+  pub queues_agree : All (λ queue. AgreesOneWay queue.capacity queue.way) ran.queues
+  pub turns : All (TakesItsTurns predicate) workers

@@ -1,0 +1,96 @@
+//! The end of a run: what the desk and the workers had is closed. It takes no memory.
+ghost use Rattle.std.specs.Prelude.{◌≡◌, ℕ, ◌+◌, ◌<◌, length};
+ghost use Rattle.hj_crew.specs.Cores.{AreClosed, AreCrew, TakesIn, TakesItsTurns, left_of, reports_of, right_of};
+ghost use Rattle.hj_crew.specs.Ends.{FormChain};
+ghost use Rattle.hj_crew.specs.Room.{HasEndRoom, IsChainRoomFor, IsRoomFor};
+
+use crate::deal::gather;
+use crate::ends::ChainEnds;
+use crate::ran::Ran;
+use crate::room::{ChainRoom, Room};
+use crate::team::Team;
+use hj_base::Share;
+use hj_desk::Desk;
+use hj_msg::{Fin, Join, Store};
+use hj_worker::Worker;
+
+/// The run of a crew that came back: `cores` workers, and at most `flight` events outstanding.
+pub(crate) fn close_crew<
+    P: Share + Drop,
+    J: Join<P> + Drop,
+    L: Store<P, J> + Drop,
+    R: Store<P, J> + Drop,
+>(
+    desk: Desk<P>,
+    teams: Vec<Team<P, J, L, R>>,
+    cores: u16,
+    flight: u16,
+    ended: Fin,
+    room: Room<P, J, L, R>,
+) -> Ran<P>
+    requires crew { (join : J) × AreCrew join cores flight desk teams.items }
+    requires some_team { 0 < length teams.items }
+    requires room { IsRoomFor cores room }
+    ensures closed { (join : J) → (crew : AreCrew join cores flight desk teams.items)
+        → AreClosed J.predicate desk crew.workers result }
+    ensures flight { result.flight ≡ flight }
+    ensures ended { result.ended ≡ ended }
+{
+    let Room { workers, chain } = room;
+    let workers = gather(teams, usize::from(cores), workers);
+    close_run(desk, workers, flight, ended, chain)
+}
+
+/// The run of a desk and workers, in the order of their cores.
+fn close_run<P: Share + Drop, J: Join<P> + Drop, L: Store<P, J> + Drop, R: Store<P, J> + Drop>(
+    desk: Desk<P>,
+    workers: Vec<Worker<P, J, L, R>>,
+    flight: u16,
+    ended: Fin,
+    room: ChainRoom<P>,
+) -> Ran<P>
+    requires chain { FormChain desk (left_of workers.items) (right_of workers.items)
+        (reports_of workers.items) }
+    requires room { IsChainRoomFor (length workers.items) room }
+    ensures closed { AreClosed J.predicate desk workers.items result }
+    ensures flight { result.flight ≡ flight }
+    ensures ended { result.ended ≡ ended }
+{
+    let Desk { ports, reports, .. } = desk;
+    let ChainRoom {
+        left,
+        right,
+        senders,
+        links,
+        queues,
+    } = room;
+    let mut ends = ChainEnds {
+        left,
+        right,
+        senders,
+        receivers: reports,
+    };
+    ends.left.push_reserved(ports.left);
+    for worker in workers {
+        hand_in(&mut ends, worker);
+    }
+    ends.right.push_reserved(ports.right);
+    ends.close(flight, ended, links, queues)
+}
+
+/// Hands in the ends of a worker, behind those of the cores before it, into lists that have room
+/// for them.
+fn hand_in<P: Share + Drop, J: Join<P> + Drop, L: Store<P, J> + Drop, R: Store<P, J> + Drop>(
+    ends: &mut ChainEnds<P>,
+    worker: Worker<P, J, L, R>,
+)
+    requires { HasEndRoom 1 ends.old }
+    ensures ends { TakesIn worker ends.old ends.new }
+    ensures turns { TakesItsTurns J.predicate worker }
+    ensures room { (more : ℕ) → HasEndRoom (more + 1) ends.old → HasEndRoom more ends.new }
+{
+    let parts = worker.parts();
+    ends.right.push_reserved(parts.left);
+    ends.left.push_reserved(parts.right);
+    ends.senders.push_reserved(parts.reports);
+}

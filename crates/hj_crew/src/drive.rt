@@ -1,0 +1,114 @@
+//! The calling thread of a run: its rounds, and the turns of the workers for which no thread was started.
+ghost use Rattle.std.specs.Prelude.{◌≤◌, length};
+ghost use Rattle.std.specs.List.{AllZip};
+ghost use Rattle.hj_desk.specs.Caller.{Ends, GoesRound};
+ghost use Rattle.hj_desk.specs.Desk.{Stands};
+ghost use Rattle.hj_crew.specs.Teams.{TeamStays};
+
+use crate::pause::{Bell, Pause};
+use crate::team::{Progress, Signals, Team};
+use hj_base::{Gate, Share};
+use hj_desk::{Caller, Round};
+use hj_msg::{Drain, Feed, Fin, Join, Store};
+use std::sync::Wait;
+use std::sync::atomic::{AtomicBool, Ordering};
+
+/// Makes rounds until the run has ended, and tells how. Between them it turns the teams of its `own`. After a round that got on it
+/// wakes the threads that get these signals. Once the run has ended, the flag `stop` is set.
+pub(crate) fn drive<
+    P: Share + Drop,
+    J: Join<P> + Drop,
+    L: Store<P, J> + Drop,
+    R: Store<P, J> + Drop,
+    F: Feed<P>,
+    D: Drain<P>,
+    G: Gate,
+    T: Wait,
+>(
+    rt: &T,
+    caller: &mut Caller<P, F, D>,
+    own: &mut [Team<P, J, L, R>],
+    stop: &AtomicBool,
+    signals: &[Signals],
+    gate: &G,
+) -> Fin
+    requires stands { Stands caller.old.desk (F.state caller.old.feed) }
+    requires few { length caller.old.desk.reports.items ≤ 64 }
+    ensures ends { Ends F.gives F.state D.takes result caller.old caller.new }
+    ensures own { AllZip TeamStays own.old own.new }
+{
+    let bell = Bell::new();
+    let mut pause = Pause::new(&bell);
+    for _ in rt.forever() {
+        match round_of_all(caller, own, gate) {
+            Round::Over(fin) => {
+                stop.store(true, Ordering::SeqCst);
+                ring_all(signals);
+                return fin;
+            }
+            Round::GotOn => {
+                ring_all(signals);
+                pause.reset();
+            }
+            Round::Waits => pause.wait(rt),
+        }
+    }
+    unreachable!()
+}
+
+/// Wakes each thread that sleeps.
+fn ring_all(signals: &[Signals]) {
+    for signals in signals {
+        signals.bell.ring();
+    }
+}
+
+/// One round of the calling thread, and then one of each team, where the run goes on.
+fn round_of_all<
+    P: Share + Drop,
+    J: Join<P> + Drop,
+    L: Store<P, J> + Drop,
+    R: Store<P, J> + Drop,
+    F: Feed<P>,
+    D: Drain<P>,
+    G: Gate,
+>(caller: &mut Caller<P, F, D>, own: &mut [Team<P, J, L, R>], gate: &G) -> Round
+    requires stands { Stands caller.old.desk (F.state caller.old.feed) }
+    requires few { length caller.old.desk.reports.items ≤ 64 }
+    ensures goes { GoesRound F.gives F.state D.takes result caller.old caller.new }
+    ensures own { AllZip TeamStays own.old own.new }
+{
+    match caller.round() {
+        Round::Over(fin) => Round::Over(fin),
+        Round::GotOn => {
+            turn_all(own, gate);
+            Round::GotOn
+        }
+        Round::Waits => {
+            if turn_all(own, gate) {
+                Round::GotOn
+            } else {
+                Round::Waits
+            }
+        }
+    }
+}
+
+/// A round of each team. It answers whether one got on.
+fn turn_all<
+    P: Share + Drop,
+    J: Join<P> + Drop,
+    L: Store<P, J> + Drop,
+    R: Store<P, J> + Drop,
+    G: Gate,
+>(teams: &mut [Team<P, J, L, R>], gate: &G) -> bool
+    ensures { AllZip TeamStays teams.old teams.new }
+{
+    let mut got_on = false;
+    for team in teams.iter_mut() {
+        if team.round(gate) == Progress::GotOn {
+            got_on = true;
+        }
+    }
+    got_on
+}

@@ -1,0 +1,109 @@
+//! The threads of a run: each is started by a level of its own, which joins it again.
+ghost use Rattle.std.specs.Prelude.{◌≡◌, ◌+◌, ◌≤◌, ◌++◌, length, vec_capacity, vec_len};
+ghost use Rattle.std.specs.List.{AllZip};
+ghost use Rattle.hj_desk.specs.Caller.{Ends};
+ghost use Rattle.hj_desk.specs.Desk.{Stands};
+ghost use Rattle.hj_crew.specs.Teams.{AppendsTeams, TeamStays};
+
+use crate::drive::drive;
+use crate::team::{Signals, Team, work};
+use hj_base::{Gate, Share};
+use hj_desk::Caller;
+use hj_msg::{Drain, Feed, Fin, Join, Store};
+use std::snapshot::Snapshot;
+use std::sync::Wait;
+use std::sync::atomic::{AtomicBool, Ordering};
+use std::thread::{Promise, Scope, Threads};
+
+/// The promise of a thread: it hands back the team that it was given.
+#[derive(Drop)]
+struct SameTeam<T>(Snapshot<T>);
+
+impl<P: Drop, J: Join<P>, L: Store<P, J>, R: Store<P, J>> Promise<Team<P, J, L, R>>
+    for SameTeam<Team<P, J, L, R>> {
+    ghost use Rattle.hj_crew.specs.Teams.{TeamStays};
+
+    ghost kept_by = { λ promise team. TeamStays promise.0.value team };
+}
+
+/// What all threads of a run use.
+#[derive(Drop)]
+pub(crate) struct Shared<'s, G, T> {
+    pub(crate) rt: &'s T,
+    /// Whether the run is over.
+    pub(crate) stop: &'s AtomicBool,
+    /// What the thread of each team is told.
+    pub(crate) signals: &'s [Signals],
+    pub(crate) gate: &'s G,
+}
+
+/// Starts a thread for the last of these teams, does so for the others, and lets the calling thread run once no team is left.
+/// Then it joins its thread, whose team goes behind those that are `done`. Where no thread can be made, the team goes among the calling
+/// thread's `own` until the run is over.
+pub(crate) fn levels<
+    's,
+    E,
+    P: Share + Send + Drop + 's,
+    J: Join<P> + Send + Drop + 's,
+    L: Store<P, J> + Send + Drop + 's,
+    R: Store<P, J> + Send + Drop + 's,
+    F: Feed<P>,
+    D: Drain<P>,
+    G: Gate + Sync + 's,
+    T: Threads + Wait + Sync + 's,
+>(
+    scope: &'s Scope<'s, E>,
+    shared: &Shared<'s, G, T>,
+    caller: &mut Caller<P, F, D>,
+    teams: Vec<Team<P, J, L, R>>,
+    own: &mut Vec<Team<P, J, L, R>>,
+    done: &mut Vec<Team<P, J, L, R>>,
+) -> Fin
+    requires stands { Stands caller.old.desk (F.state caller.old.feed) }
+    requires cores { length caller.old.desk.reports.items ≤ 64 }
+    requires signals { length teams.items ≤ length shared.now.signals.now }
+    requires few { length shared.now.signals.now ≤ 64 }
+    requires done_room { vec_len done.old + vec_len teams ≤ vec_capacity done.old }
+    requires own_room { vec_len own.old + vec_len teams ≤ vec_capacity own.old }
+    ensures ends { Ends F.gives F.state D.takes result caller.old caller.new }
+    ensures own { AllZip TeamStays own.old.items own.new.items }
+    ensures done { AppendsTeams teams.items done.old.items done.new.items }
+    ensures done_capacity { vec_capacity done.new ≡ vec_capacity done.old }
+{
+    let mut teams = teams;
+    let Some(team) = teams.pop() else {
+        return drive(
+            shared.rt,
+            caller,
+            own.as_mut_slice(),
+            shared.stop,
+            shared.signals,
+            shared.gate,
+        );
+    };
+    let rt = shared.rt;
+    let stop = shared.stop;
+    let signals = &shared.signals[teams.len()];
+    let gate = shared.gate;
+    let promise = SameTeam(Snapshot::of(&team));
+    let turning = move || -> Team<P, J, L, R>
+        ensures { TeamStays team result }
+    { work(rt, stop, signals, team, gate) };
+    match scope.spawn_with(promise, turning) {
+        Ok(child) => {
+            let fin = levels(scope, shared, caller, teams, own, done);
+            done.push_reserved(child.join(rt));
+            fin
+        }
+        Err(refused) => {
+            signals.leave.store(true, Ordering::SeqCst);
+            own.push_reserved((refused.value)());
+            let fin = levels(scope, shared, caller, teams, own, done);
+            let Some(team) = own.pop() else {
+                unreachable!()
+            };
+            done.push_reserved(team);
+            fin
+        }
+    }
+}

@@ -1,0 +1,18 @@
+//! A run of the chain of cores on threads.
+#![tactic(auto)]
+
+mod closing;
+mod deal;
+mod drive;
+mod ends;
+mod levels;
+mod links;
+mod making;
+mod pause;
+mod ran;
+mod room;
+mod run;
+mod team;
+
+pub use ran::Ran;
+pub use run::run_threads;

@@ -1,0 +1,174 @@
+//! A run of a chain on threads.
+ghost use Rattle.std.specs.Prelude.{◌≡◌, ◌≤◌, ◌<◌, [], All, length, vec_capacity, IfOk, OnErr};
+ghost use Rattle.std.specs.List.{AllZip};
+ghost use Rattle.hj_base.specs.declared.numbers.Side.TheVariants.{Left, Right};
+ghost use Rattle.hj_msg.specs.Feed.{IsFresh};
+ghost use Rattle.hj_desk.specs.Caller.{Ends};
+ghost use Rattle.hj_desk.specs.Desk.{Stands};
+ghost use Rattle.hj_crew.specs.Ran.{RunsOnThreads};
+ghost use Rattle.hj_crew.specs.Teams.{TeamStays};
+
+use crate::closing::close_crew;
+use crate::levels::{Shared, levels};
+use crate::making::Crew;
+use crate::ran::Ran;
+use crate::room::Room;
+use crate::team::Team;
+use hj_base::{Gate, Memory, Setup, Share};
+use hj_desk::Caller;
+use hj_msg::{Drain, Feed, Fin, Join, Store};
+use std::alloc::Global;
+use std::sync::Wait;
+use std::sync::atomic::AtomicBool;
+use std::thread;
+use std::thread::Threads;
+
+/// Runs a chain of cores between a feed and a drain, on threads. The calling thread drives the
+/// chain at its two ends, and up to `setup.threads` threads, no more than there are cores, turn its
+/// cores. Where a thread can't be started, the calling thread turns its cores too.
+///
+/// - `rt` is the handle of the runtime. It starts the threads, and lets them wait. `alloc` gives
+///   the memory.
+/// - `setup` says how many cores the chain has, 1 to 64, on how many threads, at least 1, and how
+///   many events may be outstanding in it, 1 to 256.
+/// - `join` says which rows match. Each core gets a share of it.
+/// - `left` and `right` are the stores for the rows of each stream, one for each core, by its
+///   place. The caller makes them for this join. They are empty.
+/// - `feed` gives the events, in the order of their numbers. It hasn't given one yet.
+/// - `drain` gets the pairs, one at a time, in the order of the sequential join of these events.
+/// - `gate` is passed before each turn of a core.
+///
+/// The feed and the drain come back with every answer.
+///
+/// - `Ok` has the run: its links, from left to right, and the queues of the cores' reports, whose
+///   journals tell what was put and taken at them, and how it ended. With `Done` the feed has
+///   stopped, and the drain kept all pairs of the join. With `Refused` the drain refused the last
+///   pair that it got. With `Memory` memory ran out within the run, in whichever thread. With these
+///   two the drain got the first pairs of the join, and kept all but the refused one.
+/// - `Err(Memory)`: memory ran out for what is made before the first thread starts. No thread was
+///   started, the feed gave no event, and the drain got no pair.
+///
+/// Every thread that was started has ended when the call returns. No clause says that it returns.
+pub fn run_threads<
+    P: Share + Send + Drop,
+    J: Join<P> + Send + Drop,
+    L: Store<P, J> + Send + Drop,
+    R: Store<P, J> + Send + Drop,
+    F: Feed<P> + Drop,
+    D: Drain<P> + Drop,
+    G: Gate + Sync,
+    T: Threads + Wait + Sync,
+>(
+    rt: &T,
+    alloc: Global,
+    setup: Setup,
+    join: &J,
+    left: Vec<L>,
+    right: Vec<R>,
+    feed: F,
+    drain: D,
+    gate: &G,
+) -> (Result<Ran<P>, Memory>, F, D)
+    requires cores { (1 ≤ setup.cores) × (setup.cores ≤ 64) × (length left.items ≡ setup.cores)
+        × (length right.items ≡ setup.cores) }
+    requires threads { 1 ≤ setup.threads }
+    requires flight { (1 ≤ setup.flight) × (setup.flight ≤ 256) }
+    requires left_empty { All (λ store. L.entries store ≡ []) left.items }
+    requires right_empty { All (λ store. R.entries store ≡ []) right.items }
+    requires left_suits { All (λ store. L.suits store Left join.now) left.items }
+    requires right_suits { All (λ store. R.suits store Right join.now) right.items }
+    requires fresh { IsFresh (F.state feed) }
+    ensures runs { IfOk result.0 (RunsOnThreads F.gives F.state D.takes (J.predicate join.now)
+        setup.cores setup.flight feed result.1 drain result.2) }
+    ensures memory { OnErr result.0 ((result.1 ≡ feed) × (result.2 ≡ drain)) }
+{
+    let Ok(crew) = Crew::new(alloc, setup, join, left, right) else {
+        return (Err(Memory), feed, drain);
+    };
+    let Ok(room) = Room::new(alloc, setup.cores) else {
+        return (Err(Memory), feed, drain);
+    };
+    let Returned { caller, teams, fin } = run_crew(rt, crew, feed, drain, gate);
+    let Caller {
+        desk,
+        feed,
+        drain,
+        ..
+    } = caller;
+    let ran = close_crew(desk, teams, setup.cores, setup.flight, fin, room);
+    (Ok(ran), feed, drain)
+}
+
+/// What comes back of a run.
+struct Returned<P: Drop, J: Join<P>, L: Store<P, J>, R: Store<P, J>, F, D> {
+    caller: Caller<P, F, D>,
+    teams: Vec<Team<P, J, L, R>>,
+    fin: Fin,
+}
+
+/// Lets a crew run, each team in a thread of its own, until the run has ended.
+fn run_crew<
+    P: Share + Send + Drop,
+    J: Join<P> + Send + Drop,
+    L: Store<P, J> + Send + Drop,
+    R: Store<P, J> + Send + Drop,
+    F: Feed<P> + Drop,
+    D: Drain<P> + Drop,
+    G: Gate + Sync,
+    T: Threads + Wait + Sync,
+>(rt: &T, crew: Crew<P, J, L, R>, feed: F, drain: D, gate: &G) -> Returned<P, J, L, R, F, D>
+    requires stands { Stands crew.desk (F.state feed) }
+    requires cores { length crew.desk.reports.items ≤ 64 }
+    requires teams { length crew.teams.items ≤ 64 }
+    requires signals { length crew.signals.items ≡ length crew.teams.items }
+    requires own { (crew.own.items ≡ []) × (length crew.teams.items ≤ vec_capacity crew.own) }
+    requires done { (crew.done.items ≡ []) × (length crew.teams.items ≤ vec_capacity crew.done) }
+    ensures ends { Ends F.gives F.state D.takes result.fin
+        (record { desk = crew.desk; feed = feed; drain = drain; awaited = 0 }) result.caller }
+    ensures teams { AllZip TeamStays crew.teams.items result.teams.items }
+{
+    let Crew {
+        desk,
+        teams,
+        signals,
+        own,
+        done,
+    } = crew;
+    let caller = Caller {
+        desk,
+        feed,
+        drain,
+        awaited: 0,
+    };
+    let stop = AtomicBool::new(false);
+    let shared = Shared {
+        rt,
+        stop: &stop,
+        signals: signals.as_slice(),
+        gate,
+    };
+    thread::scope(
+        thread::scope_env(),
+        rt,
+        move |scope| -> Returned<P, J, L, R, F, D>
+            requires stands { Stands caller.desk (F.state caller.feed) }
+            requires cores { length caller.desk.reports.items ≤ 64 }
+            requires signals { length teams.items ≤ length shared.signals.now }
+            requires few { length shared.signals.now ≤ 64 }
+            requires own { (own.items ≡ []) × (length teams.items ≤ vec_capacity own) }
+            requires done { (done.items ≡ []) × (length teams.items ≤ vec_capacity done) }
+            ensures ends { Ends F.gives F.state D.takes result.fin caller result.caller }
+            ensures teams { AllZip TeamStays teams.items result.teams.items }
+        {
+            let mut caller = caller;
+            let mut own = own;
+            let mut done = done;
+            let fin = levels(scope, &shared, &mut caller, teams, &mut own, &mut done);
+            Returned {
+                caller,
+                teams: done,
+                fin,
+            }
+        },
+    )
+}
