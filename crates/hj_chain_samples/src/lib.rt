@@ -1,5 +1,5 @@
-//! Worked rows of the chain of cores, over the public calls of crates below: stores, cores, workers, and chains on one thread. A
-//! crate that has tests of its own is proved twice.
+//! Worked rows of the chain of cores, over the public calls of crates below: stores, cores, workers, chains on one thread, and runs
+//! on threads. A crate that has tests of its own is proved twice.
 #![tactic(auto)]
 
 #[cfg(test)]
@@ -10,5 +10,7 @@ mod cores;
 mod rows;
 #[cfg(test)]
 mod stores;
+#[cfg(test)]
+mod threads;
 #[cfg(test)]
 mod workers;

@@ -1,6 +1,7 @@
 //! The join of two streams under a query, from bytes to the text of its pairs.
 #![tactic(auto)]
 
+mod crew;
 mod drain;
 mod feed;
 mod history;
@@ -9,7 +10,9 @@ mod output;
 mod run;
 mod serial;
 mod stores;
+mod threads;
 
 pub use outcome::Outcome;
 pub use output::{Sent, put_all};
 pub use serial::join_serial;
+pub use threads::join_threads;

@@ -1,5 +1,13 @@
-use hj_base::{Role, Side};
+ghost use Rattle.std.specs.Prelude.{◌≡◌, ◌≢◌, true, is_some};
+ghost use Rattle.hj_msg.specs.declared.fin.Fin.TheVariants as fin;
+ghost use Rattle.hj_engine.specs.declared.output.Sent.TheVariants as sent;
+ghost use Rattle.hj_engine.specs.Ending.{EndsAs};
+
+use crate::drain::LineDrain;
+use crate::feed::EventFeed;
+use hj_base::{Outside, Role, Side, Sink};
 use hj_event::RecordFault;
+use hj_msg::Fin;
 
 /// How a join ended.
 #[derive(Clone, Copy, Debug, PartialEq, Eq)]
@@ -22,4 +30,21 @@ pub enum Outcome {
     TooMany,
     /// Memory ran out.
     Memory,
+}
+
+/// The outcome of a join whose run ended so, between a feed and a drain.
+pub(crate) fn outcome_of<O: Outside, K: Sink>(
+    ended: Fin,
+    feed: &EventFeed<'_, O>,
+    drain: &LineDrain<'_, K>,
+) -> Outcome
+    requires done { ended ≡ fin.Done → is_some feed.now.ended ≡ true }
+    requires refused { ended ≡ fin.Refused → drain.now.last ≢ sent.Whole }
+    ensures { EndsAs ended feed.now.ended drain.now.last result }
+{
+    match ended {
+        Fin::Done => feed.outcome(),
+        Fin::Refused => drain.outcome(),
+        Fin::Memory => Outcome::Memory,
+    }
 }

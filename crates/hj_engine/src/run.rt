@@ -4,11 +4,10 @@ ghost use Rattle.hj_eval.specs.Holds.{holds};
 ghost use Rattle.hj_msg.specs.RunsJoin.{RunsJoin};
 ghost use Rattle.hj_engine.specs.Stores.{AreReady};
 
-use crate::stores::{Stores, repeat_with};
+use crate::stores::{PlannedStores, Stores, planned_stores};
 use hj_base::{Gate, Memory};
 use hj_chain::{Chain, Chooser};
-use hj_eval::{QueryJoin, StorePlan};
-use hj_index::{HashStore, ListStore, OrderedStore};
+use hj_eval::QueryJoin;
 use hj_msg::{Drain, Feed, Fin, Store};
 use hj_query::Query;
 use hj_value::SharedRow;
@@ -60,40 +59,10 @@ fn run_planned<F: Feed<SharedRow>, D: Drain<SharedRow>, G: Gate>(
     ensures runs { IfOk result (λ fin. RunsJoin F.gives F.state D.takes (holds query.now) fin feed.old feed.new drain.old drain.new) }
     ensures refused { OnErr result ((feed.new ≡ feed.old) × (drain.new ≡ drain.old)) }
 {
-    match hj_eval::plan(query) {
-        StorePlan::Equal { left, right } => {
-            let stores = Stores {
-                left: repeat_with(alloc, plan.cores, || HashStore::new(alloc, left, right))?,
-                right: repeat_with(alloc, plan.cores, || HashStore::new(alloc, right, left))?,
-            };
-            run_over(alloc, query, plan, stores, feed, drain, gate)
-        }
-        StorePlan::Band {
-            left,
-            right,
-            within,
-        } => {
-            let stores = Stores {
-                left: repeat_with(
-                    alloc,
-                    plan.cores,
-                    || OrderedStore::new(alloc, left, right, within),
-                )?,
-                right: repeat_with(
-                    alloc,
-                    plan.cores,
-                    || OrderedStore::new(alloc, right, left, within),
-                )?,
-            };
-            run_over(alloc, query, plan, stores, feed, drain, gate)
-        }
-        StorePlan::Scan => {
-            let stores = Stores {
-                left: repeat_with(alloc, plan.cores, || ListStore::new(alloc))?,
-                right: repeat_with(alloc, plan.cores, || ListStore::new(alloc))?,
-            };
-            run_over(alloc, query, plan, stores, feed, drain, gate)
-        }
+    match planned_stores(alloc, query, plan.cores)? {
+        PlannedStores::Hash(stores) => run_over(alloc, query, plan, stores, feed, drain, gate),
+        PlannedStores::Ordered(stores) => run_over(alloc, query, plan, stores, feed, drain, gate),
+        PlannedStores::List(stores) => run_over(alloc, query, plan, stores, feed, drain, gate),
     }
 }
 

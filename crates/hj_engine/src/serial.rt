@@ -8,11 +8,11 @@ ghost use Rattle.hj_engine.specs.Joining.{Joins, CountsSinkFault};
 use crate::Outcome;
 use crate::drain::LineDrain;
 use crate::feed::EventFeed;
+use crate::outcome::outcome_of;
 use crate::run::{Plan, run_chain};
 use hj_base::{Gate, Outside, Sink};
 use hj_chain::Chooser;
 use hj_event::Merger;
-use hj_msg::Fin;
 use hj_query::Query;
 use std::alloc::Global;
 
@@ -98,9 +98,6 @@ fn join_feed<O: Outside, K: Sink, G: Gate>(
     ensures faults { CountsSinkFault result (K.faults drain.old.out.now) (K.faults drain.new.out.now) }
     ensures names { (name : List ℕ) → O.under feed.new.outside.now name ≡ O.under feed.old.outside.now name }
 {
-    match run_chain(alloc, query, plan, feed, drain, gate) {
-        Fin::Done => feed.outcome(),
-        Fin::Refused => drain.outcome(),
-        Fin::Memory => Outcome::Memory,
-    }
+    let fin = run_chain(alloc, query, plan, feed, drain, gate);
+    outcome_of(fin, feed, drain)
 }

@@ -1,6 +1,12 @@
 ghost use Rattle.std.specs.Prelude.{◌≡◌, length, All, IfOk};
+ghost use Rattle.hj_engine.specs.Stores.{AreReadyFor};
 
 use hj_base::Memory;
+use hj_eval::StorePlan;
+use hj_index::{HashStore, OrderedStore};
+use hj_query::Query;
+use hj_rows::ListStore;
+use hj_value::SharedRow;
 use std::alloc::Global;
 
 /// The stores of a chain's cores: a left one and a right one for each.
@@ -10,12 +16,55 @@ pub(crate) struct Stores<S> {
     pub(crate) right: Vec<S>,
 }
 
-/// So many stores, each made anew.
-pub(crate) fn repeat_with<S: Drop, M: Fn() -> S>(
+/// The stores of a chain's cores, of the kind that a query's condition asks for.
+#[derive(Drop)]
+pub(crate) enum PlannedStores {
+    /// For the plan Equal.
+    Hash(Stores<HashStore>),
+    /// For the plan Band.
+    Ordered(Stores<OrderedStore>),
+    /// For the plan Scan.
+    List(Stores<ListStore<SharedRow>>),
+}
+
+/// New stores for so many cores, of the kind that the query's condition asks for.
+pub(crate) fn planned_stores(
     alloc: Global,
-    count: u16,
-    make: M,
-) -> Result<Vec<S>, Memory>
+    query: &Query,
+    cores: u16,
+) -> Result<PlannedStores, Memory>
+    ensures { IfOk result (AreReadyFor query.now cores) }
+{
+    match hj_eval::plan(query) {
+        StorePlan::Equal { left, right } => Ok(PlannedStores::Hash(Stores {
+            left: repeat_with(alloc, cores, || HashStore::new(alloc, left, right))?,
+            right: repeat_with(alloc, cores, || HashStore::new(alloc, right, left))?,
+        })),
+        StorePlan::Band {
+            left,
+            right,
+            within,
+        } => Ok(PlannedStores::Ordered(Stores {
+            left: repeat_with(
+                alloc,
+                cores,
+                || OrderedStore::new(alloc, left, right, within),
+            )?,
+            right: repeat_with(
+                alloc,
+                cores,
+                || OrderedStore::new(alloc, right, left, within),
+            )?,
+        })),
+        StorePlan::Scan => Ok(PlannedStores::List(Stores {
+            left: repeat_with(alloc, cores, || ListStore::new(alloc))?,
+            right: repeat_with(alloc, cores, || ListStore::new(alloc))?,
+        })),
+    }
+}
+
+/// So many stores, each made anew.
+fn repeat_with<S: Drop, M: Fn() -> S>(alloc: Global, count: u16, make: M) -> Result<Vec<S>, Memory>
     requires { M.IsAlwaysCallable make }
     ensures count { IfOk result (λ stores. length stores.items ≡ count) }
     ensures made { IfOk result (λ stores. All (λ store. M.post make store) stores.items) }

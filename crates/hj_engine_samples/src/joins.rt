@@ -4,14 +4,19 @@ ghost use Rattle.hj_base.specs.MemOutside.{role_at, told_under};
 ghost use Rattle.hj_base.specs.declared.outside.Role.TheVariants as role;
 
 use hj_base::{
-    CoreNo, Gate, Got, MemOutside, MemSink, Memory, OpenGate, Opened, Outside, Put, Role, Sink,
+    CoreNo, Gate, Got, MemOutside, MemSink, Memory, OpenGate, Opened, Outside, Put, Role, Setup,
+    Sink,
 };
 use hj_chain::Chooser;
-use hj_engine::{Outcome, join_serial};
+use hj_engine::{Outcome, join_serial, join_threads};
+use hj_msg::Fin;
 use hj_query::parse;
 use std::alloc::Global;
 use std::cell::Cell;
+use std::sync::Wait;
+use std::sync::atomic::{AtomicBool, AtomicU64, Ordering};
 use std::test::Fail;
+use std::thread::{self, Threads};
 
 const TEN: &str =
     "left (ts int, k int) right (ts int, k int) window left rows 10 window right rows 10 on l.k = r.k";
@@ -318,4 +323,135 @@ fn writes_what_is_due_before_it_reads_on(rt: HostRuntime) -> Result<(), Fail> {
     assert_eq!(rt; outside.seen.as_slice(), [0, 0, 0, 0, 1, 2, 4].as_slice());
     assert_eq!(rt; lines.get(), 6);
     Ok(())
+}
+
+#[test]
+fn joins_neighbours_on_threads_one_event_at_a_time(rt: HostRuntime) -> Result<(), Fail> {
+    for cores in [4, 1] {
+        let setup = Setup {
+            cores,
+            threads: 4,
+            flight: 1,
+        };
+        let (ended, written) = joined_on_threads(&rt, rt.alloc(), setup, NEIGHBOURS, &OpenGate)?;
+        assert_eq!(rt;
+            ended,
+            Some((Outcome::Done { events: 78 }, Some(Fin::Done)))
+        );
+        assert_eq!(rt; written.bytes(), NEXT_TO_EACH_OTHER.as_bytes());
+    }
+    Ok(())
+}
+
+#[test]
+fn joins_trades_with_quotes_on_three_threads(rt: HostRuntime) -> Result<(), Fail> {
+    for cores in [1, 4, 64] {
+        let setup = Setup {
+            cores,
+            threads: 3,
+            flight: 32,
+        };
+        let (ended, written) = joined_on_threads(
+            &rt,
+            rt.alloc(),
+            setup,
+            TRADES_AND_QUOTES,
+            &OpenGate,
+        )?;
+        assert_eq!(rt;
+            ended,
+            Some((Outcome::Done { events: 20 }, Some(Fin::Done)))
+        );
+        assert_eq!(rt; written.bytes(), TRADES_WITH_QUOTES.as_bytes());
+    }
+    Ok(())
+}
+
+/// Holds the first turn of each core until so many cores have come to theirs, for so many tries.
+#[derive(Drop)]
+struct MeetingGate {
+    cores: u64,
+    came: AtomicU64,
+    gave_up: AtomicBool,
+}
+
+impl Gate for MeetingGate {
+    fn pass(&self, _core: CoreNo, call: u64) {
+        if call > 0 {
+            return;
+        }
+        self.came.fetch_add(1, Ordering::SeqCst);
+        for _ in 0..1_000_000 {
+            if self.came.load(Ordering::SeqCst) >= self.cores {
+                return;
+            }
+            thread::yield_now();
+        }
+        self.gave_up.store(true, Ordering::SeqCst);
+    }
+}
+
+/// Each core has a thread of its own, else no first turn would end before that of another.
+#[test]
+fn turns_each_core_in_a_thread_of_its_own(rt: HostRuntime) -> Result<(), Fail> {
+    let streams = Streams {
+        query: TEN,
+        limit: 3,
+        left: "1,7\n3,7\n",
+        right: "2,7\n",
+    };
+    for count in [2, 4] {
+        let setup = Setup {
+            cores: count,
+            threads: count,
+            flight: 32,
+        };
+        let gate = MeetingGate {
+            cores: u64::from(count),
+            came: AtomicU64::new(0),
+            gave_up: AtomicBool::new(false),
+        };
+        let (ended, written) = joined_on_threads(&rt, rt.alloc(), setup, streams, &gate)?;
+        assert_eq!(rt; ended, Some((Outcome::Done { events: 3 }, Some(Fin::Done))));
+        assert_eq!(rt; written.bytes(), b"1,7,2,7\n3,7,2,7\n".as_slice());
+        assert!(rt; !gate.gave_up.load(Ordering::SeqCst));
+    }
+    Ok(())
+}
+
+/// How a join on threads of streams in memory ends, and its run, and the sink that it writes to; None where it can't begin.
+fn joined_on_threads<R: Threads + Wait + Sync, G: Gate + Sync>(
+    rt: &R,
+    alloc: Global,
+    setup: Setup,
+    streams: Streams,
+    gate: &G,
+) -> Result<(Option<(Outcome, Option<Fin>)>, MemSink), Memory>
+    requires cores { (1 ≤ setup.cores) × (setup.cores ≤ 64) }
+    requires threads { 1 ≤ setup.threads }
+    requires flight { (1 ≤ setup.flight) × (setup.flight ≤ 256) }
+{
+    let mut outside = stored(alloc, streams)?;
+    let mut sink = MemSink::new(alloc, 100);
+    let begun = (
+        outside.start(Role::Left, "l"),
+        outside.start(Role::Right, "r"),
+    );
+    let (Ok(query), (Opened::Ready, Opened::Ready)) = (
+        parse(alloc, streams.query.as_bytes()),
+        begun,
+    ) else {
+        return Ok((None, sink));
+    };
+    let (ended, ran) = join_threads(
+        rt,
+        alloc,
+        &query,
+        setup,
+        streams.limit,
+        &mut outside,
+        &mut sink,
+        gate,
+    );
+    Ok((Some((ended, ran.map(|ran| ran.fin()))), sink))
 }

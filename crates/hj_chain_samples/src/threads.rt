@@ -1,0 +1,206 @@
+ghost use Rattle.std.specs.Prelude.{◌≡◌, ◌≤◌, ◌-◌, All, IfOk, [], length};
+ghost use Rattle.hj_base.specs.declared.numbers.Side.TheVariants.{Left, Right};
+ghost use Rattle.hj_rows.specs.ListStore.{resting_rows};
+ghost use Rattle.hj_chain_samples.specs.Rounds.{given_before, rounds_given};
+
+use crate::rows::{Cross, Row};
+use hj_base::{CoreNo, EventNo, Gate, Memory, OpenGate, Setup, Side};
+use hj_crew::run_threads;
+use hj_msg::{Drain, Drained, Event, Feed, Fin, Given, Pair};
+use hj_rows::ListStore;
+use std::alloc::Global;
+use std::process::Abort;
+use std::sync::Wait;
+use std::test::Fail;
+use std::thread::{Threads, yield_now};
+
+/// What comes next in a round.
+#[derive(Clone, Copy, Drop)]
+enum Phase {
+    LeftComes,
+    RightComes,
+    LeftExpires,
+    RightExpires,
+}
+
+/// Rounds of four events: a left row and a right row come, and then both expire. Answers are there always, or never before they
+/// are asked for.
+#[derive(Drop)]
+struct Rounds {
+    ready: bool,
+    phase: Phase,
+    given: u64,
+    most: u64,
+    stopped: bool,
+    ghost enough: { given_before phase ≤ given },
+}
+
+impl Rounds {
+    /// So many events of rounds.
+    fn new(most: u64, ready: bool) -> Self
+        ensures { result.given ≡ 0 }
+    {
+        Rounds {
+            ready,
+            phase: Phase::LeftComes,
+            given: 0,
+            most,
+            stopped: false,
+        }
+    }
+}
+
+impl Feed<Row> for Rounds {
+    ghost gives = { λ old answer new. Unit {0} };
+
+    ghost state = { λ f. rounds_given f.phase f.given f.most f.stopped };
+
+    ghost ready = { λ f. f.ready };
+
+    fn next(&mut self) -> Given<Row> {
+        if self.given >= self.most || self.stopped {
+            self.stopped = true;
+            return Given::Stop;
+        }
+        let no = EventNo(self.given);
+        let (event, phase) = match self.phase {
+            Phase::LeftComes => (arrival(no, Side::Left), Phase::RightComes),
+            Phase::RightComes => (arrival(no, Side::Right), Phase::LeftExpires),
+            Phase::LeftExpires => (expiry(no, Side::Left), Phase::RightExpires),
+            Phase::RightExpires => (expiry(no, Side::Right), Phase::LeftComes),
+        };
+        self.given += 1;
+        self.phase = phase;
+        Given::Event(event)
+    }
+
+    fn is_ready(&self) -> bool {
+        self.ready
+    }
+}
+
+fn arrival(no: EventNo, side: Side) -> Event<Row>
+    ensures { result ≡ Event.Arrive no side (record { 0 = 7 }) }
+{
+    Event::Arrive {
+        no,
+        side,
+        row: Row(7),
+    }
+}
+
+/// The expiry of the row that came two events before.
+fn expiry(no: EventNo, side: Side) -> Event<Row>
+    requires { 2 ≤ no.0 }
+    ensures { result ≡ Event.Expire no side (record { 0 = no.0 - 2 }) }
+{
+    Event::Expire {
+        no,
+        side,
+        of: EventNo(no.0 - 2),
+    }
+}
+
+/// Counts the pairs, and those that aren't the next ones: the rows of round k have the numbers 4 k and 4 k + 1.
+#[derive(Drop)]
+struct InTurn {
+    pairs: u64,
+    astray: u64,
+}
+
+impl Drain<Row> for InTurn {
+    ghost use Rattle.hj_msg.specs.Drain.{CountsRefused};
+
+    ghost takes = { λ old pair answer new. Unit {0} };
+
+    ghost refusals = { λ d. 0 };
+
+    fn pair(&mut self, pair: Pair<Row>) -> Drained
+        ensures takes { Unit {0} }
+        ensures refusals { CountsRefused result 0 0 }
+    {
+        let left = self.pairs.saturating_mul(4);
+        if pair.left_no.0 != left || pair.right_no.0 != left.saturating_add(1) {
+            self.astray = self.astray.saturating_add(1);
+        }
+        self.pairs = self.pairs.saturating_add(1);
+        Drained::Kept
+    }
+}
+
+/// Lets the calls of one core wait now and then.
+#[derive(Drop)]
+struct SlowCore(u16);
+
+impl Gate for SlowCore {
+    fn pass(&self, core: CoreNo, call: u64) {
+        if core.0 == self.0 && call % 7 == 3 {
+            for _wait in 0..call % 50 {
+                yield_now();
+            }
+        }
+    }
+}
+
+/// An empty store for each core.
+fn stores(alloc: Global, cores: u16) -> Result<Vec<ListStore<Row>>, Memory>
+    ensures many { IfOk result (λ stores. length stores.items ≡ cores) }
+    ensures empty { IfOk result (λ stores. All (λ store. resting_rows store ≡ []) stores.items) }
+{
+    let mut stores = Vec::with_capacity(alloc, usize::from(cores))?;
+    for _core in 0..cores {
+        stores.push(ListStore::new(alloc))?;
+    }
+    Ok(stores)
+}
+
+/// Runs so many events of rounds on threads, and looks whether each pair came in its turn.
+fn run<T: Abort + Threads + Wait + Sync, G: Gate + Sync>(
+    rt: &T,
+    alloc: Global,
+    setup: Setup,
+    rounds: Rounds,
+    gate: &G,
+) -> Result<(), Memory>
+    requires cores { (1 ≤ setup.cores) × (setup.cores ≤ 64) }
+    requires threads { 1 ≤ setup.threads }
+    requires flight { (1 ≤ setup.flight) × (setup.flight ≤ 256) }
+    requires fresh { rounds.given ≡ 0 }
+{
+    let pairs = rounds.most / 4;
+    let left = stores(alloc, setup.cores)?;
+    let right = stores(alloc, setup.cores)?;
+    let drain = InTurn {
+        pairs: 0,
+        astray: 0,
+    };
+    let (ran, feed, drain) = run_threads(
+        rt, alloc, setup, &Cross, left, right, rounds, drain, gate,
+    );
+    assert_eq!(rt; ran?.fin(), Fin::Done);
+    assert!(rt; feed.stopped);
+    assert_eq!(rt; (drain.pairs, drain.astray), (pairs, 0));
+    Ok(())
+}
+
+#[test]
+fn pairs_come_in_turn(rt: HostRuntime) -> Result<(), Fail> {
+    for cores in [1, 2, 3, 4, 64] {
+        for threads in 1..9 {
+            let setup = Setup {
+                cores,
+                threads,
+                flight: 32,
+            };
+            run(&rt, rt.alloc(), setup, Rounds::new(400, true), &OpenGate)?;
+            run(
+                &rt,
+                rt.alloc(),
+                setup,
+                Rounds::new(40, false),
+                &SlowCore(cores / 2),
+            )?;
+        }
+    }
+    Ok(())
+}

@@ -1,0 +1,137 @@
+ghost use Rattle.std.specs.Prelude.{◌≡◌, ◌≤◌, [], None, false, List, ℕ, IfNone, IfSome};
+ghost use Rattle.hj_base.specs.declared.outside.Role.TheVariants as role;
+ghost use Rattle.hj_event.specs.Merger.{IsNew};
+ghost use Rattle.hj_event.specs.Roles.{IsInStep};
+ghost use Rattle.hj_engine.specs.Joining.{CountsSinkFault, Joins};
+ghost use Rattle.hj_engine.specs.Showing.{ShowsJoin};
+
+use crate::Outcome;
+use crate::crew::{CrewPlan, run_crew};
+use crate::drain::LineDrain;
+use crate::feed::EventFeed;
+use crate::outcome::outcome_of;
+use hj_base::{Gate, Memory, Outside, Setup, Sink};
+use hj_crew::Ran;
+use hj_event::Merger;
+use hj_query::Query;
+use hj_value::SharedRow;
+use std::alloc::Global;
+use std::sync::Wait;
+use std::thread::Threads;
+
+/// Joins the streams Left and Right of `outside` under a query, as `join_serial` does, and writes the same text to `out`; but the
+/// cores of the chain are turned by threads. The call waits for them.
+///
+/// - `rt` starts the threads, and lets them wait.
+/// - `setup` says how many cores the chain has, 1 to 64, on how many threads, at least 1, and how many events are outstanding at
+///   most, 1 to 256. There are no more threads than cores, and none has more than one core more than another.
+/// - At most `limit` events are numbered.
+/// - `gate` is passed before each turn of a core.
+///
+/// `Outcome` says why the join ended. Beside it stands the run, whose journals show that it made the join; there is none only where
+/// memory ran out before a thread was started.
+pub fn join_threads<T: Threads + Wait + Sync, O: Outside, K: Sink, G: Gate + Sync>(
+    rt: &T,
+    alloc: Global,
+    query: &Query,
+    setup: Setup,
+    limit: u64,
+    outside: &mut O,
+    out: &mut K,
+    gate: &G,
+) -> (Outcome, Option<Ran<SharedRow>>)
+    requires cores { (1 ≤ setup.cores) × (setup.cores ≤ 64) }
+    requires threads { 1 ≤ setup.threads }
+    requires flight { (1 ≤ setup.flight) × (setup.flight ≤ 256) }
+    requires left { IsInStep false (O.state outside.old role.Left) }
+    requires right { IsInStep false (O.state outside.old role.Right) }
+    ensures joins { (joins : Joins result.0 query.now limit (O.state outside.old) (O.state outside.new)
+        (K.told out.old) (K.told out.new)) × IfSome result.1 (ShowsJoin joins setup.cores setup.flight) }
+    ensures no_run { IfNone result.1 (result.0 ≡ Outcome.Memory) }
+    ensures faults { CountsSinkFault result.0 (K.faults out.old) (K.faults out.new) }
+    ensures names { (name : List ℕ) → O.under outside.new name ≡ O.under outside.old name }
+{
+    let Ok(mut merger) = Merger::new(alloc, query, limit) else {
+        return (Outcome::Memory, None);
+    };
+    let plan = CrewPlan {
+        rt,
+        setup,
+        limit,
+        gate,
+    };
+    join_merged(alloc, query, &plan, &mut merger, outside, out)
+}
+
+/// Joins the events of a new merger.
+fn join_merged<T: Threads + Wait + Sync, O: Outside, K: Sink, G: Gate + Sync>(
+    alloc: Global,
+    query: &Query,
+    plan: &CrewPlan<'_, T, G>,
+    merger: &mut Merger,
+    outside: &mut O,
+    out: &mut K,
+) -> (Outcome, Option<Ran<SharedRow>>)
+    requires merger { IsNew query.now plan.now.limit merger.old }
+    requires left { IsInStep false (O.state outside.old role.Left) }
+    requires right { IsInStep false (O.state outside.old role.Right) }
+    ensures joins { (joins : Joins result.0 query.now plan.now.limit (O.state outside.old) (O.state outside.new)
+        (K.told out.old) (K.told out.new)) × IfSome result.1 (ShowsJoin joins plan.now.setup.cores plan.now.setup.flight) }
+    ensures no_run { IfNone result.1 (result.0 ≡ Outcome.Memory) }
+    ensures faults { CountsSinkFault result.0 (K.faults out.old) (K.faults out.new) }
+    ensures names { (name : List ℕ) → O.under outside.new name ≡ O.under outside.old name }
+{
+    let feed = EventFeed::new(merger, plan.limit, outside);
+    let mut line = Vec::new(alloc);
+    let drain = LineDrain::new(out, &mut line);
+    let mut ran = None;
+    let joined = join_feed(alloc, query, plan, feed, drain, &mut ran);
+    (joined.ended, ran)
+}
+
+/// A join on threads that is over, and what it ran between.
+#[derive(Drop)]
+struct Joined<'f, 'd, O: Outside, K: Sink> {
+    ended: Outcome,
+    feed: EventFeed<'f, O>,
+    drain: LineDrain<'d, K>,
+}
+
+/// Joins the events of a feed that gave none yet, writes the line of each pair, and leaves the run in `ran`.
+// The run stands apart, since what the feed and the drain leave behind their references is known only where nothing that owns
+// memory is dropped with them.
+fn join_feed<'f, 'd, T: Threads + Wait + Sync, O: Outside, K: Sink, G: Gate + Sync>(
+    alloc: Global,
+    query: &Query,
+    plan: &CrewPlan<'_, T, G>,
+    feed: EventFeed<'f, O>,
+    drain: LineDrain<'d, K>,
+    ran: &mut Option<Ran<SharedRow>>,
+) -> Joined<'f, 'd, O, K>
+    requires merger { IsNew query.now feed.limit feed.merger.now }
+    requires given { feed.given.items ≡ [] }
+    requires going { feed.ended ≡ None }
+    ensures same_outside { result.feed.outside.ghost_name ≡ feed.entry.outside.ghost_name }
+    ensures same_out { result.drain.out.ghost_name ≡ drain.entry.out.ghost_name }
+    ensures joins { (joins : Joins result.ended query.now feed.entry.limit
+        (O.state feed.entry.outside.now) (O.state result.feed.outside.now)
+        (K.told drain.entry.out.now) (K.told result.drain.out.now))
+        × IfSome ran.new (ShowsJoin joins plan.now.setup.cores plan.now.setup.flight) }
+    ensures no_run { IfNone ran.new (result.ended ≡ Outcome.Memory) }
+    ensures faults { CountsSinkFault result.ended (K.faults drain.entry.out.now) (K.faults result.drain.out.now) }
+    ensures names { (name : List ℕ) → O.under result.feed.outside.now name ≡ O.under feed.entry.outside.now name }
+{
+    let (result, feed, drain) = run_crew(alloc, query, plan, feed, drain);
+    match result {
+        Ok(made) => {
+            let ended = outcome_of(made.fin(), &feed, &drain);
+            *ran = Some(made);
+            Joined { ended, feed, drain }
+        }
+        Err(Memory) => {
+            *ran = None;
+            let ended = Outcome::Memory;
+            Joined { ended, feed, drain }
+        }
+    }
+}
