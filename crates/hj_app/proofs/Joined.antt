@@ -1,5 +1,5 @@
--- The join of two streams that were opened: what its outcome says of the streams of the call.
-use Rattle.std.proofs.Common.{◌≡◌, ◌⊎◌, ◌+◌, ◌^◌, ◌-◌, min, ℕ, Bool, true, false, List, [], Result, None, Some, unwrap_or, sym, ◌∙◌, ap, subst, inl, inr, refl, arith, append-nil}
+-- The join of two streams that are ready: what its outcome says of the streams of the call, and so of the order.
+use Rattle.std.proofs.Common.{◌≡◌, ◌⊎◌, ◌+◌, ◌^◌, ◌-◌, min, ℕ, Bool, true, false, List, [], Ok, Err, Result, None, Some, unwrap_or, sym, ◌∙◌, ap, subst, inl, inr, refl, arith, append-nil}
 use Rattle.std.proofs.lemmas.Bool.{cases_lt}
 use Rattle.std.specs.Io.KnownBytes.{Appends, Consumes, IsAtEnd}
 use Rattle.std.specs.declared.option.Option.{Option}
@@ -9,7 +9,7 @@ use Rattle.hj_base.specs.declared.outside.Role.{Role}
 use Rattle.hj_base.specs.declared.outside.Role.TheVariants as role
 use Rattle.hj_base.specs.Counts.{Rose}
 use Rattle.hj_base.specs.Journals.{IsPrefix}
-use Rattle.hj_base.specs.Outside.{opened, role_of}
+use Rattle.hj_base.specs.Outside.{RoleState, opened, role_of}
 use Rattle.hj_engine.specs.declared.outcome.Outcome.{Outcome}
 use Rattle.hj_engine.specs.declared.outcome.Outcome.TheVariants as outcome
 use Rattle.hj_engine.specs.Joining.{AreEnded, CountsSinkFault, FailsOn, Joins, WritesText}
@@ -20,14 +20,19 @@ use Rattle.hj_event.specs.Sides.{Follows, at_its_end, in_front}
 use Rattle.hj_query.specs.Parts.{Parts}
 use Rattle.hj_record.specs.Pieces.{Stream}
 use Rattle.hj_app.specs.declared.notes.Note.{Note}
+use Rattle.hj_app.specs.declared.notes.Note.TheVariants as note
 use Rattle.hj_app.specs.Calls.{Call, call}
 use Rattle.hj_app.specs.Joining.{BeginsText, WritesAll, WritesWhole}
-use Rattle.hj_app.specs.Opening.{IsOpened}
-use Rattle.hj_app.specs.Run.{CountsSink, FailsStream, JoinCause, JoinsStreams, end_of}
+use Rattle.hj_app.specs.Opening.{AreOpened, IsOpened}
+use Rattle.hj_app.specs.Queries.{IsQueryOf}
+use Rattle.hj_app.specs.Ready.{IsReady}
+use Rattle.hj_app.specs.Run.{Cause, CountsSink, RunsOrder, end_of}
+use Rattle.hj_app.specs.Serve.{Accepts, AreOpen, BeginsSource}
 use Rattle.hj_app.specs.Streams.{AreStreams, Fails, IsStream, NoneFails, StandsFor, has_ended}
-use Rattle.hj_app.specs.Words.{Names}
+use Rattle.hj_app.specs.Words.{Names, Source, join_streams}
 use Rattle.hj_app.proofs.Prefixes.{begins_all}
-use Rattle.hj_app.proofs.StreamOpening.{AreOpened, Roles, begun-opened, open-opened}
+use Rattle.hj_app.proofs.Phases.{Roles, begun-opened, open-opened}
+use Rattle.hj_app.proofs.Readying.{reads_side}
 
 -- ---- whether a role's count of faults rose
 
@@ -148,6 +153,28 @@ whole_behind true ended bytes rest none end follows = absurd cc
 whole_behind false true bytes rest none end follows = ap (λ (s : Stream). s.whole) follows
 whole_behind false false bytes rest none end follows = absurd cc
 
+-- ---- the causes of an ending, under a query
+
+-- A stream failed: where both are open, the events end in its missing read, and the whole text of these events was
+-- written; else nothing was written.
+record FailsStream (of : Role) (query : Parts) (limit : ℕ) (names : Names) (call : Call) : Type 0 where
+  pub side : Side
+  pub is : of ≡ role_of side
+  pub fails : Fails of call.before call.now
+  pub unopened : ¬ (AreOpen call.now) → Appends call.old call.new []
+  pub opened : AreOpen call.now → WritesAll (λ ending. ending ≡ unread side) query limit names call
+
+abbrev JoinCause : Result (Unit {0}) Note → Parts → ℕ → Names → Call → Type 0
+JoinCause (Ok done) query limit names call = WritesWhole query limit names call
+JoinCause (Err (note.BadRecord side at found)) query limit names call =
+    WritesAll (λ ending. ending ≡ bad side at found) query limit names call
+JoinCause (Err (note.Source of)) query limit names call = FailsStream of query limit names call
+JoinCause (Err note.Sink) query limit names call = Unit {0}
+JoinCause (Err note.Memory) query limit names call = Unit {0}
+JoinCause (Err (note.TooManyEvents most)) query limit names call =
+    (most ≡ limit) × WritesAll (λ ending. ending ≡ too_many) query limit names call
+JoinCause (Err other) query limit names call = ⊥
+
 -- ---- the outcome
 
 module _ (query : Parts) (limit : ℕ) (names : Names) (under : List ℕ → Option (List ℕ)) (before mid now : Roles) (old new : Option (List ℕ)) where
@@ -263,26 +290,50 @@ module _ (query : Parts) (limit : ℕ) (names : Names) (under : List ℕ → Opt
   counts_sink outcome.TooMany faults faults' counts = counts
   counts_sink outcome.Memory faults faults' counts = counts
 
-  joins_as : (ended : Outcome) (faults faults' : ℕ) → AreOpened names under before mid → Joins ended query limit mid now old new → CountsSinkFault ended faults faults'
-      → JoinsStreams (end_of limit ended) query limit names this faults faults'
-  unfolding this
-  joins_as ended faults faults' are joins counts =
-      let found = found_by ended are joins in
-      let came = caused ended joins.left_failed joins.right_failed joins.left_ended joins.right_ended joins.grown joins.written found joins.ends in
-      record {
-        cause = came.0;
-        grown = joins.grown;
-        written = joins.written;
-        front = inr came.1;
-        query_role = joins.query_role ∙ are.query;
-        left = begun-opened names.left joins.left_ended (now role.Left).phase found.left_phase;
-        right = begun-opened names.right joins.right_ended (now role.Right).phase found.right_phase;
-        left_first = λ begun. open-opened names.left joins.left_ended (now role.Left).phase found.left_phase;
-        sink = counts_sink ended faults faults' counts;
-      }
+  -- ---- the order
 
-  pub joins_so : (end : Result (Unit {0}) Note) (ended : Outcome) (faults faults' : ℕ) → end ≡ end_of limit ended → AreOpened names under before mid → Joins ended query limit mid now old new → CountsSinkFault ended faults faults'
-      → JoinsStreams end query limit names (call under before now old new) faults faults'
-  unfolding this
-  joins_so end ended faults faults' e are joins counts =
-      subst (λ (r : Result (Unit {0}) Note). JoinsStreams r query limit names (call under before now old new) faults faults') (sym e) (joins_as ended faults faults' are joins counts)
+  module _ (source : Source) (accepts : Accepts source query this) where
+    order_cause : (end : Result (Unit {0}) Note) → JoinCause end query limit names this → Cause end (join_streams source names limit) this
+    unfolding this
+    order_cause (Ok done) cause = (query, accepts, cause)
+    order_cause (Err (note.BadRecord of at found)) cause = (query, accepts, cause)
+    order_cause (Err (note.Source of)) cause = record {
+      has = reads_side source names limit of cause.side cause.is;
+      fails = cause.fails;
+      unopened = cause.unopened;
+      opened = λ are. (cause.side, cause.is, (query, accepts, cause.opened are));
+    }
+    order_cause (Err note.Sink) cause = tt
+    order_cause (Err note.Memory) cause = tt
+    order_cause (Err (note.TooManyEvents most)) cause = (cause.0, (query, accepts, cause.1))
+    order_cause (Err note.Usage) cause = absurd cause
+    order_cause (Err (note.BadQuery found)) cause = absurd cause
+
+  module _ (source : Source) (ready : IsReady query source names under before mid) where
+    pub query_stays : (ended : Outcome) → Joins ended query limit mid now old new → IsQueryOf source query under (before role.Query) (now role.Query)
+    query_stays ended joins = subst (λ (s : RoleState). IsQueryOf source query under (before role.Query) s) (sym joins.query_role) ready.accepted
+
+    joins_as : (ended : Outcome) (faults faults' : ℕ) → Joins ended query limit mid now old new → CountsSinkFault ended faults faults'
+        → RunsOrder (end_of limit ended) (join_streams source names limit) (call under before now old new) faults faults'
+    unfolding this
+    joins_as ended faults faults' joins counts =
+        let found = found_by ended ready.opened joins in
+        let came = caused ended joins.left_failed joins.right_failed joins.left_ended joins.right_ended joins.grown joins.written found joins.ends in
+        let accepts : Accepts source query this = query_stays ended joins in
+        record {
+          cause = order_cause source accepts (end_of limit ended) came.0;
+          front = record { grown = joins.grown; written = joins.written; front = inr (query, accepts, came.1) };
+          roles = record {
+            query = subst (λ (s : RoleState). BeginsSource source s.phase) (sym joins.query_role) ready.begun;
+            left = begun-opened names.left joins.left_ended (now role.Left).phase found.left_phase;
+            right = begun-opened names.right joins.right_ended (now role.Right).phase found.right_phase;
+            query_first = λ started. (query, accepts);
+            left_first = λ started. open-opened names.left joins.left_ended (now role.Left).phase found.left_phase;
+          };
+          sink = counts_sink ended faults faults' counts;
+        }
+
+    pub joins_so : (end : Result (Unit {0}) Note) (ended : Outcome) (faults faults' : ℕ) → end ≡ end_of limit ended → Joins ended query limit mid now old new → CountsSinkFault ended faults faults'
+        → RunsOrder end (join_streams source names limit) (call under before now old new) faults faults'
+    joins_so end ended faults faults' e joins counts =
+        subst (λ (r : Result (Unit {0}) Note). RunsOrder r (join_streams source names limit) (call under before now old new) faults faults') (sym e) (joins_as ended faults faults' joins counts)

@@ -1,3 +1,4 @@
+pub mod Crewed
 pub mod HeldRead
 pub mod Joined
 pub mod MadeEvents
@@ -5,8 +6,10 @@ pub mod MadeJoin
 pub mod MadeLines
 pub mod MemoryRoles
 pub mod NoteFront
+pub mod Phases
 pub mod Prefixes
 pub mod QueryReading
+pub mod Readying
 pub mod RunningOrders
 pub mod Serving
-pub mod StreamOpening
+pub mod Summed

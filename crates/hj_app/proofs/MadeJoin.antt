@@ -1,11 +1,18 @@
 -- The join of two streams in memory: what it wrote is the text of the whole streams, and it ended well or memory ran out.
-use Rattle.std.proofs.Common.{◌≡◌, ℕ, ◌<◌, ◌≤◌, ◌^◌, Bool, true, false, List, [], Ok, Err, Result, IfOk, Some, refl, sym, ap, ap₂, subst, ◌∙◌, arith}
+use Rattle.std.proofs.Common.{◌≡◌, ℕ, ◌<◌, ◌≤◌, ◌^◌, Bool, true, false, List, [], Some, refl, sym, ap, ap₂, subst, ◌∙◌, arith}
+use Rattle.std.specs.Prelude.{IfSome}
+use Rattle.std.specs.declared.option.Option.{Option}
 use Rattle.hj_base.specs.declared.numbers.Side.{Side}
+use Rattle.hj_base.specs.declared.outside.Role.{Role}
 use Rattle.hj_base.specs.declared.outside.Role.TheVariants as role
+use Rattle.hj_base.specs.Outside.{RoleState}
+use Rattle.hj_value.specs.declared.field.Field.{Field}
+use Rattle.hj_crew.specs.Ran.{RanSeen}
 use Rattle.hj_engine.specs.declared.outcome.Outcome.{Outcome}
 use Rattle.hj_engine.specs.declared.outcome.Outcome.TheVariants as outcome
 use Rattle.hj_engine.specs.Joining.{CountsSinkFault, Joins, WritesText}
 use Rattle.hj_engine.specs.JoinText.{JoinResult, join_result}
+use Rattle.hj_engine.specs.Showing.{ShowsJoin}
 use Rattle.hj_event.specs.declared.fault.RecordFault.{RecordFault}
 use Rattle.hj_event.specs.Arrivals.{Ending, bad, clean, too_many}
 use Rattle.hj_event.specs.Roles.{IsReadOn}
@@ -15,6 +22,7 @@ use Rattle.hj_gen.specs.Summary.{summary_of}
 use Rattle.hj_query.specs.Keyed.{IsKeyed}
 use Rattle.hj_query.specs.Parts.{Parts}
 use Rattle.hj_record.specs.Pieces.{Stream}
+use Rattle.hj_app.specs.Crew.{Crew, ShowsMade, made_roles}
 use Rattle.hj_app.specs.Generating.{IsSummary, join_made, left_stream, whole}
 use Rattle.hj_app.specs.Held.{HeldState, KeptState, TwoHeld, held_role, open_role}
 use Rattle.hj_app.specs.Words.{Recipe, most_events}
@@ -113,6 +121,33 @@ module _ (recipe : Recipe) (query : Parts) (few : recipe.rows ≤ 100000) (some 
           sums_up = made_from (λ joined. line ≡ summary_of joined.events joined.text) (is ∙ ap₂ summary_of (sym wrote.2) wrote.0);
         }
 
-    pub summed_up : {E : Type 0} (made : Result (List ℕ) E) (text : List ℕ) (events : ℕ) → Joined (outcome.Done events) → text ≡ kept'.text → IfOk made (λ line. line ≡ summary_of events text) → IfOk made (λ line. IsSummary line recipe most_events)
-    summed_up (Ok line) text events joins same is = summed line events joins (is ∙ ap (summary_of events) same)
-    summed_up (Err why) text events joins same is = tt
+    -- the run that made the join
+    module _ (crew : Crew) (events : ℕ) (ran : RanSeen (List Field)) where
+      abbrev Shown : ℕ → (Role → RoleState) → List ℕ → Type 0
+      Shown most from text =
+          (joins : Joins (outcome.Done events) query most from (held_role after) (Some text) (Some kept'.text)) × ShowsJoin joins crew.cores crew.flight ran
+
+      shown_made : Shown limit (held_role before) kept.text → Shown most_events (made_roles recipe) []
+      shown_made shown =
+          subst (λ (n : ℕ). Shown n (made_roles recipe) []) most
+          (subst (λ (bytes : List ℕ). Shown limit (held_role (unread_streams (stream_of recipe.rows recipe.keys recipe.seed) bytes)) []) is_right
+          (subst (λ (bytes : List ℕ). Shown limit (held_role (unread_streams bytes right)) []) is_left
+          (subst (λ (held : TwoHeld). Shown limit (held_role held) []) is_before
+          (subst (λ (k : KeptState). Shown limit (held_role before) k.text) is_kept shown))))
+
+      shows_made : Shown limit (held_role before) kept.text → ShowsMade crew recipe most_events ran
+      shows_made shown =
+          let made = shown_made shown in
+          record { query = query; keyed = keyed; events = events; now = held_role after; text = kept'.text; joins = made.0; shows = made.1 }
+
+    -- ---- a join that is done
+
+    module _ (ended : Outcome) (events : ℕ) (done : ended ≡ outcome.Done events) where
+      pub done_summed : (line : List ℕ) → Joined ended → line ≡ summary_of events kept'.text → IsSummary line recipe most_events
+      done_summed line joins is = summed line events (subst Joined done joins) is
+
+      pub done_shows : (crew : Crew) (shown : Option (RanSeen (List Field))) (ran : RanSeen (List Field)) → shown ≡ Some ran → (joins : Joined ended) × IfSome shown (ShowsJoin joins crew.cores crew.flight) → ShowsMade crew recipe most_events ran
+      done_shows crew shown ran is so =
+          shows_made crew events ran
+          (subst (λ (r : Option (RanSeen (List Field))). (joins : Joined (outcome.Done events)) × IfSome r (ShowsJoin joins crew.cores crew.flight)) is
+          (subst (λ (o : Outcome). (joins : Joined o) × IfSome shown (ShowsJoin joins crew.cores crew.flight)) done so))

@@ -1,8 +1,11 @@
 -- What a run says of the call of `serve` that made it, clause by clause.
-use Rattle.std.proofs.Common.{◌≡◌, ◌≢◌, ◌≤◌, ◌⊎◌, ℕ, List, Ok, Err, Result, None, Some, sym, ◌∙◌, ap, subst, inl, inr, refl, arith}
+use Rattle.std.proofs.Common.{◌≡◌, ◌≢◌, ◌≤◌, ◌⊎◌, ℕ, List, [], Ok, Err, Result, None, Some, sym, ◌∙◌, ap, subst, inl, inr, refl, arith}
+use Rattle.std.proofs.KnownBytes.{Appends-nil}
+use Rattle.std.specs.Io.KnownBytes.{Appends}
 use Rattle.std.specs.Prelude.{IfSome}
 use Rattle.std.specs.declared.option.Option.{Option}
 use Rattle.hj_base.specs.Counts.{Rose}
+use Rattle.hj_base.specs.Outside.{unbegun}
 use Rattle.hj_event.specs.Arrivals.{Ending, bad, too_many}
 use Rattle.hj_query.specs.declared.fault.QueryFault.{QueryFault}
 use Rattle.hj_base.specs.declared.outside.Role.{Role}
@@ -11,16 +14,44 @@ use Rattle.hj_event.specs.declared.fault.RecordFault.{RecordFault}
 use Rattle.hj_app.specs.declared.notes.Note.{Note}
 use Rattle.hj_app.specs.declared.notes.Note.TheVariants as why
 use Rattle.hj_app.specs.Calls.{Call}
+use Rattle.hj_app.specs.Calls.{call as as_call}
 use Rattle.hj_app.specs.NoteText.{status_of_end, text_of_end}
 use Rattle.hj_app.specs.NoteWritten.{NoteWritten}
-use Rattle.hj_app.specs.Run.{Runs, RunsOrder}
-use Rattle.hj_app.specs.Serve.{Begins, EndsBy, FailsSource, IsBad, IsDecided, IsDone, IsNote, JoinsAll, Notes, RefusesQuery, Writes, status_of_ending}
+use Rattle.hj_app.specs.Notes.{memory_note, usage_note}
+use Rattle.hj_app.specs.Run.{RunsOrder}
+use Rattle.hj_app.specs.Serve.{Begins, EndsBy, FailsSource, IsBad, IsDecided, IsDone, IsNote, JoinsAll, Notes, RefusesQuery, Serves, Writes, status_of_ending}
 use Rattle.hj_app.specs.Serve as says
 use Rattle.hj_app.specs.Streams.{NoneFails}
 use Rattle.hj_app.specs.Words.{Names, Order, Source, check_query, join_streams, sum_up}
+use Rattle.hj_app.proofs.Phases.{Roles}
+use Rattle.hj_app.proofs.RunningOrders.{begins_nothing}
 
 abbrev pub End : Type 0
 End = Result (Unit {0}) Note
+
+-- Words that spell no order do nothing, and are told as such unless memory ran out.
+record RunsNothing (ended : End) (call : Call) (faults faults' : ℕ) : Type 0 where
+  pub usage : (ended ≡ Err why.Usage) ⊎ (ended ≡ Err why.Memory)
+  pub nothing : Appends call.old call.new []
+  pub roles : Begins None call
+  pub sink : faults' ≡ faults
+
+abbrev Runs : End → Option Order → Call → ℕ → ℕ → Type 0
+Runs ended None call faults faults' = RunsNothing ended call faults faults'
+Runs ended (Some order) call faults faults' = RunsOrder ended order call faults faults'
+
+at_most_seven : (ended : End) → status_of_end ended ≤ 7
+at_most_seven (Ok done) = omega arith
+at_most_seven (Err why.Usage) = omega arith
+at_most_seven (Err (why.BadQuery found)) = omega arith
+at_most_seven (Err (why.BadRecord side at found)) = omega arith
+at_most_seven (Err (why.Source of)) = omega arith
+at_most_seven (Err why.Sink) = omega arith
+at_most_seven (Err why.Memory) = omega arith
+at_most_seven (Err (why.TooManyEvents limit)) = omega arith
+
+statuses : (status : ℕ) (ended : End) → status ≡ status_of_end ended → status ≤ 7
+statuses status ended is = subst (λ (n : ℕ). n ≤ 7) (sym is) (at_most_seven ended)
 
 module _ (call : Call) (faults faults' : ℕ) where
   -- ---- of an order
@@ -125,22 +156,22 @@ module _ (call : Call) (faults faults' : ℕ) where
     as_ended : (n : ℕ) → status ≡ n → status_of_end ended ≡ n
     as_ended n e = sym is ∙ e
 
-    pub done : (order : Option Order) → Runs ended order call faults faults' → status ≡ 0 → IfSome order (λ known. IsDone known call)
+    done : (order : Option Order) → Runs ended order call faults faults' → status ≡ 0 → IfSome order (λ known. IsDone known call)
     done order runs e = if_some (λ known. IsDone known call) order runs (λ known r. done_of ended known r (as_ended 0 e))
 
-    pub bad_query : (order : Option Order) → Runs ended order call faults faults' → status ≡ 2 → IfSome order (λ known. (found : QueryFault) × RefusesQuery found known call)
+    bad_query : (order : Option Order) → Runs ended order call faults faults' → status ≡ 2 → IfSome order (λ known. (found : QueryFault) × RefusesQuery found known call)
     bad_query order runs e = if_some (λ known. (found : QueryFault) × RefusesQuery found known call) order runs (λ known r. refuses_of ended known r (as_ended 2 e))
 
-    pub bad_record : (order : Option Order) → Runs ended order call faults faults' → status ≡ 3 → IfSome order (λ known. JoinsAll IsBad known call)
+    bad_record : (order : Option Order) → Runs ended order call faults faults' → status ≡ 3 → IfSome order (λ known. JoinsAll IsBad known call)
     bad_record order runs e = if_some (λ known. JoinsAll IsBad known call) order runs (λ known r. bad_of ended known r (as_ended 3 e))
 
-    pub failed_source : (order : Option Order) → Runs ended order call faults faults' → status ≡ 4 → IfSome order (λ known. (of : Role) × FailsSource of known call)
+    failed_source : (order : Option Order) → Runs ended order call faults faults' → status ≡ 4 → IfSome order (λ known. (of : Role) × FailsSource of known call)
     failed_source order runs e = if_some (λ known. (of : Role) × FailsSource of known call) order runs (λ known r. fails_of ended known r (as_ended 4 e))
 
-    pub events : (order : Option Order) → Runs ended order call faults faults' → status ≡ 7 → IfSome order (λ known. JoinsAll (λ ending. ending ≡ too_many) known call)
+    events : (order : Option Order) → Runs ended order call faults faults' → status ≡ 7 → IfSome order (λ known. JoinsAll (λ ending. ending ≡ too_many) known call)
     events order runs e = if_some (λ known. JoinsAll (λ ending. ending ≡ too_many) known call) order runs (λ known r. too_many_of ended known r (as_ended 7 e))
 
-    pub complete : (order : Option Order) → Runs ended order call faults faults'
+    complete : (order : Option Order) → Runs ended order call faults faults'
         → IfSome order (λ known. NoneFails call.before call.now → ¬ (Rose faults faults') → (status ≡ 6) ⊎ IsDecided status known call)
     complete order runs = if_some (λ known. NoneFails call.before call.now → ¬ (Rose faults faults') → (status ≡ 6) ⊎ IsDecided status known call) order runs
         (λ known r sources sink. subst (λ (n : ℕ). (n ≡ 6) ⊎ IsDecided n known call) (sym is) (decides ended known r sources sink))
@@ -149,27 +180,27 @@ module _ (call : Call) (faults faults' : ℕ) where
     status_of_none : (ended ≡ Err why.Usage) ⊎ (ended ≡ Err why.Memory) → (status ≡ 1) ⊎ (status ≡ 6)
     status_of_none ends = elim ends [ inl usage ↦ inl (is ∙ ap status_of_end usage) | inr memory ↦ inr (is ∙ ap status_of_end memory) ]
 
-    pub usage : (order : Option Order) → Runs ended order call faults faults' → status ≡ 1 → order ≡ None
+    usage : (order : Option Order) → Runs ended order call faults faults' → status ≡ 1 → order ≡ None
     usage None runs one = refl
     usage (Some known) runs one = absurd (no_usage ended known runs (as_ended 1 one))
 
-    pub no_order : (order : Option Order) → Runs ended order call faults faults' → order ≡ None → (status ≡ 1) ⊎ (status ≡ 6)
+    no_order : (order : Option Order) → Runs ended order call faults faults' → order ≡ None → (status ≡ 1) ⊎ (status ≡ 6)
     no_order None runs none = status_of_none runs.usage
     no_order (Some known) runs none = absurd cc
 
-    pub failed_sink : (order : Option Order) → Runs ended order call faults faults' → status ≡ 5 → Rose faults faults'
+    failed_sink : (order : Option Order) → Runs ended order call faults faults' → status ≡ 5 → Rose faults faults'
     failed_sink None runs e = absurd (elim (status_of_none runs.usage) [ inl one ↦ omega (arith, one, e) | inr six ↦ omega (arith, six, e) ])
     failed_sink (Some known) runs e = sink_rose ended known runs (as_ended 5 e)
 
-    pub kept_sink : (order : Option Order) → Runs ended order call faults faults' → status ≢ 5 → faults' ≡ faults
+    kept_sink : (order : Option Order) → Runs ended order call faults faults' → status ≢ 5 → faults' ≡ faults
     kept_sink None runs other = runs.sink
     kept_sink (Some known) runs other = sink_kept ended known runs (λ five. other (is ∙ five))
 
-    pub writes : (order : Option Order) → Runs ended order call faults faults' → Writes order call
+    writes : (order : Option Order) → Runs ended order call faults faults' → Writes order call
     writes None runs = runs.nothing
     writes (Some known) runs = runs.front
 
-    pub begins : (order : Option Order) → Runs ended order call faults faults' → Begins order call
+    begins : (order : Option Order) → Runs ended order call faults faults' → Begins order call
     begins None runs = runs.roles
     begins (Some known) runs = runs.roles
 
@@ -180,7 +211,7 @@ module _ (call : Call) (faults faults' : ℕ) where
     ]
     is_note (Some known) runs = noted ended known runs
 
-    pub notes_of : (order : Option Order) (told told' : Option (List ℕ)) (refused refused' : ℕ) → Runs ended order call faults faults' → NoteWritten (text_of_end ended) told told' refused refused'
+    notes_of : (order : Option Order) (told told' : Option (List ℕ)) (refused refused' : ℕ) → Runs ended order call faults faults' → NoteWritten (text_of_end ended) told told' refused refused'
         → Notes status order call told told' refused refused'
     notes_of order told told' refused refused' runs w = record {
       note = text_of_end ended;
@@ -191,15 +222,52 @@ module _ (call : Call) (faults faults' : ℕ) where
       whole = λ unrisen. elim w.whole [ inl e ↦ e | inr r ↦ absurd (unrisen r) ];
     }
 
-at_most_seven : (ended : End) → status_of_end ended ≤ 7
-at_most_seven (Ok done) = omega arith
-at_most_seven (Err why.Usage) = omega arith
-at_most_seven (Err (why.BadQuery found)) = omega arith
-at_most_seven (Err (why.BadRecord side at found)) = omega arith
-at_most_seven (Err (why.Source of)) = omega arith
-at_most_seven (Err why.Sink) = omega arith
-at_most_seven (Err why.Memory) = omega arith
-at_most_seven (Err (why.TooManyEvents limit)) = omega arith
+    serves : (order : Option Order) (told told' : Option (List ℕ)) (refused refused' : ℕ) → Runs ended order call faults faults' → NoteWritten (text_of_end ended) told told' refused refused'
+        → Serves status order call faults faults' told told' refused refused'
+    serves order told told' refused refused' runs w = record {
+      front = writes order runs;
+      done = done order runs;
+      statuses = statuses status ended is;
+      usage = usage order runs;
+      no_order = no_order order runs;
+      bad_query = bad_query order runs;
+      bad_record = bad_record order runs;
+      failed_source = failed_source order runs;
+      failed_sink = failed_sink order runs;
+      events = events order runs;
+      sink = λ other memory. kept_sink order runs other;
+      complete = complete order runs;
+      roles = begins order runs;
+      note = notes_of order told told' refused refused' runs w;
+    }
 
-pub statuses : (status : ℕ) (ended : End) → status ≡ status_of_end ended → status ≤ 7
-statuses status ended is = subst (λ (n : ℕ). n ≤ 7) (sym is) (at_most_seven ended)
+-- an order that ran
+pub serves_order : (call : Call) (faults faults' status : ℕ) (ended : End) (order : Order) (told told' : Option (List ℕ)) (refused refused' : ℕ) → status ≡ status_of_end ended → RunsOrder ended order call faults faults'
+    → NoteWritten (text_of_end ended) told told' refused refused' → Serves status (Some order) call faults faults' told told' refused refused'
+serves_order call faults faults' status ended order told told' refused refused' is runs w = serves call faults faults' status ended is (Some order) told told' refused refused' runs w
+
+-- ---- words that were read as no order
+
+module _ (under : List ℕ → Option (List ℕ)) (before : Roles) (old : Option (List ℕ)) (faults : ℕ) (unbegun_before : (of : Role) → (before of).phase ≡ unbegun) where
+  abbrev untouched : Call
+  untouched = as_call under before before old old
+
+  no_memory : (order : Option Order) → Runs (Err why.Memory) order untouched faults faults
+  no_memory None = record { usage = inr refl; nothing = Appends-nil old; roles = unbegun_before; sink = refl }
+  no_memory (Some order) = record {
+    cause = tt;
+    front = record { grown = []; written = Appends-nil old; front = inl refl };
+    roles = begins_nothing under before old unbegun_before order;
+    sink = refl;
+  }
+
+  none_ordered : (order : Option Order) → order ≡ None → Runs (Err why.Usage) order untouched faults faults
+  none_ordered None e = record { usage = inl refl; nothing = Appends-nil old; roles = unbegun_before; sink = refl }
+  none_ordered (Some order) e = absurd cc
+
+  module _ (status : ℕ) (order : Option Order) (told told' : Option (List ℕ)) (refused refused' : ℕ) where
+    pub serves_usage : order ≡ None → status ≡ 1 → NoteWritten usage_note told told' refused refused' → Serves status order untouched faults faults told told' refused refused'
+    serves_usage none is w = serves untouched faults faults status (Err why.Usage) is order told told' refused refused' (none_ordered order none) w
+
+    pub serves_memory : status ≡ 6 → NoteWritten memory_note told told' refused refused' → Serves status order untouched faults faults told told' refused refused'
+    serves_memory is w = serves untouched faults faults status (Err why.Memory) is order told told' refused refused' (no_memory order) w

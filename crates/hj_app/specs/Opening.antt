@@ -17,7 +17,7 @@ use Rattle.hj_app.specs.declared.notes.Note.{Note}
 use Rattle.hj_app.specs.declared.notes.Note.TheVariants as note
 use Rattle.hj_app.specs.Queries.{IsQueryOf, IsRefused}
 use Rattle.hj_app.specs.Serve.{BeginsSource, name_in}
-use Rattle.hj_app.specs.Words.{Source}
+use Rattle.hj_app.specs.Words.{Names, Source}
 
 -- A role is open under a name, with the bytes that are told to stand under it, and didn't fail.
 pub record IsOpened (name : List ℕ) (told : Option (List ℕ)) (before now : RoleState) : Type 0 where
@@ -80,6 +80,11 @@ QueryCause (Err (note.Source failed)) source under before now =
     (name : List ℕ) × (name_in source ≡ Some name) × (failed ≡ role.Query) × Rose before.faults now.faults
 QueryCause (Err note.Memory) source under before now = Unit {0}
 QueryCause (Err other) source under before now = ⊥
+
+-- Both streams of a join are open, each under its name, and nothing was read of them.
+pub record AreOpened (names : Names) (under : List ℕ → Option (List ℕ)) (before now : Role → RoleState) : Type 0 where
+  pub of_left : IsOpened names.left (under names.left) (before role.Left) (now role.Left)
+  pub of_right : IsOpened names.right (under names.right) (before role.Right) (now role.Right)
 
 -- Getting the query of a join.
 pub record GetsQuery (got : Result Parts Note) (source : Source) (under : List ℕ → Option (List ℕ))

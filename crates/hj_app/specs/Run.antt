@@ -25,40 +25,6 @@ abbrev pub CountsSink : Result (Unit {0}) Note → ℕ → ℕ → Type 0
 CountsSink (Err note.Sink) faults_before faults_now = Rose faults_before faults_now
 CountsSink ended faults_before faults_now = faults_now ≡ faults_before
 
--- The run of a join from its query on.
-
--- A stream failed: where both are open, the events end in its missing read, and the whole text of these events was
--- written; else nothing was written.
-pub record FailsStream (of : Role) (query : Parts) (limit : ℕ) (names : Names) (call : Call) : Type 0 where
-  pub side : Side
-  pub is : of ≡ role_of side
-  pub fails : Fails of call.before call.now
-  pub unopened : ¬ (AreOpen call.now) → Appends call.old call.new []
-  pub opened : AreOpen call.now → WritesAll (λ ending. ending ≡ unread side) query limit names call
-
-abbrev pub JoinCause : Result (Unit {0}) Note → Parts → ℕ → Names → Call → Type 0
-JoinCause (Ok done) query limit names call = WritesWhole query limit names call
-JoinCause (Err (note.BadRecord side at found)) query limit names call =
-    WritesAll (λ ending. ending ≡ bad side at found) query limit names call
-JoinCause (Err (note.Source of)) query limit names call = FailsStream of query limit names call
-JoinCause (Err note.Sink) query limit names call = Unit {0}
-JoinCause (Err note.Memory) query limit names call = Unit {0}
-JoinCause (Err (note.TooManyEvents most)) query limit names call =
-    (most ≡ limit) × WritesAll (λ ending. ending ≡ too_many) query limit names call
-JoinCause (Err other) query limit names call = ⊥
-
-pub record JoinsStreams (ended : Result (Unit {0}) Note) (query : Parts) (limit : ℕ) (names : Names) (call : Call)
-    (faults_before faults_now : ℕ) : Type 0 where
-  pub cause : JoinCause ended query limit names call
-  pub grown : List ℕ
-  pub written : Appends call.old call.new grown
-  pub front : (grown ≡ []) ⊎ BeginsText grown query limit names call
-  pub query_role : call.now role.Query ≡ call.before role.Query
-  pub left : IsBegunUnder names.left (call.now role.Left).phase
-  pub right : IsBegunUnder names.right (call.now role.Right).phase
-  pub left_first : (call.now role.Right).phase ≢ unbegun → IsOpen (call.now role.Left).phase
-  pub sink : CountsSink ended faults_before faults_now
-
 -- The ending of a run whose join ended so.
 abbrev pub end_of : ℕ → Outcome → Result (Unit {0}) Note
 end_of limit (outcome.Done events) = Ok tt
@@ -87,14 +53,3 @@ pub record RunsOrder (ended : Result (Unit {0}) Note) (order : Order) (call : Ca
   pub front : WritesFront order call
   pub roles : Begins (Some order) call
   pub sink : CountsSink ended faults_before faults_now
-
--- Words that spell no order do nothing, and are told as such unless memory ran out.
-pub record RunsNothing (ended : Result (Unit {0}) Note) (call : Call) (faults_before faults_now : ℕ) : Type 0 where
-  pub usage : (ended ≡ Err note.Usage) ⊎ (ended ≡ Err note.Memory)
-  pub nothing : Appends call.old call.new []
-  pub roles : Begins None call
-  pub sink : faults_now ≡ faults_before
-
-abbrev pub Runs : Result (Unit {0}) Note → Option Order → Call → ℕ → ℕ → Type 0
-Runs ended None call faults_before faults_now = RunsNothing ended call faults_before faults_now
-Runs ended (Some order) call faults_before faults_now = RunsOrder ended order call faults_before faults_now

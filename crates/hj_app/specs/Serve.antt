@@ -1,5 +1,5 @@
 -- What a call of `serve` promises: the causes of its statuses, what it writes, which streams it begins, and its note.
-use Rattle.std.specs.Prelude.{◌≡◌, ◌≢◌, ◌⊎◌, ℕ, List, [], None, Some}
+use Rattle.std.specs.Prelude.{◌≡◌, ◌≢◌, ◌≤◌, ◌⊎◌, ℕ, List, [], None, Some, IfSome}
 use Rattle.std.specs.Io.KnownBytes.{Appends}
 use Rattle.std.specs.declared.option.Option.{Option}
 use Rattle.hj_base.specs.declared.numbers.Side.{Side}
@@ -20,7 +20,7 @@ use Rattle.hj_app.specs.Generating.{BeginsSummary, WritesSummary}
 use Rattle.hj_app.specs.Joining.{BeginsText, WritesAll, WritesWhole}
 use Rattle.hj_app.specs.Notes.{events_note, memory_note, query_note, record_note, sink_note, source_note, usage_note}
 use Rattle.hj_app.specs.Queries.{IsQueryOf, IsRefused}
-use Rattle.hj_app.specs.Streams.{AreStreams, Fails, IsBegunUnder}
+use Rattle.hj_app.specs.Streams.{AreStreams, Fails, IsBegunUnder, NoneFails}
 use Rattle.hj_app.specs.Words.{Names, Order, Source, check_query, join_streams, keyed, most_events, named, sum_up}
 
 -- the query by which a call joins
@@ -192,3 +192,27 @@ pub record Notes (status : ℕ) (order : Option Order) (call : Call) (old new : 
   pub written : Appends old new grown
   pub front : IsPrefix grown note
   pub whole : ¬ (Rose refused_before refused_now) → grown ≡ note
+
+-- What a call does for an order, or for words that spell none, by the status that it answers.
+pub record Serves (status : ℕ) (order : Option Order) (call : Call) (faults_before faults_now : ℕ)
+    (notes_before notes_now : Option (List ℕ)) (refused_before refused_now : ℕ) : Type 0 where
+  -- Whatever the status, a front of the text of the streams' pairs was written; and all of it with status 0.
+  pub front : Writes order call
+  pub done : status ≡ 0 → IfSome order (λ order. IsDone order call)
+  -- Each other status comes with its cause.
+  pub statuses : status ≤ 7
+  pub usage : status ≡ 1 → order ≡ None
+  pub no_order : order ≡ None → (status ≡ 1) ⊎ (status ≡ 6)
+  pub bad_query : status ≡ 2 → IfSome order (λ order. (found : QueryFault) × RefusesQuery found order call)
+  pub bad_record : status ≡ 3 → IfSome order (λ order. JoinsAll IsBad order call)
+  pub failed_source : status ≡ 4 → IfSome order (λ order. (of : Role) × FailsSource of order call)
+  pub failed_sink : status ≡ 5 → Rose faults_before faults_now
+  pub events : status ≡ 7 → IfSome order (λ order. JoinsAll (λ ending. ending ≡ too_many) order call)
+  -- A fault of the sink is told as such.
+  pub sink : status ≢ 5 → status ≢ 6 → faults_now ≡ faults_before
+  -- Where nothing failed, the query and the ending of the events decide the status, or memory ran out.
+  pub complete : IfSome order (λ order. NoneFails call.before call.now → ¬ (Rose faults_before faults_now)
+      → (status ≡ 6) ⊎ IsDecided status order call)
+  -- What was begun and noted.
+  pub roles : Begins order call
+  pub note : Notes status order call notes_before notes_now refused_before refused_now

@@ -36,7 +36,7 @@ pub data Order : Type 0 where
   sum_up : Recipe → Order
 
 -- How many cores and threads a join has, how many events are under way, and in which order its steps come, is left out:
--- nothing that is promised of a run depends on it.
+-- no status, text or note depends on it.
 abbrev pub asked_by : spelled.Order → Order
 asked_by (spells.Equi w left right) = join_streams (keyed w) (record { left = left; right = right }) most_events
 asked_by (spells.Join setup limit schedule query left right) =

@@ -3,61 +3,100 @@ ghost use Rattle.std.specs.declared.option.Option.{Option};
 ghost use Rattle.hj_base.specs.declared.outside.Role.{Role};
 ghost use Rattle.hj_base.specs.Outside.{RoleState};
 ghost use Rattle.hj_app.specs.Calls.{call};
+ghost use Rattle.hj_app.specs.Crew.{ShowsMade};
 ghost use Rattle.hj_app.specs.Generating.{IsSummary};
+ghost use Rattle.hj_app.specs.OnCrew.{RunsOnCrew};
 ghost use Rattle.hj_app.specs.Orders.{recipe_seen};
-ghost use Rattle.hj_app.specs.Run.{RunsOrder};
+ghost use Rattle.hj_app.specs.Turning.{crew_seen};
 ghost use Rattle.hj_app.specs.Words.{most_events, sum_up};
 
+use crate::ended::Ended;
 use crate::held::{HeldStreams, KeptText};
 use crate::notes::Note;
-use crate::plan::Plan;
+use crate::plan::{CrewPlan, MOST_EVENTS};
 use crate::recipe::Recipe;
 use hj_base::{Bytes, Gate, Memory, Sink};
-use hj_engine::{Outcome, Sent, join_serial, put_all};
+use hj_crew::Ran;
+use hj_engine::{Outcome, Sent, join_threads, put_all};
 use hj_gen::{streams, summary};
 use hj_query::equi;
+use hj_value::SharedRow;
 use std::alloc::Global;
+use std::sync::Wait;
+use std::thread::Threads;
 
-/// Makes the two streams of a recipe, joins them in memory, and writes the line that sums up their join to `out`. The gate is
-/// passed before each step of a core. The error is the note that says why that couldn't be done: the sink, or memory.
-pub fn generate<K: Sink, G: Gate>(
+/// The line that sums up a join, and the run that made the join.
+#[derive(Drop)]
+struct Summary {
+    line: Bytes,
+    ran: Ran<SharedRow>,
+}
+
+/// Makes the two streams of a recipe, joins them in memory on threads, which `rt` starts, and writes the line that sums up their
+/// join to `out`. The gate is passed before each turn of a core. The note of the ending says why that couldn't be done: the sink,
+/// or memory.
+pub fn generate<T: Threads + Wait + Sync, K: Sink, G: Gate + Sync>(
+    rt: &T,
     alloc: Global,
     recipe: Recipe,
+    plan: CrewPlan,
     out: &mut K,
     gate: &G,
-) -> Result<(), Note>
-    ensures { (under : List ℕ → Option (List ℕ)) (roles : Role → RoleState) → RunsOrder result (sum_up (recipe_seen recipe))
+) -> Ended
+    ensures { (under : List ℕ → Option (List ℕ)) (roles : Role → RoleState) → RunsOnCrew (crew_seen plan) result (sum_up (recipe_seen recipe))
         (call under roles roles (K.told out.old) (K.told out.new)) (K.faults out.old) (K.faults out.new) }
 {
-    let line = summary_line(alloc, recipe, gate)?;
-    match put_all(out, line.bytes()) {
+    let Ok(Summary { line, ran }) = sum_up(rt, alloc, recipe, plan, gate) else {
+        return Ended {
+            end: Err(Note::Memory),
+            ran: None,
+        };
+    };
+    let end = match put_all(out, line.bytes()) {
         Sent::Whole => Ok(()),
         Sent::Failed => Err(Note::Sink),
         Sent::Memory => Err(Note::Memory),
+    };
+    Ended {
+        end,
+        ran: Some(ran),
     }
 }
 
-/// The line that sums up the join of the two streams of a recipe.
-fn summary_line<G: Gate>(alloc: Global, recipe: Recipe, gate: &G) -> Result<Bytes, Memory>
-    ensures { IfOk result (λ line. IsSummary line (recipe_seen recipe) most_events) }
+/// Joins the two streams of a recipe in memory, and sums their join up.
+fn sum_up<T: Threads + Wait + Sync, G: Gate + Sync>(
+    rt: &T,
+    alloc: Global,
+    recipe: Recipe,
+    plan: CrewPlan,
+    gate: &G,
+) -> Result<Summary, Memory>
+    ensures line { IfOk result (λ summary. IsSummary summary.line (recipe_seen recipe) most_events) }
+    ensures shows { IfOk result (λ summary. ShowsMade (crew_seen plan) (recipe_seen recipe) most_events summary.ran) }
 {
     let query = equi(alloc, recipe.window.rows)?;
     let made = streams(alloc, recipe.rows, recipe.keys, recipe.seed)?;
     let mut held = HeldStreams::new(made.left, made.right);
     let mut text = KeptText::new(alloc);
-    let plan = Plan::usual();
-    match join_serial(
+    let (outcome, ran) = join_threads(
+        rt,
         alloc,
         &query,
-        plan.cores,
-        plan.flight,
-        plan.limit,
-        plan.chooser,
+        plan.setup,
+        MOST_EVENTS,
         &mut held,
         &mut text,
         gate,
-    ) {
-        Outcome::Done { events } => summary(alloc, events, text.bytes()),
+    );
+    match outcome {
+        Outcome::Done { events } => {
+            let Some(ran) = ran else {
+                // A join that is done has its run.
+                unreachable!()
+            };
+            let line = summary(alloc, events, text.bytes())?;
+            Ok(Summary { line, ran })
+        }
         Outcome::Memory => Err(Memory),
         // Each record is a row, there are few of them, and nothing in memory fails.
         Outcome::Bad { .. } | Outcome::SourceFault(_) | Outcome::SinkFault | Outcome::TooMany => {

@@ -3,8 +3,10 @@
 #![tactic(auto)]
 
 mod check;
+mod ended;
 mod generate;
 mod held;
+mod join;
 mod keyed;
 mod notes;
 #[cfg(test)]
@@ -12,9 +14,9 @@ mod peer;
 mod plan;
 mod query;
 mod recipe;
+mod serial;
 mod serve;
 mod source;
-mod streams;
 #[cfg(test)]
 mod tests;
 
@@ -25,11 +27,13 @@ use serve::serve;
 use std::env;
 use std::io::ErrorKind;
 use std::process::ExitCode;
+use std::sync::Wait;
+use std::thread::Threads;
 
 /// Serves the words after the program's name, over files, standard output and standard error.
 fn main(rt: HostRuntime) -> ExitCode {
     let mut errors = RealSink::new(rt.stderr());
-    let status = match run(rt) {
+    let status = match run(rt, &rt) {
         Ok(status) => status,
         Err(note) => {
             write_note(&mut errors, &note);
@@ -39,18 +43,26 @@ fn main(rt: HostRuntime) -> ExitCode {
     ExitCode::from(status)
 }
 
-/// Serves the words and hands on the output; the status, or a note that wasn't written yet.
-fn run(rt: HostRuntime) -> Result<u8, Note> {
+/// Serves the words and hands on the output; the status, or a note that wasn't written yet. `threads` may start threads.
+fn run<T: Threads + Wait + Sync>(rt: HostRuntime, threads: &T) -> Result<u8, Note> {
     let alloc = rt.alloc();
     let words = words_after_name(&rt)?;
     let output = Output::new(alloc, rt.stdout())?;
     let mut out = RealSink::output(&output);
     let mut notes = RealSink::errors(&output, rt.stderr());
     let mut outside = RealOutside::new(rt, alloc, &output);
-    let status = serve(alloc, &words, &mut outside, &mut out, &mut notes, &OpenGate);
+    let served = serve(
+        threads,
+        alloc,
+        &words,
+        &mut outside,
+        &mut out,
+        &mut notes,
+        &OpenGate,
+    );
     // Where output was refused, no note was written behind it.
     output.hand_on().map_err(|_| Note::Sink)?;
-    Ok(status)
+    Ok(served.status)
 }
 
 /// The words after the program's name, or the note that says why they couldn't be read.

@@ -3,7 +3,7 @@ ghost use Rattle.std.specs.List.{flat_map};
 ghost use Rattle.hj_app.specs.Notes.{role_name, side_name, piece_text, row_text, fault_text, record_note, query_note, query_place, query_text, lex_place, lex_text, place_text, wanted_text};
 ghost use Rattle.hj_app.specs.Parts.{part_text};
 ghost use Rattle.hj_engine.specs.Output.{Sends, CountsRefusals};
-ghost use Rattle.hj_app.specs.NoteText.{note_text, status_of};
+ghost use Rattle.hj_app.specs.NoteText.{note_text, status_of, status_of_end, text_of_end};
 ghost use Rattle.hj_app.specs.NoteWritten.{NoteWritten};
 
 use hj_base::{Memory, Role, Side, Sink};
@@ -90,6 +90,20 @@ const NOTHING: Part = Part::Words("");
 const USAGE: &str = "\
 usage: equi W LEFT RIGHT | join [--cores N] [--threads N] [--flight N] [--max-events N] [--schedule SEED] QUERY LEFT RIGHT \
 | check QUERY | gen N KEYS SEED W\n";
+
+/// Writes the note of an ending, and answers its status.
+pub fn report<N: Sink>(notes: &mut N, ended: Result<(), Note>) -> u8
+    ensures status { result ≡ status_of_end ended }
+    ensures note { NoteWritten (text_of_end ended) (N.told notes.old) (N.told notes.new) (N.refusals notes.old) (N.refusals notes.new) }
+{
+    match ended {
+        Ok(()) => 0,
+        Err(note) => {
+            write_note(notes, &note);
+            note.status()
+        }
+    }
+}
 
 /// Writes a note. It takes no memory, and stops at the first refusal.
 pub fn write_note<N: Sink>(notes: &mut N, note: &Note)

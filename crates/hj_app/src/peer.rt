@@ -35,10 +35,18 @@ fn joins_a_peer_with_a_file(rt: HostRuntime) -> Result<(), Fail> {
     let mut outside = RealOutside::new(&rt, alloc, &output);
     let mut out = MemSink::new(alloc, 100);
     let mut notes = MemSink::new(alloc, 100);
-    let status = serve(alloc, &words, &mut outside, &mut out, &mut notes, &OpenGate);
+    let served = serve(
+        &rt,
+        alloc,
+        &words,
+        &mut outside,
+        &mut out,
+        &mut notes,
+        &OpenGate,
+    );
     assert!(rt; peer.join(&rt));
     fs::remove_file(&rt, name)?;
-    assert_eq!(rt; status, 0);
+    assert_eq!(rt; served.status, 0);
     assert_eq!(rt; out.bytes(), b"1,7,2,7\n3,7,2,7\n".as_slice());
     assert_eq!(rt; notes.bytes(), b"".as_slice());
     Ok(())

@@ -1,153 +1,162 @@
-ghost use Rattle.std.specs.Prelude.{◌≡◌, ◌≢◌, ◌≤◌, ◌⊎◌, IfSome, None, map, string_bytes};
+ghost use Rattle.std.specs.Prelude.{◌≡◌, ◌≢◌, ◌↔◌, IsSome, IfSome, None, Some, map, string_bytes};
 ghost use Rattle.hj_base.specs.declared.outside.Role.{Role};
-ghost use Rattle.hj_base.specs.Counts.{Rose};
 ghost use Rattle.hj_base.specs.Outside.{unbegun};
-ghost use Rattle.hj_event.specs.Arrivals.{too_many};
 ghost use Rattle.hj_words.specs.Ranges.{IsInRange};
-ghost use Rattle.hj_query.specs.declared.fault.QueryFault.{QueryFault};
 ghost use Rattle.hj_app.specs.Calls.{call};
-ghost use Rattle.hj_app.specs.Orders.{names_seen, source_seen};
-ghost use Rattle.hj_app.specs.Words.{asked_by, join_streams, order_of};
-ghost use Rattle.hj_app.specs.Serve.{Begins, FailsSource, IsBad, IsDecided, IsDone, JoinsAll, Notes, RefusesQuery, Writes};
-ghost use Rattle.hj_app.specs.Streams.{NoneFails};
-ghost use Rattle.hj_app.specs.Run.{Runs, RunsOrder};
-ghost use Rattle.hj_app.specs.NoteText.{status_of_end, text_of_end};
+ghost use Rattle.hj_app.specs.Crew.{CameToJoin, ShowsRun, crew_in, crew_of, spelled_in};
+ghost use Rattle.hj_app.specs.NoteText.{note_text, status_of};
 ghost use Rattle.hj_app.specs.NoteWritten.{NoteWritten};
+ghost use Rattle.hj_app.specs.OnCrew.{RunsOnCrew};
+ghost use Rattle.hj_app.specs.Serve.{Serves};
+ghost use Rattle.hj_app.specs.Turning.{crew_seen};
+ghost use Rattle.hj_app.specs.Words.{asked_by, order_of};
 
-use crate::check::check;
+use crate::ended::Ended;
 use crate::generate::generate;
+use crate::join::join_on_threads;
 use crate::keyed::Keyed;
-use crate::notes::{Note, write_note};
-use crate::plan::Plan;
-use crate::query::query_of;
+use crate::notes::{Note, report};
+use crate::plan::{CrewPlan, MOST_EVENTS, Turning};
 use crate::recipe::Recipe;
-use crate::source::{Names, Source};
-use crate::streams::join_streams;
+use crate::serial::serve_serial;
+use crate::source::{JoinOrder, Source};
 use hj_base::{Gate, Outside, Sink};
+use hj_crew::Ran;
+use hj_value::SharedRow;
 use hj_words::{Order, Usage, read_words};
 use std::alloc::Global;
+use std::sync::Wait;
+use std::thread::Threads;
+
+/// What `serve` answers.
+#[derive(Drop)]
+pub struct Served {
+    /// The exit status.
+    pub status: u8,
+    /// The run of the threads that made the join of the order. There is none where no thread turns a chain for the order, nor
+    /// where the call ended before the join.
+    pub ran: Option<Ran<SharedRow>>,
+}
 
 /// Does what the words after the program's name say, and answers the exit status.
 ///
 /// `join QUERY LEFT RIGHT` joins two streams of rows under the query whose text stands under the first name; its options say how
-/// many cores its chain has and how many events are under way, how many events it numbers at most, and in which order its steps
-/// come. `equi W LEFT RIGHT` joins two streams of rows, each a time and a key, on equal keys, over windows of the last W rows of
-/// each side. `check QUERY` writes the canonical text of a query. `gen N KEYS SEED W` makes two streams of N rows each in memory,
-/// joins them as `equi W` does, and writes one line that sums the join up. `outside` opens and reads the streams, `out` gets the
-/// joined lines, the text or the line, and `notes` a line that says why a run ended otherwise than well; `gate` is passed before
-/// each step of a core. The statuses: 0 done, 1 the words are no order, 2 the text is no query, 3 a bad record, 4 a stream
-/// couldn't be opened or read, 5 `out` failed, 6 memory ran out, 7 more events than the limit. The lines are those of the pairs
-/// of the sequential sliding-window join (Kang, Naughton and Viglas, ICDE 2003) over the streams' numbered events, each once, in
-/// its order, whatever the options.
-pub fn serve<O: Outside, K: Sink, N: Sink, G: Gate + Sync>(
+/// many cores its chain has, how many threads turn them and how many events are under way, how many events it numbers at most, and
+/// in which order its steps come where no thread turns a core. `equi W LEFT RIGHT` joins two streams of rows, each a time and a
+/// key, on equal keys, over windows of the last W rows of each side. `check QUERY` writes the canonical text of a query. `gen N
+/// KEYS SEED W` makes two streams of N rows each in memory, joins them as `equi W` does, and writes one line that sums the join up.
+/// `rt` starts the threads. `outside` opens and reads the streams, `out` gets the joined lines, the text or the line, and `notes` a
+/// line that says why a run ended otherwise than well; `gate` is passed before each step of a core. The statuses: 0 done, 1 the
+/// words are no order, 2 the text is no query, 3 a bad record, 4 a stream couldn't be opened or read, 5 `out` failed, 6 memory ran
+/// out, 7 more events than the limit. The lines are those of the pairs of the sequential sliding-window join (Kang, Naughton and
+/// Viglas, ICDE 2003) over the streams' numbered events, each once, in its order, whatever the options. The call waits for the
+/// threads that it starts; a check, and a join with no threads, is done by `serve_serial`.
+pub fn serve<T: Threads + Wait + Sync, O: Outside, K: Sink, N: Sink, G: Gate + Sync>(
+    rt: &T,
     alloc: Global,
     words: &[String],
     outside: &mut O,
     out: &mut K,
     notes: &mut N,
     gate: &G,
-) -> u8
+) -> Served
     requires { (of : Role) → (O.state outside.old of).phase ≡ unbegun }
 
-    // Whatever the status, a front of the text of the streams' pairs was written; and all of it with status 0.
-    ensures front { Writes (order_of (map string_bytes words.now))
-        (call (O.under outside.old) (O.state outside.old) (O.state outside.new) (K.told out.old) (K.told out.new)) }
-    ensures done { result ≡ 0 → IfSome (order_of (map string_bytes words.now)) (λ order. IsDone order
-        (call (O.under outside.old) (O.state outside.old) (O.state outside.new) (K.told out.old) (K.told out.new))) }
-
-    // Each other status comes with its cause.
-    ensures statuses { result ≤ 7 }
-    ensures usage { result ≡ 1 → order_of (map string_bytes words.now) ≡ None }
-    ensures no_order { order_of (map string_bytes words.now) ≡ None → (result ≡ 1) ⊎ (result ≡ 6) }
-    ensures bad_query { result ≡ 2 → IfSome (order_of (map string_bytes words.now)) (λ order. (found : QueryFault) × RefusesQuery found order
-        (call (O.under outside.old) (O.state outside.old) (O.state outside.new) (K.told out.old) (K.told out.new))) }
-    ensures bad_record { result ≡ 3 → IfSome (order_of (map string_bytes words.now)) (λ order. JoinsAll IsBad order
-        (call (O.under outside.old) (O.state outside.old) (O.state outside.new) (K.told out.old) (K.told out.new))) }
-    ensures failed_source { result ≡ 4 → IfSome (order_of (map string_bytes words.now)) (λ order. (of : Role) × FailsSource of order
-        (call (O.under outside.old) (O.state outside.old) (O.state outside.new) (K.told out.old) (K.told out.new))) }
-    ensures failed_sink { result ≡ 5 → Rose (K.faults out.old) (K.faults out.new) }
-    ensures events { result ≡ 7 → IfSome (order_of (map string_bytes words.now)) (λ order. JoinsAll (λ ending. ending ≡ too_many) order
-        (call (O.under outside.old) (O.state outside.old) (O.state outside.new) (K.told out.old) (K.told out.new))) }
-
-    // A fault of the sink is told as such.
-    ensures sink { result ≢ 5 → result ≢ 6 → K.faults out.new ≡ K.faults out.old }
-
-    // Where nothing failed, the query and the ending of the events decide the status, or memory ran out.
-    ensures complete { IfSome (order_of (map string_bytes words.now)) (λ order. NoneFails (O.state outside.old) (O.state outside.new)
-        → ¬ (Rose (K.faults out.old) (K.faults out.new)) → (result ≡ 6) ⊎ IsDecided result order
-        (call (O.under outside.old) (O.state outside.old) (O.state outside.new) (K.told out.old) (K.told out.new))) }
-
-    // What was begun and noted.
-    ensures roles { Begins (order_of (map string_bytes words.now))
-        (call (O.under outside.old) (O.state outside.old) (O.state outside.new) (K.told out.old) (K.told out.new)) }
-    ensures note { Notes result (order_of (map string_bytes words.now))
+    // What is served, by the status.
+    ensures serves { Serves result.status (order_of (map string_bytes words.now))
         (call (O.under outside.old) (O.state outside.old) (O.state outside.new) (K.told out.old) (K.told out.new))
-        (N.told notes.old) (N.told notes.new) (N.refusals notes.old) (N.refusals notes.new) }
-{
-    let ended = run(alloc, words, outside, out, gate);
-    report(notes, ended)
-}
+        (K.faults out.old) (K.faults out.new) (N.told notes.old) (N.told notes.new) (N.refusals notes.old) (N.refusals notes.new) }
 
-/// Runs the order that the words spell, if they spell one.
-fn run<O: Outside, K: Sink, G: Gate>(
-    alloc: Global,
-    words: &[String],
-    outside: &mut O,
-    out: &mut K,
-    gate: &G,
-) -> Result<(), Note>
-    requires { (of : Role) → (O.state outside.old of).phase ≡ unbegun }
-    ensures { Runs result (order_of (map string_bytes words.now))
-        (call (O.under outside.old) (O.state outside.old) (O.state outside.new) (K.told out.old) (K.told out.new))
-        (K.faults out.old) (K.faults out.new) }
+    // Unless memory ran out, a run is handed back exactly where threads turn the order's chain and the call came to the join. A run
+    // that is handed back made this join.
+    ensures ran { result.status ≢ 6
+        → (IsSome result.ran ↔ CameToJoin (crew_in (map string_bytes words.now)) result.status (O.state outside.new)) }
+    ensures shows { IfSome result.ran (ShowsRun (spelled_in (map string_bytes words.now)) result.status
+        (call (O.under outside.old) (O.state outside.old) (O.state outside.new) (K.told out.old) (K.told out.new))) }
 {
     match read_words(alloc, words) {
-        Ok(order) => run_order(alloc, &order, outside, out, gate),
-        Err(Usage::Words) => Err(Note::Usage),
-        Err(Usage::Memory) => Err(Note::Memory),
+        Ok(order) => serve_order(rt, alloc, &order, outside, out, notes, gate),
+        Err(Usage::Words) => refused(notes, Note::Usage),
+        Err(Usage::Memory) => refused(notes, Note::Memory),
     }
 }
 
-/// Runs an order.
-fn run_order<O: Outside, K: Sink, G: Gate>(
+/// Does what an order says: on threads, or by the calling thread alone where none turns a core.
+fn serve_order<T: Threads + Wait + Sync, O: Outside, K: Sink, N: Sink, G: Gate + Sync>(
+    rt: &T,
     alloc: Global,
     order: &Order,
     outside: &mut O,
     out: &mut K,
+    notes: &mut N,
     gate: &G,
-) -> Result<(), Note>
+) -> Served
     requires ranges { IsInRange order.now }
     requires roles { (of : Role) → (O.state outside.old of).phase ≡ unbegun }
-    ensures { RunsOrder result (asked_by order.now)
+    ensures serves { Serves result.status (Some (asked_by order.now))
+        (call (O.under outside.old) (O.state outside.old) (O.state outside.new) (K.told out.old) (K.told out.new))
+        (K.faults out.old) (K.faults out.new) (N.told notes.old) (N.told notes.new) (N.refusals notes.old) (N.refusals notes.new) }
+    ensures ran { result.status ≢ 6 → (IsSome result.ran ↔ CameToJoin (crew_of order.now) result.status (O.state outside.new)) }
+    ensures shows { IfSome result.ran (ShowsRun (Some order.now) result.status
+        (call (O.under outside.old) (O.state outside.old) (O.state outside.new) (K.told out.old) (K.told out.new))) }
+{
+    match Turning::of(order) {
+        Turning::Alone => Served {
+            status: serve_serial(alloc, order, outside, out, notes, gate),
+            ran: None,
+        },
+        Turning::Threads(plan) => {
+            let ended = run_on_threads(rt, alloc, order, plan, outside, out, gate);
+            Served {
+                status: report(notes, ended.end),
+                ran: ended.ran,
+            }
+        }
+    }
+}
+
+/// Runs an order whose chain threads turn.
+fn run_on_threads<T: Threads + Wait + Sync, O: Outside, K: Sink, G: Gate + Sync>(
+    rt: &T,
+    alloc: Global,
+    order: &Order,
+    plan: CrewPlan,
+    outside: &mut O,
+    out: &mut K,
+    gate: &G,
+) -> Ended
+    requires crew { crew_of order.now ≡ Some (crew_seen plan) }
+    requires ranges { IsInRange order.now }
+    requires roles { (of : Role) → (O.state outside.old of).phase ≡ unbegun }
+    ensures { RunsOnCrew (crew_seen plan) result (asked_by order.now)
         (call (O.under outside.old) (O.state outside.old) (O.state outside.new) (K.told out.old) (K.told out.new))
         (K.faults out.old) (K.faults out.new) }
 {
     match order {
         Order::Equi { w, left, right } => {
-            let source = Source::Keyed(Keyed { rows: *w });
-            let names = Names {
+            let join = JoinOrder {
+                source: Source::Keyed(Keyed { rows: *w }),
                 left: left.text(),
                 right: right.text(),
+                limit: MOST_EVENTS,
             };
-            run_join(alloc, source, Plan::usual(), names, outside, out, gate)
+            join_on_threads(rt, alloc, join, plan, outside, out, gate)
         }
         Order::Join {
-            setup,
             limit,
-            schedule,
             query,
             left,
             right,
+            ..
         } => {
-            let source = Source::Named(query.text());
-            let plan = Plan::of(*setup, *limit, *schedule);
-            let names = Names {
+            let join = JoinOrder {
+                source: Source::Named(query.text()),
                 left: left.text(),
                 right: right.text(),
+                limit: *limit,
             };
-            run_join(alloc, source, plan, names, outside, out, gate)
+            join_on_threads(rt, alloc, join, plan, outside, out, gate)
         }
-        Order::Check { query } => check(alloc, query.text(), outside, out),
         Order::Gen { n, keys, seed, w } => {
             let recipe = Recipe {
                 rows: *n,
@@ -155,40 +164,21 @@ fn run_order<O: Outside, K: Sink, G: Gate>(
                 seed: *seed,
                 window: Keyed { rows: *w },
             };
-            generate(alloc, recipe, out, gate)
+            generate(rt, alloc, recipe, plan, out, gate)
         }
+        // No chain is turned for a check.
+        Order::Check { .. } => unreachable!(),
     }
 }
 
-/// Gets the query of a join, opens its streams, and joins them.
-fn run_join<O: Outside, K: Sink, G: Gate>(
-    alloc: Global,
-    source: Source<'_>,
-    plan: Plan,
-    names: Names<'_>,
-    outside: &mut O,
-    out: &mut K,
-    gate: &G,
-) -> Result<(), Note>
-    requires { (of : Role) → (O.state outside.old of).phase ≡ unbegun }
-    ensures { RunsOrder result (join_streams (source_seen source.entry) (names_seen names.entry) plan.limit)
-        (call (O.under outside.old) (O.state outside.old) (O.state outside.new) (K.told out.old) (K.told out.new))
-        (K.faults out.old) (K.faults out.new) }
+/// Writes the note of words that were read as no order.
+fn refused<N: Sink>(notes: &mut N, note: Note) -> Served
+    ensures status { result.status ≡ status_of note }
+    ensures no_run { result.ran ≡ None }
+    ensures note { NoteWritten (note_text note) (N.told notes.old) (N.told notes.new) (N.refusals notes.old) (N.refusals notes.new) }
 {
-    let query = query_of(alloc, source, outside)?;
-    join_streams(alloc, &query, plan, names, outside, out, gate)
-}
-
-/// Writes the note of an ending, and answers its status.
-fn report<N: Sink>(notes: &mut N, ended: Result<(), Note>) -> u8
-    ensures status { result ≡ status_of_end ended }
-    ensures note { NoteWritten (text_of_end ended) (N.told notes.old) (N.told notes.new) (N.refusals notes.old) (N.refusals notes.new) }
-{
-    match ended {
-        Ok(()) => 0,
-        Err(note) => {
-            write_note(notes, &note);
-            note.status()
-        }
+    Served {
+        status: report(notes, Err(note)),
+        ran: None,
     }
 }

@@ -9,9 +9,14 @@ pub enum Source<'a> {
     Named(&'a str),
 }
 
-/// The names of the two streams of a join.
+/// The order of a join, apart from how it is run.
 #[derive(Clone, Copy, Debug)]
-pub struct Names<'a> {
+pub struct JoinOrder<'a> {
+    pub source: Source<'a>,
+    /// The name of the left stream.
     pub left: &'a str,
+    /// The name of the right stream.
     pub right: &'a str,
+    /// How many events are numbered at most.
+    pub limit: u64,
 }

@@ -8,11 +8,14 @@ ghost use Rattle.hj_base.specs.MemOutside.{role_at};
 ghost use Rattle.hj_base.specs.Outside.{unbegun};
 
 use crate::serve::serve;
-use hj_base::{MemOutside, MemSink, OpenGate, Role};
+use hj_base::{CoreNo, Gate, MemOutside, MemSink, OpenGate, Role};
 use hj_gen::{streams, summary};
 use std::alloc::Global;
 use std::process::Abort;
+use std::sync::Wait;
+use std::sync::atomic::{AtomicBool, AtomicU64, Ordering};
 use std::test::Fail;
+use std::thread::{self, Threads};
 
 const EQUI: &str = "equi 10 left right";
 
@@ -155,17 +158,25 @@ impl World {
     }
 
     /// Serves words, and answers the status.
-    fn serve(&mut self, alloc: Global, words: &[String]) -> u8
+    fn serve(
+        &mut self,
+        rt: &(impl Threads + Wait + Sync),
+        alloc: Global,
+        words: &[String],
+        gate: &(impl Gate + Sync),
+    ) -> u8
         requires { (of : Role) → (role_at self.old.outside of).phase ≡ unbegun }
     {
-        serve(
+        let served = serve(
+            rt,
             alloc,
             words,
             &mut self.outside,
             &mut self.out,
             &mut self.notes,
-            &OpenGate,
-        )
+            gate,
+        );
+        served.status
     }
 }
 
@@ -199,18 +210,30 @@ fn assert_written(rt: &impl Abort, alloc: Global, found: &[u8], wanted: &str, li
 }
 
 /// Serves the words of a command over the outside of a case, and compares what comes of it.
-fn run(rt: &impl Abort, alloc: Global, command: &str, line: &str, chunks: Chunks) {
+fn run(
+    rt: &(impl Abort + Threads + Wait + Sync),
+    alloc: Global,
+    command: &str,
+    line: &str,
+    chunks: Chunks,
+    gate: &(impl Gate + Sync),
+) {
     let case = case_of(rt, line);
     let words = words_of(rt, alloc, command);
     let mut world = world_of(rt, alloc, case, chunks);
-    let status = world.serve(alloc, &words);
+    let status = world.serve(rt, alloc, &words, gate);
     assert_written(rt, alloc, world.out.bytes(), case.out, line);
     assert_written(rt, alloc, world.notes.bytes(), case.notes, line);
     assert_eq!(rt; u64::from(status), number(rt, case.status), "at {line}");
 }
 
 /// Runs each case of a table by some commands, in small portions and in large ones.
-fn run_all(rt: &impl Abort, alloc: Global, commands: &[&str], table: &str) {
+fn run_all(
+    rt: &(impl Abort + Threads + Wait + Sync),
+    alloc: Global,
+    commands: &[&str],
+    table: &str,
+) {
     for case in table.lines() {
         for command in commands {
             for size in [1, 3, 4_096] {
@@ -218,21 +241,28 @@ fn run_all(rt: &impl Abort, alloc: Global, commands: &[&str], table: &str) {
                     read: size,
                     write: size,
                 };
-                run(rt, alloc, command, case, chunks);
+                run(rt, alloc, command, case, chunks, &OpenGate);
             }
         }
     }
 }
 
-/// Runs each case of a table by some commands, with reads of 4 bytes and writes of 100.
-fn run_once(rt: &impl Abort, alloc: Global, commands: &[&str], table: &str) {
+/// Reads of 4 bytes, and writes of 100.
+const SHORT: Chunks = Chunks {
+    read: 4,
+    write: 100,
+};
+
+/// Runs each case of a table by some commands, with short reads.
+fn run_once(
+    rt: &(impl Abort + Threads + Wait + Sync),
+    alloc: Global,
+    commands: &[&str],
+    table: &str,
+) {
     for case in table.lines() {
         for command in commands {
-            let chunks = Chunks {
-                read: 4,
-                write: 100,
-            };
-            run(rt, alloc, command, case, chunks);
+            run(rt, alloc, command, case, SHORT, &OpenGate);
         }
     }
 }
@@ -307,10 +337,10 @@ fn joins_under_queries(rt: HostRuntime) {
 fn writes_the_same_whatever_the_options(rt: HostRuntime) {
     let alloc = rt.alloc();
     for setup in [
-        "--cores 1",
-        "--cores=64",
+        "--cores 1 --threads 3",
+        "--threads=3 --cores=4",
+        "--cores 64 --threads=3",
         "--threads 0",
-        "--threads=3 --cores 5",
         "--flight 1",
         "--threads 0 --flight=256 --max-events 20",
     ] {
@@ -322,6 +352,102 @@ fn writes_the_same_whatever_the_options(rt: HostRuntime) {
             "join query --schedule {seed} left --threads 0 right"
         ).expect(&rt, "memory");
         run_once(&rt, alloc, &[&command], TRADES);
+    }
+}
+
+/// Rows that each match the one before and the one behind alone.
+const NEIGHBOURS: &str = "\
+;left (ts int, k int) right (ts int, k int) window left rows 1 window right rows 1 on l.k = r.k;\
+1,7/3,7/5,7/7,7/9,7/11,7/13,7/15,7/17,7/19,7/21,7/23,7/25,7/27,7/29,7/31,7/33,7/35,7/37,7/39,7/;\
+2,7/4,7/6,7/8,7/10,7/12,7/14,7/16,7/18,7/20,7/22,7/24,7/26,7/28,7/30,7/32,7/34,7/36,7/38,7/40,7/;\
+1,7,2,7/3,7,2,7/3,7,4,7/5,7,4,7/5,7,6,7/7,7,6,7/7,7,8,7/9,7,8,7/9,7,10,7/11,7,10,7/11,7,12,7/13,7,12,7/13,7,14,7/\
+15,7,14,7/15,7,16,7/17,7,16,7/17,7,18,7/19,7,18,7/19,7,20,7/21,7,20,7/21,7,22,7/23,7,22,7/23,7,24,7/25,7,24,7/25,7,26,7/\
+27,7,26,7/27,7,28,7/29,7,28,7/29,7,30,7/31,7,30,7/31,7,32,7/33,7,32,7/33,7,34,7/35,7,34,7/35,7,36,7/37,7,36,7/37,7,38,7/\
+39,7,38,7/39,7,40,7/;;0";
+
+#[test]
+fn joins_neighbours_one_event_at_a_time(rt: HostRuntime) {
+    let commands = [
+        "join --flight 1 --cores 4 query left right",
+        "join --flight 1 --cores 1 query left right",
+    ];
+    run_once(&rt, rt.alloc(), &commands, NEIGHBOURS);
+}
+
+/// Two left rows and the right one between them, which matches both.
+const THREE_ROWS: &str = ";on l.k = r.k;1,7/3,7/;2,7/;1,7,2,7/3,7,2,7/;;0";
+
+/// Counts the turns of two cores.
+#[derive(Drop)]
+struct CountingGate {
+    left: AtomicU64,
+    right: AtomicU64,
+}
+
+impl Gate for CountingGate {
+    fn pass(&self, core: CoreNo, _call: u64) {
+        let turns = if core.0 == 0 { &self.left } else { &self.right };
+        turns.fetch_add(1, Ordering::SeqCst);
+    }
+}
+
+#[test]
+fn turns_a_core_once_for_each_message(rt: HostRuntime) {
+    let gate = CountingGate {
+        left: AtomicU64::new(0),
+        right: AtomicU64::new(0),
+    };
+    let command = "join --cores 2 --threads 0 query left right";
+    run(&rt, rt.alloc(), command, THREE_ROWS, SHORT, &gate);
+    // Each has the three rows and both closes; besides, the left one has the ends of two rows, the right one an acknowledgement
+    // and an end.
+    assert_eq!(rt; gate.left.load(Ordering::SeqCst), 7);
+    assert_eq!(rt; gate.right.load(Ordering::SeqCst), 7);
+}
+
+/// Holds the first turns of some cores, from the left, until so many cores have come to theirs, for so many tries.
+#[derive(Drop)]
+struct MeetingGate {
+    held: u16,
+    wanted: u64,
+    came: AtomicU64,
+    gave_up: AtomicBool,
+}
+
+impl Gate for MeetingGate {
+    fn pass(&self, core: CoreNo, call: u64) {
+        if call > 0 {
+            return;
+        }
+        self.came.fetch_add(1, Ordering::SeqCst);
+        if core.0 >= self.held {
+            return;
+        }
+        for _ in 0..1_000_000 {
+            if self.came.load(Ordering::SeqCst) >= self.wanted {
+                return;
+            }
+            thread::yield_now();
+        }
+        self.gave_up.store(true, Ordering::SeqCst);
+    }
+}
+
+/// Each core has a thread of its own, else no held turn would end before that of another core.
+#[test]
+fn turns_each_core_in_a_thread_of_its_own(rt: HostRuntime) {
+    for (command, held, wanted) in [
+        ("join --cores 2 --threads 2 query left right", 1, 2),
+        ("join --cores 4 --threads 4 query left right", 4, 4),
+    ] {
+        let gate = MeetingGate {
+            held,
+            wanted,
+            came: AtomicU64::new(0),
+            gave_up: AtomicBool::new(false),
+        };
+        run(&rt, rt.alloc(), command, THREE_ROWS, SHORT, &gate);
+        assert!(rt; !gate.gave_up.load(Ordering::SeqCst));
     }
 }
 
@@ -501,31 +627,49 @@ fn sums_up_streams_that_it_makes(rt: HostRuntime) {
     run_once(&rt, rt.alloc(), &["gen 1 1 1 1"], refused);
 }
 
-/// What a command writes over streams that stand under `left` and `right`; it ends well.
-fn written(rt: &impl Abort, alloc: Global, command: &str, left: &[u8], right: &[u8]) -> MemSink {
+/// What a command writes over a query and two streams; it ends well.
+fn written(
+    rt: &(impl Abort + Threads + Wait + Sync),
+    alloc: Global,
+    command: &str,
+    query: &[u8],
+    left: &[u8],
+    right: &[u8],
+) -> MemSink {
     let words = words_of(rt, alloc, command);
     let chunks = Chunks {
         read: 4_096,
         write: 4_096,
     };
     let mut world = World::new(alloc, chunks);
+    world.add(rt, "query", query);
     world.add(rt, "left", left);
     world.add(rt, "right", right);
-    let status = world.serve(alloc, &words);
+    let status = world.serve(rt, alloc, &words, &OpenGate);
     assert_eq!(rt; status, 0);
     world.out
 }
 
+/// Equal keys, over windows of 64 rows.
+const SIXTY_FOUR: &str = "\
+left (ts int, key int) right (ts int, key int) window left rows 64 window right rows 64 on l.key = r.key";
+
 #[test]
-fn sums_up_what_equi_writes(rt: HostRuntime) -> Result<(), Fail> {
+fn sums_up_what_a_serial_join_writes(rt: HostRuntime) -> Result<(), Fail> {
     let alloc = rt.alloc();
-    let made = streams(alloc, 2_000, 50, 1)?;
-    let (left, right) = (made.left.bytes(), made.right.bytes());
-    let text = written(&rt, alloc, "equi 64 left right", left, right);
-    // Of 2,000 rows of a side all but the last 64 expire.
-    let line = summary(alloc, 2 * (2_000 + 2_000 - 64), text.bytes())?;
-    let first = written(&rt, alloc, "gen 2000 50 1 64", b"", b"");
-    let again = written(&rt, alloc, "gen 2000 50 1 64", b"", b"");
+    let made = streams(alloc, 20_000, 500, 1)?;
+    let text = written(
+        &rt,
+        alloc,
+        "join --threads 0 query left right",
+        SIXTY_FOUR.as_bytes(),
+        made.left.bytes(),
+        made.right.bytes(),
+    );
+    // Of 20,000 rows of a side all but the last 64 expire.
+    let line = summary(alloc, 2 * (20_000 + 20_000 - 64), text.bytes())?;
+    let first = written(&rt, alloc, "gen 20000 500 1 64", b"", b"", b"");
+    let again = written(&rt, alloc, "gen 20000 500 1 64", b"", b"", b"");
     assert_eq!(rt; first.bytes(), line.bytes());
     assert_eq!(rt; again.bytes(), line.bytes());
     Ok(())

@@ -1,19 +1,20 @@
-use Rattle.std.proofs.Common.{List, ℕ, refl, subst, inr}
-use Rattle.std.specs.Io.KnownBytes.{Appends}
-use Rattle.hj_app.proofs.Prefixes.{begins_all}
+use Rattle.std.proofs.Common.{ℕ, List, sym, subst}
+use Rattle.hj_engine.specs.declared.output.Sent.TheVariants as sent
+use Rattle.hj_app.specs.Generating.{IsSummary}
+use Rattle.hj_app.specs.Orders.{recipe_seen}
+use Rattle.hj_app.specs.Turning.{crew_seen}
+use Rattle.hj_app.specs.Words.{most_events}
+use Rattle.hj_app.proofs.Summed.{summed_runs}
+use Rattle.hj_app.proofs.generate.generate.Goals.{in-Whole, in-Failed, in-Memory}
 use Rattle.hj_app.proofs.generate.generate.Goals as goal
 
-pub returns-in-Whole : goal.returns-in-Whole
-returns-in-Whole g c = λ under roles.
-    let written : Appends (g.K.Sink.told c.args.out.now) (g.K.Sink.told c.put_all.new.out) c.in_ok-line.line =
-    subst (λ (bytes : List ℕ). Appends (g.K.Sink.told c.args.out.now) (g.K.Sink.told c.put_all.new.out) bytes) c.bytes.ensures c.in-Whole.ensures.sends in
-    record {
-      cause = record { line = c.in_ok-line.line; summary = c.in_ok-line.ensures; written = written };
-      front = record {
-        grown = c.in_ok-line.line;
-        written = written;
-        front = inr (record { line = c.in_ok-line.line; summary = c.in_ok-line.ensures; begins = begins_all c.in_ok-line.line c.in_ok-line.line refl });
-      };
-      roles = λ of. refl;
-      sink = c.in-Whole.ensures.faults;
-    }
+pub returns : goal.returns
+returns g c = λ under roles.
+    let summary : IsSummary c.bytes.result.now (recipe_seen c.args.recipe) most_events = subst (λ (bytes : List ℕ). IsSummary bytes (recipe_seen c.args.recipe) most_events) (sym c.bytes.ensures) c.in-Ok.ensures.line in
+    let runs = summed_runs (recipe_seen c.args.recipe) c.bytes.result.now summary under roles (g.K.Sink.told c.args.out.now) (g.K.Sink.told c.put_all.new.out) (g.K.Sink.faults c.args.out.now) (g.K.Sink.faults c.put_all.new.out)
+    (crew_seen c.args.plan) c.in-Ok.field-0.ran c.in-Ok.ensures.shows in
+    elim c.match-put_all.branch [
+      | in-Whole w ↦ runs sent.Whole c.match-put_all.end w.end-is w.in-Whole.ensures.sends w.in-Whole.ensures.faults
+      | in-Failed w ↦ runs sent.Failed c.match-put_all.end w.end-is w.in-Failed.ensures.sends w.in-Failed.ensures.faults
+      | in-Memory w ↦ runs sent.Memory c.match-put_all.end w.end-is w.in-Memory.ensures.sends w.in-Memory.ensures.faults
+    ]

@@ -1,0 +1,127 @@
+-- The run of an order whose chain threads turn, from that of its parts.
+use Rattle.std.proofs.Common.{◌≡◌, ◌≢◌, ◌⊎◌, ℕ, List, Bool, true, Ok, Err, Result, None, Some, sym, ap, subst, inl, inr, refl, arith}
+use Rattle.std.specs.Prelude.{◌↔◌, IsSome, IfSome, IfNone}
+use Rattle.std.specs.declared.option.Option.{Option}
+use Rattle.hj_base.specs.declared.outside.Role.{Role}
+use Rattle.hj_base.specs.declared.outside.Role.TheVariants as role
+use Rattle.hj_base.specs.Outside.{RoleState}
+use Rattle.hj_value.specs.declared.field.Field.{Field}
+use Rattle.hj_query.specs.Parts.{Parts}
+use Rattle.hj_words.specs.declared.order.Order as spelled
+use Rattle.hj_crew.specs.Ran.{RanSeen}
+use Rattle.hj_engine.specs.declared.outcome.Outcome.{Outcome}
+use Rattle.hj_engine.specs.declared.outcome.Outcome.TheVariants as outcome
+use Rattle.hj_engine.specs.Joining.{Joins}
+use Rattle.hj_engine.specs.Showing.{ShowsJoin}
+use Rattle.hj_app.specs.declared.notes.Note.{Note}
+use Rattle.hj_app.specs.declared.notes.Note.TheVariants as why
+use Rattle.hj_app.specs.Calls.{Call, call}
+use Rattle.hj_app.specs.Crew.{CameToJoin, Crew, ShowsMade, ShowsOrder, ShowsRun, ShowsStreams, crew_of}
+use Rattle.hj_app.specs.NoteText.{status_of, status_of_end}
+use Rattle.hj_app.specs.OnCrew.{RunsOnCrew}
+use Rattle.hj_app.specs.Ready.{EndsEarly, IsReady}
+use Rattle.hj_app.specs.Run.{RunsOrder, end_of}
+use Rattle.hj_app.specs.Serve.{AreOpen}
+use Rattle.hj_app.specs.Words.{Names, Order, Recipe, Source, asked_by, join_streams, most_events, sum_up}
+use Rattle.hj_app.proofs.Joined.{query_stays}
+use Rattle.hj_app.proofs.Phases.{Roles, open-opened}
+use Rattle.hj_app.proofs.Serving.{End}
+
+abbrev Shown : Type 0
+Shown = Option (RanSeen (List Field))
+
+-- ---- an order that ended before its join
+
+pub runs_early : (crew : Crew) (note : Note) (order : Order) (under : List ℕ → Option (List ℕ)) (before now : Roles) (told : Option (List ℕ)) (faults : ℕ) → EndsEarly note order under before now
+    → RunsOnCrew crew (record { end = Err note; ran = None }) order (call under before now told told) faults faults
+runs_early crew note order under before now told faults early = record {
+  runs = early.runs told faults;
+  ran = λ other. ((λ some. absurd cc), (λ came. absurd (too_early other came)));
+  shows = tt;
+}
+  where
+    too_early : status_of note ≢ 6 → CameToJoin (Some crew) (status_of note) now → ⊥
+    too_early other came = elim early.early [
+      | inl two ↦ came.query two
+      | inr later ↦ elim later [ inl six ↦ other six | inr closed ↦ closed.1 (came.streams closed.0) ]
+    ]
+
+-- ---- a join that was made
+
+not_refused : (limit : ℕ) (ended : Outcome) → (status_of_end (end_of limit ended) ≢ 1) × (status_of_end (end_of limit ended) ≢ 2)
+not_refused limit (outcome.Done events) = ((λ e. omega (arith, e)), (λ e. omega (arith, e)))
+not_refused limit (outcome.Bad of at found) = ((λ e. omega (arith, e)), (λ e. omega (arith, e)))
+not_refused limit (outcome.SourceFault of) = ((λ e. omega (arith, e)), (λ e. omega (arith, e)))
+not_refused limit outcome.SinkFault = ((λ e. omega (arith, e)), (λ e. omega (arith, e)))
+not_refused limit outcome.TooMany = ((λ e. omega (arith, e)), (λ e. omega (arith, e)))
+not_refused limit outcome.Memory = ((λ e. omega (arith, e)), (λ e. omega (arith, e)))
+
+module _ (crew : Crew) (source : Source) (names : Names) (limit : ℕ) (under : List ℕ → Option (List ℕ)) (before mid now : Roles) (old new : Option (List ℕ)) (query : Parts) (ready : IsReady query source names under before mid)
+    (ended : Outcome) (joins : Joins ended query limit mid now old new) where
+  abbrev ends_with : ℕ
+  ends_with = status_of_end (end_of limit ended)
+
+  all_came : CameToJoin (Some crew) ends_with now
+  all_came =
+      let not = not_refused limit ended in
+      record {
+        threads = refl;
+        words = not.0;
+        query = not.1;
+        streams = λ four. (open-opened _ joins.left_ended (now role.Left).phase joins.left.in_step.phase, open-opened _ joins.right_ended (now role.Right).phase joins.right.in_step.phase);
+      }
+
+  shows_streams : (ran : RanSeen (List Field)) → ShowsJoin joins crew.cores crew.flight ran → ShowsStreams crew source names limit ends_with (call under before now old new) ran
+  shows_streams ran shows = record {
+    query = query;
+    accepted = query_stays query limit names under before mid now old new source ready ended joins;
+    opened = mid;
+    are_opened = ready.opened;
+    outcome = ended;
+    status_of_outcome = refl;
+    joins = joins;
+    shows = shows;
+  }
+
+  shown : (ran : Shown) → IfSome ran (ShowsJoin joins crew.cores crew.flight) → IfSome ran (ShowsStreams crew source names limit ends_with (call under before now old new))
+  shown None shows = tt
+  shown (Some ran) shows = shows_streams ran shows
+
+  handed : (ran : Shown) → IfNone ran (ended ≡ outcome.Memory) → ends_with ≢ 6 → CameToJoin (Some crew) ends_with now → IsSome ran
+  handed None memory other back = absurd (other (ap (λ (o : Outcome). status_of_end (end_of limit o)) memory))
+  handed (Some ran) memory other back = refl
+
+  pub runs_joined : (end : End) (ran : Shown) (faults faults' : ℕ) → end ≡ end_of limit ended → RunsOrder end (join_streams source names limit) (call under before now old new) faults faults'
+      → IfSome ran (ShowsJoin joins crew.cores crew.flight) → IfNone ran (ended ≡ outcome.Memory)
+      → RunsOnCrew crew (record { end = end; ran = ran }) (join_streams source names limit) (call under before now old new) faults faults'
+  runs_joined end ran faults faults' is runs shows memory =
+      subst (λ (e : End). RunsOrder e (join_streams source names limit) (call under before now old new) faults faults' → RunsOnCrew crew (record { end = e; ran = ran }) (join_streams source names limit) (call under before now old new) faults faults') (sym is)
+      (λ so. record { runs = so; ran = λ other. ((λ some. all_came), (λ back. handed ran memory other back)); shows = shown ran shows }) runs
+
+-- ---- `serve`'s clauses on the run
+
+module _ (order : spelled.Order) (crew : Crew) (turned : crew_of order ≡ Some crew) (status : ℕ) (ended : End) (is : status ≡ status_of_end ended) (call : Call) (ran : Shown) where
+  pub ran_as : (status_of_end ended ≢ 6 → (IsSome ran ↔ CameToJoin (Some crew) (status_of_end ended) call.now)) → status ≢ 6 → (IsSome ran ↔ CameToJoin (crew_of order) status call.now)
+  ran_as handed =
+      subst (λ (n : ℕ). n ≢ 6 → (IsSome ran ↔ CameToJoin (crew_of order) n call.now)) (sym is)
+      (subst (λ (turns : Option Crew). status_of_end ended ≢ 6 → (IsSome ran ↔ CameToJoin turns (status_of_end ended) call.now)) (sym turned) handed)
+
+  pub shows_as : IfSome ran (ShowsOrder crew (asked_by order) (status_of_end ended) call) → IfSome ran (ShowsRun (Some order) status call)
+  shows_as shows = of_run ran shows
+    where
+      of_run : (shown : Shown) → IfSome shown (ShowsOrder crew (asked_by order) (status_of_end ended) call) → IfSome shown (ShowsRun (Some order) status call)
+      of_run None so = tt
+      of_run (Some run) so = (crew, turned, subst (λ (n : ℕ). ShowsOrder crew (asked_by order) n call run) (sym is) so)
+
+-- ---- where there is no run
+
+no_value : {T : Type 0} (value : Option T) → value ≡ None → ¬ (IsSome value)
+no_value None e some = cc
+no_value (Some x) e some = cc
+
+pub none_turned : (turns : Option Crew) (status : ℕ) (now : Roles) (ran : Shown) → turns ≡ None → ran ≡ None → status ≢ 6 → (IsSome ran ↔ CameToJoin turns status now)
+none_turned turns status now ran none no_run other = ((λ some. absurd (no_value ran no_run some)), (λ came. absurd (no_value turns none came.threads)))
+
+pub none_shows : (P : RanSeen (List Field) → Type 0) (ran : Shown) → ran ≡ None → IfSome ran P
+none_shows P None e = tt
+none_shows P (Some ran) e = absurd cc

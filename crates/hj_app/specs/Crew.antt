@@ -1,0 +1,103 @@
+-- The chains that threads turn for the orders of a call of `serve`, and what the runs show that it hands back.
+use Rattle.std.specs.Prelude.{◌≡◌, ◌≢◌, ◌==◌, ℕ, List, [], None, Some, IsSome, false, if◌then◌else◌, option_and_then}
+use Rattle.std.specs.declared.option.Option.{Option}
+use Rattle.hj_base.specs.declared.outside.Role.{Role}
+use Rattle.hj_base.specs.Outside.{RoleState}
+use Rattle.hj_value.specs.declared.field.Field.{Field}
+use Rattle.hj_query.specs.Keyed.{IsKeyed}
+use Rattle.hj_query.specs.Parts.{Parts}
+use Rattle.hj_words.specs.declared.order.Order as spelled
+use Rattle.hj_words.specs.declared.order.Order.TheVariants as spells
+use Rattle.hj_words.specs.Orders as words
+use Rattle.hj_crew.specs.Ran.{RanSeen}
+use Rattle.hj_engine.specs.declared.outcome.Outcome.{Outcome}
+use Rattle.hj_engine.specs.declared.outcome.Outcome.TheVariants as outcome
+use Rattle.hj_engine.specs.Joining.{Joins}
+use Rattle.hj_engine.specs.Showing.{ShowsJoin}
+use Rattle.hj_app.specs.Calls.{Call}
+use Rattle.hj_app.specs.Generating.{left_stream, right_stream}
+use Rattle.hj_app.specs.Held.{held_role}
+use Rattle.hj_app.specs.NoteText.{status_of_end}
+use Rattle.hj_app.specs.Opening.{AreOpened}
+use Rattle.hj_app.specs.Run.{end_of}
+use Rattle.hj_app.specs.Serve.{Accepts, AreOpen}
+use Rattle.hj_app.specs.Words.{Names, Order, Recipe, Source, asked_by, check_query, join_streams, most_events, sum_up}
+
+-- A chain that threads turn: how many cores it has, and how many events are under way in it at most.
+pub record Crew : Type 0 where
+  pub cores : ℕ
+  pub flight : ℕ
+
+-- the one of a join without options
+abbrev pub usual_crew : Crew
+usual_crew = record { cores = 4; flight = 32 }
+
+-- The chain that threads turn for an order. A join with no threads has none, and neither has a check.
+abbrev pub crew_of : spelled.Order → Option Crew
+crew_of (spells.Equi w left right) = Some usual_crew
+crew_of (spells.Join setup limit schedule query left right) =
+    if setup.threads == 0 then None else Some (record { cores = setup.cores; flight = setup.flight })
+crew_of (spells.Check query) = None
+crew_of (spells.Gen n keys seed w) = Some usual_crew
+
+-- how many threads turn it
+abbrev pub threads_of : spelled.Order → ℕ
+threads_of (spells.Equi w left right) = 4
+threads_of (spells.Join setup limit schedule query left right) = setup.threads
+threads_of (spells.Check query) = 0
+threads_of (spells.Gen n keys seed w) = 4
+
+-- the order that the words spell, with all that it says of how it is run
+abbrev pub spelled_in : List (List ℕ) → Option spelled.Order
+spelled_in list = words.order_of list
+
+abbrev pub crew_in : List (List ℕ) → Option Crew
+crew_in list = option_and_then crew_of (spelled_in list)
+
+-- Threads turn the order's chain, and a call that ended with this status came to the join: neither the words nor the query were
+-- refused, and where a stream failed, both of them are open.
+pub record CameToJoin (crew : Option Crew) (status : ℕ) (now : Role → RoleState) : Type 0 where
+  pub threads : IsSome crew
+  pub words : status ≢ 1
+  pub query : status ≢ 2
+  pub streams : status ≡ 4 → AreOpen now
+
+-- A run made the join of a call: under the accepted query, of the two streams from where they were opened to where they stand now,
+-- into the output of the call; and the status is that of its outcome.
+pub record ShowsStreams (crew : Crew) (source : Source) (names : Names) (limit status : ℕ) (call : Call) (ran : RanSeen (List Field)) : Type 0 where
+  pub query : Parts
+  pub accepted : Accepts source query call
+  pub opened : Role → RoleState
+  pub are_opened : AreOpened names call.under call.before opened
+  pub outcome : Outcome
+  pub status_of_outcome : status ≡ status_of_end (end_of limit outcome)
+  pub joins : Joins outcome query limit opened call.now call.old call.new
+  pub shows : ShowsJoin joins crew.cores crew.flight ran
+
+-- the roles of the two streams of a recipe, which stand in memory; nothing was read of them
+abbrev pub made_roles : Recipe → Role → RoleState
+made_roles recipe = held_role (record {
+  left = record { rest = (left_stream recipe).bytes; ended = false };
+  right = record { rest = (right_stream recipe).bytes; ended = false };
+})
+
+-- A run made the join of the two streams of a recipe, to their ends.
+pub record ShowsMade (crew : Crew) (recipe : Recipe) (limit : ℕ) (ran : RanSeen (List Field)) : Type 0 where
+  pub query : Parts
+  pub keyed : IsKeyed recipe.window query
+  pub events : ℕ
+  pub now : Role → RoleState
+  pub text : List ℕ
+  pub joins : Joins (outcome.Done events) query limit (made_roles recipe) now (Some []) (Some text)
+  pub shows : ShowsJoin joins crew.cores crew.flight ran
+
+-- A run of this crew made the join of an order.
+abbrev pub ShowsOrder : Crew → Order → ℕ → Call → RanSeen (List Field) → Type 0
+ShowsOrder crew (join_streams source names limit) status call ran = ShowsStreams crew source names limit status call ran
+ShowsOrder crew (check_query name) status call ran = ⊥
+ShowsOrder crew (sum_up recipe) status call ran = ShowsMade crew recipe most_events ran
+
+-- A run of the order's crew made the join of the order.
+abbrev pub ShowsRun : Option spelled.Order → ℕ → Call → RanSeen (List Field) → Type 0
+ShowsRun None status call ran = ⊥
+ShowsRun (Some order) status call ran = (crew : Crew) × (crew_of order ≡ Some crew) × ShowsOrder crew (asked_by order) status call ran

@@ -1,0 +1,12 @@
+use crate::notes::Note;
+use hj_crew::Ran;
+use hj_value::SharedRow;
+
+/// How an order ended whose join threads make.
+#[derive(Drop)]
+pub struct Ended {
+    /// Well, or for the reason that the note gives.
+    pub end: Result<(), Note>,
+    /// The run of the threads, where the join was made.
+    pub ran: Option<Ran<SharedRow>>,
+}
