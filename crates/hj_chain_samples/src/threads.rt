@@ -1,7 +1,7 @@
-ghost use Rattle.std.specs.Prelude.{◌≡◌, ◌≤◌, ◌-◌, All, IfOk, [], length};
+ghost use Rattle.std.specs.Prelude.{◌≡◌, ◌≤◌, None, All, IfOk, [], length};
 ghost use Rattle.hj_base.specs.declared.numbers.Side.TheVariants.{Left, Right};
 ghost use Rattle.hj_rows.specs.ListStore.{resting_rows};
-ghost use Rattle.hj_chain_samples.specs.Rounds.{given_before, rounds_given};
+ghost use Rattle.hj_chain_samples.specs.Rounds.{rounds_given};
 
 use crate::rows::{Cross, Row};
 use hj_base::{CoreNo, EventNo, Gate, Memory, OpenGate, Setup, Side};
@@ -14,35 +14,30 @@ use std::sync::Wait;
 use std::test::Fail;
 use std::thread::{Threads, yield_now};
 
-/// What comes next in a round.
-#[derive(Clone, Copy, Drop)]
-enum Phase {
-    LeftComes,
-    RightComes,
-    LeftExpires,
-    RightExpires,
-}
-
 /// Rounds of four events: a left row and a right row come, and then both expire. Answers are there always, or never before they
 /// are asked for.
 #[derive(Drop)]
 struct Rounds {
     ready: bool,
-    phase: Phase,
+    /// The live row of each side.
+    left: Option<EventNo>,
+    right: Option<EventNo>,
     given: u64,
     most: u64,
     stopped: bool,
-    ghost enough: { given_before phase ≤ given },
 }
 
 impl Rounds {
     /// So many events of rounds.
     fn new(most: u64, ready: bool) -> Self
-        ensures { result.given ≡ 0 }
+        ensures given { result.given ≡ 0 }
+        ensures none_left { result.left ≡ None }
+        ensures none_right { result.right ≡ None }
     {
         Rounds {
             ready,
-            phase: Phase::LeftComes,
+            left: None,
+            right: None,
             given: 0,
             most,
             stopped: false,
@@ -53,7 +48,7 @@ impl Rounds {
 impl Feed<Row> for Rounds {
     ghost gives = { λ old answer new. Unit {0} };
 
-    ghost state = { λ f. rounds_given f.phase f.given f.most f.stopped };
+    ghost state = { λ f. rounds_given f.left f.right f.given f.most f.stopped };
 
     ghost ready = { λ f. f.ready };
 
@@ -63,15 +58,25 @@ impl Feed<Row> for Rounds {
             return Given::Stop;
         }
         let no = EventNo(self.given);
-        let (event, phase) = match self.phase {
-            Phase::LeftComes => (arrival(no, Side::Left), Phase::RightComes),
-            Phase::RightComes => (arrival(no, Side::Right), Phase::LeftExpires),
-            Phase::LeftExpires => (expiry(no, Side::Left), Phase::RightExpires),
-            Phase::RightExpires => (expiry(no, Side::Right), Phase::LeftComes),
-        };
         self.given += 1;
-        self.phase = phase;
-        Given::Event(event)
+        match (self.left, self.right) {
+            (None, None) => {
+                self.left = Some(no);
+                arrival(no, Side::Left)
+            }
+            (Some(_), None) => {
+                self.right = Some(no);
+                arrival(no, Side::Right)
+            }
+            (Some(of), Some(_)) => {
+                self.left = None;
+                expiry(no, Side::Left, of)
+            }
+            (None, Some(of)) => {
+                self.right = None;
+                expiry(no, Side::Right, of)
+            }
+        }
     }
 
     fn is_ready(&self) -> bool {
@@ -79,26 +84,20 @@ impl Feed<Row> for Rounds {
     }
 }
 
-fn arrival(no: EventNo, side: Side) -> Event<Row>
-    ensures { result ≡ Event.Arrive no side (record { 0 = 7 }) }
+fn arrival(no: EventNo, side: Side) -> Given<Row>
+    ensures { result ≡ Given.Event (Event.Arrive no side (record { 0 = 7 })) }
 {
-    Event::Arrive {
+    Given::Event(Event::Arrive {
         no,
         side,
         row: Row(7),
-    }
+    })
 }
 
-/// The expiry of the row that came two events before.
-fn expiry(no: EventNo, side: Side) -> Event<Row>
-    requires { 2 ≤ no.0 }
-    ensures { result ≡ Event.Expire no side (record { 0 = no.0 - 2 }) }
+fn expiry(no: EventNo, side: Side, of: EventNo) -> Given<Row>
+    ensures { result ≡ Given.Event (Event.Expire no side of) }
 {
-    Event::Expire {
-        no,
-        side,
-        of: EventNo(no.0 - 2),
-    }
+    Given::Event(Event::Expire { no, side, of })
 }
 
 /// Counts the pairs, and those that aren't the next ones: the rows of round k have the numbers 4 k and 4 k + 1.
@@ -165,7 +164,7 @@ fn run<T: Abort + Threads + Wait + Sync, G: Gate + Sync>(
     requires cores { (1 ≤ setup.cores) × (setup.cores ≤ 64) }
     requires threads { 1 ≤ setup.threads }
     requires flight { (1 ≤ setup.flight) × (setup.flight ≤ 256) }
-    requires fresh { rounds.given ≡ 0 }
+    requires fresh { (rounds.given ≡ 0) × (rounds.left ≡ None) × (rounds.right ≡ None) }
 {
     let pairs = rounds.most / 4;
     let left = stores(alloc, setup.cores)?;
