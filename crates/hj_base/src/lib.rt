@@ -23,6 +23,3 @@ pub use outside::{Got, Opened, Outside, Role};
 pub use share::Share;
 pub use sink::{Put, Sink};
 pub use text::{TextBytes, TextBytes as Name};
-
-#[cfg(test)]
-mod tests;

@@ -71,33 +71,3 @@ impl TextBytes {
         self.text.as_str()
     }
 }
-
-#[cfg(test)]
-mod tests {
-    use super::*;
-    use std::test::Fail;
-
-    #[test]
-    fn takes_utf8_alone(rt: HostRuntime) -> Result<(), Fail> {
-        let taken: [&[u8]; 4] = [b"", b"ts", "a\u{fc}\u{1f600}".as_bytes(), b"\x00\x7f"];
-        for bytes in taken {
-            let text = TextBytes::from_bytes(rt.alloc(), bytes)?.ok_or("refused")?;
-            assert_eq!(rt; text.bytes(), bytes);
-            assert_eq!(rt; text.len(), bytes.len());
-            assert_eq!(rt; text.get(0), bytes.first());
-            assert_eq!(rt; text.get(bytes.len()), None);
-        }
-        let refused: [&[u8]; 6] = [
-            b"\x80",
-            b"a\xff",
-            b"\xc3",
-            b"\xc0\xaf",
-            b"\xed\xa0\x80",
-            b"\xf4\x90\x80\x80",
-        ];
-        for bytes in refused {
-            assert!(rt; TextBytes::from_bytes(rt.alloc(), bytes)?.is_none());
-        }
-        Ok(())
-    }
-}

@@ -1,11 +1,25 @@
-//! Worked rows of the chain of cores, over the public calls of crates below: stores, cores, workers, chains on one thread, and runs
-//! on threads. A crate that has tests of its own is proved twice.
+//! Worked rows of the chain of cores, over the public calls of crates below: messages, links, stores, cores, workers, the driver, what
+//! is collected and released, chains on one thread, and runs on threads. A crate that has tests of its own is proved twice.
 #![tactic(auto)]
 
 #[cfg(test)]
 mod chains;
 #[cfg(test)]
+mod collectors;
+#[cfg(test)]
 mod cores;
+#[cfg(test)]
+mod drivers;
+#[cfg(test)]
+mod links;
+#[cfg(test)]
+mod list_stores;
+#[cfg(test)]
+mod messages;
+#[cfg(test)]
+mod plain_links;
+#[cfg(test)]
+mod released;
 #[cfg(test)]
 mod rows;
 #[cfg(test)]

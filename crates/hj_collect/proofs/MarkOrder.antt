@@ -127,8 +127,3 @@ lesser-either (Some (up_to a)) (Some (up_to b)) = by (nat_lt a b) refl
     by false h = inr (ap (λ n. Some (up_to n)) (grind (arith, nat_tests, h)))
 lesser-either (Some (up_to a)) (Some all) = inl refl
 lesser-either (Some all) (Some mark) = inr refl
-
-pub lesser-all : (a : Option Meaning) → lesser a (Some all) ≡ a
-lesser-all None = refl
-lesser-all (Some (up_to a)) = refl
-lesser-all (Some all) = refl

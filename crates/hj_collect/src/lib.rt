@@ -11,6 +11,3 @@ mod pairs;
 pub use collector::Collector;
 pub use laws::collectors_follow_their_reports;
 pub use mark::Mark;
-
-#[cfg(test)]
-mod tests;

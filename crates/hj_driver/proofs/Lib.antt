@@ -1,7 +1,6 @@
 pub mod Arrivals
 pub mod ComingOut
 pub mod Feeding
-pub mod FirstRow
 pub mod Logs
 pub mod MayClose
 pub mod Standing

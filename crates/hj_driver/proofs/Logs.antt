@@ -45,10 +45,6 @@ admitted-push {P} (admission event ∷ later) turn = ap (λ (events : List (Even
 admitted-push (receipt port message ∷ later) turn = admitted-push later turn
 admitted-push (closing ∷ later) turn = admitted-push later turn
 
-and_then-some : {X : Type 0} (o : Option X) → o ≡ option_and_then (λ x. Some x) o
-and_then-some None = refl
-and_then-some (Some x) = refl
-
 -- an arrival of which one more message was taken, or none
 row_more-if : (at : EventNo) (r e b : Bool) → arrival_with at (r || b) (e || false) ≡ option_and_then (λ (a : Arrival). cond b (with_part Row a a.taken) (Some a)) (arrival_with at r e)
 row_more-if at true true true = refl

@@ -10,6 +10,3 @@ mod laws;
 pub use answers::{Admitted, Closing, Why};
 pub use driver::Driver;
 pub use laws::drivers_follow_their_logs;
-
-#[cfg(test)]
-mod tests;

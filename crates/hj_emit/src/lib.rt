@@ -7,6 +7,3 @@ mod writer;
 pub use fill::fill_line;
 pub use hj_base::Bytes as LineBytes;
 pub use writer::line;
-
-#[cfg(test)]
-mod tests;

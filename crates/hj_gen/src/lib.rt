@@ -7,6 +7,3 @@ mod two_streams;
 
 pub use tally::{Tally, summary};
 pub use two_streams::{TwoStreams, streams};
-
-#[cfg(test)]
-mod tests;

@@ -3,7 +3,7 @@ use Rattle.std.proofs.Common.{◌≡◌, ℕ, ◌+◌, ◌<◌, ◌≤◌, Bool,
 use Rattle.std.proofs.lemmas.List.{append_assoc, append-nil, append_cancel_right, drop-drop, drop_more, length-drop}
 use Rattle.std.proofs.lemmas.Bool.{eqb-true}
 use Rattle.hj_lex.proofs.Texts.{split_text, split_text-open}
-use Rattle.hj_lex.specs.Tokens.{IsText, doubled, is_quote, quote, quoted}
+use Rattle.hj_lex.specs.Tokens.{doubled, is_quote, quote, quoted}
 
 -- what is left of a text from a place on, when its front was read
 abbrev pub Left : List ℕ → List ℕ → ℕ → Type 0
@@ -11,9 +11,6 @@ Left word value at = (left : List ℕ) × (word ≡ quoted (value ++ left)) × (
 
 abbrev pub width : ℕ → ℕ
 width byte = cond (is_quote byte) 2 1
-
-pub left_begin : (word : List ℕ) → IsText word → Left word [] 1
-left_begin word t = (t.0, t.1, ap (drop 1) t.1)
 
 more_at : (b : Bool) (word ys : List ℕ) (at y : ℕ) → is_quote y ≡ b → at < length word → drop at word ≡ cond b (quote ∷ quote ∷ doubled ys) (y ∷ doubled ys) ++ quote ∷ [] → (get_or word at 0 ≡ y) × (drop (at + cond b 2 1) word ≡ doubled ys ++ quote ∷ [])
 more_at true word ys at y q l d =

@@ -48,6 +48,3 @@ fn width(byte: u8) -> usize
 {
     if byte == b'\'' { 2 } else { 1 }
 }
-
-#[cfg(test)]
-mod tests;

@@ -204,6 +204,3 @@ fn sign_length(rest: &[u8]) -> Option<usize>
         _ => None,
     }
 }
-
-#[cfg(test)]
-mod tests;

@@ -8,8 +8,6 @@ mod plays;
 mod sides;
 mod steps;
 mod table;
-#[cfg(test)]
-mod tests;
 mod ways;
 
 pub use ends::{Closed, LeftEnd, RightEnd, close, duplex};

@@ -79,9 +79,6 @@ and_left : (b c : Bool) → (b && c) ≡ true → b ≡ true
 and_left true c e = refl
 and_left false c e = e
 
-list_all_here : {X : Type 0} (test : X → Bool) (x : X) (xs : List X) → list_all test (x ∷ xs) ≡ true → test x ≡ true
-list_all_here test x xs all = and_left (test x) (list_all test xs) all
-
 one_more_taken : {M : Type 0} (counted : Counted) (entry : Entry M) (before : List (Entry M))
     → (one_more counted entry.is_put).taken + length (takes before) ≡ counted.taken + length (takes (entry ∷ before))
 one_more_taken counted entry before = go entry.is_put

@@ -29,6 +29,3 @@ pub use meeting::matches_are_met_once;
 pub use message::{Msg, Report};
 pub use partner::{Partner, Partners};
 pub use store::Store;
-
-#[cfg(test)]
-mod tests;

@@ -5,6 +5,3 @@ mod kept;
 mod ordered;
 
 pub use ordered::Ordered;
-
-#[cfg(test)]
-mod tests;

@@ -21,10 +21,6 @@ pub use Rattle.hj_query.proofs.Suited.{suited_next, suited_rest, suited_tokens}
 true_false : (b : Bool) → b ≡ true → b ≡ false → ⊥
 true_false b t f = false≢true (sym f ∙ t)
 
--- a token that comes doesn't lack
-pub is_not_lacking : (kind : TokenKind) (bytes : List ℕ) (here rest : List Lexeme) → IsNext kind bytes here rest → next_is kind bytes here ≡ false → ⊥
-is_not_lacking kind bytes here rest n h = true_false _ n.found h
-
 -- nor does its kind
 pub is_not_lacking_kind : (kind : TokenKind) (bytes : List ℕ) (here rest : List Lexeme) → IsNext kind bytes here rest → next_has kind here ≡ false → ⊥
 is_not_lacking_kind kind bytes here rest n h = true_false _ (is_has kind bytes here n.found) h
@@ -62,16 +58,6 @@ next_other kind bytes more here rest n h = not_true _ (λ g.
 pub next_other_kind : (kind other : TokenKind) (bytes more : List ℕ) (here rest : List Lexeme) → IsNext kind bytes here rest → is_same_kind other kind ≡ false → next_is other more here ≡ false
 next_other_kind kind other bytes more here rest n h = not_true _ (λ g.
     true_false _ (ap (λ (k : TokenKind). is_same_kind k kind) (next_same kind other bytes more here n.found g).0 ∙ kind_same kind) h)
-
--- nothing of another kind comes
-pub has_other_kind : (kind other : TokenKind) (bytes : List ℕ) (here rest : List Lexeme) → IsNext kind bytes here rest → is_same_kind kind other ≡ false → next_has other here ≡ false
-unfolding next_has next_is
-has_other_kind kind other bytes [] rest n h = refl
-has_other_kind kind other bytes (next ∷ more) rest n h = ap (λ (k : TokenKind). is_same_kind k other) (first_is kind bytes next more n.found).0 ∙ h
-
--- no token of a kind that doesn't come
-pub lacks_kind : (kind : TokenKind) (bytes : List ℕ) (here : List Lexeme) → next_has kind here ≡ false → next_is kind bytes here ≡ false
-lacks_kind kind bytes here h = not_true _ (λ g. true_false _ (is_has kind bytes here g) h)
 
 -- a next token of a kind has some bytes
 pub has_bytes : (kind : TokenKind) (here : List Lexeme) → next_has kind here ≡ true → (bytes : List ℕ) × IsNext kind bytes here (behind here)

@@ -4,6 +4,3 @@
 mod plain_link;
 
 pub use plain_link::{Full, PlainLink};
-
-#[cfg(test)]
-mod tests;

@@ -1,5 +1,5 @@
 -- What a cutter's answer says of the stream follows from what it took.
-use Rattle.std.proofs.Common.{◌≡◌, ℕ, ◌+◌, ◌<◌, ◌≤◌, ◌%◌, ◌==◌, Bool, true, cond, eqb, List, [], ◌∷◌, ◌++◌, length, get_or, take, drop, sym, ap, subst, ◌∙◌, None, inl, inr, arith, append_assoc}
+use Rattle.std.proofs.Common.{◌≡◌, ℕ, ◌+◌, ◌<◌, ◌≤◌, ◌%◌, ◌==◌, Bool, true, cond, eqb, List, [], ◌∷◌, ◌++◌, length, get_or, take, drop, sym, ap, subst, ◌∙◌, inl, inr, arith, append_assoc}
 use Rattle.std.proofs.lemmas.List.{drop_more, take-append-drop, append-nil}
 use Rattle.std.proofs.lemmas.List.Sums.{count_by-le-length}
 use Rattle.std.proofs.lemmas.Bool.{ne_eqb}
@@ -8,7 +8,7 @@ use Rattle.hj_record.specs.declared.fault.PieceFault.TheVariants as fault
 use Rattle.hj_record.specs.declared.cutter.Fed.{Fed}
 use Rattle.hj_record.specs.declared.cutter.Fed.TheVariants as fed
 use Rattle.hj_record.specs.Pieces.{Pieces, IsUnended, IsPiece, quotes, pieces_of, ended, then_pieces, clean, bad, most_in_piece}
-use Rattle.hj_record.specs.Cutter.{Cutting, Takes, Feeds, FeedsFrom, Leads, Closes, LeadsAtEnd, Fits, IsOver, IsOverWithin, pieces_from, cleared}
+use Rattle.hj_record.specs.Cutter.{Cutting, Takes, Leads, Closes, LeadsAtEnd, Fits, IsOver, IsOverWithin, pieces_from, cleared}
 use Rattle.hj_record.proofs.Streams.{pieces_of-piece, pieces_of-stream_long, pieces_of-too_long, pieces_of-end}
 
 -- a byte too many behind a front that goes on
@@ -52,9 +52,6 @@ leads_from_takes (fed.Piece used) bytes old new takes = λ more whole.
     ∙ ap (λ n. then_pieces n.piece (pieces_from (cleared n) others whole)) (sym takes.2)
 leads_from_takes (fed.Bad found) bytes old new (_, inl memory) = inl memory
 leads_from_takes (fed.Bad found) bytes old new (_, inr over) = inr (over_within_leads found bytes old over)
-
-pub feeds_from_takes : (answer : Fed) (bytes : List ℕ) (old new : Cutting) → old.fault ≡ None → Takes answer bytes old new → Feeds answer bytes old new
-feeds_from_takes answer bytes old new none takes = subst (λ f. FeedsFrom f answer bytes old new) (sym none) takes
 
 -- how the pieces end where a whole stream has these bytes
 abbrev at_end : ℕ → ℕ → List ℕ → Pieces

@@ -256,6 +256,3 @@ fn find_line_end(bytes: &[u8], mut inside: bool) -> LineEnd
     }
     LineEnd::Beyond { inside }
 }
-
-#[cfg(test)]
-mod tests;

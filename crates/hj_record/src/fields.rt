@@ -107,37 +107,3 @@ fn start_of(ends: &[usize], at: usize) -> usize
 {
     if at == 0 { 0 } else { ends[at - 1] }
 }
-
-#[cfg(test)]
-mod tests {
-    use super::*;
-    use std::test::Fail;
-
-    #[test]
-    fn keeps_each_field(rt: HostRuntime) -> Result<(), Fail> {
-        let mut fields = Fields::new(rt.alloc());
-        for field in ["a", "", "bc"] {
-            assert!(rt; fields.push(field.as_bytes()).is_ok());
-        }
-        assert_eq!(rt; fields.len(), 3);
-        let rows = [(0, Some("a")), (1, Some("")), (2, Some("bc")), (3, None)];
-        for (at, field) in rows {
-            assert_eq!(rt;
-                fields.get(at),
-                field.map(|text| text.as_bytes()),
-                "at {at}"
-            );
-        }
-        Ok(())
-    }
-
-    #[test]
-    fn is_used_again(rt: HostRuntime) {
-        let mut fields = Fields::new(rt.alloc());
-        assert!(rt; fields.push(b"a").is_ok());
-        fields.clear();
-        assert_eq!(rt; fields.len(), 0);
-        assert!(rt; fields.push(b"b").is_ok());
-        assert_eq!(rt; fields.get(0), Some(b"b".as_slice()));
-    }
-}

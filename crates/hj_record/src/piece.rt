@@ -102,6 +102,3 @@ fn push_all(row: &ByteRecord, fields: &mut Fields) -> Result<(), Memory>
     }
     Ok(())
 }
-
-#[cfg(test)]
-mod tests;

@@ -8,6 +8,3 @@ mod place;
 pub use list_store::{ListStore, is_joined};
 pub use numbered::Numbered;
 pub use place::Rest;
-
-#[cfg(test)]
-mod tests;

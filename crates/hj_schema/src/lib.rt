@@ -6,6 +6,3 @@ mod read;
 
 pub use fault::RowFault;
 pub use read::read_row;
-
-#[cfg(test)]
-mod tests;

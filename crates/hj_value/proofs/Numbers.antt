@@ -37,10 +37,6 @@ read_on-is n (c ∷ cs) = read_on-first n c cs (is_ascii_digit c) refl (λ m. re
 read_on-whole : (ds : List ℕ) → read_on 0 ds ≡ magnitude_of ds
 read_on-whole ds = read_on-is 0 ds
 
-pub read_on-step : (ds : List ℕ) (i n : ℕ) → i < length ds → is_ascii_digit (get_or ds i 0) ≡ true → read_on n (drop i ds) ≡ read_on 0 ds → read_on (n * 10 + (get_or ds i 0 - 48)) (drop (i + 1) ds) ≡ read_on 0 ds
-read_on-step ds i n h d so_far =
-    sym (cond-true (is_ascii_digit (get_or ds i 0)) (read_on (n * 10 + (get_or ds i 0 - 48)) (drop (i + 1) ds)) (Err fault.NotNumber) d) ∙ sym (at_drop_more (read_on n) ds i 0 h) ∙ so_far
-
 pub read_on-stop : (ds : List ℕ) (i n : ℕ) → i < length ds → is_ascii_digit (get_or ds i 0) ≡ false → read_on n (drop i ds) ≡ read_on 0 ds → Err fault.NotNumber ≡ magnitude_of ds
 read_on-stop ds i n h d so_far =
     sym (cond-false (is_ascii_digit (get_or ds i 0)) (read_on (n * 10 + (get_or ds i 0 - 48)) (drop (i + 1) ds)) (Err fault.NotNumber) d) ∙ sym (at_drop_more (read_on n) ds i 0 h) ∙ so_far ∙ read_on-whole ds

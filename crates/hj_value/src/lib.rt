@@ -19,6 +19,3 @@ pub use number::{IntFault, print_int, read_int};
 pub use row::Row;
 pub use schema::Schema;
 pub use shared_row::SharedRow;
-
-#[cfg(test)]
-mod tests;

@@ -24,6 +24,3 @@ impl Schema {
         })
     }
 }
-
-#[cfg(test)]
-mod tests;

@@ -1,7 +1,6 @@
 -- The rows that are gone by their age, found one after another on both sides.
-use Rattle.std.proofs.Common.{◌≡◌, true, false, cond, ltb, ℤ, List, [], ◌∷◌, ◌++◌, drop, refl, sym, ap, ◌∙◌, subst, Some, None, Option, unwrap_or, append_assoc}
+use Rattle.std.proofs.Common.{◌≡◌, true, false, cond, ltb, ℤ, List, [], ◌∷◌, ◌++◌, drop, sym, ap, ◌∙◌, subst, Some, None, Option, unwrap_or, append_assoc}
 use Rattle.std.specs.List.{filter}
-use Rattle.std.proofs.lemmas.List.{append-nil}
 use Rattle.hj_base.specs.declared.numbers.EventNo.{EventNo}
 use Rattle.hj_base.specs.declared.numbers.Side.{Side}
 use Rattle.hj_base.specs.declared.numbers.Side.TheVariants.{Left, Right}
@@ -84,18 +83,6 @@ right_first now left right (Some first) (Some other) due is =
       | false ↦ λ is'. ap (λ (d : Due). live_row Right d.held ∷ merged (live_row Left first.held ∷ lefts) (live_rows Right (aged right.window now (drop d.next right.rows)))) (same_due Right Right other due is')
     ] is
 
-some_isn't_none : (side : Side) (due : Due) → found side due ≡ None → ⊥
-some_isn't_none side due is = cc
-
-pub none_due : (now : ℤ) (left right : Kept) (first other : Option Due) → first_of first other ≡ None → still_due now left right first other ≡ []
-none_due now left right None None is = refl
-none_due now left right None (Some other) is = absurd (some_isn't_none Right other is)
-none_due now left right (Some first) None is = absurd (some_isn't_none Left first is)
-none_due now left right (Some first) (Some other) is = elim (ltb first.held.no.0 other.held.no.0) as (λ b. cond b (found Left first) (found Right other) ≡ None → still_due now left right (Some first) (Some other) ≡ []) [
-  | true ↦ λ is'. absurd (some_isn't_none Left first is')
-  | false ↦ λ is'. absurd (some_isn't_none Right other is')
-] is
-
 answered : (row : LiveRow) (rest all due : List LiveRow) (before after : List (Side × EventNo)) → numbers_of all ≡ before ++ numbers_of due → due ≡ row ∷ rest
     → after ≡ before ++ (row.side, number_of row) ∷ [] → numbers_of all ≡ after ++ numbers_of rest
 answered row rest all due before after so_far next is =
@@ -118,7 +105,3 @@ answered_right now left right first other next due all before after so_far is gr
     answered (live_row Right due.held) (merged (live_rows Left (due_rows left.window now left.rows first)) (live_rows Right (aged right.window now (drop due.next right.rows)))) all (still_due now left right first other) before after so_far
     (right_first now left right first other due is) grown
     ∙ ap (λ l. after ++ numbers_of (merged (live_rows Left (due_rows left.window now left.rows first)) (live_rows Right l))) behind
-
--- all were answered
-pub all_answered : (all due : List LiveRow) (before : List (Side × EventNo)) → numbers_of all ≡ before ++ numbers_of due → due ≡ [] → before ≡ numbers_of all
-all_answered all due before so_far none = sym (so_far ∙ ap (λ l. before ++ numbers_of l) none ∙ append-nil before)

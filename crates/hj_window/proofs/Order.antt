@@ -75,10 +75,6 @@ count_between low high (row ∷ rows) range from below order =
     let others : length rows + (row.no + 1) ≤ high = count_between (row.no + 1) high rows (omega arith) (from_above row.no (row.no + 1) rows (omega arith) order.0) below.1 order.1 in
     omega arith
 
--- there are no more rows than numbers below this one
-pub count_below : (at : ℕ) (rows : List LiveRow) → AllBelow at rows → IsInOrder rows → length rows ≤ at
-count_below at rows below order = omega (arith, count_between 0 at rows (omega arith) (from_zero rows) below order)
-
 in_order_without : (gone : Option LiveRow) (rows : List LiveRow) → IsInOrder rows → IsInOrder (without gone rows)
 in_order_without None rows order = order
 in_order_without (Some gone) rows order = in_order_filter _ rows order

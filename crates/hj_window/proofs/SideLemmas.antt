@@ -1,14 +1,13 @@
 -- The rows of one side that are gone by their age, and the order of the times.
-use Rattle.std.proofs.Common.{◌≡◌, ℕ, ◌+◌, ◌-◌, ◌<◌, ◌≤◌, true, false, not, cond, ltb, Some, None, ℤ, ◌-ℤ◌, ◌≤ℤ◌, zero, suc, List, [], ◌∷◌, ◌++◌, length, get_or, drop, refl, sym, ap, ◌∙◌, subst, arith}
+use Rattle.std.proofs.Common.{◌≡◌, ℕ, ◌+◌, ◌-◌, ◌<◌, ◌≤◌, true, false, not, cond, ℤ, ◌-ℤ◌, ◌≤ℤ◌, zero, suc, List, [], ◌∷◌, ◌++◌, length, get_or, drop, refl, sym, ap, ◌∙◌, subst, arith}
 use Rattle.std.proofs.lemmas.Int.{ints}
 use Rattle.std.proofs.lemmas.List.{drop_more}
 use Rattle.std.proofs.lemmas.List.Filters.{length-filter_both}
-use Rattle.std.proofs.Math.ListN.{drop_of_length-le}
 use Rattle.hj_base.specs.declared.numbers.Window.{Window}
 use Rattle.hj_base.specs.declared.numbers.Window.TheVariants.{Rows, Time}
 use Rattle.hj_window.specs.declared.side_rows.HeldRow.{HeldRow}
 use Rattle.hj_window.specs.LiveRows.{is_gone_at}
-use Rattle.hj_window.specs.SideRows.{NoneBefore, IsInTime, is_aged, aged, unaged, Overflow, overflow}
+use Rattle.hj_window.specs.SideRows.{NoneBefore, IsInTime, is_aged, aged, unaged}
 
 none_by_rows : (count : ℕ) (now : ℤ) (rows : List HeldRow) → aged (Rows count) now rows ≡ []
 none_by_rows count now [] = refl
@@ -50,30 +49,12 @@ in_time_drop (held ∷ rows) (suc at) order = in_time_drop rows at order.1
 drop_here : (rows : List HeldRow) (at : ℕ) (held : HeldRow) → at < length rows → held ≡ get_or rows at held → drop at rows ≡ held ∷ drop (at + 1) rows
 drop_here rows at held below read = drop_more rows at held below ∙ ap (λ x. x ∷ drop (at + 1) rows) (sym read)
 
--- the aged rows from a place on, where the row there is aged
-pub aged_here : (window : Window) (now : ℤ) (rows : List HeldRow) (at : ℕ) (held : HeldRow) → at < length rows → held ≡ get_or rows at held → is_aged window now held ≡ true
-    → aged window now (drop at rows) ≡ held ∷ aged window now (drop (at + 1) rows)
-aged_here window now rows at held below read old =
-    let others = aged window now (drop (at + 1) rows) in
-    ap (aged window now) (drop_here rows at held below read) ∙ ap (λ b. cond b (held ∷ others) others) old
-
--- and where it isn't
-pub aged_later : (window : Window) (now : ℤ) (rows : List HeldRow) (at : ℕ) (held : HeldRow) → at < length rows → held ≡ get_or rows at held → is_aged window now held ≡ false
-    → aged window now (drop at rows) ≡ aged window now (drop (at + 1) rows)
-aged_later window now rows at held below read young =
-    let others = aged window now (drop (at + 1) rows) in
-    ap (aged window now) (drop_here rows at held below read) ∙ ap (λ b. cond b (held ∷ others) others) young
-
 -- and where the times never fall
 pub aged_nowhere : (window : Window) (now : ℤ) (rows : List HeldRow) (at : ℕ) (held : HeldRow) → at < length rows → held ≡ get_or rows at held → is_aged window now held ≡ false → IsInTime rows
     → aged window now (drop at rows) ≡ []
 aged_nowhere window now rows at held below read young order =
     let here = drop_here rows at held below read in
     ap (aged window now) here ∙ none_behind window now held (drop (at + 1) rows) (subst IsInTime here (in_time_drop rows at order)) young
-
--- behind the last place
-pub aged_past : (window : Window) (now : ℤ) (rows : List HeldRow) (at : ℕ) → length rows ≤ at → aged window now (drop at rows) ≡ []
-aged_past window now rows at past = ap (aged window now) (drop_of_length-le rows past)
 
 none_before_at : (time : ℤ) (rows : List HeldRow) (at : ℕ) (other : HeldRow) → NoneBefore time rows → at < length rows → time ≤ℤ (get_or rows at other).time
 none_before_at time [] at other order below = absurd (omega arith)
@@ -101,15 +82,6 @@ pub in_time_push : (rows : List HeldRow) (newest held : HeldRow) (len : ℕ) →
 in_time_push rows newest held len order count some read last =
     in_time_behind rows held newest order
     (λ at below. let upto : (get_or rows at newest).time ≤ℤ newest.time = subst (λ (h : HeldRow). (get_or rows at newest).time ≤ℤ h.time) (sym read) (in_time_at rows at (len - 1) newest order (omega arith) (omega arith)) in omega (arith, ints))
-
--- the rows stay in time where the first leaves
-pub overflow_in_time : (window : Window) (rows : List HeldRow) → IsInTime rows → IsInTime (overflow window rows).rows
-overflow_in_time (Time span) rows order = order
-overflow_in_time (Rows count) [] order = order
-overflow_in_time (Rows count) (oldest ∷ others) order = elim (ltb count (length (oldest ∷ others))) as (λ b. IsInTime (cond b (let left : Overflow = record { gone = Some oldest.no; rows = others } in left) (record { gone = None; rows = oldest ∷ others })).rows) [
-  | true ↦ order.1
-  | false ↦ order
-]
 
 -- where the times never fall and the first row isn't aged, all stay
 pub all_stay : (window : Window) (now : ℤ) (rows : List HeldRow) (held : HeldRow) → 0 < length rows → held ≡ get_or rows 0 held → is_aged window now held ≡ false → IsInTime rows → rows ≡ unaged window now rows

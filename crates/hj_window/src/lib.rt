@@ -7,6 +7,3 @@ mod side_rows;
 
 pub use live::{Expired, Live};
 pub use numbers::Numbers;
-
-#[cfg(test)]
-mod tests;

@@ -8,6 +8,3 @@ mod values;
 
 pub use order::{Order, Usage};
 pub use read::read_words;
-
-#[cfg(test)]
-mod tests;

@@ -1,0 +1,22 @@
+//! Worked rows of the parts that a join is made of, from bytes to rows, windows and lines, and of the words of the command line,
+//! over the public calls of crates below. A crate that has tests of its own is proved twice.
+#![tactic(auto)]
+
+#[cfg(test)]
+mod generated;
+#[cfg(test)]
+mod lines;
+#[cfg(test)]
+mod outsides;
+#[cfg(test)]
+mod records;
+#[cfg(test)]
+mod rows;
+#[cfg(test)]
+mod tokens;
+#[cfg(test)]
+mod values;
+#[cfg(test)]
+mod windows;
+#[cfg(test)]
+mod words;
