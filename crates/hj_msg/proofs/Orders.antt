@@ -27,10 +27,6 @@ before-prefix p q {xs} prefix h = rw prefix.is (before-done p q xs prefix.rest h
 pub any-prefix : {X : Type 0} (p : X → Bool) {xs ys : List X} → IsPrefix xs ys → list_any p xs ≡ true → list_any p ys ≡ true
 any-prefix p {xs} prefix h = rw prefix.is (rw (any-append p xs prefix.rest) (grind (arith, h)))
 
-pub before-none : {X : Type 0} (p q : X → Bool) (xs : List X) → list_any q xs ≡ false → before p q xs ≡ list_any p xs
-before-none p q [] h = refl
-before-none p q (x ∷ xs) h = grind (arith, before-none p q xs)
-
 -- what stands before comes to be
 pub before-any : {X : Type 0} (p q : X → Bool) (xs : List X) → before p q xs ≡ true → list_any p xs ≡ true
 before-any p q [] h = absurd (true≢false (sym h))

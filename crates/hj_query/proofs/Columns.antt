@@ -1,5 +1,5 @@
 -- Looking a column up by its name, and adding one behind others.
-use Rattle.std.proofs.Common.{◌≡◌, ℕ, zero, suc, ◌+◌, ◌<◌, ◌≤◌, Bool, true, false, cond, not, ◌&&◌, ◌||◌, List, [], ◌∷◌, ◌++◌, length, drop, Some, None, refl, sym, ap, ◌∙◌, arith}
+use Rattle.std.proofs.Common.{◌≡◌, ℕ, zero, suc, ◌+◌, ◌<◌, Bool, true, false, cond, not, ◌&&◌, ◌||◌, List, [], ◌∷◌, ◌++◌, length, drop, Some, None, refl, sym, ap, ◌∙◌, arith}
 use Rattle.std.proofs.lemmas.Bool.{and_parts, false≢true}
 use Rattle.std.specs.List.{list_all, list_any, position_from, slice_get}
 use Rattle.std.specs.Prelude.{is_some}
@@ -98,12 +98,6 @@ timed_more (first ∷ front) column h = h
 -- what holds of all from a place on
 pub all_at : {A : Type 0} (p : A → Bool) (xs : List A) (at : ℕ) (x : A) (b : Bool) → Some x ≡ slice_get xs at → p x ≡ b → list_all p (drop at xs) ≡ (b && list_all p (drop (at + 1) xs))
 all_at p xs at x b e t = ap (list_all p) (drop_get xs at x e) ∙ ap (λ test. test && list_all p (drop (at + 1) xs)) t
-
-pub all_end : {A : Type 0} (p : A → Bool) (xs : List A) (at : ℕ) → length xs ≤ at → list_all p (drop at xs) ≡ true
-all_end p [] zero le = refl
-all_end p [] (suc at) le = refl
-all_end p (x ∷ xs) zero le = absurd (omega arith)
-all_end p (x ∷ xs) (suc at) le = all_end p xs at (omega arith)
 
 pub and_right : (a b : Bool) → b ≡ false → (a && b) ≡ false
 and_right true b e = e

@@ -1,12 +1,11 @@
 -- What a cutter's answer says of the stream where a whole piece isn't copied.
-use Rattle.std.proofs.Common.{◌≡◌, ℕ, ◌+◌, ◌≤◌, ◌<◌, ◌%◌, ◌==◌, Bool, true, false, cond, List, [], ◌∷◌, ◌++◌, length, take, drop, sym, ap, subst, ◌∙◌, None, refl, arith}
-use Rattle.std.proofs.lemmas.List.{append-nil, take_all}
-use Rattle.std.proofs.lemmas.Bool.{le-ltb}
+use Rattle.std.proofs.Common.{◌≡◌, ℕ, false, List, [], ◌++◌, take, drop, sym, ap, subst, ◌∙◌, None}
+use Rattle.std.proofs.lemmas.List.{append-nil}
 use Rattle.hj_record.specs.declared.cutter.Cut.{Cut}
 use Rattle.hj_record.specs.declared.cutter.Cut.TheVariants as cut
 use Rattle.hj_record.specs.declared.cutter.Fed.TheVariants as fed
-use Rattle.hj_record.specs.Pieces.{Pieces, IsUnended, pieces_of, ended, then_pieces, unread}
-use Rattle.hj_record.specs.Cutter.{Cutting, Takes, Fits, pieces_from, cleared}
+use Rattle.hj_record.specs.Pieces.{IsUnended, pieces_of, ended, then_pieces, unread}
+use Rattle.hj_record.specs.Cutter.{Cutting, Fits, pieces_from}
 use Rattle.hj_record.specs.Cuts.{CutsNext, CutsFrom, Cuts, LeadsBy, with_piece}
 use Rattle.hj_record.proofs.Leads.{leads_from_takes}
 use Rattle.hj_record.proofs.Streams.{pieces_of-cut_off}

@@ -65,16 +65,6 @@ pub from_above : (at lower : ℕ) (rows : List LiveRow) → lower ≤ at + 1 →
 from_above at lower [] less above = tt
 from_above at lower (row ∷ rows) less above = (omega arith, from_above at lower rows less above.1)
 
-from_zero : (rows : List LiveRow) → AllFrom 0 rows
-from_zero [] = tt
-from_zero (row ∷ rows) = (omega arith, from_zero rows)
-
-count_between : (low high : ℕ) (rows : List LiveRow) → low ≤ high → AllFrom low rows → AllBelow high rows → IsInOrder rows → length rows + low ≤ high
-count_between low high [] range from below order = omega arith
-count_between low high (row ∷ rows) range from below order =
-    let others : length rows + (row.no + 1) ≤ high = count_between (row.no + 1) high rows (omega arith) (from_above row.no (row.no + 1) rows (omega arith) order.0) below.1 order.1 in
-    omega arith
-
 in_order_without : (gone : Option LiveRow) (rows : List LiveRow) → IsInOrder rows → IsInOrder (without gone rows)
 in_order_without None rows order = order
 in_order_without (Some gone) rows order = in_order_filter _ rows order

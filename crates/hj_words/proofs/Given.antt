@@ -6,7 +6,7 @@ use Rattle.std.specs.declared.string.String.{String}
 use Rattle.std.proofs.lemmas.Str.{IsUtf8-string_bytes}
 use Rattle.clap.specs.Kinds.{HasKind, Kinds}
 use Rattle.clap.specs.Values as clap
-use Rattle.clap.specs.Walk.{Row, Rule, first_of, idle, nothing_held}
+use Rattle.clap.specs.Walk.{Rule, first_of, idle, nothing_held}
 use Rattle.clap.specs.Walk as walk
 use Rattle.clap.specs.Simple.{App, argument_words, built, matches_of, names_of}
 use Rattle.clap.specs.Faults.{built_fault, fault_of, level_fault, walk_fault}

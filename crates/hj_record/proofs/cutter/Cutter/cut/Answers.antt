@@ -2,7 +2,6 @@ use Rattle.std.proofs.Common.{◌-◌, ◌+◌, ap, refl, rules}
 use Rattle.std.proofs.lemmas.List.{nil_from_length}
 use Rattle.hj_record.specs.LineEnd.{may_take}
 use Rattle.hj_record.specs.Cutter.{Cutting}
-use Rattle.hj_record.specs.Cuts.{Lends}
 use Rattle.hj_record.specs.declared.cutter.Cut.TheVariants as cut
 use Rattle.hj_record.proofs.Takes.{sound_by_quotes, lends_piece}
 use Rattle.hj_record.proofs.CutLemmas.{cuts_from_next, leads_by}

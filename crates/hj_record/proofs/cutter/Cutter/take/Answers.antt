@@ -1,7 +1,7 @@
 use Rattle.std.proofs.Common.{subst, refl, rules}
 use Rattle.hj_record.specs.declared.cutter.LineEnd.{LineEnd}
 use Rattle.hj_record.specs.LineEnd.{FindsFor, may_take}
-use Rattle.hj_record.proofs.Takes.{sound_by_quotes, piece_outside, end_within, goes_on, parity_beyond, takes_piece, takes_more, takes_stream_long, takes_too_long}
+use Rattle.hj_record.proofs.Takes.{sound_by_quotes, piece_outside, goes_on, parity_beyond, takes_piece, takes_more, takes_stream_long, takes_too_long}
 use Rattle.hj_record.proofs.cutter.Cutter.take.Goals as goal
 
 pub append-requires-clause-parity : goal.append-requires-clause-parity
