@@ -151,9 +151,21 @@ impl Lane {
         }
     }
 
-    /// The place of an arrival.
+    /// The place of an arrival: mostly that of the first one, or none where it left before that one came.
     #[inline(always)]
     fn search(&self, no: EventNo) -> Result<usize, usize>
+        ensures found { IfOk result (IsAt self.now.arrivals no.0) }
+        ensures absent { IfErr result (λ _. IsAbsent self.now.arrivals no.0) }
+    {
+        match self.arrivals.front() {
+            Some(first) if no.0 == first.no.0 => Ok(0),
+            Some(first) if no.0 < first.no.0 => Err(0),
+            _ => self.search_all(no),
+        }
+    }
+
+    /// The place of an arrival, looked for among all.
+    fn search_all(&self, no: EventNo) -> Result<usize, usize>
         ensures found { IfOk result (IsAt self.now.arrivals no.0) }
         ensures absent { IfErr result (λ _. IsAbsent self.now.arrivals no.0) }
     {

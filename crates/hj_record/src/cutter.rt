@@ -247,6 +247,10 @@ fn find_line_end(bytes: &[u8], mut inside: bool) -> LineEnd
     ensures { Finds result inside bytes.now }
 {
     for (at, &byte) in bytes.iter().enumerate() {
+        // Most bytes are above both.
+        if byte > QUOTE {
+            continue;
+        }
         if byte == LINE_FEED && !inside {
             return LineEnd::At(at);
         }

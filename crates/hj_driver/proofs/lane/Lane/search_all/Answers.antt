@@ -2,7 +2,7 @@ use Rattle.std.proofs.Common.{rules}
 use Rattle.std.proofs.lemmas.List.Sorted.{answers_always}
 use Rattle.hj_driver.proofs.Arrivals.{searched}
 use Rattle.hj_driver.specs.declared.lane.Arrival.{Arrival}
-use Rattle.hj_driver.proofs.lane.Lane.search.Goals as goal
+use Rattle.hj_driver.proofs.lane.Lane.search_all.Goals as goal
 
 pub returns : goal.returns
 returns c =
