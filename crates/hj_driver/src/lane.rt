@@ -1,5 +1,6 @@
 ghost use Rattle.std.specs.Prelude.{◌≡◌, ◌+◌, ◌<◌, [], ◌∷◌, ◌++◌, ◌==◌, ◌^◌, length, not, position, IfOk, IfErr};
-ghost use Rattle.std.specs.List.{All, Contains, filter, filter_map, list_any};
+ghost use Rattle.std.specs.List.{All, Contains, filter, filter_map, list_any, remove};
+ghost use Rattle.std.specs.VecDeque.{deque_capacity};
 ghost use Rattle.hj_driver.specs.Lane.{after_part, is_other, is_taken, waits_for, with_part, IsAt, IsAbsent};
 
 use hj_base::{EventNo, Memory};
@@ -136,7 +137,7 @@ impl Lane {
         match self.arrivals[at].after(part) {
             Some(arrival) => self.arrivals[at] = arrival,
             None => {
-                self.arrivals.remove(at);
+                take_out(&mut self.arrivals, at);
             }
         }
     }
@@ -147,7 +148,7 @@ impl Lane {
         ensures { self.new ≡ record self.old { expiries = filter (is_other of.0) self.old.expiries } }
     {
         if let Some(at) = self.find(of) {
-            self.expiries.remove(at);
+            take_out(&mut self.expiries, at);
         }
     }
 
@@ -179,5 +180,19 @@ impl Lane {
         ensures { result ≡ position (λ other. of.0 == other.0) self.now.expiries }
     {
         self.expiries.iter().position(|other| of.0 == other.0)
+    }
+}
+
+/// Takes out the element at a place, which is mostly the first.
+#[inline(always)]
+fn take_out<T: Drop>(items: &mut VecDeque<T>, at: usize)
+    requires { at < length items.old.items }
+    ensures items { items.new.items ≡ remove items.old.items at }
+    ensures capacity { deque_capacity items.new ≡ deque_capacity items.old }
+{
+    if at == 0 {
+        items.pop_front();
+    } else {
+        items.remove(at);
     }
 }

@@ -20,9 +20,9 @@ pub invariant_of-self-in-None : goal.invariant_of-self-in-None
 invariant_of-self-in-None c =
     let l = c.self.inside.arrivals.items in
     let is : IsAt l c.args.no.0 c.in-Ok.at = subst (λ (s : LaneState). IsAt s.arrivals c.args.no.0 c.in-Ok.at) (sym c.self.view_is) c.in-Ok.ensures.found in
-    let items = on_some c.remove.result _ (c.remove.ensures.variant.1 (omega (arith, is.in_range, c.self.inside.arrivals.ok.0))) c.remove.ensures.items in
+    let items = c.take_out.ensures.items in
     let after = items ∙ removed l c.self.invariant.rising c.args.no.0 c.in-Ok.at is c.args.part c.index.result.now c.index.ensures (sym c.in-None.ensures) in
-    record { rising = subst IsRising (sym after) (rising_after c.args.no.0 c.args.part l c.self.invariant.rising); distinct = c.self.invariant.distinct; for_arrivals = omega (arith, c.remove.ensures.capacity, c.self.invariant.for_arrivals); for_expiries = c.self.invariant.for_expiries }
+    record { rising = subst IsRising (sym after) (rising_after c.args.no.0 c.args.part l c.self.invariant.rising); distinct = c.self.invariant.distinct; for_arrivals = omega (arith, c.take_out.ensures.capacity, c.self.invariant.for_arrivals); for_expiries = c.self.invariant.for_expiries }
 
 pub returns-in-Some : goal.returns-in-Some
 returns-in-Some c =
@@ -35,6 +35,6 @@ pub returns-in-None : goal.returns-in-None
 returns-in-None c =
     let l = c.self.inside.arrivals.items in
     let is : IsAt l c.args.no.0 c.in-Ok.at = subst (λ (s : LaneState). IsAt s.arrivals c.args.no.0 c.in-Ok.at) (sym c.self.view_is) c.in-Ok.ensures.found in
-    let items = on_some c.remove.result _ (c.remove.ensures.variant.1 (omega (arith, is.in_range, c.self.inside.arrivals.ok.0))) c.remove.ensures.items in
+    let items = c.take_out.ensures.items in
     lane_with c.args.self.now l _ c.self.inside.expiries.items c.self.inside.room (filter_map (after_part c.args.no.0 c.args.part)) c.self.view_is
     (items ∙ removed l c.self.invariant.rising c.args.no.0 c.in-Ok.at is c.args.part c.index.result.now c.index.ensures (sym c.in-None.ensures))

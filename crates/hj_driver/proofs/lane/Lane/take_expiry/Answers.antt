@@ -9,19 +9,19 @@ pub invariant_of-self : goal.invariant_of-self
 invariant_of-self c =
     let l = c.self.inside.expiries.items in
     let found : position (λ (of : EventNo). c.args.of.0 == of.0) l ≡ Some c.in-Some.at = ap (λ (s : LaneState). position (λ (of : EventNo). c.args.of.0 == of.0) s.expiries) c.self.view_is ∙ sym c.in-Some.ensures in
-    let items = on_some c.remove.result _ (c.remove.ensures.variant.1 (omega (arith, position_in_range l c.args.of.0 c.in-Some.at found, c.self.inside.expiries.ok.0))) c.remove.ensures.items in
+    let items = c.take_out.ensures.items in
     record {
       rising = c.self.invariant.rising;
       distinct = subst AreDistinct (sym (items ∙ filter-at l c.args.of.0 c.in-Some.at c.self.invariant.distinct found)) (distinct_after l c.args.of.0 c.self.invariant.distinct);
       for_arrivals = c.self.invariant.for_arrivals;
-      for_expiries = omega (arith, c.remove.ensures.capacity, c.self.invariant.for_expiries);
+      for_expiries = omega (arith, c.take_out.ensures.capacity, c.self.invariant.for_expiries);
     }
 
 pub returns-in-Some : goal.returns-in-Some
 returns-in-Some c =
     let l = c.self.inside.expiries.items in
     let found : position (λ (of : EventNo). c.args.of.0 == of.0) l ≡ Some c.in-Some.at = ap (λ (s : LaneState). position (λ (of : EventNo). c.args.of.0 == of.0) s.expiries) c.self.view_is ∙ sym c.in-Some.ensures in
-    let items = on_some c.remove.result _ (c.remove.ensures.variant.1 (omega (arith, position_in_range l c.args.of.0 c.in-Some.at found, c.self.inside.expiries.ok.0))) c.remove.ensures.items in
+    let items = c.take_out.ensures.items in
     lane_with_expiries c.args.self.now c.self.inside.arrivals.items l _ c.self.inside.room (filter (is_other c.args.of.0)) c.self.view_is (items ∙ filter-at l c.args.of.0 c.in-Some.at c.self.invariant.distinct found)
 
 pub returns-in_default : goal.returns-in_default
