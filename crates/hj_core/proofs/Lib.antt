@@ -1,3 +1,2 @@
 mod Flights
 mod Merges
-mod Steps
