@@ -1,5 +1,6 @@
 -- What puts leave in the journals.
 use Rattle.std.proofs.Common.{◌≡◌, ℕ, ◌+◌, List, [], ◌∷◌, ◌++◌, length, map, Option, Some, refl, ap, ap₂, sym, ◌∙◌, arith, append-nil, append_assoc, length-append}
+use Rattle.std.specs.List.{flat_map}
 use Rattle.std.specs.Option.{option_to_list}
 use Rattle.std.proofs.lemmas.List.{map-append}
 use Rattle.std.proofs.lemmas.List.Sums.{fold-append}
@@ -15,42 +16,66 @@ use Rattle.hj_worker.specs.Hands.{things_of}
 use Rattle.hj_worker.specs.Turning.{Puts}
 
 module _ {P : Type 0} where
+  -- what one thing puts at each place
+  abbrev pub leftward : Outgoing P → List (Msg P)
+  leftward (leftwards message) = message ∷ []
+  leftward (rightwards message) = []
+  leftward (reported entry) = []
+
+  abbrev pub rightward : Outgoing P → List (Msg P)
+  rightward (leftwards message) = []
+  rightward (rightwards message) = message ∷ []
+  rightward (reported entry) = []
+
+  abbrev pub report_in : Outgoing P → List (Report P)
+  report_in (leftwards message) = []
+  report_in (rightwards message) = []
+  report_in (reported entry) = entry ∷ []
+
   -- of some things, the messages that go to each side, and the reports
   abbrev pub lefts : List (Outgoing P) → List (Msg P)
-  lefts [] = []
-  lefts (leftwards message ∷ items) = message ∷ lefts items
-  lefts (rightwards message ∷ items) = lefts items
-  lefts (reported entry ∷ items) = lefts items
+  lefts items = flat_map leftward items
 
   abbrev pub rights : List (Outgoing P) → List (Msg P)
-  rights [] = []
-  rights (leftwards message ∷ items) = rights items
-  rights (rightwards message ∷ items) = message ∷ rights items
-  rights (reported entry ∷ items) = rights items
+  rights items = flat_map rightward items
 
   abbrev pub reports_in : List (Outgoing P) → List (Report P)
-  reports_in [] = []
-  reports_in (leftwards message ∷ items) = reports_in items
-  reports_in (rightwards message ∷ items) = reports_in items
-  reports_in (reported entry ∷ items) = entry ∷ reports_in items
+  reports_in items = flat_map report_in items
+
+  -- A journal to which each put adds what the thing puts at its place has, behind some puts, what they all put there.
+  module _ {M : Type 0} (number : ℕ) (journal : Journals P → List (Entry M)) (puts_of : Outgoing P → List M)
+      (each : (js : Journals P) (item : Outgoing P) → journal (with_put number js item) ≡ journal js ++ map (put number) (puts_of item)) where
+    puts-at : (js : Journals P) (items : List (Outgoing P)) → journal (with_puts number js items) ≡ journal js ++ map (put number) (flat_map puts_of items)
+    puts-at js [] = sym (append-nil (journal js))
+    puts-at js (item ∷ items) =
+        puts-at (with_put number js item) items
+        ∙ ap (λ (entries : List (Entry M)). entries ++ map (put number) (flat_map puts_of items)) (each js item)
+        ∙ append_assoc (journal js) (map (put number) (puts_of item)) (map (put number) (flat_map puts_of items))
+        ∙ ap (λ (entries : List (Entry M)). journal js ++ entries) (sym (map-append (put number) (puts_of item) (flat_map puts_of items)))
+
+  put-left : (number : ℕ) (js : Journals P) (item : Outgoing P) → (with_put number js item).left ≡ js.left ++ map (put number) (leftward item)
+  put-left number js (leftwards m) = refl
+  put-left number js (rightwards m) = sym (append-nil js.left)
+  put-left number js (reported r) = sym (append-nil js.left)
+
+  put-right : (number : ℕ) (js : Journals P) (item : Outgoing P) → (with_put number js item).right ≡ js.right ++ map (put number) (rightward item)
+  put-right number js (leftwards m) = sym (append-nil js.right)
+  put-right number js (rightwards m) = refl
+  put-right number js (reported r) = sym (append-nil js.right)
+
+  put-reports : (number : ℕ) (js : Journals P) (item : Outgoing P) → (with_put number js item).reports ≡ js.reports ++ map (put number) (report_in item)
+  put-reports number js (leftwards m) = sym (append-nil js.reports)
+  put-reports number js (rightwards m) = sym (append-nil js.reports)
+  put-reports number js (reported r) = refl
 
   pub puts-left : (number : ℕ) (js : Journals P) (items : List (Outgoing P)) → (with_puts number js items).left ≡ js.left ++ map (put number) (lefts items)
-  puts-left number js [] = sym (append-nil js.left)
-  puts-left number js (leftwards m ∷ items) = puts-left number (with_put number js (leftwards m)) items ∙ append_assoc js.left (put number m ∷ []) (map (put number) (lefts items))
-  puts-left number js (rightwards m ∷ items) = puts-left number (with_put number js (rightwards m)) items
-  puts-left number js (reported r ∷ items) = puts-left number (with_put number js (reported r)) items
+  puts-left number = puts-at number (λ js. js.left) leftward (put-left number)
 
   pub puts-right : (number : ℕ) (js : Journals P) (items : List (Outgoing P)) → (with_puts number js items).right ≡ js.right ++ map (put number) (rights items)
-  puts-right number js [] = sym (append-nil js.right)
-  puts-right number js (leftwards m ∷ items) = puts-right number (with_put number js (leftwards m)) items
-  puts-right number js (rightwards m ∷ items) = puts-right number (with_put number js (rightwards m)) items ∙ append_assoc js.right (put number m ∷ []) (map (put number) (rights items))
-  puts-right number js (reported r ∷ items) = puts-right number (with_put number js (reported r)) items
+  puts-right number = puts-at number (λ js. js.right) rightward (put-right number)
 
   pub puts-reports : (number : ℕ) (js : Journals P) (items : List (Outgoing P)) → (with_puts number js items).reports ≡ js.reports ++ map (put number) (reports_in items)
-  puts-reports number js [] = sym (append-nil js.reports)
-  puts-reports number js (leftwards m ∷ items) = puts-reports number (with_put number js (leftwards m)) items
-  puts-reports number js (rightwards m ∷ items) = puts-reports number (with_put number js (rightwards m)) items
-  puts-reports number js (reported r ∷ items) = puts-reports number (with_put number js (reported r)) items ∙ append_assoc js.reports (put number r ∷ []) (map (put number) (reports_in items))
+  puts-reports number = puts-at number (λ js. js.reports) report_in (put-reports number)
 
   pub take-left : (number : ℕ) (end : Side) (m : Msg P) (js : Journals P) → (with_take number end m js).left ≡ js.left ++ only_at end Left (taken number m)
   take-left number Left m js = refl

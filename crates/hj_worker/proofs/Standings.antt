@@ -1,13 +1,13 @@
 -- The turns of a worker, one after another.
-use Rattle.std.proofs.Common.{◌≡◌, ◌⊎◌, ◌↔◌, inl, inr, ℕ, ◌+◌, ◌-◌, ◌<◌, ◌≤◌, Bool, List, [], ◌∷◌, ◌++◌, length, map, get_or, Option, Some, None, refl, ap, ap₂, sym, ◌∙◌, subst, arith, append-nil, append_assoc, length-append}
+use Rattle.std.proofs.Common.{◌≡◌, ◌⊎◌, ◌↔◌, inl, inr, ℕ, ◌+◌, ◌-◌, ◌<◌, ◌≤◌, Bool, List, [], ◌∷◌, ◌++◌, length, map, Option, Some, None, refl, ap, ap₂, sym, ◌∙◌, subst, arith, append-nil, append_assoc, length-append}
 use Rattle.std.specs.List.{All, flat_map, fold}
 use Rattle.std.specs.Option.{option_to_list}
 use Rattle.std.specs.List.Sorted.{IsStrictlyIncreasing}
-use Rattle.std.proofs.Math.Seq.{get_or-append_seam}
-use Rattle.std.proofs.lemmas.Bool.Decides.{eqb_tells}
-use Rattle.std.proofs.lemmas.List.{get_or_append_left, map-append, length-map}
+use Rattle.std.proofs.lemmas.List.{map-append, length-map}
 use Rattle.std.proofs.lemmas.List.Concat.{flat_map-append}
 use Rattle.std.proofs.lemmas.List.Elements.{All-push, All-weaker}
+use Rattle.std.proofs.lemmas.List.Kept.{AllPairs-from_increasing}
+use Rattle.std.proofs.lemmas.List.Quantifiers.{all_pairs_push}
 use Rattle.std.proofs.lemmas.List.Sums.{fold-append}
 use Rattle.hj_base.specs.declared.numbers.Side.{Side}
 use Rattle.hj_base.specs.declared.numbers.Side.TheVariants.{Left, Right}
@@ -23,77 +23,43 @@ use Rattle.hj_worker.specs.Outgoing.{Outgoing, leftwards, rightwards, reported, 
 use Rattle.hj_worker.specs.Hands.{InHand, unput, refused, in_hand, things_of}
 use Rattle.hj_worker.specs.Standing.{Begins, IsBetween, IsInTheMidst, Stands}
 use Rattle.hj_worker.specs.Turning.{Puts}
-use Rattle.hj_worker.proofs.Putting.{lefts, rights, reports_in, puts-left, puts-right, puts-reports, take-left, take-right, take-reports, puts-append}
+use Rattle.hj_worker.proofs.Putting.{leftward, rightward, report_in, lefts, rights, reports_in, puts-left, puts-right, puts-reports, take-left, take-right, take-reports, puts-append}
 
 increasing-push : (bound : ℕ) (xs : List ℕ) → IsStrictlyIncreasing xs → All (λ x. x < bound) xs → IsStrictlyIncreasing (xs ++ bound ∷ [])
-increasing-push bound xs increasing below = λ k low. elim (eqb_tells (k + 1) (length xs)) [
-  | inl w ↦
-      let here : k < length xs = omega (arith, w.1) in
-      omega (
-        arith,
-        below k 0 here,
-        get_or_append_left xs (bound ∷ []) 0 k here,
-        ap (λ j. get_or (xs ++ bound ∷ []) j 0) w.1 ∙ get_or-append_seam xs bound [] 0,
-      )
-  | inr w ↦
-      let next : k + 1 < length xs = omega (arith, w.1, low, length-append xs (bound ∷ [])) in
-      let here : k < length xs = omega (arith, next) in
-      omega (arith, increasing k next, get_or_append_left xs (bound ∷ []) 0 k here, get_or_append_left xs (bound ∷ []) 0 (k + 1) next)
-]
+increasing-push bound xs rising below k low = all_pairs_push (λ x y. x < y) xs bound (AllPairs-from_increasing xs rising) below k (k + 1) 0 (omega arith) low
 
 at_most_one : {X : Type 0} (o : Option X) → length (option_to_list o) ≤ 1
 at_most_one None = omega arith
 at_most_one (Some x) = omega arith
 
 module _ {P : Type 0} where
-  lefts-append : (xs ys : List (Outgoing P)) → lefts (xs ++ ys) ≡ lefts xs ++ lefts ys
-  lefts-append [] ys = refl
-  lefts-append (leftwards m ∷ xs) ys = ap (λ ms. m ∷ ms) (lefts-append xs ys)
-  lefts-append (rightwards m ∷ xs) ys = lefts-append xs ys
-  lefts-append (reported r ∷ xs) ys = lefts-append xs ys
+  -- what things that are made alike put at a place: each one what it is made of, or nothing
+  all-put : {M : Type 0} (make : M → Outgoing P) (puts_of : Outgoing P → List M) → ((x : M) → puts_of (make x) ≡ x ∷ []) → (xs : List M) → flat_map puts_of (map make xs) ≡ xs
+  all-put make puts_of one [] = refl
+  all-put make puts_of one (x ∷ xs) = ap₂ (λ here later. here ++ later) (one x) (all-put make puts_of one xs)
 
-  rights-append : (xs ys : List (Outgoing P)) → rights (xs ++ ys) ≡ rights xs ++ rights ys
-  rights-append [] ys = refl
-  rights-append (leftwards m ∷ xs) ys = rights-append xs ys
-  rights-append (rightwards m ∷ xs) ys = ap (λ ms. m ∷ ms) (rights-append xs ys)
-  rights-append (reported r ∷ xs) ys = rights-append xs ys
+  none-put : {M N : Type 0} (make : N → Outgoing P) (puts_of : Outgoing P → List M) → ((x : N) → puts_of (make x) ≡ []) → (xs : List N) → flat_map puts_of (map make xs) ≡ []
+  none-put make puts_of none [] = refl
+  none-put make puts_of none (x ∷ xs) = ap₂ (λ here later. here ++ later) (none x) (none-put make puts_of none xs)
 
-  -- what is left of things in order
-  lefts-reports : (rs : List (Report P)) → lefts (map reported rs) ≡ []
-  lefts-reports [] = refl
-  lefts-reports (r ∷ rs) = lefts-reports rs
-
-  lefts-rights : (ms : List (Msg P)) (rs : List (Report P)) → lefts (map rightwards ms ++ map reported rs) ≡ []
-  lefts-rights [] rs = lefts-reports rs
-  lefts-rights (m ∷ ms) rs = lefts-rights ms rs
+  -- what things in order put at a place
+  put-in_order : {M : Type 0} (puts_of : Outgoing P → List M) (ls ms : List (Msg P)) (rs : List (Report P)) (left right reports : List M)
+      → flat_map puts_of (map leftwards ls) ≡ left → flat_map puts_of (map rightwards ms) ≡ right → flat_map puts_of (map reported rs) ≡ reports
+      → flat_map puts_of (map leftwards ls ++ (map rightwards ms ++ map reported rs)) ≡ left ++ (right ++ reports)
+  put-in_order puts_of ls ms rs left right reports on_left on_right in_reports =
+      flat_map-append puts_of (map leftwards ls) (map rightwards ms ++ map reported rs)
+      ∙ ap₂ (λ front back. front ++ back) on_left (flat_map-append puts_of (map rightwards ms) (map reported rs) ∙ ap₂ (λ front back. front ++ back) on_right in_reports)
 
   lefts-in_order : (ls ms : List (Msg P)) (rs : List (Report P)) → lefts (map leftwards ls ++ (map rightwards ms ++ map reported rs)) ≡ ls
-  lefts-in_order [] ms rs = lefts-rights ms rs
-  lefts-in_order (l ∷ ls) ms rs = ap (λ ms'. l ∷ ms') (lefts-in_order ls ms rs)
-
-  rights-reports : (rs : List (Report P)) → rights (map reported rs) ≡ []
-  rights-reports [] = refl
-  rights-reports (r ∷ rs) = rights-reports rs
-
-  rights-rights : (ms : List (Msg P)) (rs : List (Report P)) → rights (map rightwards ms ++ map reported rs) ≡ ms
-  rights-rights [] rs = rights-reports rs
-  rights-rights (m ∷ ms) rs = ap (λ ms'. m ∷ ms') (rights-rights ms rs)
+  lefts-in_order ls ms rs =
+      put-in_order leftward ls ms rs ls [] [] (all-put leftwards leftward (λ m. refl) ls) (none-put rightwards leftward (λ m. refl) ms) (none-put reported leftward (λ r. refl) rs) ∙ append-nil ls
 
   rights-in_order : (ls ms : List (Msg P)) (rs : List (Report P)) → rights (map leftwards ls ++ (map rightwards ms ++ map reported rs)) ≡ ms
-  rights-in_order [] ms rs = rights-rights ms rs
-  rights-in_order (l ∷ ls) ms rs = rights-in_order ls ms rs
-
-  reports-reports : (rs : List (Report P)) → reports_in (map reported rs) ≡ rs
-  reports-reports [] = refl
-  reports-reports (r ∷ rs) = ap (λ rs'. r ∷ rs') (reports-reports rs)
-
-  reports-rights : (ms : List (Msg P)) (rs : List (Report P)) → reports_in (map rightwards ms ++ map reported rs) ≡ rs
-  reports-rights [] rs = reports-reports rs
-  reports-rights (m ∷ ms) rs = reports-rights ms rs
+  rights-in_order ls ms rs =
+      put-in_order rightward ls ms rs [] ms [] (none-put leftwards rightward (λ m. refl) ls) (all-put rightwards rightward (λ m. refl) ms) (none-put reported rightward (λ r. refl) rs) ∙ append-nil ms
 
   reports-in_order : (ls ms : List (Msg P)) (rs : List (Report P)) → reports_in (map leftwards ls ++ (map rightwards ms ++ map reported rs)) ≡ rs
-  reports-in_order [] ms rs = reports-rights ms rs
-  reports-in_order (l ∷ ls) ms rs = reports-in_order ls ms rs
+  reports-in_order ls ms rs = put-in_order report_in ls ms rs [] [] rs (none-put leftwards report_in (λ m. refl) ls) (none-put rightwards report_in (λ m. refl) ms) (all-put reported report_in (λ r. refl) rs)
 
   -- The report comes last: where something is left, it isn't put.
   unreported-reports : (done items : List (Outgoing P)) (rs : List (Report P)) → map reported rs ≡ done ++ items → length rs ≤ 1 → 0 < length items → reports_in done ≡ []
@@ -216,7 +182,7 @@ module _ {P : Type 0} {matches : P → P → Bool} {place n : ℕ} {before : Sta
   cut_midst : (done items : List (Outgoing P)) → outgoing matches place n before message ≡ done ++ items → 0 < length items
       → TakesTurns matches place n (record { whole = begins.turns; cut = Some (this done) }) (with_puts number begun done).left (with_puts number begun done).right (with_puts number begun done).reports
   cut_midst done items all some =
-      cut_after done (record { rest = lefts items; is = sym (lefts-in_order ls ms rs) ∙ ap lefts all ∙ lefts-append done items }) (record { rest = rights items; is = sym (rights-in_order ls ms rs) ∙ ap rights all ∙ rights-append done items })
+      cut_after done (record { rest = lefts items; is = sym (lefts-in_order ls ms rs) ∙ ap lefts all ∙ flat_map-append leftward done items }) (record { rest = rights items; is = sym (rights-in_order ls ms rs) ∙ ap rights all ∙ flat_map-append rightward done items })
       (inl (put_nothing done items all some))
 
   cut_refused : TakesTurns matches place n (record { whole = begins.turns; cut = Some (this (reported NoMemory ∷ [])) }) (with_puts number begun (reported NoMemory ∷ [])).left (with_puts number begun (reported NoMemory ∷ [])).right
