@@ -1,5 +1,5 @@
 -- Sums, term by term.
-use Rattle.std.proofs.Common.{◌≡◌, ℕ, zero, suc, ◌+◌, ◌<◌, ◌≤◌, Bool, true, false, cond, ℤ, List, [], ◌∷◌, length, drop, Option, Some, None, refl, sym, ap, ◌∙◌, arith}
+use Rattle.std.proofs.Common.{◌≡◌, ℕ, zero, suc, ◌+◌, ◌<◌, Bool, true, false, cond, ℤ, List, [], ◌∷◌, length, drop, Option, Some, None, refl, sym, ap, ◌∙◌, arith}
 use Rattle.std.specs.List.{slice_get}
 use Rattle.std.specs.Option.{option_map}
 use Rattle.hj_value.specs.declared.field.Field.{Field}
@@ -21,12 +21,6 @@ drop_get : {A : Type 0} (xs : List A) (at : ℕ) (x : A) → Some x ≡ slice_ge
 drop_get xs at x e =
     let n : suc at ≡ at + 1 = omega arith in
     drop_suc xs at x e ∙ ap (λ k. x ∷ drop k xs) n
-
-drop_end : {A : Type 0} (xs : List A) (at : ℕ) → length xs ≤ at → drop at xs ≡ []
-drop_end [] zero le = refl
-drop_end [] (suc at) le = refl
-drop_end (x ∷ xs) zero le = absurd (omega arith)
-drop_end (x ∷ xs) (suc at) le = drop_end xs at (omega arith)
 
 chosen_none : (value : Term → Option Field) (parts : List Part) (b : Bool) → with_parts value None parts ≡ None → with_parts value (cond b None None) parts ≡ None
 chosen_none value parts true none = none
@@ -65,9 +59,3 @@ missing_part value parts at part total whole found e so_far =
     sym (with_none value (drop (at + 1) parts))
     ∙ ap (λ (front : Option Field). with_parts value front (drop (at + 1) parts)) e
     ∙ sym (ap (with_parts value (Some (field.Int total))) (drop_get parts at part found)) ∙ so_far
-
-pub all_parts : (value : Term → Option Field) (parts : List Part) (at : ℕ) (total : ℤ) (whole : Option Field) → length parts ≤ at
-    → with_parts value (Some (field.Int total)) (drop at parts) ≡ whole
-    → Some (field.Int total) ≡ whole
-all_parts value parts at total whole le so_far =
-    sym (ap (with_parts value (Some (field.Int total))) (drop_end parts at le)) ∙ so_far

@@ -28,7 +28,7 @@ use Rattle.hj_index.specs.OrderedIndex.{holds_key, is_key, key_cmp, key_of, numb
 use Rattle.hj_index.specs.OrderedStore.{key_at, rest_at, rest_of, AreOrdered, JoinsNear}
 use Rattle.hj_rows.specs.Places.{entry_at, joining, rows_of}
 use Rattle.hj_index.proofs.OrderedKeys.{key_equiv, key_found, key_itself, key_total, same_key}
-use Rattle.hj_rows.proofs.Probes.{finds-nothing, finds-passed, finds-pushed, number, partner, Finds}
+use Rattle.hj_rows.proofs.Probes.{finds-nothing, finds-pushed, number, partner, Finds}
 use Rattle.hj_rows.proofs.Rows.{Places}
 use Rattle.hj_rows.proofs.SortedProbes.{sorts-joined, sorts-nothing, sorts-passed, Sorts}
 use Rattle.hj_index.proofs.Walking.{none-suffice}
@@ -330,13 +330,6 @@ module _ (rows : Rows) (reserved : Option Key) (key : Key) (before keys : List K
   skipped e = ap (places_left rows reserved) is ∙ ap (λ b. places_at rows (cond (not b) (key ∷ row_keys reserved keys) (row_keys reserved keys))) e
 
   module _ (test : List Field → Bool) (goal : List (Partner (List Field))) where
-    pub near_passed : (found : List (Partner (List Field))) → joining test (rest_of rows reserved key) ≡ None → Finds test goal found (places_left rows reserved before) → Finds test goal found (places_left rows reserved keys)
-    near_passed found none finds = by (is_key key reserved) refl
-      where
-        by : (b : Bool) → is_key key reserved ≡ b → Finds test goal found (places_left rows reserved keys)
-        by true e = subst (Finds test goal found) (skipped e) finds
-        by false e = finds-passed test goal found key.1 (rest_of rows reserved key) (places_left rows reserved before) (places_left rows reserved keys) none (seen e) finds
-
     pub near_sort_passed : (found : List (ℕ × List Field)) → joining test (rest_of rows reserved key) ≡ None → Sorts test goal found (places_left rows reserved before) → Sorts test goal found (places_left rows reserved keys)
     near_sort_passed found none sorts = by (is_key key reserved) refl
       where

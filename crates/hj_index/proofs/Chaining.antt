@@ -162,9 +162,6 @@ module _ (link new : ℕ → Option Link) (key : ℕ) (fs bs : List ℕ) (n : �
       by true e = absurd (clash held (apart-across m fs (n ∷ bs) apart e))
       by false e = e
 
-  n-not-before : mem n fs ≡ false
-  n-not-before = not-before n (mem-head n bs)
-
   module _ (before behind : Option ℕ) (each : (m : ℕ) → nat_eq m n ≡ false → new m ≡ neighboured link fs bs before behind m) where
     in-front : (m : ℕ) → mem m fs ≡ true → new m ≡ changed_if (last_or None fs) (behind_set behind) m (link m)
     in-front m held =

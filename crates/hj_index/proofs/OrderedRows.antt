@@ -62,10 +62,6 @@ module _ {P : Type 0} where
 -- ---- the index
 
 module _ (own : ℕ) (rows : List (Resting (List Field))) (index new : OrderedIndex) (ordered : AreOrdered own rows index) where
-  -- the same keys stand for rows of the same numbers
-  pub reserved_ordered : ((key : Key) → stands new key ≡ stands index key) → AreOrdered own rows new
-  reserved_ordered same = record { distinct = ordered.distinct; indexed = λ key. same key ∙ ordered.indexed key }
-
   pub settled_ordered : (n : ℕ) → AreDistinct (with_settled n rows) → AreOrdered own (with_settled n rows) index
   settled_ordered n distinct = record {
     distinct = distinct;
