@@ -135,21 +135,20 @@ pub(crate) fn join<R>(
     ensures ends { (key : ℕ) → get nat_eq ends.new key ≡ cond (nat_eq link.key key) (Some (joined_ends no link (get nat_eq ends.old key))) (get nat_eq ends.old key) }
 {
     set_neighbours(rows, link, Some(no), Some(no));
-    let joined = match ends.get(&link.key) {
-        Some(ends) => Ends {
-            first: if link.before.is_none() {
-                no
-            } else {
-                ends.first
-            },
-            last: if link.behind.is_none() { no } else { ends.last },
-        },
-        None => Ends {
-            first: no,
-            last: no,
-        },
+    if let Some(ends) = ends.get_mut(&link.key) {
+        if link.before.is_none() {
+            ends.first = no;
+        }
+        if link.behind.is_none() {
+            ends.last = no;
+        }
+        return;
+    }
+    let alone = Ends {
+        first: no,
+        last: no,
     };
-    if let Err(_) = ends.insert(link.key, joined) {
+    if let Err(_) = ends.insert(link.key, alone) {
         unreachable!();
     }
 }
