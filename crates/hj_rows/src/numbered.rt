@@ -11,7 +11,7 @@ use std::alloc::Global;
 
 /// Rows under their numbers, in the order in which the numbers came.
 ///
-/// A removal leaves an empty place; all empty places are swept out at once when they are a quarter of all.
+/// A removal leaves an empty place; all empty places are swept out at once when they are a third of all.
 #[derive(Drop)]
 pub struct Numbered<P> {
     /// The place of each number.
@@ -108,13 +108,13 @@ impl<P: Drop> Numbered<P> {
         Some(rest.row)
     }
 
-    /// Counts a place that was emptied, and sweeps all empty places out where they are a quarter of all. The rows stay.
+    /// Counts a place that was emptied, and sweeps all empty places out where they are a third of all. The rows stay.
     fn count_empty(&mut self)
         ensures rows { rows_of self.new.places.entries ≡ rows_of self.old.places.entries }
         ensures unique { IsUnique nat_eq self.new.places }
     {
         self.empty = self.empty.saturating_add(1);
-        if self.empty >= self.places.len() / 4 {
+        if self.empty >= self.places.len() / 3 {
             self.places.retain(|_, place| place.is_some());
             self.empty = 0;
         }
