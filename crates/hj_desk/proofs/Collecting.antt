@@ -78,9 +78,6 @@ module _ {P : Type 0} (lists : List (List (Report P))) (core : ℕ) (report : Re
   }
 
 module _ {P : Type 0} (receivers : List (ReceiverSeen (Report P))) (core : ℕ) (before after : ReceiverSeen (Report P)) (low : core < length receivers) (was : get_or receivers core before ≡ before) where
-  abbrev journal_in : ReceiverSeen (Report P) → List (Entry (Report P))
-  journal_in receiver = receiver.journal
-
   abbrev taken_in : ReceiverSeen (Report P) → List (Report P)
   taken_in receiver = takes receiver.journal
 

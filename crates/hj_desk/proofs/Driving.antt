@@ -33,11 +33,11 @@ use Rattle.hj_driver.proofs.Logs.{admitted-push}
 use Rattle.hj_driver.proofs.MayClose.{may_close}
 use Rattle.hj_driver.proofs.Standing.{stands-closing}
 use Rattle.hj_collect.specs.Collector.{CollectorState}
-use Rattle.hj_link.specs.Seen.{EndSeen, ReceiverSeen}
+use Rattle.hj_link.specs.Seen.{ReceiverSeen}
 use Rattle.hj_desk.specs.declared.ports.Ports.{Ports}
 use Rattle.hj_desk.specs.declared.desk.Desk.{Desk}
 use Rattle.hj_desk.specs.declared.step.Step.TheVariants.{Did}
-use Rattle.hj_desk.specs.Ports.{KeepsLinks, Notes, IsQuiet, FoundFull}
+use Rattle.hj_desk.specs.Ports.{KeepsLinks, Notes, IsQuiet}
 use Rattle.hj_desk.specs.Desk.{History, IsBefore, Drives, IsFed, Gathered, StandsFor, numbers_of, turns_of}
 use Rattle.hj_desk.specs.Steps.{Admits, LooksAtPorts, Receives, with_turn}
 use Rattle.hj_desk.proofs.Numbers.{below-more, below-push, before-more, increasing-push}
@@ -231,9 +231,6 @@ module _ {P : Type 0} where
     right_capacity = second.right_capacity ∙ first.right_capacity;
   }
 
-  pub quiet-twice : (one two three : Ports P) → IsQuiet one two → IsQuiet two three → IsQuiet one three
-  quiet-twice one two three first second = record { left = second.left ∙ first.left; right = second.right ∙ first.right }
-
   pub notes-quiet : (one two three : Ports P) (number : ℕ) (turn : DriverTurn P) → IsQuiet one two → Notes number turn two three → Notes number turn one three
   notes-quiet one two three number turn quiet notes = record {
     left = notes.left ∙ ap (λ journal. journal ++ at_port Left number turn) quiet.left;
@@ -268,10 +265,3 @@ module _ {P : Type 0} where
         },
         admits.3,
       )
-
-  -- a look at the right port, behind one at the left port
-  pub full-behind : (one two three : Ports P) → two.right ≡ one.right → FoundFull Right two three → FoundFull Right one three
-  full-behind one two three same full = record {
-    none_known = ap (λ (e : EndSeen (Msg P)). e.room) (sym same) ∙ full.none_known;
-    looked = full.looked ∙ ap (λ (e : EndSeen (Msg P)). e.full_looks + 1) same;
-  }

@@ -1,7 +1,7 @@
 -- What the calling thread does, one step behind another.
-use Rattle.std.proofs.Common.{◌≡◌, ◌≤◌, ℕ, List, [], ◌∷◌, ◌++◌, length, map, get_or, Some, refl, ap, ap₂, sym, ◌∙◌, subst, append-nil, append_assoc, arith}
+use Rattle.std.proofs.Common.{◌≡◌, ℕ, List, [], ◌∷◌, ◌++◌, map, get_or, Some, refl, ap, ap₂, sym, ◌∙◌, subst, append-nil, append_assoc}
 use Rattle.std.proofs.Math.Seq.{map-set_same}
-use Rattle.std.proofs.lemmas.List.{length-map, map-append}
+use Rattle.std.proofs.lemmas.List.{map-append}
 use Rattle.std.proofs.lemmas.Option.{get_or_from_slice_get}
 use Rattle.std.proofs.lemmas.List.Concat.{flat_map-append}
 use Rattle.hj_base.specs.declared.numbers.CoreNo.{CoreNo}
@@ -48,10 +48,6 @@ module _ {P : Type 0} where
             ap (map (λ (r : ReceiverSeen (Report P)). r.capacity)) changes.is
             ∙ map-set_same (λ (r : ReceiverSeen (Report P)). r.capacity) old.reports.items core.0 is was (changes.capacity ∙ ap (λ (r : ReceiverSeen (Report P)). r.capacity) (sym here));
       }
-
-  pub as-many : (old new : List (ReceiverSeen (Report P))) → KeepsQueues old new → length new ≡ length old
-  as-many old new keeps =
-      sym (length-map new (λ (r : ReceiverSeen (Report P)). r.capacity)) ∙ ap length keeps.capacities ∙ length-map old (λ (r : ReceiverSeen (Report P)). r.capacity)
 
 -- ---- a feed's answers, one behind another
 
@@ -125,9 +121,6 @@ module _ {P F D : Type 0} (gives : F → Given P → F → Type 0) (state : F �
   -- what it then stands for
   pub goes-stands : (old new : Caller P F D) (answers : List (Given P)) (taken : List (Drainage P)) → Goes gives state takes old answers taken new → Stands old.desk (state old.feed) → Stands new.desk (state new.feed)
   goes-stands old new answers taken goes stood = (before stood.0 (news goes.log answers taken), goes.stands stood.0 stood.1)
-
-  pub goes-few : (old new : Caller P F D) (answers : List (Given P)) (taken : List (Drainage P)) → Goes gives state takes old answers taken new → length old.desk.reports.items ≤ 64 → length new.desk.reports.items ≤ 64
-  goes-few old new answers taken goes few = omega (arith, few, as-many old.desk.reports.items new.desk.reports.items goes.queues)
 
   module _ (old : Caller P F D) (desk : Desk P) (awaited : ℕ) where
     abbrev later : Caller P F D

@@ -1,11 +1,11 @@
 -- The numbers of turns: each is above those before it.
-use Rattle.std.proofs.Common.{◌≡◌, ◌≤◌, ℕ, zero, suc, ◌+◌, ◌-◌, ◌<◌, inl, inr, List, [], ◌∷◌, ◌++◌, length, map, get_or, sym, subst, ap, ◌∙◌, arith, length-append}
+use Rattle.std.proofs.Common.{◌≡◌, ◌≤◌, ℕ, zero, suc, ◌+◌, ◌-◌, ◌<◌, List, [], ◌∷◌, ◌++◌, length, map, get_or, refl, sym, subst, arith, add-one}
 use Rattle.std.specs.List.{All}
 use Rattle.std.specs.List.Sorted.{IsStrictlyIncreasing, IsNonDecreasing}
-use Rattle.std.proofs.Math.Seq.{get_or-append_seam}
-use Rattle.std.proofs.lemmas.Bool.Decides.{eqb_tells}
-use Rattle.std.proofs.lemmas.List.{get_or_append_left, map-append}
+use Rattle.std.proofs.lemmas.List.{map-append}
 use Rattle.std.proofs.lemmas.List.Elements.{All-push, All-weaker}
+use Rattle.std.proofs.lemmas.List.Kept.{AllPairs-from_increasing}
+use Rattle.std.proofs.lemmas.List.Quantifiers.{all_pairs_push}
 use Rattle.std.proofs.lemmas.List.Sorted.{IsNonDecreasingBy-push}
 use Rattle.hj_base.specs.Journals.{Entry, taken}
 use Rattle.hj_desk.specs.Desk.{IsBefore}
@@ -31,20 +31,14 @@ module _ (bound next : ℕ) (is : next ≡ bound + 1) where
         }
 
 pub increasing-push : (bound : ℕ) (xs : List ℕ) → IsStrictlyIncreasing xs → All (λ x. x < bound) xs → IsStrictlyIncreasing (xs ++ bound ∷ [])
-increasing-push bound xs rising below = λ k low. elim (eqb_tells (k + 1) (length xs)) [
-  | inl w ↦
-      let here : k < length xs = omega (arith, w.1) in
-      omega (
-        arith,
-        below k 0 here,
-        get_or_append_left xs (bound ∷ []) 0 k here,
-        ap (λ j. get_or (xs ++ bound ∷ []) j 0) w.1 ∙ get_or-append_seam xs bound [] 0,
-      )
-  | inr w ↦
-      let next : k + 1 < length xs = omega (arith, w.1, low, length-append xs (bound ∷ [])) in
-      let here : k < length xs = omega (arith, next) in
-      omega (arith, rising k next, get_or_append_left xs (bound ∷ []) 0 k here, get_or_append_left xs (bound ∷ []) 0 (k + 1) next)
-]
+increasing-push bound xs rising below k low = all_pairs_push (λ x y. x < y) xs bound (AllPairs-from_increasing xs rising) below k (k + 1) 0 (omega arith) low
+
+pub tail_rises : (x : ℕ) (xs : List ℕ) → IsStrictlyIncreasing (x ∷ xs) → IsStrictlyIncreasing xs
+tail_rises x xs rising k within =
+    let next : get_or (x ∷ xs) (k + 1) 0 < get_or (x ∷ xs) ((k + 1) + 1) 0 = rising (k + 1) (omega arith) in
+    let here : get_or (x ∷ xs) (k + 1) 0 ≡ get_or xs k 0 = rw (add-one k) refl in
+    let there : get_or (x ∷ xs) ((k + 1) + 1) 0 ≡ get_or xs (k + 1) 0 = rw (add-one (k + 1)) refl in
+    omega arith
 
 -- each number is at most the next
 abbrev pub NoFall : ℕ → List ℕ → Type 0
@@ -55,6 +49,10 @@ no_fall_from : (low : ℕ) (xs : List ℕ) → NoFall low xs → (j d : ℕ) →
 no_fall_from low [] all j d within = absurd (omega arith)
 no_fall_from low (x ∷ xs) all zero d within = all.0
 no_fall_from low (x ∷ xs) all (suc j) d within = omega (arith, all.0, no_fall_from x xs all.1 j d (omega arith))
+
+pub no_fall-lower : (low high : ℕ) (xs : List ℕ) → low ≤ high → NoFall high xs → NoFall low xs
+no_fall-lower low high [] less all = tt
+no_fall-lower low high (x ∷ xs) less all = (omega (arith, less, all.0), all.1)
 
 pub non_decreasing : (low : ℕ) (xs : List ℕ) → NoFall low xs → IsNonDecreasing xs
 non_decreasing low [] all i j d below within = absurd (omega arith)

@@ -1,5 +1,5 @@
 -- A round of the calling thread.
-use Rattle.std.proofs.Common.{◌≡◌, ◌≤◌, ℕ, ◌+◌, ◌||◌, ◌&&◌, Bool, true, false, cond, List, [], ◌∷◌, ◌++◌, length, replicate, Some, None, is_some, refl, ap, ap₂, sym, ◌∙◌, subst, append-nil, append_assoc, length-append, true≢false}
+use Rattle.std.proofs.Common.{◌≡◌, ℕ, ◌+◌, ◌||◌, ◌&&◌, Bool, true, false, cond, List, [], ◌∷◌, ◌++◌, length, replicate, Some, None, is_some, refl, ap, ap₂, sym, ◌∙◌, subst, append-nil, append_assoc, length-append, true≢false}
 use Rattle.std.proofs.lemmas.List.{map-append, replicate-append-replicate}
 use Rattle.std.specs.List.{list_any}
 use Rattle.hj_msg.specs.declared.drain.Drained.{Drained}
@@ -21,7 +21,7 @@ use Rattle.hj_desk.specs.declared.desk.Desk.{Desk}
 use Rattle.hj_desk.specs.Caller.{EndsRound, Goes, GoesOnAsking, GoesRound}
 use Rattle.hj_desk.specs.Desk.{Stands, turns_of}
 use Rattle.hj_desk.specs.Steps.{AreAnswered, GivesPairs, NoneDue, end_of}
-use Rattle.hj_desk.proofs.Going.{goes-few, goes-given, goes-nothing, goes-on, goes-stands}
+use Rattle.hj_desk.proofs.Going.{goes-given, goes-nothing, goes-on, goes-stands}
 use Rattle.hj_desk.proofs.Whole.{both_true}
 
 -- ---- how a run ends
@@ -158,9 +158,3 @@ module _ {P F D : Type 0} (gives : F → Given P → F → Type 0) (state : F �
 
   pub waited : (one two : Caller P F D) → GoesRound gives state takes Waits one two → GoesRound gives state takes GotOn one two
   waited one two round = record { answers = round.answers; taken = round.taken; goes = round.goes; answered = round.answered }
-
-  pub round-stands : (round : Round) (one two : Caller P F D) → GoesRound gives state takes round one two → Stands one.desk (state one.feed) → Stands two.desk (state two.feed)
-  round-stands round one two gone stood = goes-stands gives state takes one two gone.answers gone.taken gone.goes stood
-
-  pub round-few : (round : Round) (one two : Caller P F D) → GoesRound gives state takes round one two → length one.desk.reports.items ≤ 64 → length two.desk.reports.items ≤ 64
-  round-few round one two gone few = goes-few gives state takes one two gone.answers gone.taken gone.goes few

@@ -1,5 +1,5 @@
 -- A desk and the workers make a run, in which the pairs given begin the sequential join.
-use Rattle.std.proofs.Common.{◌≡◌, ℕ, zero, suc, ◌+◌, ◌<◌, ◌≤◌, ◌⊎◌, inl, inr, true, cond, List, [], ◌∷◌, ◌++◌, length, map, get_or, Contains, All, Some, None, Option, refl, ap, sym, ◌∙◌, subst, arith, append-nil, add-one, true≢false}
+use Rattle.std.proofs.Common.{◌≡◌, ℕ, zero, suc, ◌+◌, ◌<◌, ◌≤◌, inl, inr, true, cond, List, [], ◌∷◌, ◌++◌, length, map, get_or, Contains, All, Some, None, Option, refl, ap, sym, ◌∙◌, subst, arith, append-nil, add-one, true≢false}
 use Rattle.std.specs.List.{list_any}
 use Rattle.std.specs.List.Sorted.{IsStrictlyIncreasing}
 use Rattle.std.proofs.Math.ListN as listn
@@ -19,8 +19,8 @@ use Rattle.hj_msg.specs.Feed.{FeedState, event_in, is_stop}
 use Rattle.hj_msg.specs.Kang.{kang}
 use Rattle.hj_msg.specs.Met.{AreAllReportsOf}
 use Rattle.hj_msg.specs.Emission.{emitted}
-use Rattle.hj_msg.specs.Run.{Run, IsRun, LogEntry, at_port, close_of, port_journal}
-use Rattle.hj_msg.specs.Turns.{TakesTurns, only_at}
+use Rattle.hj_msg.specs.Run.{Run, IsRun, LogEntry, at_port, port_journal}
+use Rattle.hj_msg.specs.Turns.{TakesTurns}
 use Rattle.hj_msg.proofs.Emitting.{emits_prefix}
 use Rattle.hj_msg.proofs.Members.{Contains-head, any_of}
 use Rattle.hj_driver.specs.StandsFor.{is_closing}
@@ -29,7 +29,7 @@ use Rattle.hj_desk.specs.declared.desk.Desk.{Desk}
 use Rattle.hj_desk.specs.Desk.{History, IsBefore, IsFed, StandsFor, collected, numbers_of, turns_of}
 use Rattle.hj_desk.specs.Runs.{Workers, DoTheirPart, cores_of, left_end, right_end, run_of, taken_of}
 use Rattle.hj_desk.proofs.Collecting.{prefix-trans}
-use Rattle.hj_desk.proofs.Numbers.{NoFall, non_decreasing}
+use Rattle.hj_desk.proofs.InTurn.{AreOfTurn, only-of_turn, steps-in_turn}
 
 -- ---- the log is lawful over the events that the feed gave
 
@@ -55,54 +55,14 @@ module _ {P : Type 0} where
 
 -- ---- the turns don't fall in the journals of the driver's ends
 
-pub tail_rises : (x : ℕ) (xs : List ℕ) → IsStrictlyIncreasing (x ∷ xs) → IsStrictlyIncreasing xs
-tail_rises x xs rising k within =
-    let next : get_or (x ∷ xs) (k + 1) 0 < get_or (x ∷ xs) ((k + 1) + 1) 0 = rising (k + 1) (omega arith) in
-    let here : get_or (x ∷ xs) (k + 1) 0 ≡ get_or xs k 0 = rw (add-one k) refl in
-    let there : get_or (x ∷ xs) ((k + 1) + 1) 0 ≡ get_or xs (k + 1) 0 = rw (add-one (k + 1)) refl in
-    omega arith
-
-pub no_fall-lower : (low high : ℕ) (xs : List ℕ) → low ≤ high → NoFall high xs → NoFall low xs
-no_fall-lower low high [] less all = tt
-no_fall-lower low high (x ∷ xs) less all = (omega (arith, less, all.0), all.1)
-
-module _ {M : Type 0} where
-  abbrev turns_in : List (Entry M) → List ℕ
-  turns_in journal = map (λ entry. entry.turn) journal
-
-  -- nothing, or one entry under a number
-  abbrev IsOneUnder : ℕ → List (Entry M) → Type 0
-  IsOneUnder number entries = (entries ≡ []) ⊎ ((entry : Entry M) × (entries ≡ entry ∷ []) × (entry.turn ≡ number))
-
-  no_fall-entry : (low number : ℕ) (entries rest : List (Entry M)) → IsOneUnder number entries → low ≤ number → NoFall number (turns_in rest) → NoFall low (turns_in (entries ++ rest))
-  no_fall-entry low number entries rest (inl none) less all = subst (λ es. NoFall low (turns_in (es ++ rest))) (sym none) (no_fall-lower low number (turns_in rest) less all)
-  no_fall-entry low number entries rest (inr (entry, is, under)) less all =
-      subst (λ es. NoFall low (turns_in (es ++ rest))) (sym is) (omega (arith, less, under), subst (λ n. NoFall n (turns_in rest)) (sym under) all)
-
-  only-one : (end side : Side) (number : ℕ) (entry : Entry M) → entry.turn ≡ number → IsOneUnder number (only_at end side entry)
-  only-one Left Left number entry is = inr (entry, refl, is)
-  only-one Left Right number entry is = inl refl
-  only-one Right Left number entry is = inl refl
-  only-one Right Right number entry is = inr (entry, refl, is)
-
 module _ {P : Type 0} (side : Side) where
-  at_port-one : (number : ℕ) (turn : DriverTurn P) → IsOneUnder number (at_port side number turn)
-  at_port-one number (admission event) = only-one (port_of event) side number (put number (message_of event)) refl
-  at_port-one number (receipt from message) = only-one from side number (taken number message) refl
-  at_port-one number closing = inr (put number (close_of side), refl, refl)
-
-  no_fall-log : (low : ℕ) (log : List (LogEntry P)) → IsStrictlyIncreasing (low ∷ numbers_of log) → NoFall low (turns_in (port_journal side log))
-  no_fall-log low [] rising = tt
-  no_fall-log low (entry ∷ log) rising =
-      let first : low < entry.number = rising 0 (omega arith) in
-      no_fall-entry low entry.number (at_port side entry.number entry.turn) (port_journal side log) (at_port-one entry.number entry.turn) (omega (arith, first))
-      (no_fall-log entry.number log (tail_rises low (entry.number ∷ numbers_of log) rising))
+  at_port-of_turn : (number : ℕ) (turn : DriverTurn P) → AreOfTurn number (at_port side number turn)
+  at_port-of_turn number (admission event) = only-of_turn (port_of event) side number (put number (message_of event)) refl
+  at_port-of_turn number (receipt from message) = only-of_turn from side number (taken number message) refl
+  at_port-of_turn number closing = (refl, tt)
 
   pub port-in_turn : (log : List (LogEntry P)) → IsStrictlyIncreasing (numbers_of log) → IsInTurn (port_journal side log)
-  port-in_turn [] rising = non_decreasing 0 [] tt
-  port-in_turn (entry ∷ log) rising =
-      non_decreasing entry.number (turns_in (port_journal side (entry ∷ log)))
-      (no_fall-entry entry.number entry.number (at_port side entry.number entry.turn) (port_journal side log) (at_port-one entry.number entry.turn) (omega arith) (no_fall-log entry.number log rising))
+  port-in_turn log rising = steps-in_turn (λ entry. entry.number) (λ entry. at_port side entry.number entry.turn) (λ entry. at_port-of_turn entry.number entry.turn) log rising
 
 -- ---- what was taken of the cores' reports
 
