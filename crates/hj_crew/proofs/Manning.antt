@@ -1,5 +1,5 @@
 -- A desk and workers that were given new ends: the crew of a chain.
-use Rattle.std.proofs.Common.{◌≡◌, ℕ, ◌+◌, ◌*◌, ◌<◌, List, [], ◌∷◌, ◌++◌, All, length, get_or, ap, sym, ◌∙◌, subst, arith, length-append, refl}
+use Rattle.std.proofs.Common.{◌≡◌, ℕ, ◌+◌, ◌*◌, List, [], ◌∷◌, ◌++◌, All, length, get_or, ap, sym, ◌∙◌, subst, arith, length-append, refl}
 use Rattle.std.proofs.lemmas.List.{get_or_at, length-map}
 use Rattle.hj_msg.specs.declared.message.Msg.{Msg}
 use Rattle.hj_msg.specs.declared.message.Report.{Report}
@@ -8,11 +8,11 @@ use Rattle.hj_worker.specs.Seen.{WorkerSeen}
 use Rattle.hj_desk.specs.declared.desk.Desk.{Desk}
 use Rattle.hj_crew.specs.declared.ends.ChainEnds.{ChainEnds}
 use Rattle.hj_crew.specs.declared.team.Team.{Team}
-use Rattle.hj_crew.specs.Cores.{AreCrew, AreEndsFor, AreUnused, MakesTeams, left_of, reports_of, right_of}
+use Rattle.hj_crew.specs.Cores.{AreCrew, AreEndsFor, MakesTeams, left_of, reports_of, right_of}
 use Rattle.hj_crew.specs.Ends.{AreNew}
 use Rattle.hj_crew.specs.Links.{AreLinked, AreQueues}
 use Rattle.hj_crew.proofs.ClosedLinks.{length-linked, length-queued}
-use Rattle.hj_crew.proofs.MadeTeams.{all-front, ends-left}
+use Rattle.hj_crew.proofs.MadeTeams.{ends-left}
 
 none-of : {X : Type 0} (xs : List X) → length xs ≡ 0 → xs ≡ []
 none-of [] none = refl
@@ -32,21 +32,11 @@ module _ {P : Type 0} (cores capacity : ℕ) (ends others : ChainEnds P) (last :
   pub many_right : length ends.right.items ≡ cores + 1
   many_right = omega (arith, length-linked ends.left.items ends.right.items new.linked, new.links)
 
-  pub some_right : 0 < length ends.right.items
-  some_right = omega (arith, many_right)
-
   pub ends_for : AreEndsFor cores others
   ends_for = record {
     left = ap (λ ends_of. length ends_of.items) off.left ∙ new.links;
     right = omega (arith, many_right, ap length off.right, length-append others.right.items (last ∷ []));
     senders = ap (λ senders_of. length senders_of.items) off.senders ∙ new.queues;
-  }
-
-  pub unused : AreUnused others
-  unused = record {
-    left = subst (λ ends_of. All (λ (end : EndSeen (Msg P)). end.journal ≡ []) ends_of.items) (sym off.left) (λ k d low. (new.left k d low).0);
-    right = all-front (λ (end : EndSeen (Msg P)). end.journal ≡ []) ends.right.items others.right.items (last ∷ []) off.right (λ k d low. (new.right k d low).0);
-    senders = subst (λ senders_of. All (λ (sender : SenderSeen (Report P)). sender.journal ≡ []) senders_of.items) (sym off.senders) (λ k d low. (new.senders k d low).0);
   }
 
   pub last_unused : last.journal ≡ []
