@@ -18,6 +18,10 @@ use std::marker::Model;
 /// How many bytes one read asks for.
 const MOST_IN_READ: usize = 4_096;
 
+const LINE_FEED: u8 = b'\n';
+
+const QUOTE: u8 = b'"';
+
 /// How many bytes a stream may have.
 const MOST_IN_STREAM: u64 = 1 << 62;
 
@@ -30,6 +34,8 @@ pub(crate) struct Source {
     portion: [u8; MOST_IN_READ],
     taken: usize,
     filled: usize,
+    /// A record that begins in the portion before this place has its end there.
+    lines_end: usize,
     /// A read answered the end.
     ended: bool,
     cutter: Cutter,
@@ -63,6 +69,7 @@ impl Source {
             portion: [0; MOST_IN_READ],
             taken: 0,
             filled: 0,
+            lines_end: 0,
             ended: false,
             cutter: Cutter::new(alloc, MOST_IN_STREAM),
             fields: Fields::new(alloc),
@@ -97,7 +104,15 @@ impl Source {
     /// Whether a row, or the end, can be told without a read.
     #[inline(always)]
     pub(crate) fn is_ready(&self) -> bool {
-        self.ended || self.cutter.has_end(&self.portion[self.taken..self.filled])
+        self.ended
+            || self.is_before_line_end()
+            || self.cutter.has_end(&self.portion[self.taken..self.filled])
+    }
+
+    /// Whether a record begins before the last end of a line in the bytes that were read, as far as that is known.
+    #[inline(always)]
+    fn is_before_line_end(&self) -> bool {
+        self.taken < self.lines_end && self.cutter.piece().is_empty()
     }
 
     /// Reads the next bytes, once all that were read are looked at.
@@ -113,6 +128,7 @@ impl Source {
             Got::Bytes(count) => {
                 self.taken = 0;
                 self.filled = count;
+                self.lines_end = lines_end(&self.portion[..count]);
                 Ok(())
             }
             Got::End => {
@@ -202,6 +218,28 @@ impl Source {
         self.before = Some(time);
         Ok(Found::Row(shared))
     }
+}
+
+/// The place behind the last line feed of some bytes; 0 where they have a quote, so that a line feed may be a field's.
+fn lines_end(bytes: &[u8]) -> usize {
+    if has_quote(bytes) {
+        return 0;
+    }
+    for at in (0..bytes.len()).rev() {
+        if bytes[at] == LINE_FEED {
+            return at + 1;
+        }
+    }
+    0
+}
+
+/// Whether there is a quote among some bytes. It looks at all of them, several at a time.
+fn has_quote(bytes: &[u8]) -> bool {
+    let mut found = false;
+    for &byte in bytes {
+        found |= byte == QUOTE;
+    }
+    found
 }
 
 /// Reads the row of the piece that a cutter keeps, and makes the cutter ready for the next one.
