@@ -1,7 +1,7 @@
 use Rattle.std.proofs.Common.{refl, sym, subst, arith, ◌∙◌}
 use Rattle.std.specs.List.{filter_map}
 use Rattle.hj_driver.specs.Lane.{LaneState, IsRising, IsAt, after_part}
-use Rattle.hj_driver.proofs.Arrivals.{none_changes, marked, removed, rising_after, lane_with, on_some}
+use Rattle.hj_driver.proofs.Arrivals.{none_changes, marked, removed, rising_after, lane_with}
 use Rattle.hj_driver.proofs.lane.Lane.take.Goals as goal
 
 pub returns-in_default : goal.returns-in_default

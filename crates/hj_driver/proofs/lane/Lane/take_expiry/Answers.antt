@@ -2,7 +2,7 @@ use Rattle.std.proofs.Common.{◌≡◌, ◌==◌, refl, sym, subst, ap, arith, 
 use Rattle.std.specs.List.{filter}
 use Rattle.hj_base.specs.declared.numbers.EventNo.{EventNo}
 use Rattle.hj_driver.specs.Lane.{LaneState, AreDistinct, is_other}
-use Rattle.hj_driver.proofs.Arrivals.{filter-at, filter-none, distinct_after, lane_with_expiries, on_some, position_in_range}
+use Rattle.hj_driver.proofs.Arrivals.{filter-at, filter-none, distinct_after, lane_with_expiries}
 use Rattle.hj_driver.proofs.lane.Lane.take_expiry.Goals as goal
 
 pub invariant_of-self : goal.invariant_of-self
