@@ -1,6 +1,5 @@
 -- The pairs that a chain gives to a drain, one after another.
 use Rattle.std.proofs.Common.{◌≡◌, ℕ, zero, suc, ◌+◌, ◌<◌, Bool, true, false, cond, List, [], ◌∷◌, ◌++◌, length, map, replicate, take, drop, Some, None, Option, refl, ap, sym, ◌∙◌, subst, arith, append-nil, append_assoc, length-append}
-use Rattle.std.specs.Option.{IfNone, IfSome}
 use Rattle.std.specs.List.{slice_get}
 use Rattle.std.specs.List.Sorted.{IsPermutation}
 use Rattle.std.proofs.Math.Seq.{take-add}
@@ -171,13 +170,6 @@ module _ {P J D : Type 0} (takes : D → Pair P → Drained → D → Type 0) {p
 -- the pairs that are kept become fewer
 pub fewer : {X : Type 0} (xs ys : List X) (x : X) → IsPermutation xs (x ∷ ys) → length ys < length xs
 fewer xs ys x is = omega (arith, length_permutation xs (x ∷ ys) is)
-
--- what is said of a call's answer, where the answer is known
-pub at-none : {X : Type 0} (o : Option X) (What : Type 0) → o ≡ None → IfNone o What → What
-at-none o What is fact = subst (λ (p : Option _). IfNone p What) is fact
-
-pub at-some : {X : Type 0} (o : Option X) (x : X) (What : X → Type 0) → o ≡ Some x → IfSome o What → What x
-at-some o x What is fact = subst (λ (p : Option _). IfSome p What) is fact
 
 pub was-kept : (answer : Drained) → (answer ≡ Refused → ⊥) → answer ≡ Kept
 was-kept Kept other = refl

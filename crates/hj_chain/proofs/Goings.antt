@@ -32,7 +32,7 @@ use Rattle.hj_chain.specs.declared.actor.Stepped.{Stepped}
 use Rattle.hj_chain.specs.declared.actor.Stepped.TheVariants.{Did, NotEnabled, Memory}
 use Rattle.hj_chain.specs.Links.{at_port, incoming}
 use Rattle.hj_chain.specs.Reports.{queue_at}
-use Rattle.hj_chain.specs.Chain.{FeedAnswer, ChainState, Contents, Action, action_of, after, after_action, cause, cause_of, drives, handles, collects, first, next_after, turn_of, if_there, next_action}
+use Rattle.hj_chain.specs.Chain.{FeedAnswer, ChainState, Contents, Action, action_of, after, after_action, cause, cause_of, drives, handles, collects, first, if_there, next_action}
 use Rattle.hj_chain.specs.Reached.{Reached, steps, StandsFor, asked, history_of, run_of, collected_of}
 use Rattle.hj_chain.specs.Steps.{GoesWith, Gathers, HasRoom, StepsTo, asks}
 use Rattle.hj_chain.proofs.Shape.{Shape, shape}

@@ -32,9 +32,6 @@ turned {X} x xs place (suc from) is =
     let less : suc from - 1 ≡ place - 1 = omega (arith, is) in
     ap₂ (λ (j k : ℕ). drop j xs ++ take k xs) same less
 
-pub sub-zero : (i : ℕ) → i - 0 ≡ i
-sub-zero i = omega arith
-
 module _ {X : Type 0} (test : X → Bool) where
   single : (x : X) (b : Bool) → test x ≡ b → filter test (x ∷ []) ≡ cond b (x ∷ []) []
   single x b is = ap (λ c. cond c (x ∷ []) []) is

@@ -1,5 +1,5 @@
 -- The cores that are made from the last one to the first.
-use Rattle.std.proofs.Common.{◌≡◌, ℕ, suc, ◌+◌, List, [], ◌∷◌, ◌++◌, length, map, reverse, replicate, Some, Option, refl, ap, ap₂, sym, ◌∙◌, subst, arith, length-append}
+use Rattle.std.proofs.Common.{◌≡◌, ℕ, suc, ◌+◌, List, [], ◌∷◌, ◌++◌, length, map, reverse, replicate, Some, Option, ap, ap₂, sym, ◌∙◌, subst, arith, length-append}
 use Rattle.std.proofs.lemmas.List.{length-map, length-replicate, reverse-append}
 use Rattle.std.specs.Option.{option_to_list}
 use Rattle.hj_msg.specs.Core as step
@@ -13,9 +13,6 @@ pub record Made {P J L R : Type 0} (view : core.Contents P J L R → step.State 
   pub empty : map view (reverse cores) ≡ replicate (length cores) step.empty_state
 
 module _ {P J L R : Type 0} (view : core.Contents P J L R → step.State P) (join : J) (n : ℕ) where
-  pub made-none : Made view join n n []
-  made-none = record { counted = omega arith; placed = tt; empty = refl }
-
   pub made-more : (old new : ℕ) (cores : List (core.Contents P J L R)) (one : core.Contents P J L R) → Made view join n old cores → new + 1 ≡ old → one.place ≡ new → one.cores ≡ n → one.join ≡ join → view one ≡ step.empty_state
       → Made view join n new (cores ++ one ∷ [])
   made-more old new cores one made less place all same empty =

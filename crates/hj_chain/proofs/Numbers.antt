@@ -1,12 +1,12 @@
 -- The numbers of the turns: each step has a greater one than the steps before it.
-use Rattle.std.proofs.Common.{◌≡◌, ℕ, suc, ◌+◌, ◌-◌, ◌<◌, ◌≤◌, inl, inr, ◌==◌, Bool, true, false, cond, List, [], ◌∷◌, ◌++◌, length, map, get_or, Some, refl, ap, sym, ◌∙◌, subst, arith, append-nil, append_assoc, length-append}
+use Rattle.std.proofs.Common.{◌≡◌, ℕ, suc, ◌+◌, ◌-◌, ◌<◌, ◌≤◌, ◌==◌, Bool, true, false, cond, List, [], ◌∷◌, ◌++◌, length, map, Some, refl, ap, sym, ◌∙◌, subst, arith, append-nil, append_assoc}
 use Rattle.std.specs.List.{All, flat_map}
 use Rattle.std.specs.List.Sorted.{IsStrictlyIncreasing, IsNonDecreasing}
-use Rattle.std.proofs.Math.Seq.{get_or-append_seam}
-use Rattle.std.proofs.lemmas.Bool.Decides.{eqb_tells}
-use Rattle.std.proofs.lemmas.List.{get_or_append_left, map-append}
+use Rattle.std.proofs.lemmas.List.{map-append}
 use Rattle.std.proofs.lemmas.List.Concat.{flat_map-append}
 use Rattle.std.proofs.lemmas.List.Elements.{All-push, All-weaker, All-nil}
+use Rattle.std.proofs.lemmas.List.Kept.{AllPairs-from_increasing}
+use Rattle.std.proofs.lemmas.List.Quantifiers.{all_pairs_push}
 use Rattle.std.proofs.lemmas.List.Sorted.{IsNonDecreasingBy-push}
 use Rattle.hj_base.specs.Journals.{Entry, put, taken, IsInTurn}
 use Rattle.hj_msg.specs.declared.event.Event.{Event}
@@ -31,20 +31,7 @@ pub record Rises (bound : ℕ) (xs : List ℕ) : Type 0 where
 
 pub rises-push : (bound : ℕ) (xs : List ℕ) → Rises bound xs → Rises (suc bound) (xs ++ bound ∷ [])
 rises-push bound xs old = record {
-  increasing = λ k low. elim (eqb_tells (k + 1) (length xs)) [
-    | inl w ↦
-        let here : k < length xs = omega (arith, w.1) in
-        omega (
-          arith,
-          old.below k 0 here,
-          get_or_append_left xs (bound ∷ []) 0 k here,
-          ap (λ j. get_or (xs ++ bound ∷ []) j 0) w.1 ∙ get_or-append_seam xs bound [] 0,
-        )
-    | inr w ↦
-        let next : k + 1 < length xs = omega (arith, w.1, low, length-append xs (bound ∷ [])) in
-        let here : k < length xs = omega (arith, next) in
-        omega (arith, old.increasing k next, get_or_append_left xs (bound ∷ []) 0 k here, get_or_append_left xs (bound ∷ []) 0 (k + 1) next)
-  ];
+  increasing = λ k low. all_pairs_push (λ x y. x < y) xs bound (AllPairs-from_increasing xs old.increasing) old.below k (k + 1) 0 (omega arith) low;
   below = All-push (λ x. x < suc bound) xs bound (All-weaker (λ x. x < bound) (λ x. x < suc bound) (λ x less. omega (arith, less)) xs old.below) (omega arith);
 }
 
@@ -60,9 +47,6 @@ record AtMost {M : Type 0} (bound : ℕ) (journal : List (Entry M)) : Type 0 whe
 pub record Earlier {M : Type 0} (bound : ℕ) (journal : List (Entry M)) : Type 0 where
   pub in_turn : IsInTurn journal
   pub below : All (λ x. x < bound) (map (λ entry. entry.turn) journal)
-
-turns_in : {M : Type 0} → List (Entry M) → List ℕ
-turns_in journal = map (λ entry. entry.turn) journal
 
 at_most-push : {M : Type 0} (bound : ℕ) (journal : List (Entry M)) (entry : Entry M) → entry.turn ≡ bound → AtMost bound journal → AtMost bound (journal ++ entry ∷ [])
 at_most-push {M} bound journal entry is old =

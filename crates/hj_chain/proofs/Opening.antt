@@ -14,34 +14,30 @@ use Rattle.hj_chain.proofs.Gathered.{one-each}
 use Rattle.hj_base.specs.declared.numbers.CoreNo.{CoreNo}
 use Rattle.hj_base.specs.declared.numbers.Side.{Side}
 use Rattle.hj_base.specs.declared.numbers.Side.TheVariants.{Left, Right}
-use Rattle.hj_msg.specs.declared.feed.Given.{Given}
-use Rattle.hj_msg.specs.declared.feed.Given.TheVariants as given
 use Rattle.hj_msg.specs.declared.message.Msg.{Msg}
-use Rattle.hj_msg.specs.declared.message.Msg.TheVariants.{CloseL, CloseR}
+use Rattle.hj_msg.specs.declared.message.Msg.TheVariants.{CloseL}
 use Rattle.hj_msg.specs.declared.message.Report.{Report}
 use Rattle.hj_msg.specs.Core as core
 use Rattle.hj_msg.specs.Driver.{DriverTurn, receipt}
-use Rattle.hj_driver.specs.declared.answers.Closing.TheVariants as closes_as
-use Rattle.hj_driver.specs.Driver.{DriverState, closed, closing_of}
+use Rattle.hj_driver.specs.Driver.{DriverState}
 use Rattle.hj_driver.specs.StandsFor.{StandsFor}
 use Rattle.hj_queue.specs.Queues.{Queues}
 use Rattle.hj_chain.specs.declared.actor.Actor.{Actor}
-use Rattle.hj_chain.specs.declared.actor.Actor.TheVariants.{Admit, Core, Collect}
-use Rattle.hj_chain.specs.declared.actor.NotNow.{NotNow}
+use Rattle.hj_chain.specs.declared.actor.Actor.TheVariants.{Core, Collect}
 use Rattle.hj_chain.specs.declared.actor.NotNow.TheVariants.{Empty}
 use Rattle.hj_chain.specs.declared.actor.Stepped.{Stepped}
 use Rattle.hj_chain.specs.declared.actor.Stepped.TheVariants.{Did, NotEnabled, Memory}
 use Rattle.hj_chain.specs.Links.{changed_at, link_at, at_port, put_in, take_out, incoming, take_in, send_out, put_rightwards, HasRoomAt}
 use Rattle.hj_chain.specs.Reports.{queue_at}
-use Rattle.hj_chain.specs.Chain.{FeedAnswer, ChainState, Contents, first, closing_cause, capacity}
+use Rattle.hj_chain.specs.Chain.{FeedAnswer, ChainState, Contents, first, capacity}
 use Rattle.hj_chain.specs.Reached.{collected_of}
 use Rattle.hj_chain.specs.Steps.{IsGoing, StepsTo, at_port as actor_at}
 use Rattle.hj_chain.proofs.Ways.{length-take_in, length-put_in, lefts-put_right}
 use Rattle.hj_chain.proofs.Sending.{capacity-changed}
 use Rattle.hj_chain.proofs.Goings.{cause-going}
 use Rattle.hj_chain.proofs.Drivers.{took-state}
-use Rattle.hj_chain.proofs.Standing.{Stands, stands, first-none, first-some, log, driving, fits_both, fits_one}
-use Rattle.hj_chain.proofs.Stepping.{close-waits, close-did, receive-waits, receive-did, take_out-empty, turn-enabled, turn-action, turn-no_memory, turn-did, collect-empty, collect-no_memory, collect-did}
+use Rattle.hj_chain.proofs.Standing.{Stands, stands, first-some, log, driving, fits_both, fits_one}
+use Rattle.hj_chain.proofs.Stepping.{receive-waits, receive-did, take_out-empty, turn-enabled, turn-action, turn-no_memory, turn-did, collect-no_memory, collect-did}
 use Rattle.hj_chain.proofs.Advancing.{unheard}
 
 -- one queue that changes, with the rest of a chain
@@ -50,11 +46,6 @@ same_links {P} chain links is = ap (λ (ls : List (Queues (Msg P))). record chai
 
 below : (x y : ℕ) → (x == y) ≡ false → x ≢ y
 below x y other same = true≢false (sym (eq-eqb x y same) ∙ other)
-
--- a queue that isn't empty
-filled : {X : Type 0} (xs : List X) → (length xs == 0) ≡ false → (x : X) × ((rest : List X) × (xs ≡ x ∷ rest))
-filled [] other = absurd (true≢false other)
-filled (x ∷ xs) other = (x, (xs, refl))
 
 -- a call that wasn't refused
 pub granted : {T E : Type 0} (result : Result T E) (What : Type 0) → is_err result ≡ false → OnOk result What → What
@@ -89,15 +80,6 @@ module _ {P J : Type 0} (predicate : J → P → P → Bool) (opened now : Conte
 
   pub in_reports : (place : ℕ) → place < n → place < length chain.reports
   in_reports place low = omega (arith, known.reports, low)
-
-  -- closes
-  pub closing-waits : (answer : FeedAnswer P) (why : NotNow) (new : ChainState P) → now.state.next ≡ Some given.Stop → closing_cause (closing_of chain.driver) ≡ Some why → new ≡ chain → StepsTo (predicate now.join) Admit answer now.state (NotEnabled why) new
-  closing-waits answer why new next waits same =
-      moved Admit answer (NotEnabled why) new (close-waits matches chain known.going answer why new (ap (λ (c : Contents P J). c.state.next) is ∙ next) waits same)
-
-  pub closing-did : (answer : FeedAnswer P) (new : ChainState P) → now.state.next ≡ Some given.Stop → closing_of chain.driver ≡ closes_as.Send
-      → new ≡ record chain { driver = closed chain.driver; links = put_in Right n CloseR (put_in Left n CloseL chain.links) } → StepsTo (predicate now.join) Admit answer now.state Did new
-  closing-did answer new next sends made = moved Admit answer Did new (close-did matches chain known.going answer new (ap (λ (c : Contents P J). c.state.next) is ∙ next) sends made)
 
   pub room_first : (count : ℕ) → count ≡ n → HasRoomAt Left count chain.links
   room_first count all = known.fits_right 0 (omega arith)
@@ -142,11 +124,6 @@ module _ {P J : Type 0} (predicate : J → P → P → Bool) (opened now : Conte
       (made ∙ ap₂ (λ (d : DriverState) (ls : List (Queues (Msg P))). record chain { driver = d; links = ls }) driver_is links_are))
 
   -- a report that is collected
-  pub collecting-empty : (answer : FeedAnswer P) (place : CoreNo) (at : ℕ) → at ≡ place.0 → at < n → first (queue_at chain.reports at) ≡ None → StepsTo (predicate now.join) (Collect place) answer now.state (NotEnabled Empty) chain
-  collecting-empty answer place at is_at low none =
-      moved (Collect place) answer (NotEnabled Empty) chain
-      (collect-empty matches chain known.going answer place chain (omega (arith, is_at, low)) (first-none (queue_at chain.reports place.0) (ap (λ (m : ℕ). first (queue_at chain.reports m)) (sym is_at) ∙ none)) refl)
-
   pub collecting-no_memory : (answer : FeedAnswer P) (place : CoreNo) (at : ℕ) (report : Report P) → at ≡ place.0 → at < n → first (queue_at chain.reports at) ≡ Some report
       → StepsTo (predicate now.join) (Collect place) answer now.state Memory (record chain { over = true })
   collecting-no_memory answer place at report is_at low some =

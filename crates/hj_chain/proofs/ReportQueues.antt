@@ -7,9 +7,6 @@ use Rattle.hj_chain.specs.Links.{changed_at}
 use Rattle.hj_chain.specs.Reports.{ReportQueues, no_reports}
 use Rattle.hj_chain.proofs.Places.{written, map-changed_at}
 
-pub items_of : {X : Type 0} → List (Buffer X) → List (List X)
-items_of buffers = map (λ b. b.items) buffers
-
 pub queue-changed : {P : Type 0} (capacity : ℕ) (buffers : List (Buffer (Report P))) (now : ReportQueues P) (i : ℕ) (b c : Buffer (Report P)) (f : Buffer (Report P) → Buffer (Report P)) (g : List (Report P) → List (Report P))
     → record { capacity = capacity; queues = map (λ b. b.items) buffers } ≡ now → i < length now.queues → b ≡ get_or buffers i b → c ≡ f b → ((x : Buffer (Report P)) → (f x).items ≡ g x.items)
     → record { capacity = capacity; queues = map (λ b. b.items) (set buffers i c) } ≡ record now { queues = changed_at i g now.queues }

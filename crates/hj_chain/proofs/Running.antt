@@ -143,9 +143,6 @@ pub record Leads {P J F : Type 0} (gives : F → Given P → F → Type 0) (is_r
   pub whole : (done : List Actor) (result : Stepped) (new : Contents P J) (to : F) → Asks gives is_ready predicate later now at done result new to → (all : List Actor) × Asks gives is_ready predicate schedule old from all result new to
 
 module _ {P J F : Type 0} (gives : F → Given P → F → Type 0) (is_ready : F → Bool) (predicate : J → P → P → Bool) (schedule : List Actor) (old : Contents P J) (from : F) where
-  pub leads-all : Leads gives is_ready predicate schedule schedule old old from from
-  leads-all = record { whole = λ done result new to more. (done, more) }
-
   module _ (i : ℕ) (now : Contents P J) (at : F) (leads : Leads gives is_ready predicate schedule (drop i schedule) old now from at) where
     next_first : (d : Actor) → i < length schedule → Leads gives is_ready predicate schedule (get_or schedule i d ∷ drop (suc i) schedule) old now from at
     next_first d low = subst (λ (later : List Actor). Leads gives is_ready predicate schedule later old now from at) (drop-cons schedule i d low) leads

@@ -28,11 +28,11 @@ pub is_empty_chain : {P J : Type 0} (join : J) (n flight : ℕ) (first : Given P
 is_empty_chain join n flight first driver links cores reports collector kept driver_is links_are cores_are reports_are collector_is none_kept = cc
 
 -- nothing was taken of the cores' reports
-nothing : {X : Type 0} (from n : ℕ) → map (λ k. []) (range_with_len from n) ≡ replicate {A = List X} n []
+pub nothing : {X : Type 0} (from n : ℕ) → map (λ k. []) (range_with_len from n) ≡ replicate {A = List X} n []
 nothing from zero = refl
 nothing from (suc n) = ap (λ lists. [] ∷ lists) (nothing (from + 1) n)
 
-none_met : {P : Type 0} (n : ℕ) → met {P = P} (replicate n []) ≡ []
+pub none_met : {P : Type 0} (n : ℕ) → met {P = P} (replicate n []) ≡ []
 none_met zero = refl
 none_met (suc n) = none_met n
 

@@ -1,7 +1,7 @@
 -- What an actor does is its step.
-use Rattle.std.proofs.Common.{◌≡◌, ℕ, zero, suc, ◌<◌, ◌≤◌, ◌==◌, Bool, true, false, cond, List, [], ◌∷◌, ◌++◌, length, drop, get_or, Some, None, Option, refl, ap, sym, ◌∙◌}
+use Rattle.std.proofs.Common.{◌≡◌, ℕ, zero, suc, ◌<◌, ◌==◌, Bool, true, false, cond, List, [], ◌∷◌, ◌++◌, length, drop, get_or, Some, None, Option, refl, ap, sym, ◌∙◌}
 use Rattle.std.specs.Option.{option_map, option_to_list}
-use Rattle.std.proofs.lemmas.Bool.{lt-ltb, le-ltb}
+use Rattle.std.proofs.lemmas.Bool.{lt-ltb}
 use Rattle.hj_base.specs.declared.numbers.CoreNo.{CoreNo}
 use Rattle.hj_base.specs.declared.numbers.Side.{Side}
 use Rattle.hj_base.specs.declared.numbers.Side.TheVariants.{Left, Right}
@@ -9,13 +9,11 @@ use Rattle.hj_msg.specs.declared.event.Event.{Event}
 use Rattle.hj_msg.specs.declared.feed.Given.{Given}
 use Rattle.hj_msg.specs.declared.feed.Given.TheVariants as given
 use Rattle.hj_msg.specs.declared.message.Msg.{Msg}
-use Rattle.hj_msg.specs.declared.message.Msg.TheVariants.{CloseL, CloseR}
 use Rattle.hj_msg.specs.declared.message.Report.{Report}
 use Rattle.hj_msg.specs.Core as core
-use Rattle.hj_msg.specs.Driver.{admission, receipt, closing, message_of, port_of}
+use Rattle.hj_msg.specs.Driver.{admission, receipt, message_of, port_of}
 use Rattle.hj_driver.specs.declared.answers.Why.{Why}
-use Rattle.hj_driver.specs.declared.answers.Closing.TheVariants as closes_as
-use Rattle.hj_driver.specs.Driver.{after_put, after_take, closed, cause_of as wait_of, closing_of}
+use Rattle.hj_driver.specs.Driver.{after_put, after_take, cause_of as wait_of}
 use Rattle.hj_queue.specs.Queues.{Queues}
 use Rattle.hj_chain.specs.declared.actor.Actor.{Actor}
 use Rattle.hj_chain.specs.declared.actor.Actor.TheVariants.{Admit, Core, Collect}
@@ -24,7 +22,7 @@ use Rattle.hj_chain.specs.declared.actor.NotNow.TheVariants.{Waits, Empty, Repor
 use Rattle.hj_chain.specs.declared.actor.Stepped.TheVariants.{Did, NotEnabled, Memory}
 use Rattle.hj_chain.specs.Links.{changed_at, link_at, at_port, put_in, take_out, incoming, take_in, send_out, take_leftwards, take_rightwards}
 use Rattle.hj_chain.specs.Reports.{queue_at}
-use Rattle.hj_chain.specs.Chain.{FeedAnswer, ChainState, Action, drives, handles, collects, first, action_of, after_action, cause_of, admit_cause, closing_cause, or_empty, at_core, capacity, asks, if_there, next_action}
+use Rattle.hj_chain.specs.Chain.{FeedAnswer, ChainState, Action, drives, handles, collects, first, action_of, after_action, cause_of, admit_cause, or_empty, at_core, capacity, asks, if_there, next_action}
 use Rattle.hj_chain.specs.Steps.{StepsTo, needs_memory, at_port as actor_at}
 use Rattle.hj_chain.proofs.Goings.{cause-going}
 use Rattle.hj_chain.proofs.Standing.{first-none, first-some}
@@ -51,13 +49,6 @@ module _ {P : Type 0} (matches : P → P → Bool) (chain : ChainState P) (going
   no_memory actor new enabled needs made = (cause-going chain actor going ∙ enabled, needs, made)
 
   -- the driver
-  pub close-waits : (why : NotNow) (new : ChainState P) → chain.next ≡ Some given.Stop → closing_cause (closing_of chain.driver) ≡ Some why → new ≡ chain → StepsTo matches Admit answer chain (NotEnabled why) new
-  close-waits why new next is same = waits Admit why new (ap (admit_cause chain.driver) next ∙ is) same
-
-  pub close-did : (new : ChainState P) → chain.next ≡ Some given.Stop → closing_of chain.driver ≡ closes_as.Send
-      → new ≡ record chain { driver = closed chain.driver; links = put_in Right n CloseR (put_in Left n CloseL chain.links) } → StepsTo matches Admit answer chain Did new
-  close-did new next sends made = did Admit (drives closing) new (ap (admit_cause chain.driver) next ∙ ap closing_cause sends) (ap (λ (g : Option (Given P)). Some (next_action g)) next) made
-
   pub asks-did : (new : ChainState P) → chain.next ≡ None → new ≡ record chain { next = Some answer.given } → StepsTo matches Admit answer chain Did new
   asks-did new next made = did Admit asks new (ap (admit_cause chain.driver) next) (ap (λ (g : Option (Given P)). Some (next_action g)) next) made
 
@@ -90,21 +81,6 @@ module _ {P : Type 0} (matches : P → P → Bool) (chain : ChainState P) (going
   in_chain : (place : ℕ) (other : Option NotNow) → place < n → at_core chain place other ≡ other
   in_chain place other low = ap (λ b. cond b other (Some NoSuchCore)) (lt-ltb place n low)
 
-  not_in_chain : (place : ℕ) (other : Option NotNow) → n ≤ place → at_core chain place other ≡ Some NoSuchCore
-  not_in_chain place other high = ap (λ b. cond b other (Some NoSuchCore)) (le-ltb place n high)
-
-  pub turn-outside : (place : CoreNo) (end : Side) (new : ChainState P) → n ≤ place.0 → new ≡ chain → StepsTo matches (Core place end) answer chain (NotEnabled NoSuchCore) new
-  turn-outside place end new high same = waits (Core place end) NoSuchCore new (not_in_chain place.0 _ high) same
-
-  pub turn-empty : (place : CoreNo) (end : Side) (new : ChainState P) → place.0 < n → first (incoming end place.0 chain.links) ≡ None → new ≡ chain → StepsTo matches (Core place end) answer chain (NotEnabled Empty) new
-  turn-empty place end new low none same = waits (Core place end) Empty new (in_chain place.0 _ low ∙ or_empty-none (incoming end place.0 chain.links) _ (first-none _ none)) same
-
-  pub turn-full : (place : CoreNo) (end : Side) (message : Msg P) (new : ChainState P) → place.0 < n → first (incoming end place.0 chain.links) ≡ Some message
-      → (length (queue_at chain.reports place.0) == capacity chain.driver.flight) ≡ true → new ≡ chain → StepsTo matches (Core place end) answer chain (NotEnabled ReportsFull) new
-  turn-full place end message new low some full same =
-      let found = first-some (incoming end place.0 chain.links) message some in
-      waits (Core place end) ReportsFull new (in_chain place.0 _ low ∙ or_empty-some _ message found.0 _ found.1 ∙ ap (λ b. cond b (Some ReportsFull) None) full) same
-
   pub turn-enabled : (place : CoreNo) (end : Side) (message : Msg P) → place.0 < n → first (incoming end place.0 chain.links) ≡ Some message → (length (queue_at chain.reports place.0) == capacity chain.driver.flight) ≡ false
       → cause_of chain (Core place end) ≡ None
   turn-enabled place end message low some room =
@@ -129,12 +105,6 @@ module _ {P : Type 0} (matches : P → P → Bool) (chain : ChainState P) (going
   turn-did place end message new low some room made = did (Core place end) (handles place.0 end message) new (turn-enabled place end message low some room) (turn-action place end message some) made
 
   -- a collection
-  pub collect-outside : (place : CoreNo) (new : ChainState P) → n ≤ place.0 → new ≡ chain → StepsTo matches (Collect place) answer chain (NotEnabled NoSuchCore) new
-  collect-outside place new high same = waits (Collect place) NoSuchCore new (not_in_chain place.0 _ high) same
-
-  pub collect-empty : (place : CoreNo) (new : ChainState P) → place.0 < n → queue_at chain.reports place.0 ≡ [] → new ≡ chain → StepsTo matches (Collect place) answer chain (NotEnabled Empty) new
-  collect-empty place new low none same = waits (Collect place) Empty new (in_chain place.0 _ low ∙ or_empty-none (queue_at chain.reports place.0) None none) same
-
   pub collect-no_memory : (place : CoreNo) (report : Report P) (rest : List (Report P)) (new : ChainState P) → place.0 < n → queue_at chain.reports place.0 ≡ report ∷ rest → new ≡ record chain { over = true }
       → StepsTo matches (Collect place) answer chain Memory new
   collect-no_memory place report rest new low is made = no_memory (Collect place) new (in_chain place.0 _ low ∙ or_empty-some _ report rest None is) refl made

@@ -29,76 +29,63 @@ link_at-changed {M} i f links k low = elim (same_place k i) [
       get_or-changed_other i k f links (no_messages 0) (λ same. w.0 (sym same)) ∙ ap (λ b. cond b (f (link_at links k)) (link_at links k)) (sym w.1)
 ]
 
--- of one link, by whether it is the one
-rightwards-put : {M : Type 0} (b : Bool) (messages : List M) (q : Queues M) → (cond b (put_rightwards messages q) q).rightwards ≡ q.rightwards ++ when b messages
-rightwards-put true messages q = refl
-rightwards-put false messages q = sym (append-nil q.rightwards)
+-- One direction of link k, behind a change of the link at a place: it has further messages, is as it was, or lost its first message.
+module _ {M : Type 0} (links : List (Queues M)) (k : ℕ) (low : k < length links) (way : Queues M → List M) (change : Queues M → Queues M) where
+  way-at : (i : ℕ) (b : Bool) → (k == i) ≡ b → way (link_at (changed_at i change links) k) ≡ way (cond b (change (link_at links k)) (link_at links k))
+  way-at i b is = ap way (link_at-changed i change links k low) ∙ ap (λ here. way (cond here (change (link_at links k)) (link_at links k))) is
 
-leftwards-put : {M : Type 0} (b : Bool) (messages : List M) (q : Queues M) → (cond b (put_leftwards messages q) q).leftwards ≡ q.leftwards ++ when b messages
-leftwards-put true messages q = refl
-leftwards-put false messages q = sym (append-nil q.leftwards)
+  way-put : (messages : List M) → ((q : Queues M) → way (change q) ≡ way q ++ messages) → (i : ℕ) → way (link_at (changed_at i change links) k) ≡ way (link_at links k) ++ when (k == i) messages
+  way-put messages puts i = by (k == i) refl
+    where
+      by : (b : Bool) → (k == i) ≡ b → way (link_at (changed_at i change links) k) ≡ way (link_at links k) ++ when (k == i) messages
+      by true is = way-at i true is ∙ puts (link_at links k) ∙ ap (λ b. way (link_at links k) ++ when b messages) (sym is)
+      by false is = way-at i false is ∙ sym (append-nil (way (link_at links k))) ∙ ap (λ b. way (link_at links k) ++ when b messages) (sym is)
 
-rightwards-put_left : {M : Type 0} (b : Bool) (messages : List M) (q : Queues M) → (cond b (put_leftwards messages q) q).rightwards ≡ q.rightwards
-rightwards-put_left true messages q = refl
-rightwards-put_left false messages q = refl
+  way-stays : ((q : Queues M) → way (change q) ≡ way q) → (i : ℕ) → way (link_at (changed_at i change links) k) ≡ way (link_at links k)
+  way-stays stays i = by (k == i) refl
+    where
+      by : (b : Bool) → (k == i) ≡ b → way (link_at (changed_at i change links) k) ≡ way (link_at links k)
+      by true is = way-at i true is ∙ stays (link_at links k)
+      by false is = way-at i false is
 
-leftwards-put_right : {M : Type 0} (b : Bool) (messages : List M) (q : Queues M) → (cond b (put_rightwards messages q) q).leftwards ≡ q.leftwards
-leftwards-put_right true messages q = refl
-leftwards-put_right false messages q = refl
-
-rightwards-take_left : {M : Type 0} (b : Bool) (q : Queues M) → (cond b (take_leftwards q) q).rightwards ≡ q.rightwards
-rightwards-take_left true q = refl
-rightwards-take_left false q = refl
-
-leftwards-take_right : {M : Type 0} (b : Bool) (q : Queues M) → (cond b (take_rightwards q) q).leftwards ≡ q.leftwards
-leftwards-take_right true q = refl
-leftwards-take_right false q = refl
+  way-take : ((q : Queues M) → way (change q) ≡ drop 1 (way q)) → (i : ℕ) (message : M) (rest : List M) → way (link_at links i) ≡ message ∷ rest
+      → way (link_at links k) ≡ when (k == i) (message ∷ []) ++ way (link_at (changed_at i change links) k)
+  way-take takes i message rest is = elim (same_place k i) [
+    | inl w ↦
+        let now : way (link_at links k) ≡ message ∷ rest = ap (λ j. way (link_at links j)) w.0 ∙ is in
+        let after : way (link_at (changed_at i change links) k) ≡ rest = way-at i true w.1 ∙ takes (link_at links k) ∙ ap (drop 1) now in
+        now ∙ ap (λ ms. message ∷ ms) (sym after) ∙ ap (λ b. when b (message ∷ []) ++ way (link_at (changed_at i change links) k)) (sym w.1)
+    | inr w ↦
+        sym (way-at i false w.1) ∙ ap (λ b. when b (message ∷ []) ++ way (link_at (changed_at i change links) k)) (sym w.1)
+  ]
 
 module _ {M : Type 0} (links : List (Queues M)) (k : ℕ) (low : k < length links) where
   -- one change at a place
   pub rights-put_right : (i : ℕ) (messages : List M) → (link_at (changed_at i (put_rightwards messages) links) k).rightwards ≡ (link_at links k).rightwards ++ when (k == i) messages
-  rights-put_right i messages = ap (λ (q : Queues M). q.rightwards) (link_at-changed i (put_rightwards messages) links k low) ∙ rightwards-put (k == i) messages (link_at links k)
+  rights-put_right i messages = way-put links k low (λ q. q.rightwards) (put_rightwards messages) messages (λ q. refl) i
 
   pub lefts-put_right : (i : ℕ) (messages : List M) → (link_at (changed_at i (put_rightwards messages) links) k).leftwards ≡ (link_at links k).leftwards
-  lefts-put_right i messages = ap (λ (q : Queues M). q.leftwards) (link_at-changed i (put_rightwards messages) links k low) ∙ leftwards-put_right (k == i) messages (link_at links k)
+  lefts-put_right i messages = way-stays links k low (λ q. q.leftwards) (put_rightwards messages) (λ q. refl) i
 
   pub rights-put_left : (i : ℕ) (messages : List M) → (link_at (changed_at i (put_leftwards messages) links) k).rightwards ≡ (link_at links k).rightwards
-  rights-put_left i messages = ap (λ (q : Queues M). q.rightwards) (link_at-changed i (put_leftwards messages) links k low) ∙ rightwards-put_left (k == i) messages (link_at links k)
+  rights-put_left i messages = way-stays links k low (λ q. q.rightwards) (put_leftwards messages) (λ q. refl) i
 
   pub lefts-put_left : (i : ℕ) (messages : List M) → (link_at (changed_at i (put_leftwards messages) links) k).leftwards ≡ (link_at links k).leftwards ++ when (k == i) messages
-  lefts-put_left i messages = ap (λ (q : Queues M). q.leftwards) (link_at-changed i (put_leftwards messages) links k low) ∙ leftwards-put (k == i) messages (link_at links k)
+  lefts-put_left i messages = way-put links k low (λ q. q.leftwards) (put_leftwards messages) messages (λ q. refl) i
 
   pub rights-take_left : (i : ℕ) → (link_at (changed_at i take_leftwards links) k).rightwards ≡ (link_at links k).rightwards
-  rights-take_left i = ap (λ (q : Queues M). q.rightwards) (link_at-changed i take_leftwards links k low) ∙ rightwards-take_left (k == i) (link_at links k)
+  rights-take_left = way-stays links k low (λ q. q.rightwards) take_leftwards (λ q. refl)
 
   pub lefts-take_right : (i : ℕ) → (link_at (changed_at i take_rightwards links) k).leftwards ≡ (link_at links k).leftwards
-  lefts-take_right i = ap (λ (q : Queues M). q.leftwards) (link_at-changed i take_rightwards links k low) ∙ leftwards-take_right (k == i) (link_at links k)
+  lefts-take_right = way-stays links k low (λ q. q.leftwards) take_rightwards (λ q. refl)
 
   pub rights-take_right : (i : ℕ) (message : M) (rest : List M) → (link_at links i).rightwards ≡ message ∷ rest
       → (link_at links k).rightwards ≡ when (k == i) (message ∷ []) ++ (link_at (changed_at i take_rightwards links) k).rightwards
-  rights-take_right i message rest is = elim (same_place k i) [
-    | inl w ↦
-        let now : (link_at links k).rightwards ≡ message ∷ rest = ap (λ j. (link_at links j).rightwards) w.0 ∙ is in
-        let after : (link_at (changed_at i take_rightwards links) k).rightwards ≡ rest =
-        ap (λ (q : Queues M). q.rightwards) (link_at-changed i take_rightwards links k low) ∙ ap (λ b. (cond b (take_rightwards (link_at links k)) (link_at links k)).rightwards) w.1 ∙ ap (drop 1) now in
-        now ∙ ap (λ ms. message ∷ ms) (sym after) ∙ ap (λ b. when b (message ∷ []) ++ (link_at (changed_at i take_rightwards links) k).rightwards) (sym w.1)
-    | inr w ↦
-        sym (ap (λ (q : Queues M). q.rightwards) (link_at-changed i take_rightwards links k low) ∙ ap (λ b. (cond b (take_rightwards (link_at links k)) (link_at links k)).rightwards) w.1)
-        ∙ ap (λ b. when b (message ∷ []) ++ (link_at (changed_at i take_rightwards links) k).rightwards) (sym w.1)
-  ]
+  rights-take_right = way-take links k low (λ q. q.rightwards) take_rightwards (λ q. refl)
 
   pub lefts-take_left : (i : ℕ) (message : M) (rest : List M) → (link_at links i).leftwards ≡ message ∷ rest
       → (link_at links k).leftwards ≡ when (k == i) (message ∷ []) ++ (link_at (changed_at i take_leftwards links) k).leftwards
-  lefts-take_left i message rest is = elim (same_place k i) [
-    | inl w ↦
-        let now : (link_at links k).leftwards ≡ message ∷ rest = ap (λ j. (link_at links j).leftwards) w.0 ∙ is in
-        let after : (link_at (changed_at i take_leftwards links) k).leftwards ≡ rest =
-        ap (λ (q : Queues M). q.leftwards) (link_at-changed i take_leftwards links k low) ∙ ap (λ b. (cond b (take_leftwards (link_at links k)) (link_at links k)).leftwards) w.1 ∙ ap (drop 1) now in
-        now ∙ ap (λ ms. message ∷ ms) (sym after) ∙ ap (λ b. when b (message ∷ []) ++ (link_at (changed_at i take_leftwards links) k).leftwards) (sym w.1)
-    | inr w ↦
-        sym (ap (λ (q : Queues M). q.leftwards) (link_at-changed i take_leftwards links k low) ∙ ap (λ b. (cond b (take_leftwards (link_at links k)) (link_at links k)).leftwards) w.1)
-        ∙ ap (λ b. when b (message ∷ []) ++ (link_at (changed_at i take_leftwards links) k).leftwards) (sym w.1)
-  ]
+  lefts-take_left = way-take links k low (λ q. q.leftwards) take_leftwards (λ q. refl)
 
   -- at a port
   pub rights-put_in : (port : Side) (n : ℕ) (message : M) → (link_at (put_in port n message links) k).rightwards ≡ (link_at links k).rightwards ++ when (k == 0) (only_at port Left message)

@@ -1,4 +1,4 @@
-use Rattle.std.proofs.Common.{false, true, ap, refl, sym, ◌∙◌}
+use Rattle.std.proofs.Common.{false, true, refl}
 use Rattle.hj_msg.specs.declared.feed.Given.TheVariants as given
 use Rattle.hj_chain.proofs.chain.next_if_there.Goals as goal
 

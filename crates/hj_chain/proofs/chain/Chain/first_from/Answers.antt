@@ -1,8 +1,8 @@
-use Rattle.std.proofs.Common.{◌≡◌, ◌+◌, ◌-◌, ℕ, List, ◌++◌, [], ◌∷◌, length, filter, take, drop, Bool, ap, sym, ◌∙◌, subst, arith}
+use Rattle.std.proofs.Common.{◌≡◌, ◌-◌, List, [], ◌∷◌, length, filter, Bool, ap, sym, ◌∙◌, subst, arith}
 use Rattle.std.specs.List.{slice_get}
 use Rattle.hj_chain.specs.declared.actor.Actor.{Actor}
 use Rattle.hj_chain.specs.declared.actor.Actor.TheVariants.{Admit}
-use Rattle.hj_chain.specs.Serial.{actors, from_there_on, in_turn, is_enabled, others}
+use Rattle.hj_chain.specs.Serial.{from_there_on, in_turn, is_enabled, others}
 use Rattle.hj_chain.proofs.Looking.{first-behind, first-round, turned}
 use Rattle.hj_chain.proofs.chain.Chain.first_from.Goals as goal
 
