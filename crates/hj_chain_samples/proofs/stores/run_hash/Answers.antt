@@ -1,4 +1,4 @@
-use Rattle.std.proofs.Common.{◌≡◌, rules, refl, sym}
+use Rattle.std.proofs.Common.{◌≡◌, rules, refl}
 use Rattle.hj_base.specs.declared.numbers.Side.TheVariants.{Left}
 use Rattle.hj_eval.specs.Plan.{plan_of}
 use Rattle.hj_index.proofs.Ready.{hash_suits}
