@@ -1,5 +1,5 @@
 -- The arrivals of two sides, by what their heads are.
-use Rattle.std.proofs.Common.{◌≡◌, ℕ, Bool, true, false, List, [], Ok, Err, None, Some, sym, refl, ap, subst, ◌∙◌, cond}
+use Rattle.std.proofs.Common.{◌≡◌, ℕ, Bool, false, List, [], Ok, Err, None, Some, sym, refl, ap, subst, ◌∙◌, cond}
 use Rattle.std.specs.Prelude.{int_le}
 use Rattle.std.specs.declared.option.Option.{Option}
 use Rattle.std.specs.declared.result.Result.{Result}
@@ -14,9 +14,8 @@ use Rattle.hj_record.specs.Pieces.{Stream}
 use Rattle.hj_event.specs.declared.fault.RecordFault.{RecordFault}
 use Rattle.hj_event.specs.declared.stop.Stop.{Stop}
 use Rattle.hj_event.specs.declared.stop.Stop.TheVariants as stop
-use Rattle.hj_event.specs.declared.stop.Last.TheVariants as last
-use Rattle.hj_event.specs.Rows.{Rows, no_row, then_rows, clean, bad, unread}
-use Rattle.hj_event.specs.Arrivals.{Arrivals, arrivals_of, then_arrivals, no_arrival, clean as merge_clean, bad as merge_bad, unread as merge_unread}
+use Rattle.hj_event.specs.Rows.{Rows, no_row, then_rows, bad, unread}
+use Rattle.hj_event.specs.Arrivals.{Arrivals, arrivals_of, then_arrivals, no_arrival, bad as merge_bad, unread as merge_unread}
 use Rattle.hj_event.specs.Arriving.{last_of, ArrivalLeads, TakesArrival, EndsBoth, fails}
 use Rattle.hj_event.specs.Sides.{Reading, SideState, Sides, with_head, rows_ahead, in_front, Follows, side_ahead, arrivals_ahead}
 use Rattle.hj_event.specs.Roles.{IsReadOn, IsInStep}
@@ -45,28 +44,10 @@ right_stops head stop.Failed left left_behind right right_behind behind is other
 right_stops head stop.Memory left left_behind right right_behind behind is other = tt
 
 module _ (left left_behind right right_behind : Rows) where
-  both_end : RowLeads (Ok None) left left_behind → RowLeads (Ok None) right right_behind → arrivals_of left right ≡ no_arrival merge_clean
-  both_end is other = ap (λ (l : Rows). arrivals_of l right) is.0 ∙ ap (arrivals_of (no_row clean)) other.0
-
-  left_alone : (row : List Field) → RowLeads (Ok (Some row)) left left_behind → RowLeads (Ok None) right right_behind → arrivals_of left right ≡ then_arrivals Left row (arrivals_of left_behind right_behind)
-  left_alone row is other =
-      ap (λ (l : Rows). arrivals_of l right) is
-      ∙ (ap (arrivals_of (then_rows row left_behind)) other.0
-      ∙ ap (λ (r : Rows). then_arrivals Left row (arrivals_of left_behind r)) (sym other.1))
-
-  right_alone : (row : List Field) → RowLeads (Ok None) left left_behind → RowLeads (Ok (Some row)) right right_behind → arrivals_of left right ≡ then_arrivals Right row (arrivals_of left_behind right_behind)
-  right_alone row is other =
-      ap (λ (l : Rows). arrivals_of l right) is.0
-      ∙ (ap (arrivals_of (no_row clean)) other
-      ∙ ap (λ (l : Rows). then_arrivals Right row (arrivals_of l right_behind)) (sym is.1))
-
   -- both sides have a row
   both_have : (one other : List Field) → RowLeads (Ok (Some one)) left left_behind → RowLeads (Ok (Some other)) right right_behind
       → arrivals_of left right ≡ cond (int_le (time_of one) (time_of other)) (then_arrivals Left one (arrivals_of left_behind (then_rows other right_behind))) (then_arrivals Right other (arrivals_of (then_rows one left_behind) right_behind))
   both_have one other is are = ap (λ (l : Rows). arrivals_of l right) is ∙ ap (arrivals_of (then_rows one left_behind)) are
-
-  left_first : (one other : List Field) → int_le (time_of one) (time_of other) ≡ true → RowLeads (Ok (Some one)) left left_behind → RowLeads (Ok (Some other)) right right_behind → arrivals_of left right ≡ then_arrivals Left one (arrivals_of left_behind (then_rows other right_behind))
-  left_first one other le is are = both_have one other is are ∙ ap (λ (t : Bool). cond t (then_arrivals Left one (arrivals_of left_behind (then_rows other right_behind))) (then_arrivals Right other (arrivals_of (then_rows one left_behind) right_behind))) le
 
   right_first : (one other : List Field) → int_le (time_of one) (time_of other) ≡ false → RowLeads (Ok (Some one)) left left_behind → RowLeads (Ok (Some other)) right right_behind → arrivals_of left right ≡ then_arrivals Right other (arrivals_of (then_rows one left_behind) right_behind)
   right_first one other lt is are = both_have one other is are ∙ ap (λ (t : Bool). cond t (then_arrivals Left one (arrivals_of left_behind (then_rows other right_behind))) (then_arrivals Right other (arrivals_of (then_rows one left_behind) right_behind))) lt
@@ -166,20 +147,6 @@ stops_right head why old new before between now both = record {
   right_needed = right_needs head (Err why) old new before between now both;
 }
 
--- Both sides have ended.
-pub takes_done : (old new : Sides) (before between now : Roles) → BothTaken None (Ok None) old new before between now → TakesArrival (Err last.Done) old new before now
-takes_done old new before between now both = record {
-  left_bytes = both.left.bytes;
-  right_bytes = both.right.bytes;
-  left = left_read None (Ok None) old new before between now both;
-  right = right_read None (Ok None) old new before between now both;
-  query = query_stays None (Ok None) old new before between now both;
-  leads = λ l r l_follows r_follows. both_end (side_ahead old.left (in_front both.left.bytes l)) (side_ahead new.left l) (side_ahead old.right (in_front both.right.bytes r)) (side_ahead new.right r) (both.left.leads l l_follows) (both.right.leads r r_follows);
-  ended = (both.left.ended, both.right.ended);
-  left_needed = left_needs None (Ok None) old new before between now both;
-  right_needed = right_needs None (Ok None) old new before between now both;
-}
-
 -- A side whose head was put back.
 abbrev pub put_back : List Field → SideState → SideState
 put_back row side = record side { head = Some row }
@@ -214,20 +181,6 @@ module _ (head : Option (List Field)) (answer : Option (List Field)) (old mid ne
   }
 
 module _ (old mid : Sides) (before between now : Roles) where
-  pub takes_left : (row : List Field) → BothTaken (Some row) (Ok None) old mid before between now → TakesArrival (Ok (Left, row)) old mid before now
-  takes_left row both = arrives (Some row) None old mid mid before between now both refl refl Left row
-      (λ l r one other. left_alone (side_ahead old.left (in_front both.left.bytes l)) (side_ahead mid.left l) (side_ahead old.right (in_front both.right.bytes r)) (side_ahead mid.right r) row one other)
-
-  pub takes_right : (row : List Field) → BothTaken None (Ok (Some row)) old mid before between now → TakesArrival (Ok (Right, row)) old mid before now
-  takes_right row both = arrives None (Some row) old mid mid before between now both refl refl Right row
-      (λ l r one other. right_alone (side_ahead old.left (in_front both.left.bytes l)) (side_ahead mid.left l) (side_ahead old.right (in_front both.right.bytes r)) (side_ahead mid.right r) row one other)
-
-  pub takes_left_first : (one other : List Field) → int_le (time_of one) (time_of other) ≡ true → mid.right.head ≡ None → BothTaken (Some one) (Ok (Some other)) old mid before between now
-      → TakesArrival (Ok (Left, one)) old (record { left = mid.left; right = put_back other mid.right }) before now
-  takes_left_first one other le none both = arrives (Some one) (Some other) old mid (record { left = mid.left; right = put_back other mid.right }) before between now both refl refl Left one
-      (λ l r is are. left_first (side_ahead old.left (in_front both.left.bytes l)) (side_ahead mid.left l) (side_ahead old.right (in_front both.right.bytes r)) (side_ahead mid.right r) one other le is are
-      ∙ ap (λ (rows : Rows). then_arrivals Left one (arrivals_of (side_ahead mid.left l) rows)) (sym (put_back_ahead other mid.right r none)))
-
   pub takes_right_first : (one other : List Field) → int_le (time_of one) (time_of other) ≡ false → mid.left.head ≡ None → BothTaken (Some one) (Ok (Some other)) old mid before between now
       → TakesArrival (Ok (Right, other)) old (record { left = put_back one mid.left; right = mid.right }) before now
   takes_right_first one other lt none both = arrives (Some one) (Some other) old mid (record { left = put_back one mid.left; right = mid.right }) before between now both refl refl Right other

@@ -1,5 +1,5 @@
 -- What a caller keeps of a merger from call to call: its roles are as it left them.
-use Rattle.std.proofs.Common.{◌≡◌, Bool, false, Option, Some, None, List, ℕ, sym, ap, subst, ◌∙◌}
+use Rattle.std.proofs.Common.{◌≡◌, Bool, Option, Some, None, List, ℕ, sym, subst}
 use Rattle.hj_base.specs.declared.outside.Role.{Role}
 use Rattle.hj_base.specs.declared.outside.Role.TheVariants as role
 use Rattle.hj_base.specs.Outside.{RoleState, IsOpen, opened, Phase}
@@ -10,12 +10,6 @@ use Rattle.hj_event.specs.Roles.{IsInStep, name_of}
 
 abbrev pub InStep : Merging → (Role → RoleState) → Type 0
 InStep merging roles = IsInStep merging.sides.left.reading.ended (roles role.Left) × IsInStep merging.sides.right.reading.ended (roles role.Right)
-
-pub in_step-new : (ended : Bool) (name : List ℕ) (state : RoleState) → ended ≡ false → state.phase ≡ opened name false → IsInStep ended state
-in_step-new ended name state is e = record {
-  phase = e ∙ (ap (λ (n : List ℕ). opened n false) (sym (ap name_of e)) ∙ ap (opened (name_of state.phase)) (sym is));
-  at_end = λ f. cc;
-}
 
 in_step-from : (over : Option Last) (answer : Next) (old new : Merging) (before now : Role → RoleState) → AnswersFrom over answer old new before now → InStep old before → InStep new now
 in_step-from None answer old new before now takes step = (takes.left.in_step, takes.right.in_step)

@@ -1,7 +1,7 @@
 -- The live rows of a side: what an event does to them, and what stands of each in the events.
 use Rattle.std.proofs.Common.{◌≡◌, ℕ, ◌⊎◌, inl, inr, Bool, true, false, not, cond, ◌&&◌, ◌||◌, ◌==◌, List, [], ◌∷◌, ◌++◌, filter, filter_map, Option, append-nil, Contains, Some, None, refl, sym, ap, subst, ◌∙◌}
 use Rattle.std.specs.List.{list_any, cons_option}
-use Rattle.std.proofs.lemmas.Bool.{eq-eqb, eqb-true, ne_eqb, or_cases, false≢true, not-true, cases_Bool}
+use Rattle.std.proofs.lemmas.Bool.{eq-eqb, eqb-true, or_cases, false≢true, not-true, cases_Bool}
 use Rattle.std.proofs.lemmas.List.Elements.{filter_map-append, filter-append, filter_agree}
 use Rattle.std.proofs.lemmas.List.Folds.{list_any-append, list_any_at}
 use Rattle.hj_base.specs.declared.numbers.EventNo.{EventNo}
@@ -20,10 +20,6 @@ cases_side Left Right = inr (λ e. cc)
 cases_side Right Left = inr (λ e. cc)
 cases_side Right Right = inl refl
 
-filter_none_out : {X : Type 0} (test : X → Bool) (xs : List X) → ((x : X) → Contains xs x → test x ≡ true) → filter test xs ≡ xs
-filter_none_out test [] h = refl
-filter_none_out test (x ∷ xs) h = rw (h x (Contains-head x xs)) (ap (λ ys. x ∷ ys) (filter_none_out test xs (λ y k. h y (Contains-cons x y xs k))))
-
 filter_both-head : {X : Type 0} (other : X → Bool) (x : X) (one : Bool) (kept both : List X) → both ≡ filter other kept → cond (one && other x) (x ∷ both) both ≡ filter other (cond one (x ∷ kept) kept)
 filter_both-head other x true kept both e = ap (λ ys. cond (other x) (x ∷ ys) ys) e
 filter_both-head other x false kept both e = e
@@ -31,9 +27,6 @@ filter_both-head other x false kept both e = e
 pub filter_both : {X : Type 0} (one other both : X → Bool) → ((x : X) → both x ≡ (one x && other x)) → (xs : List X) → filter both xs ≡ filter other (filter one xs)
 filter_both one other both is [] = refl
 filter_both one other both is (x ∷ xs) = rw (is x) (filter_both-head other x (one x) (filter one xs) (filter both xs) (filter_both one other both is xs))
-
-filter_out : {X : Type 0} (test : X → Bool) (x : X) (xs : List X) → test x ≡ false → ((y : X) → Contains xs y → test y ≡ true) → filter test (x ∷ xs) ≡ xs
-filter_out test x xs e h = rw e (filter_none_out test xs h)
 
 -- one of these events is the expiry of this number's row
 abbrev pub has_expired : {P : Type 0} → List (Event P) → ℕ → Bool
@@ -97,16 +90,6 @@ live_rows-expiry {P} before at of side other =
     ap (λ numbers. filter (λ number. not (has_expired (before ++ Expire at side of ∷ []) number)) numbers) (arrived-none other before (Expire at side of) (arrival_no-expiry P side other at of))
     ∙ filter_both (λ number. not (has_expired before number)) (λ number. not (of.0 == number)) _
     (λ number. ap not (has_expired-push before (Expire at side of) number) ∙ not-or (has_expired before number) (of.0 == number)) (arrived other before)
-
--- the row that expires was the first
-pub live_rows-first : {P : Type 0} (before : List (Event P)) (at of : EventNo) (side other : Side) (others : List ℕ) → live_rows other before ≡ of.0 ∷ others → ((number : ℕ) → Contains others number → of.0 ≡ number → ⊥) → live_rows other (before ++ Expire at side of ∷ []) ≡ others
-live_rows-first before at of side other others e apart = live_rows-expiry before at of side other ∙ (ap (λ numbers. filter (λ number. not (of.0 == number)) numbers) e
-    ∙ filter_out (λ number. not (of.0 == number)) of.0 others (ap not (eq-eqb of.0 of.0 refl)) (λ number k. ap not (ne_eqb of.0 number (apart number k))))
-
--- the row that expires wasn't among them
-pub live_rows-absent : {P : Type 0} (before : List (Event P)) (at of : EventNo) (side other : Side) → ((number : ℕ) → Contains (live_rows other before) number → of.0 ≡ number → ⊥) → live_rows other (before ++ Expire at side of ∷ []) ≡ live_rows other before
-live_rows-absent before at of side other apart = live_rows-expiry before at of side other
-    ∙ filter_none_out (λ number. not (of.0 == number)) (live_rows other before) (λ number k. ap not (ne_eqb of.0 number (apart number k)))
 
 -- what is told to have expired after one expiry more
 pub has_expired-cases : {P : Type 0} (before : List (Event P)) (at of : EventNo) (side : Side) (number : ℕ) → has_expired (before ++ Expire at side of ∷ []) number ≡ true → (has_expired before number ≡ true) ⊎ (of.0 ≡ number)

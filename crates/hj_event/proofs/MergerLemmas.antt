@@ -1,5 +1,5 @@
 -- A call of a merger, by what its parts answered.
-use Rattle.std.proofs.Common.{◌≡◌, ℕ, ◌-◌, Bool, false, List, [], Ok, Err, None, Some, sym, refl, ap, subst, ◌∙◌, arith}
+use Rattle.std.proofs.Common.{◌≡◌, ℕ, ◌-◌, Bool, false, List, [], Ok, Err, None, sym, refl, ap, subst, ◌∙◌, arith}
 use Rattle.std.specs.declared.option.Option.{Option}
 use Rattle.std.specs.declared.result.Result.{Result}
 use Rattle.hj_value.specs.declared.field.Field.{Field}
@@ -12,13 +12,12 @@ use Rattle.hj_msg.specs.declared.event.Event.{Event}
 use Rattle.hj_value.specs.declared.column.Column.{Column}
 use Rattle.hj_query.specs.Parts.{Parts}
 use Rattle.hj_record.specs.Pieces.{Stream}
-use Rattle.hj_event.specs.declared.merger.Next.{Next}
 use Rattle.hj_event.specs.declared.stop.Last.{Last}
 use Rattle.hj_event.specs.declared.stop.Last.TheVariants as last
 use Rattle.hj_event.specs.Arrivals.{Arrivals, arrivals_of, then_arrivals, clean, bad, unread}
 use Rattle.hj_event.specs.Arriving.{ArrivalLeads, TakesArrival, EndsBoth, fails}
 use Rattle.hj_event.specs.Events.{Numbered, numbered, none_live, up_to, all_events_of, events_of}
-use Rattle.hj_event.specs.Merger.{Merging, IsNew, TakesNext, NextLeads, Steps, IsAllRead, Answers, AnswersFrom, answer_of, next_of, fails_next, events_from}
+use Rattle.hj_event.specs.Merger.{Merging, IsNew, NextLeads, Steps, IsAllRead, answer_of, next_of, fails_next, events_from}
 use Rattle.hj_event.specs.Numbering.{NumberingState, nothing_due, numbered_ahead, has_due, Gives}
 use Rattle.hj_event.specs.Roles.{IsReadOn, IsInStep}
 use Rattle.hj_event.specs.Rows.{rows_of}
@@ -133,26 +132,6 @@ steps_last why old new over numbering before now none takes = (
   refl,
 )
 
--- Memory ran out behind an arrival.
-pub steps_memory : (arrival : Side × List Field) (old new : Sides) (over : Option Last) (numbering after : NumberingState) (before now : Roles) → has_due numbering.due ≡ false → TakesArrival (Ok arrival) old new before now
-    → Steps (Err last.Memory) (record { sides = old; numbering = numbering; over = over }) (record { sides = new; numbering = after; over = over }) before now
-steps_memory arrival old new over numbering after before now none takes = (
-  record {
-    left_bytes = takes.left_bytes;
-    right_bytes = takes.right_bytes;
-    left = takes.left;
-    right = takes.right;
-    query = takes.query;
-    leads = λ l r l_follows r_follows. tt;
-    ended = tt;
-    stays = refl;
-    due = λ e. cc;
-    left_needed = takes.left_needed;
-    right_needed = takes.right_needed;
-  },
-  refl,
-)
-
 -- A row arrives, and the first of its events is given.
 pub steps_arrival : (arrival : Side × List Field) (answer : Result (Event (List Field)) Last) (old new : Sides) (over : Option Last) (numbering with_row after : NumberingState) (before now : Roles) → has_due numbering.due ≡ false → TakesArrival (Ok arrival) old new before now
     → ((arrivals : Arrivals) → numbered_ahead numbering (then_arrivals arrival.0 arrival.1 arrivals) ≡ numbered_ahead with_row arrivals) → GivesFrom answer with_row after
@@ -180,14 +159,6 @@ steps_arrival arrival answer old new over numbering with_row after before now no
       },
       refl,
     )
-
--- ---- calls
-
-pub answers_again : (why : Last) (old : Merging) (answer : Next) (roles : Roles) → old.over ≡ Some why → answer ≡ answer_of why → Answers answer old old roles roles
-answers_again why old answer roles over is = subst (λ (o : Option Last). AnswersFrom o answer old old roles roles) (sym over) (is, refl, λ of. refl)
-
-pub answers_step : (step : Result (Event (List Field)) Last) (old new : Merging) (before now : Roles) → old.over ≡ None → TakesNext (next_of step) old new before now → Answers (next_of step) old new before now
-answers_step step old new before now none takes = subst (λ (o : Option Last). AnswersFrom o (next_of step) old new before now) (sym none) takes
 
 -- ---- a new merger
 

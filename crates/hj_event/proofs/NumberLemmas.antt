@@ -3,7 +3,7 @@ use Rattle.std.proofs.Common.{◌≡◌, ℕ, suc, ◌+◌, ◌-◌, ◌<◌, �
 use Rattle.std.specs.Option.{option_map, option_to_list}
 use Rattle.std.specs.List.{filter, slice_get}
 use Rattle.std.proofs.lemmas.Option.{get_or_from_slice_get}
-use Rattle.std.proofs.lemmas.List.{nil_from_length, length-map, length-drop, drop_more}
+use Rattle.std.proofs.lemmas.List.{nil_from_length, length-map, drop_more}
 use Rattle.std.proofs.lemmas.Bool.{lt-ltb, le-ltb, eqb-true, not-false}
 use Rattle.std.proofs.lemmas.Bool.Decides.{nat_tests}
 use Rattle.std.specs.declared.option.Option.{Option}
@@ -21,7 +21,7 @@ use Rattle.hj_window.specs.Numbers.{numbers_of, number_of_some}
 use Rattle.hj_window.proofs.Order.{live_below}
 use Rattle.hj_event.specs.Arrivals.{Arrivals, Ending, then_arrivals, no_arrival, too_many}
 use Rattle.hj_event.specs.Events.{Numbered, expiries, events_at, number_from, numbered, up_to}
-use Rattle.hj_event.specs.Numbering.{DueState, NumberingState, expiries_of, arrival_at, due_count, due_events, has_due, due_of, numbered_ahead, no_event, then_event, TakesDue, IsCounted}
+use Rattle.hj_event.specs.Numbering.{DueState, NumberingState, expiries_of, arrival_at, due_count, due_events, has_due, due_of, numbered_ahead, no_event, TakesDue, IsCounted}
 
 -- ---- a limit
 
@@ -32,15 +32,6 @@ pub up_to-zero : (room : ℕ) (all : Numbered) → room ≡ 0 → 0 < length all
 up_to-zero room all none some =
     ap (λ (k : ℕ). up_to k all) none
     ∙ ap (λ (t : Bool). cond t (no_event too_many) all) (lt-ltb 0 (length all.events) some)
-
-ltb-suc : (m n : ℕ) → ltb (suc m) (suc n) ≡ ltb m n
-ltb-suc m n = grind (arith, nat_tests)
-
-pub up_to-suc : (room rest : ℕ) (event : Event (List Field)) (others : Numbered) → room ≡ suc rest → up_to room (then_event event others) ≡ then_event event (up_to rest others)
-up_to-suc room rest event others is =
-    ap (λ (k : ℕ). up_to k (then_event event others)) is
-    ∙ (ap (λ (t : Bool). cond t (record { events = event ∷ take rest others.events; ending = too_many }) (then_event event others)) (ltb-suc rest (length others.events))
-    ∙ (elim (ltb rest (length others.events)) as (λ t. cond t (record { events = event ∷ take rest others.events; ending = too_many }) (then_event event others) ≡ then_event event (cond t (record { events = take rest others.events; ending = too_many }) others)) [ true ↦ refl | false ↦ refl ]))
 
 -- ---- what is due
 
@@ -65,18 +56,6 @@ due-first at row rows arrival after =
     let e : at + length (row ∷ rows) ≡ at + 1 + length rows = omega arith in
     ap (λ (no : ℕ). Expire (record { 0 = at }) row.0 row.1 ∷ (expiries_of (at + 1) rows ++ (arrival_at no arrival ++ expiries_of (no + length (option_to_list arrival)) (option_to_list after)))) e
 
-pub due-arrival : (at : ℕ) (side : Side) (row : List Field) (after : Option (Side × EventNo)) → due_events at (record { before = []; arrival = Some (side, row); after = after }) ≡ Arrive (record { 0 = at }) side row ∷ due_events (at + 1) (record { before = []; arrival = None; after = after })
-due-arrival at side row after =
-    let e : at + 0 ≡ at = omega arith in
-    let f : at + 0 + 1 ≡ at + 1 + 0 + 0 = omega arith in
-    ap (λ (no : ℕ). Arrive (record { 0 = no }) side row ∷ expiries_of (at + 0 + 1) (option_to_list after)) e
-    ∙ ap (λ (no : ℕ). Arrive (record { 0 = at }) side row ∷ expiries_of no (option_to_list after)) f
-
-pub due-after : (at : ℕ) (side : Side) (of : EventNo) → due_events at (record { before = []; arrival = None; after = Some (side, of) }) ≡ Expire (record { 0 = at }) side of ∷ due_events (at + 1) (record { before = []; arrival = None; after = None })
-due-after at side of =
-    let e : at + 0 + 0 ≡ at = omega arith in
-    ap (λ (no : ℕ). Expire (record { 0 = no }) side of ∷ []) e
-
 -- ---- giving
 
 some-due : (at : ℕ) (due : DueState) → has_due due ≡ true → 0 < length (due_events at due)
@@ -93,16 +72,6 @@ gives-too_many state arrivals some over =
     let none : state.limit - state.next ≡ 0 = omega arith in
     up_to-zero (state.limit - state.next) (record { events = due_events state.next state.due ++ behind.events; ending = behind.ending }) none
     (omega (arith, some-due state.next state.due some, length-append (due_events state.next state.due) behind.events))
-
-pub gives-event : (live : LiveRows) (due rest : DueState) (next limit : ℕ) (event : Event (List Field)) (arrivals : Arrivals) → next < limit → TakesDue (Some event) next due rest
-    → numbered_ahead (record { live = live; due = due; next = next; limit = limit }) arrivals ≡ then_event event (numbered_ahead (record { live = live; due = rest; next = next + 1; limit = limit }) arrivals)
-gives-event live due rest next limit event arrivals less takes =
-    let e : next + due_count due ≡ next + 1 + due_count rest = omega (arith, takes.1) in
-    let room : limit - next ≡ suc (limit - (next + 1)) = omega arith in
-    let behind = numbered (next + 1 + due_count rest) live arrivals in
-    ap (λ (k : ℕ). up_to (limit - next) (record { events = due_events next due ++ number_from k live arrivals.rows; ending = arrivals.ending })) e
-    ∙ (ap (λ (events : List (Event (List Field))). up_to (limit - next) (record { events = events ++ behind.events; ending = behind.ending })) takes.0
-    ∙ up_to-suc (limit - next) (limit - (next + 1)) event (record { events = due_events (next + 1) rest ++ behind.events; ending = behind.ending }) room)
 
 -- ---- an arrival
 
@@ -195,39 +164,6 @@ module _ (before : List (Side × EventNo)) (given : ℕ) (arrival : Option (Side
         ap (λ (rows : List (Side × EventNo)). due_events no (record { before = rows; arrival = arrival; after = after })) first ∙ due-first no row (drop (given + 1) before) arrival after,
         omega (arith, ap (λ (rows : List (Side × EventNo)). length rows) first),
       )
-
-  none-before : length before ≤ given → drop given before ≡ []
-  none-before past = nil_from_length (drop given before) (omega (arith, length-drop given before))
-
-  pub takes-arrival : (side : Side) (row : List Field) → length before ≤ given → arrival ≡ Some (side, row)
-      → TakesDue (Some (Arrive (record { 0 = no }) side row)) no (record { before = drop given before; arrival = arrival; after = after }) (record { before = drop given before; arrival = None; after = after })
-  takes-arrival side row past is =
-      let none = none-before past in (
-        ap (λ (rows : List (Side × EventNo)). due_events no (record { before = rows; arrival = arrival; after = after })) none
-            ∙ (ap (λ (a : Option (Side × List Field)). due_events no (record { before = []; arrival = a; after = after })) is
-            ∙ (due-arrival no side row after
-            ∙ ap (λ (rows : List (Side × EventNo)). Arrive (record { 0 = no }) side row ∷ due_events (no + 1) (record { before = rows; arrival = None; after = after })) (sym none))),
-        ap (λ (a : Option (Side × List Field)). due_count (record { before = drop given before; arrival = a; after = after })) is ∙ omega arith,
-      )
-
-  pub takes-after : (side : Side) (of : EventNo) → length before ≤ given → arrival ≡ None → after ≡ Some (side, of)
-      → TakesDue (Some (Expire (record { 0 = no }) side of)) no (record { before = drop given before; arrival = arrival; after = after }) (record { before = drop given before; arrival = arrival; after = None })
-  takes-after side of past is last =
-      let none = none-before past in (
-        ap (λ (rows : List (Side × EventNo)). due_events no (record { before = rows; arrival = arrival; after = after })) none
-            ∙ (ap (λ (a : Option (Side × List Field)). due_events no (record { before = []; arrival = a; after = after })) is
-            ∙ (ap (λ (a : Option (Side × EventNo)). due_events no (record { before = []; arrival = None; after = a })) last
-            ∙ (due-after no side of
-            ∙ (ap (λ (rows : List (Side × EventNo)). Expire (record { 0 = no }) side of ∷ due_events (no + 1) (record { before = rows; arrival = None; after = None })) (sym none)
-            ∙ ap (λ (a : Option (Side × List Field)). Expire (record { 0 = no }) side of ∷ due_events (no + 1) (record { before = drop given before; arrival = a; after = None })) (sym is))))),
-        ap (λ (a : Option (Side × EventNo)). due_count (record { before = drop given before; arrival = arrival; after = a })) last ∙ omega arith,
-      )
-
-  pub takes-none : length before ≤ given → arrival ≡ None → after ≡ None → due_count (record { before = drop given before; arrival = arrival; after = after }) ≡ 0
-  takes-none past is last =
-      ap (λ (rows : List (Side × EventNo)). due_count (record { before = rows; arrival = arrival; after = after })) (none-before past)
-      ∙ (ap (λ (a : Option (Side × List Field)). due_count (record { before = []; arrival = a; after = after })) is
-      ∙ ap (λ (a : Option (Side × EventNo)). due_count (record { before = []; arrival = None; after = a })) last)
 
 -- What is kept of the live rows once a row arrived.
 pub counted_after : (live after : LiveRows) (old new : DueState) (side : Side) (row : List Field) (time : ℤ) (next limit : ℕ) (before : List (Side × EventNo)) (oldest : Option EventNo) → IsCounted live old next limit → has_due old ≡ false

@@ -116,17 +116,3 @@ module _ (old new : Cutting) where
 
   pub last_ahead : (used : ℕ) → Ends (fed.Piece used) old new → (old.fault ≡ None → LeadsAtEnd (fed.Piece used) old new) → (ahead_of old [] true ≡ then_pieces new.piece (ahead_of (cleared new) [] true)) × (new.piece ≡ old.piece)
   last_ahead = last_from old.fault refl
-
-  none_from : (was : Option PieceFault) → EndsFrom was fed.More old new → (was ≡ None → LeadsAtEnd fed.More old new) → (unless_refused was (pieces_from old [] true) ≡ ended clean) × (new ≡ old)
-  none_from None closes leads = (leads refl, closes.1)
-  none_from (Some found) stays leads = cc
-
-  pub none_ahead : Ends fed.More old new → (old.fault ≡ None → LeadsAtEnd fed.More old new) → (ahead_of old [] true ≡ ended clean) × (new ≡ old)
-  none_ahead = none_from old.fault
-
-  open_from : (was : Option PieceFault) → (found : PieceFault) → EndsFrom was (fed.Bad found) old new → (was ≡ None → LeadsAtEnd (fed.Bad found) old new) → unless_refused was (pieces_from old [] true) ≡ ended (bad found)
-  open_from None found closes leads = leads refl
-  open_from (Some other) found stays leads = let e : other ≡ found = cc in ap (λ (f : PieceFault). ended (bad f)) e
-
-  pub open_ahead : (found : PieceFault) → Ends (fed.Bad found) old new → (old.fault ≡ None → LeadsAtEnd (fed.Bad found) old new) → ahead_of old [] true ≡ ended (bad found)
-  open_ahead = open_from old.fault

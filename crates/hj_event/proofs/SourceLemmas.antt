@@ -1,5 +1,5 @@
 -- The rows of a side, by what its bytes give and what a read brings.
-use Rattle.std.proofs.Common.{◌≡◌, ℕ, ◌+◌, ◌-◌, ◌≤◌, inl, inr, Bool, true, false, List, [], ◌++◌, length, drop, ℤ, Ok, Err, None, Some, sym, refl, ap, subst, ◌∙◌, append_assoc, arith}
+use Rattle.std.proofs.Common.{◌≡◌, ℕ, ◌+◌, ◌-◌, ◌≤◌, inl, inr, Bool, true, false, List, [], ◌++◌, length, drop, ℤ, Ok, Err, None, sym, refl, ap, subst, ◌∙◌, append_assoc, arith}
 use Rattle.std.specs.List.{slice_range}
 use Rattle.std.proofs.lemmas.List.{length-take, length-drop, nil_from_length}
 use Rattle.std.specs.declared.option.Option.{Option}
@@ -13,19 +13,19 @@ use Rattle.hj_record.specs.declared.cutter.Cut.TheVariants as cut
 use Rattle.hj_record.specs.declared.cutter.Fed.TheVariants as fed
 use Rattle.hj_record.specs.Cutter.{Cutting, cleared, Ends, LeadsAtEnd}
 use Rattle.hj_record.specs.Cuts.{Cuts, LeadsBy}
-use Rattle.hj_record.specs.Pieces.{Pieces, Stream, ended as no_pieces, then_pieces, bad as pieces_bad}
+use Rattle.hj_record.specs.Pieces.{Pieces, Stream, then_pieces}
 use Rattle.hj_event.specs.declared.fault.RecordFault.{RecordFault}
 use Rattle.hj_event.specs.declared.fault.RecordFault.TheVariants as fault
 use Rattle.hj_event.specs.declared.stop.Stop.{Stop}
 use Rattle.hj_event.specs.declared.stop.Stop.TheVariants as stop
 use Rattle.hj_event.specs.declared.stop.Found.{Found}
 use Rattle.hj_event.specs.declared.stop.Found.TheVariants as found
-use Rattle.hj_event.specs.Rows.{Rows, no_row, rows_in, clean, unread}
+use Rattle.hj_event.specs.Rows.{Rows, no_row, rows_in, unread}
 use Rattle.hj_event.specs.Sides.{Reading, in_front, at_its_end, cut_off, MayFollow, pieces_ahead, rows_ahead}
 use Rattle.hj_event.specs.Reads.{reading, Fills}
 use Rattle.hj_event.specs.Roles.{IsReadOn, IsInStep}
 use Rattle.hj_event.specs.Taking.{IsNeeded, IsReadAsNeeded, ReadsPiece, Holds, FoundLeads, Advances, TakesRow, stop_of, unseen, has_failed}
-use Rattle.hj_event.proofs.Pieces.{range_rest, range_front, range_none, ahead_of, lent_within, piece_within, lent_ahead, piece_ahead, more_ahead, bad_ahead, last_ahead, none_ahead, open_ahead}
+use Rattle.hj_event.proofs.Pieces.{range_rest, range_front, range_none, ahead_of, lent_within, piece_within, lent_ahead, piece_ahead, more_ahead, bad_ahead, last_ahead}
 use Rattle.hj_event.proofs.RowLemmas.{holds_leads, bad_leads, at_end_follows, holds_ended, holds_wants}
 use Rattle.hj_event.proofs.RoleLemmas.{not_read, read_more, reads_end}
 
@@ -119,9 +119,6 @@ module _ (columns : List Column) (record_no : ℕ) (time : Option ℤ) (ended : 
         wants = tt;
       }
 
-  pub more_stays : Cuts cut.More (slice_range portion taken filled) old new → (old.fault ≡ None → LeadsBy cut.More (slice_range portion taken filled) old new) → new.whole ≡ old.whole
-  more_stays cuts leads = (more_ahead old new (slice_range portion taken filled) cuts leads).going
-
 -- ---- the last piece
 
 -- at its end a side has the pieces that its cutter says
@@ -152,35 +149,6 @@ module _ (columns : List Column) (record_no : ℕ) (time : Option ℤ) (ended : 
       (λ stream follows. rows_at_end before mid (then_pieces new.piece (pieces_ahead mid stream)) stream ends follows
       (at_end old ∙ (last_ahead old new used closes leads).0
       ∙ ap (then_pieces new.piece) (sym (at_end (cleared new)) ∙ ap (pieces_ahead mid) (sym (at_end_follows ended stream ends follows)))))
-
-  pub none_advances : Ends fed.More old new → (old.fault ≡ None → LeadsAtEnd fed.More old new)
-      → Advances (Ok found.End) (reading columns old portion taken filled ended record_no time) (reading columns new portion taken filled ended record_no time)
-  none_advances closes leads =
-      let both = none_ahead old new closes leads in
-      let before = reading columns old portion taken filled ended record_no time in
-      let now = reading columns new portion taken filled ended record_no time in
-      let is : rows_in columns record_no time (pieces_ahead before at_its_end) ≡ no_row clean = ap (rows_in columns record_no time) (at_end old ∙ both.0) in
-      let same : rows_ahead before at_its_end ≡ no_row clean = is in
-      record {
-        ended = refl;
-        leads = λ stream follows.
-            let e = at_end_follows ended stream ends follows in (
-              ap (rows_ahead before) e ∙ same,
-              ap (rows_ahead now) e ∙ (ap (λ (c : Cutting). rows_ahead (reading columns c portion taken filled ended record_no time) at_its_end) both.1 ∙ same),
-            );
-        wants = ends;
-      }
-
-  pub open_advances : (why : PieceFault) → Ends (fed.Bad why) old new → (old.fault ≡ None → LeadsAtEnd (fed.Bad why) old new)
-      → Advances (Err (stop_of record_no (fault.Piece why))) (reading columns old portion taken filled ended record_no time) (reading columns new portion taken filled ended record_no time)
-  open_advances why closes leads =
-      let before = reading columns old portion taken filled ended record_no time in
-      record {
-        ended = refl;
-        leads = λ stream follows. bad_leads record_no why (rows_ahead before stream) (rows_ahead (reading columns new portion taken filled ended record_no time) stream)
-            (inr (rows_at_end before before (no_pieces (pieces_bad why)) stream ends follows (at_end old ∙ open_ahead old new why closes leads)));
-        wants = tt;
-      }
 
 -- ---- row by row
 
@@ -218,12 +186,6 @@ module _ (old now new : Reading) (before after : RoleState) (so_far : SoFar old 
   pub so_far-more : Advances (Ok found.More) now new → SoFar old new before after
   so_far-more advances = record { bytes = so_far.bytes; reads = reads_on (Ok found.More) advances; leads = from_first (Ok found.More) advances; needed = so_far.needed }
 
-  pub takes_row : (row : List Field) → Advances (Ok (found.Row row)) now new → TakesRow (Ok (Some row)) (unseen old) (unseen new) before after
-  takes_row row advances = record { bytes = so_far.bytes; reads = reads_on (Ok (found.Row row)) advances; leads = from_first (Ok (found.Row row)) advances; ended = tt; needed = so_far.needed }
-
-  pub takes_end : Advances (Ok found.End) now new → TakesRow (Ok None) (unseen old) (unseen new) before after
-  takes_end advances = record { bytes = so_far.bytes; reads = reads_on (Ok found.End) advances; leads = from_first (Ok found.End) advances; ended = advances.wants; needed = so_far.needed }
-
   some_follows : (ended : Bool) → (stream : Stream) × MayFollow ended stream
   some_follows true = (at_its_end, refl)
   some_follows false = (at_its_end, tt)
@@ -232,9 +194,6 @@ module _ (old now new : Reading) (before after : RoleState) (so_far : SoFar old 
   takes_stop (stop.Bad at why) advances = record { bytes = so_far.bytes; reads = reads_on (Err (stop.Bad at why)) advances; leads = from_first (Err (stop.Bad at why)) advances; ended = tt; needed = so_far.needed }
   takes_stop stop.Failed advances = let some = some_follows new.ended in absurd (advances.leads some.0 some.1)
   takes_stop stop.Memory advances = record { bytes = so_far.bytes; reads = reads_on (Err stop.Memory) advances; leads = λ stream follows. tt; ended = tt; needed = so_far.needed }
-
-pub takes_memory : (old now : Reading) (before after : RoleState) → SoFar old now before after → TakesRow (Err stop.Memory) (unseen old) (unseen now) before after
-takes_memory old now before after so_far = record { bytes = so_far.bytes; reads = so_far.reads; leads = λ stream follows. tt; ended = tt; needed = so_far.needed }
 
 -- ---- a read
 

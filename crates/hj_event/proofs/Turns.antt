@@ -165,9 +165,6 @@ module _ (query : Parts) where
   abbrev aged_at : ℤ → LiveRow → Bool
   aged_at now row = is_gone_at (window_at query row.side) (now -ℤ row.time)
 
-  abbrev Goes : Events → List LiveRow → Events → Type 0
-  Goes next rows tail = AtEach (Moment query) next tail
-
   is_shown : (before : Events) (at : ℕ) (rows : List LiveRow) (one : LiveRow) → Stands before at rows → Contains rows one → Contains (live_rows one.side before) one.no
   is_shown before at rows one s h =
       subst (λ (numbers : List ℕ). Contains numbers one.no) (sym (s.shown one.side))
