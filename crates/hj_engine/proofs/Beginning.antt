@@ -1,6 +1,5 @@
 -- A chain that was just made stands for no step, and for the first event of its feed.
-use Rattle.std.proofs.Common.{◌≡◌, ℕ, zero, suc, ◌+◌, ◌≤◌, List, [], ◌∷◌, length, map, replicate, Some, refl, sym, ap, subst, ◌∙◌, arith}
-use Rattle.std.specs.List.{range_with_len}
+use Rattle.std.proofs.Common.{◌≡◌, ℕ, ◌≤◌, List, [], length, replicate, Some, sym, ap, subst, ◌∙◌, arith}
 use Rattle.std.specs.List.Sorted.{IsPermutation}
 use Rattle.std.proofs.lemmas.List.{length-replicate}
 use Rattle.std.proofs.lemmas.List.Sorted.{IsPermutation-refl}
@@ -18,15 +17,8 @@ use Rattle.hj_collect.proofs.Following.{new_follows}
 use Rattle.hj_chain.specs.Chain.{Contents, empty_chain}
 use Rattle.hj_chain.specs.Reached.{Reached, StandsFor, begins, collected_of}
 use Rattle.hj_msg.specs.Feed.{event_in}
+use Rattle.hj_chain.proofs.Starting.{none_met, nothing}
 use Rattle.hj_engine.specs.Running.{IsBegun}
-
-nothing : {X : Type 0} (from n : ℕ) → map (λ k. []) (range_with_len from n) ≡ replicate {A = List X} n []
-nothing from zero = refl
-nothing from (suc n) = ap (λ lists. [] ∷ lists) (nothing (from + 1) n)
-
-none_met : {P : Type 0} (n : ℕ) → met {P = P} (replicate n []) ≡ []
-none_met zero = refl
-none_met (suc n) = none_met n
 
 -- no step was made, and nothing was taken of any core's reports
 record NoStep (query : Parts) (flight : ℕ) (first : Given (List Field)) (n cores : ℕ) : Type 0 where
