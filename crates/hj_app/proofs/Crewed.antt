@@ -1,28 +1,23 @@
 -- The run of an order whose chain threads turn, from that of its parts.
-use Rattle.std.proofs.Common.{◌≡◌, ◌≢◌, ◌⊎◌, ℕ, List, Bool, true, Ok, Err, Result, None, Some, sym, ap, subst, inl, inr, refl, arith}
-use Rattle.std.specs.Prelude.{◌↔◌, IsSome, IfSome, IfNone}
+use Rattle.std.proofs.Common.{◌≡◌, ◌≢◌, ℕ, List, Err, None, Some, sym, ap, subst, inl, inr, refl, arith}
+use Rattle.std.specs.Prelude.{IsSome, IfSome, IfNone}
 use Rattle.std.specs.declared.option.Option.{Option}
-use Rattle.hj_base.specs.declared.outside.Role.{Role}
 use Rattle.hj_base.specs.declared.outside.Role.TheVariants as role
-use Rattle.hj_base.specs.Outside.{RoleState}
 use Rattle.hj_value.specs.declared.field.Field.{Field}
 use Rattle.hj_query.specs.Parts.{Parts}
-use Rattle.hj_words.specs.declared.order.Order as spelled
 use Rattle.hj_crew.specs.Ran.{RanSeen}
 use Rattle.hj_engine.specs.declared.outcome.Outcome.{Outcome}
 use Rattle.hj_engine.specs.declared.outcome.Outcome.TheVariants as outcome
 use Rattle.hj_engine.specs.Joining.{Joins}
 use Rattle.hj_engine.specs.Showing.{ShowsJoin}
 use Rattle.hj_app.specs.declared.notes.Note.{Note}
-use Rattle.hj_app.specs.declared.notes.Note.TheVariants as why
-use Rattle.hj_app.specs.Calls.{Call, call}
-use Rattle.hj_app.specs.Crew.{CameToJoin, Crew, ShowsMade, ShowsOrder, ShowsRun, ShowsStreams, crew_of}
+use Rattle.hj_app.specs.Calls.{call}
+use Rattle.hj_app.specs.Crew.{CameToJoin, Crew, ShowsStreams}
 use Rattle.hj_app.specs.NoteText.{status_of, status_of_end}
 use Rattle.hj_app.specs.OnCrew.{RunsOnCrew}
 use Rattle.hj_app.specs.Ready.{EndsEarly, IsReady}
 use Rattle.hj_app.specs.Run.{RunsOrder, end_of}
-use Rattle.hj_app.specs.Serve.{AreOpen}
-use Rattle.hj_app.specs.Words.{Names, Order, Recipe, Source, asked_by, join_streams, most_events, sum_up}
+use Rattle.hj_app.specs.Words.{Names, Order, Source, join_streams}
 use Rattle.hj_app.proofs.Joined.{query_stays}
 use Rattle.hj_app.proofs.Phases.{Roles, open-opened}
 use Rattle.hj_app.proofs.Serving.{End}
@@ -99,29 +94,3 @@ module _ (crew : Crew) (source : Source) (names : Names) (limit : ℕ) (under : 
       (λ so. record { runs = so; ran = λ other. ((λ some. all_came), (λ back. handed ran memory other back)); shows = shown ran shows }) runs
 
 -- ---- `serve`'s clauses on the run
-
-module _ (order : spelled.Order) (crew : Crew) (turned : crew_of order ≡ Some crew) (status : ℕ) (ended : End) (is : status ≡ status_of_end ended) (call : Call) (ran : Shown) where
-  pub ran_as : (status_of_end ended ≢ 6 → (IsSome ran ↔ CameToJoin (Some crew) (status_of_end ended) call.now)) → status ≢ 6 → (IsSome ran ↔ CameToJoin (crew_of order) status call.now)
-  ran_as handed =
-      subst (λ (n : ℕ). n ≢ 6 → (IsSome ran ↔ CameToJoin (crew_of order) n call.now)) (sym is)
-      (subst (λ (turns : Option Crew). status_of_end ended ≢ 6 → (IsSome ran ↔ CameToJoin turns (status_of_end ended) call.now)) (sym turned) handed)
-
-  pub shows_as : IfSome ran (ShowsOrder crew (asked_by order) (status_of_end ended) call) → IfSome ran (ShowsRun (Some order) status call)
-  shows_as shows = of_run ran shows
-    where
-      of_run : (shown : Shown) → IfSome shown (ShowsOrder crew (asked_by order) (status_of_end ended) call) → IfSome shown (ShowsRun (Some order) status call)
-      of_run None so = tt
-      of_run (Some run) so = (crew, turned, subst (λ (n : ℕ). ShowsOrder crew (asked_by order) n call run) (sym is) so)
-
--- ---- where there is no run
-
-no_value : {T : Type 0} (value : Option T) → value ≡ None → ¬ (IsSome value)
-no_value None e some = cc
-no_value (Some x) e some = cc
-
-pub none_turned : (turns : Option Crew) (status : ℕ) (now : Roles) (ran : Shown) → turns ≡ None → ran ≡ None → status ≢ 6 → (IsSome ran ↔ CameToJoin turns status now)
-none_turned turns status now ran none no_run other = ((λ some. absurd (no_value ran no_run some)), (λ came. absurd (no_value turns none came.threads)))
-
-pub none_shows : (P : RanSeen (List Field) → Type 0) (ran : Shown) → ran ≡ None → IfSome ran P
-none_shows P None e = tt
-none_shows P (Some ran) e = absurd cc

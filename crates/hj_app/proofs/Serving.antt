@@ -17,7 +17,7 @@ use Rattle.hj_app.specs.Calls.{Call}
 use Rattle.hj_app.specs.Calls.{call as as_call}
 use Rattle.hj_app.specs.NoteText.{status_of_end, text_of_end}
 use Rattle.hj_app.specs.NoteWritten.{NoteWritten}
-use Rattle.hj_app.specs.Notes.{memory_note, usage_note}
+use Rattle.hj_app.specs.Notes.{memory_note}
 use Rattle.hj_app.specs.Run.{RunsOrder}
 use Rattle.hj_app.specs.Serve.{Begins, EndsBy, FailsSource, IsBad, IsDecided, IsDone, IsNote, JoinsAll, Notes, RefusesQuery, Serves, Writes, status_of_ending}
 use Rattle.hj_app.specs.Serve as says
@@ -261,13 +261,6 @@ module _ (under : List ℕ → Option (List ℕ)) (before : Roles) (old : Option
     sink = refl;
   }
 
-  none_ordered : (order : Option Order) → order ≡ None → Runs (Err why.Usage) order untouched faults faults
-  none_ordered None e = record { usage = inl refl; nothing = Appends-nil old; roles = unbegun_before; sink = refl }
-  none_ordered (Some order) e = absurd cc
-
   module _ (status : ℕ) (order : Option Order) (told told' : Option (List ℕ)) (refused refused' : ℕ) where
-    pub serves_usage : order ≡ None → status ≡ 1 → NoteWritten usage_note told told' refused refused' → Serves status order untouched faults faults told told' refused refused'
-    serves_usage none is w = serves untouched faults faults status (Err why.Usage) is order told told' refused refused' (none_ordered order none) w
-
     pub serves_memory : status ≡ 6 → NoteWritten memory_note told told' refused refused' → Serves status order untouched faults faults told told' refused refused'
     serves_memory is w = serves untouched faults faults status (Err why.Memory) is order told told' refused refused' (no_memory order) w

@@ -1,24 +1,15 @@
 -- The cause of each ending of a run: it ended well, or for the reason that its note gives.
-use Rattle.std.specs.Prelude.{◌≡◌, ◌≢◌, ◌⊎◌, ℕ, List, [], None, Some, Ok, Err}
-use Rattle.std.specs.Io.KnownBytes.{Appends}
-use Rattle.std.specs.declared.option.Option.{Option}
+use Rattle.std.specs.Prelude.{◌≡◌, ℕ, Some, Ok, Err}
 use Rattle.std.specs.declared.result.Result.{Result}
-use Rattle.hj_base.specs.declared.numbers.Side.{Side}
-use Rattle.hj_base.specs.declared.outside.Role.{Role}
-use Rattle.hj_base.specs.declared.outside.Role.TheVariants as role
 use Rattle.hj_base.specs.Counts.{Rose}
-use Rattle.hj_base.specs.Outside.{IsOpen, role_of, unbegun}
 use Rattle.hj_engine.specs.declared.outcome.Outcome.{Outcome}
 use Rattle.hj_engine.specs.declared.outcome.Outcome.TheVariants as outcome
-use Rattle.hj_event.specs.Arrivals.{bad, too_many, unread}
-use Rattle.hj_query.specs.Parts.{Parts}
+use Rattle.hj_event.specs.Arrivals.{bad, too_many}
 use Rattle.hj_app.specs.declared.notes.Note.{Note}
 use Rattle.hj_app.specs.declared.notes.Note.TheVariants as note
 use Rattle.hj_app.specs.Calls.{Call}
-use Rattle.hj_app.specs.Joining.{BeginsText, WritesAll, WritesWhole}
-use Rattle.hj_app.specs.Serve.{AreOpen, Begins, FailsSource, HasLimit, IsDone, JoinsAll, RefusesQuery, WritesFront}
-use Rattle.hj_app.specs.Streams.{Fails, IsBegunUnder}
-use Rattle.hj_app.specs.Words.{Names, Order}
+use Rattle.hj_app.specs.Serve.{Begins, FailsSource, HasLimit, IsDone, JoinsAll, RefusesQuery, WritesFront}
+use Rattle.hj_app.specs.Words.{Order}
 
 -- A fault of the sink is the one ending with which its count rose.
 abbrev pub CountsSink : Result (Unit {0}) Note → ℕ → ℕ → Type 0
