@@ -1,5 +1,5 @@
 -- Arrivals with rising numbers, where one of them is found, changes or leaves.
-use Rattle.std.proofs.Common.{◌≡◌, ℕ, zero, suc, ◌+◌, ◌<◌, ◌≤◌, Bool, true, false, not, ◌&&◌, ◌||◌, ◌==◌, cond, List, [], ◌∷◌, ◌++◌, length, get_or, set, take, drop, Some, None, Option, Ok, Err, Result, IfOk, IfErr, All, Contains, IsSome, OnSome, refl, ap, sym, ◌∙◌, arith, inl, inr, eqb-true, eq-eqb, ne_eqb, lt-ltb, ◌⊎◌}
+use Rattle.std.proofs.Common.{◌≡◌, ℕ, zero, suc, ◌+◌, ◌<◌, ◌≤◌, Bool, true, false, not, ◌&&◌, ◌||◌, ◌==◌, cond, List, [], ◌∷◌, ◌++◌, length, get_or, set, take, drop, Some, None, Option, Ok, Err, Result, IfOk, IfErr, All, Contains, refl, ap, sym, ◌∙◌, arith, inl, inr, eqb-true, eq-eqb, ne_eqb, lt-ltb, ◌⊎◌}
 use Rattle.std.specs.List.{filter_map, filter, remove, cons_option, position, position_or_len, list_any}
 use Rattle.std.specs.List.Sorted.{IsSearchInRange, IsBinarySearchResult, IsNonDecreasingBy}
 use Rattle.std.specs.Ordering.{nat_cmp, ordering_index}
@@ -7,7 +7,7 @@ use Rattle.std.proofs.Math.Bool.{or-false}
 use Rattle.std.proofs.lemmas.Cmp.{ranked}
 use Rattle.std.proofs.lemmas.List.Sorted.{IsNonDecreasingBy-from_default}
 use Rattle.std.proofs.lemmas.List.Elements.{All-cons, All-head, All-tail, All-nil, All-push, All-from_get_or, Contains-push_cases, Contains-append_right}
-use Rattle.std.proofs.lemmas.Bool.{cases_lt, false≢true}
+use Rattle.std.proofs.lemmas.Bool.{cases_lt}
 use Rattle.std.proofs.lemmas.List.{set_split, get_or_default}
 use Rattle.std.proofs.lemmas.Bool.Decides.{nat_tests}
 use Rattle.hj_base.specs.declared.numbers.EventNo.{EventNo}
@@ -170,10 +170,6 @@ lane_with_expiries s arrivals before after room f is e = ap (λ l. lane arrivals
 some≢none : {X : Type 0} {x : X} → Some x ≡ None → ⊥
 some≢none same = cc
 
-pub on_some : {X : Type 0} (o : Option X) (P : Type 0) → IsSome o → OnSome o P → P
-on_some None P some holds = absurd (false≢true some)
-on_some (Some x) P some holds = holds
-
 -- distinct expiries, where one is found and leaves
 distinct_at : (l : List EventNo) → AreDistinct l → (i j : ℕ) (d : EventNo) → i < j → j < length l → get_or l i d ≡ get_or l j d → ⊥
 distinct_at [] distinct i j d lt within same = omega arith
@@ -231,6 +227,3 @@ pub distinct_push : (l : List EventNo) (of : EventNo) → AreDistinct l → (Con
 distinct_push [] of distinct absent = (λ has. absurd (omega (arith, has.1)), tt)
 distinct_push (x ∷ xs) of distinct absent =
     (λ has. elim (Contains-push_cases xs of x has) [ inl old ↦ distinct.0 old | inr same ↦ absent (0, omega arith, sym same) ], distinct_push xs of distinct.1 (λ has. absent (Contains-append_right (x ∷ []) xs of has)))
-
-pub position_in_range : (l : List EventNo) (number at : ℕ) → position (λ (of : EventNo). number == of.0) l ≡ Some at → at < length l
-position_in_range l number at found = (position-Some (λ (of : EventNo). number == of.0) l at (record { 0 = 0 }) found).0
