@@ -1,5 +1,6 @@
 //! Worked rows of queries, over the public calls of crates below: their texts, what their conditions say of rows, and the merge
-//! of two streams under their windows. A crate that has tests of its own is proved twice.
+//! of two streams under their windows. A crate that has tests of its own is proved twice. A table is one text, a line for each
+//! row, since a row that is code costs the check more than the rest of its test.
 #![tactic(auto)]
 
 #[cfg(test)]
@@ -10,3 +11,5 @@ mod conditions;
 mod merges;
 #[cfg(test)]
 mod queries;
+#[cfg(test)]
+mod texts;

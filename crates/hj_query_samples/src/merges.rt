@@ -1,4 +1,4 @@
-ghost use Rattle.std.specs.Prelude.{◌≡◌, IfOk};
+ghost use Rattle.std.specs.Prelude.{◌≡◌, ◌≤◌, IfOk};
 ghost use Rattle.hj_base.specs.MemOutside.{role_at};
 ghost use Rattle.hj_base.specs.Outside.{unbegun};
 ghost use Rattle.hj_base.specs.declared.outside.Role.TheVariants as role;
@@ -9,121 +9,98 @@ use hj_event::{Merger, Next};
 use hj_msg::Event;
 use hj_query::{Query, parse};
 use std::alloc::{AllocError, Global};
+use std::process::Abort;
 use std::test::Fail;
 
 /// What a merger is made of, and what it answers.
 #[derive(Drop)]
-struct Case {
-    windows: &'static str,
+struct Case<'a> {
+    windows: &'a str,
     limit: u64,
-    left: &'static str,
-    right: &'static str,
-    want: &'static str,
+    left: String,
+    right: String,
+    want: &'a str,
 }
 
-/// Both streams by windows of rows and of time, up to a limit; on a tie the left row is first; a bad record ends them.
-fn cases() -> [Case; 7] {
-    [
-        Case {
-            windows: "window left rows 1 window right rows 1",
-            limit: 4,
-            left: "1,7\n2,7\n",
-            right: "3,7\n",
-            want: "Left 0: 1; Left 1: 2; Left 2: 0 expires; Right 3: 3; done; done; ",
-        },
-        Case {
-            windows: "window left rows 1 window right rows 1",
-            limit: 3,
-            left: "1,7\n2,7\n",
-            right: "3,7\n",
-            want: "Left 0: 1; Left 1: 2; Left 2: 0 expires; too many; too many; ",
-        },
-        Case {
-            windows: "window left rows 1 window right time 2",
-            limit: 100,
-            left: "1,7\n3,7\n4,7\n",
-            right: "2,7",
-            want: "Left 0: 1; Right 1: 2; Left 2: 3; Left 3: 0 expires; Right 4: 1 expires; Left 5: 4; Left 6: 2 expires; done; done; ",
-        },
-        Case {
-            windows: "window left rows 9 window right rows 9",
-            limit: 100,
-            left: "5,1\n",
-            right: "\n5,1",
-            want: "Left 0: 5; Right 1: 5; done; done; ",
-        },
-        Case {
-            windows: "window left rows 9 window right rows 9",
-            limit: 100,
-            left: "1,7\n2,\"7",
-            right: "0,7\n",
-            want: "Right 0: 0; Left 1: 1; Left record 2: open quote; Left record 2: open quote; ",
-        },
-        Case {
-            windows: "window left rows 9 window right rows 9",
-            limit: 100,
-            left: "",
-            right: "5,7\n4,7\n",
-            want: "Right 0: 5; Right record 2: time 4 after 5; Right record 2: time 4 after 5; ",
-        },
-        Case {
-            windows: "window left rows 9 window right rows 9",
-            limit: 100,
-            left: "x",
-            right: "x",
-            want: "Left record 1: 1 fields; Left record 1: 1 fields; ",
-        },
-    ]
+/// Both streams by windows of rows and of time, up to a limit; on a tie the left row is first; a bad record ends them. A line has
+/// the windows, the limit, the streams, in which `/` stands for a line feed, and the answers.
+const CASES: &str = "\
+window left rows 1 window right rows 1 | 4 | 1,7/2,7/ | 3,7/ | Left 0: 1; Left 1: 2; Left 2: 0 expires; Right 3: 3; done; done;
+window left rows 1 window right rows 1 | 3 | 1,7/2,7/ | 3,7/ | Left 0: 1; Left 1: 2; Left 2: 0 expires; too many; too many;
+window left rows 1 window right time 2 | 100 | 1,7/3,7/4,7/ | 2,7 | \
+Left 0: 1; Right 1: 2; Left 2: 3; Left 3: 0 expires; Right 4: 1 expires; Left 5: 4; Left 6: 2 expires; done; done;
+window left rows 9 window right rows 9 | 100 | 5,1/ | /5,1 | Left 0: 5; Right 1: 5; done; done;
+window left rows 9 window right rows 9 | 100 | 1,7/2,\"7 | 0,7/ | \
+Right 0: 0; Left 1: 1; Left record 2: open quote; Left record 2: open quote;
+window left rows 9 window right rows 9 | 100 |  | 5,7/4,7/ | \
+Right 0: 5; Right record 2: time 4 after 5; Right record 2: time 4 after 5;
+window left rows 9 window right rows 9 | 100 | x | x | Left record 1: 1 fields; Left record 1: 1 fields;";
+
+fn case_of<'a>(rt: &impl Abort, alloc: Global, line: &'a str) -> Case<'a> {
+    let mut fields = line.split(" | ");
+    let windows = fields.next().expect(rt, "the windows");
+    let limit = fields.next().expect(rt, "the limit");
+    let left = fields.next().expect(rt, "the left stream");
+    let right = fields.next().expect(rt, "the right stream");
+    Case {
+        windows,
+        limit: limit.parse::<u64>().expect(rt, "a number"),
+        left: left.replace(alloc, '/', "\n").expect(rt, "memory"),
+        right: right.replace(alloc, '/', "\n").expect(rt, "memory"),
+        want: fields.next().expect(rt, "the answers"),
+    }
+}
+
+/// Merges the streams of a case, of which a read gives so many bytes.
+fn merges(rt: &impl Abort, alloc: Global, case: &Case<'_>, chunk: usize)
+    requires { 1 ≤ chunk }
+{
+    let mut outside = MemOutside::new(alloc, chunk);
+    let text = merged(alloc, case, &mut outside).expect(rt, "memory");
+    assert_eq!(rt; text.trim_end(), case.want, "by {chunk}");
 }
 
 #[test]
-fn merges_two_streams(rt: HostRuntime) -> Result<(), Fail> {
-    for case in &cases() {
+fn merges_two_streams(rt: HostRuntime) {
+    for line in CASES.lines() {
+        let case = case_of(&rt, rt.alloc(), line);
         for chunk in [1, 3, 4_096] {
-            let mut outside = MemOutside::new(rt.alloc(), chunk);
-            let text = merged(rt.alloc(), case, &mut outside)?;
-            assert_eq!(rt; text.as_str(), case.want, "by {chunk}");
+            merges(&rt, rt.alloc(), &case, chunk);
         }
     }
-    Ok(())
 }
 
-#[test]
-fn gives_what_was_read_before_a_failed_read(rt: HostRuntime) -> Result<(), Fail> {
-    let case = Case {
-        windows: "window left rows 9 window right rows 9",
-        limit: 100,
-        left: "1,7\n2,7\n",
-        right: "0,7\n5,7\n",
-        want: "",
-    };
-    let rows = [
-        (Role::Left, 1, "Left failed; Left failed; "),
-        (Role::Right, 2, "Right 0: 0; Right failed; Right failed; "),
-        (
-            Role::Left,
-            3,
-            "Right 0: 0; Left 1: 1; Left 2: 2; Left failed; Left failed; ",
-        ),
-    ];
-    for (role, nth, want) in rows {
-        let mut outside = MemOutside::new(rt.alloc(), 4);
-        outside.fail_read(role, nth)?;
-        let text = merged(rt.alloc(), &case, &mut outside)?;
-        assert_eq!(rt; text.as_str(), want, "{role:?} {nth}");
-    }
-    Ok(())
+/// Merges two rows a side, where one read of a role fails.
+fn fails_to_read(rt: &impl Abort, alloc: Global, role: Role, nth: u64, want: &str)
+    requires first { 1 ≤ nth }
+    requires last { nth ≤ 9 }
+{
+    let case = case_of(rt, alloc, TWO_A_SIDE);
+    let mut outside = MemOutside::new(alloc, 4);
+    outside.fail_read(role, nth).expect(rt, "memory");
+    let text = merged(alloc, &case, &mut outside).expect(rt, "memory");
+    assert_eq!(rt; text.trim_end(), want, "{role:?} {nth}");
 }
+
+const TWO_A_SIDE: &str =
+    "window left rows 9 window right rows 9 | 100 | 1,7/2,7/ | 0,7/5,7/ | what was read before a failed read";
+
+#[test]
+fn gives_what_was_read_before_a_failed_read(rt: HostRuntime) {
+    let want = "Left failed; Left failed;";
+    fails_to_read(&rt, rt.alloc(), Role::Left, 1, want);
+    let want = "Right 0: 0; Right failed; Right failed;";
+    fails_to_read(&rt, rt.alloc(), Role::Right, 2, want);
+    let want = "Right 0: 0; Left 1: 1; Left 2: 2; Left failed; Left failed;";
+    fails_to_read(&rt, rt.alloc(), Role::Left, 3, want);
+}
+
+const FOUR_A_SIDE: &str =
+    "window left rows 9 window right rows 9 | 100 | 1,7/1,7/1,7/1,7/ | 2,7/2,7/2,7/2,7/ | what is read";
 
 #[test]
 fn reads_no_more_than_the_heads(rt: HostRuntime) -> Result<(), Fail> {
-    let case = Case {
-        windows: "window left rows 9 window right rows 9",
-        limit: 100,
-        left: "1,7\n1,7\n1,7\n1,7\n",
-        right: "2,7\n2,7\n2,7\n2,7\n",
-        want: "",
-    };
+    let case = case_of(&rt, rt.alloc(), FOUR_A_SIDE);
     let mut outside = MemOutside::new(rt.alloc(), 4);
     let mut merger = open(rt.alloc(), &case, &mut outside)?;
     assert!(rt; !merger.is_ready());
@@ -142,7 +119,7 @@ fn query(alloc: Global, windows: &str) -> Result<Query, Memory> {
 }
 
 /// A merger of a case's streams, which stand in `outside` under `l` and `r`.
-fn open(alloc: Global, case: &Case, outside: &mut MemOutside) -> Result<Merger, Memory>
+fn open(alloc: Global, case: &Case<'_>, outside: &mut MemOutside) -> Result<Merger, Memory>
     requires left { (role_at outside.old role.Left).phase ≡ unbegun }
     requires right { (role_at outside.old role.Right).phase ≡ unbegun }
     ensures left { IfOk result (λ merger. IsInStep merger.sides.left.reading.ended (role_at outside.new role.Left)) }
@@ -162,7 +139,7 @@ fn open(alloc: Global, case: &Case, outside: &mut MemOutside) -> Result<Merger, 
 }
 
 /// What a merger of a case answers, up to its last answer, and that one again.
-fn merged(alloc: Global, case: &Case, outside: &mut MemOutside) -> Result<String, Memory>
+fn merged(alloc: Global, case: &Case<'_>, outside: &mut MemOutside) -> Result<String, Memory>
     requires left { (role_at outside.old role.Left).phase ≡ unbegun }
     requires right { (role_at outside.old role.Right).phase ≡ unbegun }
 {

@@ -1,5 +1,6 @@
+use crate::texts::{joined, repeated};
 use hj_base::{Side, Window};
-use hj_query::{Op, Pred, Term, equi, parse};
+use hj_query::{Op, Pred, Sum, Term, equi, parse};
 use hj_value::ColumnType;
 use std::alloc::Global;
 use std::process::Abort;
@@ -19,22 +20,6 @@ const WHOLE: &str =
 
 /// Takes what may go to other threads and be read by them.
 fn crosses<T: Send + Sync + Drop>(_value: T) {}
-
-fn joined(rt: &impl Abort, alloc: Global, parts: &[&str]) -> String {
-    let mut text = String::new(alloc);
-    for part in parts {
-        text.push_str(part).expect(rt, "memory");
-    }
-    text
-}
-
-fn repeated(rt: &impl Abort, alloc: Global, part: &str, count: usize) -> String {
-    let mut text = String::new(alloc);
-    for _ in 0..count {
-        text.push_str(part).expect(rt, "memory");
-    }
-    text
-}
 
 /// What a text is: a query, or its first fault as it is printed.
 fn judgement(rt: &impl Abort, alloc: Global, text: &[u8]) -> String {
@@ -380,34 +365,63 @@ fn bounds_the_text(rt: HostRuntime) {
     judge(&rt, rt.alloc(), &[WHOLE, &blanks, " "], "text too long");
 }
 
+/// The operands of an `or`.
+fn or_of<'a>(rt: &impl Abort, pred: &'a Pred) -> (&'a Pred, &'a Pred) {
+    match pred {
+        Pred::Or(left, right) => (left, right),
+        _ => panic!(rt; "no or"),
+    }
+}
+
+/// The operands of an `and`.
+fn and_of<'a>(rt: &impl Abort, pred: &'a Pred) -> (&'a Pred, &'a Pred) {
+    match pred {
+        Pred::And(left, right) => (left, right),
+        _ => panic!(rt; "no and"),
+    }
+}
+
+/// The sums of a `not` of a `<`.
+fn not_less_of<'a>(rt: &impl Abort, pred: &'a Pred) -> (&'a Sum, &'a Sum) {
+    let Pred::Not(inner) = pred else {
+        panic!(rt; "no not");
+    };
+    match &**inner {
+        Pred::Compare(Op::Lt, left, right) => (left, right),
+        _ => panic!(rt; "no comparison"),
+    }
+}
+
+/// Whether a part of a sum is added, and its term.
+fn part_of<'a>(rt: &impl Abort, sum: &'a Sum, at: usize) -> (bool, &'a Term) {
+    let part = sum.rest.get(at).expect(rt, "a part");
+    (part.plus, &part.term)
+}
+
+const TREE: &str = "on 1=1 or 2=2 or 3=3 and 4=4 and not l.k - 5 + r.ts < -6";
+
 #[test]
-fn makes_the_tree(rt: HostRuntime) -> Result<(), Fail> {
-    let condition = "on 1=1 or 2=2 or 3=3 and 4=4 and not l.k - 5 + r.ts < -6";
-    let text = joined(&rt, rt.alloc(), &[HEAD, condition]);
-    let query = parse(rt.alloc(), text.as_bytes())?;
-    let Pred::Or(ors, ands) = query.pred() else {
-        return Err("no or".into());
-    };
-    assert!(rt; matches!(&**ors, Pred::Or(_, _)));
-    let Pred::And(front, last) = &**ands else {
-        return Err("no and".into());
-    };
-    assert!(rt; matches!(&**front, Pred::And(_, _)));
-    let Pred::Not(inner) = &**last else {
-        return Err("no not".into());
-    };
-    let Pred::Compare(Op::Lt, left, right) = &**inner else {
-        return Err("no comparison".into());
-    };
-    assert!(rt; matches!(&left.first, Term::Column(Side::Left, 1)));
-    assert_eq!(rt; left.rest.len(), 2);
-    let part = left.rest.get(0).ok_or("no part")?;
-    assert!(rt; !part.plus && matches!(&part.term, Term::Number(5)));
-    let part = left.rest.get(1).ok_or("no part")?;
-    assert!(rt; part.plus && matches!(&part.term, Term::Column(Side::Right, 0)));
+fn makes_the_tree(rt: HostRuntime) {
+    let text = joined(&rt, rt.alloc(), &[HEAD, TREE]);
+    let query = parse(rt.alloc(), text.as_bytes()).expect(&rt, "a query");
+    let (ors, ands) = or_of(&rt, query.pred());
+    assert!(rt; matches!(ors, Pred::Or(_, _)));
+    let (front, last) = and_of(&rt, ands);
+    assert!(rt; matches!(front, Pred::And(_, _)));
+    let (left, right) = not_less_of(&rt, last);
+    is_left_sum(&rt, left);
     assert!(rt; matches!(&right.first, Term::Number(-6)));
     assert_eq!(rt; right.rest.len(), 0);
-    Ok(())
+}
+
+/// Looks at the sum of `l.k - 5 + r.ts`.
+fn is_left_sum(rt: &impl Abort, sum: &Sum) {
+    assert!(rt; matches!(&sum.first, Term::Column(Side::Left, 1)));
+    assert_eq!(rt; sum.rest.len(), 2);
+    let (plus, term) = part_of(rt, sum, 0);
+    assert!(rt; !plus && matches!(term, Term::Number(5)));
+    let (plus, term) = part_of(rt, sum, 1);
+    assert!(rt; plus && matches!(term, Term::Column(Side::Right, 0)));
 }
 
 #[test]
