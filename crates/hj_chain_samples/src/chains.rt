@@ -4,8 +4,7 @@ ghost use Rattle.hj_chain.specs.Steps.{GoesWith};
 
 use crate::rows::{Cross, Row};
 use hj_base::{CoreNo, EventNo, Gate, Memory, Share, Side};
-use hj_chain::{Actor, Chain, Chooser, NotNow, Stepped};
-use hj_driver::Why;
+use hj_chain::{Actor, Chain, Chooser, Stepped};
 use hj_msg::{Drain, Drained, Event, Feed, Fin, Given, Join, Pair, Store};
 use hj_rows::ListStore;
 use std::alloc::Global;
@@ -95,31 +94,46 @@ fn late_from(side: Side) -> TwoRows
     rows
 }
 
-const LEFT_0: Actor = Actor::Core(CoreNo(0), Side::Left);
+/// The actor of a word, and behind it the place of a core.
+fn actor(rt: &impl Abort, text: &str) -> Actor {
+    let (name, place) = text.split_once(' ').unwrap_or((text, "0"));
+    let core = CoreNo(place.parse::<u16>().expect(rt, "a place"));
+    match name {
+        "admit" => Actor::Admit,
+        "port_left" => Actor::PortLeft,
+        "port_right" => Actor::PortRight,
+        "left" => Actor::Core(core, Side::Left),
+        "right" => Actor::Core(core, Side::Right),
+        "collect" => Actor::Collect(core),
+        _ => panic!(rt; "no actor: {text}"),
+    }
+}
 
-const RIGHT_0: Actor = Actor::Core(CoreNo(0), Side::Right);
+/// The actors of lines.
+fn actors(rt: &impl Abort, alloc: Global, lines: &str) -> Vec<Actor> {
+    let mut actors = Vec::new(alloc);
+    for line in lines.lines() {
+        actors.push(actor(rt, line)).expect(rt, "memory");
+    }
+    actors
+}
 
-const LEFT_1: Actor = Actor::Core(CoreNo(1), Side::Left);
-
-const RIGHT_1: Actor = Actor::Core(CoreNo(1), Side::Right);
-
-const COLLECT_0: Actor = Actor::Collect(CoreNo(0));
-
-const COLLECT_1: Actor = Actor::Collect(CoreNo(1));
-
-/// Makes steps, of which each gives this answer.
+/// Makes the steps of a table. A line is an actor, and the answer of its step.
 fn step_all<
     P: Share + Drop,
     J: Join<P> + Drop,
     L: Store<P, J> + Drop,
     R: Store<P, J> + Drop,
     F: Feed<P>,
->(rt: &impl Abort, chain: &mut Chain<P, J, L, R>, feed: &mut F, steps: &[(Actor, Stepped)])
+>(rt: &impl Abort, alloc: Global, chain: &mut Chain<P, J, L, R>, feed: &mut F, steps: &str)
     requires { GoesWith J.predicate chain.old (F.state feed.old) }
     ensures { GoesWith J.predicate chain.new (F.state feed.new) }
 {
-    for (actor, answer) in steps {
-        assert_eq!(rt; chain.step(*actor, feed), *answer);
+    for step in steps.lines() {
+        let (name, want) = step.split_once(": ").expect(rt, "an answer");
+        let found = chain.step(actor(rt, name), feed);
+        let found = format!(in alloc; "{found:?}").expect(rt, "memory");
+        assert_eq!(rt; found.as_str(), want, "at {name}");
     }
 }
 
@@ -128,12 +142,12 @@ const EACH: [Actor; 9] = [
     Actor::Admit,
     Actor::PortLeft,
     Actor::PortRight,
-    LEFT_0,
-    RIGHT_0,
-    LEFT_1,
-    RIGHT_1,
-    COLLECT_0,
-    COLLECT_1,
+    Actor::Core(CoreNo(0), Side::Left),
+    Actor::Core(CoreNo(0), Side::Right),
+    Actor::Core(CoreNo(1), Side::Left),
+    Actor::Core(CoreNo(1), Side::Right),
+    Actor::Collect(CoreNo(0)),
+    Actor::Collect(CoreNo(1)),
 ];
 
 /// Asks each actor of two cores, in more rounds than two rows can take steps.
@@ -151,52 +165,48 @@ fn numbers(pair: Option<Pair<Row>>) -> Option<(u64, u64)> {
     pair.map(|pair| (pair.left_no.0, pair.right_no.0))
 }
 
+/// After six steps AckS 1 and EndS 1 are on their way to the right, EndR 0 and S 1 to the left.
+const IN_FLIGHT: &str = "\
+admit: Did
+admit: Did
+left 0: Did
+right 1: Did
+left 1: Did
+right 0: Did
+left 1: Did
+left 1: Did
+left 1: NotEnabled(Empty)
+right 0: Did
+right 0: NotEnabled(Empty)
+admit: NotEnabled(Drains(2))";
+
+const REST: &str = "\
+port_left
+port_left
+port_right
+port_right
+admit
+left 0
+right 1
+left 1
+right 0
+port_left
+port_right
+collect 0
+collect 0
+collect 0
+collect 1
+collect 1
+collect 1";
+
 #[test]
 fn rows_meet_in_flight(rt: HostRuntime) -> Result<(), Fail> {
     let mut feed = from(Side::Left);
     let mut chain = two_cores(rt.alloc(), 2, &mut feed)?;
-    let did = Stepped::Did;
-    step_all(
-        &rt,
-        &mut chain,
-        &mut feed,
-        &[
-            (Actor::Admit, did),
-            (Actor::Admit, did),
-            (LEFT_0, did),
-            (RIGHT_1, did),
-            (LEFT_1, did),
-            (RIGHT_0, did),
-            // AckS 1 and EndS 1 to the right, EndR 0 and S 1 to the left
-            (LEFT_1, did),
-            (LEFT_1, did),
-            (LEFT_1, Stepped::NotEnabled(NotNow::Empty)),
-            (RIGHT_0, did),
-            (RIGHT_0, Stepped::NotEnabled(NotNow::Empty)),
-            (Actor::Admit, Stepped::NotEnabled(NotNow::Drains(2))),
-        ],
-    );
+    step_all(&rt, rt.alloc(), &mut chain, &mut feed, IN_FLIGHT);
     assert!(rt; !chain.done());
     assert!(rt; chain.pair().is_none());
-    let rest = [
-        Actor::PortLeft,
-        Actor::PortLeft,
-        Actor::PortRight,
-        Actor::PortRight,
-        Actor::Admit,
-        LEFT_0,
-        RIGHT_1,
-        LEFT_1,
-        RIGHT_0,
-        Actor::PortLeft,
-        Actor::PortRight,
-        COLLECT_0,
-        COLLECT_0,
-        COLLECT_0,
-        COLLECT_1,
-        COLLECT_1,
-        COLLECT_1,
-    ];
+    let rest = actors(&rt, rt.alloc(), REST);
     assert_eq!(rt; chain.run(&rest, &mut feed), Stepped::Did);
     assert!(rt; chain.done());
     assert_eq!(rt; numbers(chain.pair()), Some((0, 1)));
@@ -204,31 +214,26 @@ fn rows_meet_in_flight(rt: HostRuntime) -> Result<(), Fail> {
     Ok(())
 }
 
+const AT_REST: &str = "\
+admit: Did
+admit: Did
+left 0: Did
+left 1: Did
+right 1: Did
+right 0: Did
+right 0: Did
+collect 0: Did
+collect 0: Did
+collect 0: NotEnabled(Empty)
+collect 1: Did
+collect 1: Did
+collect 1: NotEnabled(Empty)";
+
 #[test]
 fn rows_meet_at_rest(rt: HostRuntime) -> Result<(), Fail> {
     let mut feed = from(Side::Right);
     let mut chain = two_cores(rt.alloc(), 2, &mut feed)?;
-    let did = Stepped::Did;
-    step_all(
-        &rt,
-        &mut chain,
-        &mut feed,
-        &[
-            (Actor::Admit, did),
-            (Actor::Admit, did),
-            (LEFT_0, did),
-            (LEFT_1, did),
-            (RIGHT_1, did),
-            (RIGHT_0, did),
-            (RIGHT_0, did),
-            (COLLECT_0, did),
-            (COLLECT_0, did),
-            (COLLECT_0, Stepped::NotEnabled(NotNow::Empty)),
-            (COLLECT_1, did),
-            (COLLECT_1, did),
-            (COLLECT_1, Stepped::NotEnabled(NotNow::Empty)),
-        ],
-    );
+    step_all(&rt, rt.alloc(), &mut chain, &mut feed, AT_REST);
     // The pair was met, and is beyond the punctuation: no core reported a right row from 1 on.
     assert!(rt; chain.pair().is_none());
     assert!(rt; !chain.done());
@@ -239,69 +244,53 @@ fn rows_meet_at_rest(rt: HostRuntime) -> Result<(), Fail> {
     Ok(())
 }
 
+const CAUSES: &str = "\
+port_left: NotEnabled(Empty)
+port_right: NotEnabled(Empty)
+left 1: NotEnabled(Empty)
+collect 1: NotEnabled(Empty)
+left 2: NotEnabled(NoSuchCore)
+collect 2: NotEnabled(NoSuchCore)
+admit: Did
+admit: NotEnabled(Waits(Flight(1)))
+left 0: Did
+left 1: Did
+port_right: Did
+right 0: Did
+port_left: Did
+admit: Did
+right 1: Did
+admit: NotEnabled(Drains(1))
+right 0: Did
+left 1: Did
+left 1: Did
+port_left: Did
+port_right: Did
+admit: Did
+admit: NotEnabled(Closed)";
+
 #[test]
 fn causes_in_their_order(rt: HostRuntime) -> Result<(), Fail> {
     let mut feed = from(Side::Left);
     let mut chain = two_cores(rt.alloc(), 1, &mut feed)?;
-    let did = Stepped::Did;
-    let empty = Stepped::NotEnabled(NotNow::Empty);
-    let no_core = Stepped::NotEnabled(NotNow::NoSuchCore);
-    step_all(
-        &rt,
-        &mut chain,
-        &mut feed,
-        &[
-            (Actor::PortLeft, empty),
-            (Actor::PortRight, empty),
-            (LEFT_1, empty),
-            (COLLECT_1, empty),
-            (Actor::Core(CoreNo(2), Side::Left), no_core),
-            (Actor::Collect(CoreNo(2)), no_core),
-            (Actor::Admit, did),
-            (
-                Actor::Admit,
-                Stepped::NotEnabled(NotNow::Waits(Why::Flight(1))),
-            ),
-            (LEFT_0, did),
-            (LEFT_1, did),
-            (Actor::PortRight, did),
-            (RIGHT_0, did),
-            (Actor::PortLeft, did),
-            (Actor::Admit, did),
-            (RIGHT_1, did),
-            (Actor::Admit, Stepped::NotEnabled(NotNow::Drains(1))),
-            (RIGHT_0, did),
-            (LEFT_1, did),
-            (LEFT_1, did),
-            (Actor::PortLeft, did),
-            (Actor::PortRight, did),
-            (Actor::Admit, did),
-            (Actor::Admit, Stepped::NotEnabled(NotNow::Closed)),
-        ],
-    );
+    step_all(&rt, rt.alloc(), &mut chain, &mut feed, CAUSES);
     Ok(())
 }
+
+const LATE_EVENT: &str = "\
+admit: Did
+admit: Did
+left 0: Did
+admit: Did
+right 1: Did
+admit: Did
+admit: NotEnabled(Drains(2))";
 
 #[test]
 fn a_late_event_is_asked_for(rt: HostRuntime) -> Result<(), Fail> {
     let mut feed = late_from(Side::Left);
     let mut chain = two_cores(rt.alloc(), 2, &mut feed)?;
-    let did = Stepped::Did;
-    let asked = did;
-    step_all(
-        &rt,
-        &mut chain,
-        &mut feed,
-        &[
-            (Actor::Admit, did),
-            (Actor::Admit, asked),
-            (LEFT_0, did),
-            (Actor::Admit, did),
-            (RIGHT_1, did),
-            (Actor::Admit, asked),
-            (Actor::Admit, Stepped::NotEnabled(NotNow::Drains(2))),
-        ],
-    );
+    step_all(&rt, rt.alloc(), &mut chain, &mut feed, LATE_EVENT);
     Ok(())
 }
 
@@ -373,26 +362,34 @@ fn no_steps() -> Counts {
 
 /// The rows meet once, whatever the rule: one takes 2 + 1 steps of the cores where it is a left one, and 1 + 3 where it is a right
 /// one, and the closes 2 + 2.
+fn runs_serially(rt: &impl Abort, alloc: Global, rows: TwoRows, chooser: Chooser, pair: (u64, u64))
+    requires { rows.given ≡ 0 }
+{
+    let mut feed = rows;
+    let mut chain = two_cores(alloc, 2, &mut feed).expect(rt, "memory");
+    let mut drain = room_for(1);
+    let gate = no_steps();
+    let fin = chain.run_serial(chooser, &mut feed, &mut drain, &gate);
+    assert_eq!(rt; fin, Fin::Done);
+    assert_eq!(rt; (drain.last, drain.kept), (Some(pair), 1));
+    assert_eq!(rt; (gate.left.get(), gate.right.get()), (5, 6));
+    assert!(rt; chain.done());
+}
+
 #[test]
-fn serial_runs(rt: HostRuntime) -> Result<(), Fail> {
-    let rows = [
-        (from(Side::Left), Chooser::InTurn, (0, 1)),
-        (from(Side::Right), Chooser::InTurn, (1, 0)),
-        (late_from(Side::Right), Chooser::InTurn, (1, 0)),
-        (from(Side::Left), Chooser::Seeded(1), (0, 1)),
-        (late_from(Side::Left), Chooser::Seeded(1), (0, 1)),
-    ];
-    for (mut feed, chooser, pair) in rows {
-        let mut chain = two_cores(rt.alloc(), 2, &mut feed)?;
-        let mut drain = room_for(1);
-        let gate = no_steps();
-        let fin = chain.run_serial(chooser, &mut feed, &mut drain, &gate);
-        assert_eq!(rt; fin, Fin::Done);
-        assert_eq!(rt; (drain.last, drain.kept), (Some(pair), 1));
-        assert_eq!(rt; (gate.left.get(), gate.right.get()), (5, 6));
-        assert!(rt; chain.done());
-    }
-    Ok(())
+fn serial_runs(rt: HostRuntime) {
+    let alloc = rt.alloc();
+    runs_serially(&rt, alloc, from(Side::Left), Chooser::InTurn, (0, 1));
+    runs_serially(&rt, alloc, from(Side::Right), Chooser::InTurn, (1, 0));
+    runs_serially(&rt, alloc, late_from(Side::Right), Chooser::InTurn, (1, 0));
+    runs_serially(&rt, alloc, from(Side::Left), Chooser::Seeded(1), (0, 1));
+    runs_serially(
+        &rt,
+        alloc,
+        late_from(Side::Left),
+        Chooser::Seeded(1),
+        (0, 1),
+    );
 }
 
 #[test]

@@ -1,13 +1,12 @@
 ghost use Rattle.std.specs.Prelude.{◌<◌};
 
-use crate::rows::{Cross, Kind, Row, message, sent};
+use crate::rows::{Cross, Row, message, sent};
 use hj_base::{CoreNo, Memory};
 use hj_core::Core;
 use hj_msg::{Join, Msg, Store};
 use hj_rows::ListStore;
 use std::alloc::Global;
 use std::process::Abort;
-use std::test::Fail;
 
 type RowCore = Core<Row, Cross, ListStore<Row>, ListStore<Row>>;
 
@@ -36,111 +35,67 @@ fn handled(alloc: Global, core: &mut RowCore, msg: Msg<Row>) -> Result<String, M
     Ok(text)
 }
 
-/// A core of two that handled messages, each with what it sent and reported.
-fn run(
-    rt: &impl Abort,
-    alloc: Global,
-    place: u16,
-    steps: &[(Kind, &str)],
-) -> Result<RowCore, Memory>
+/// A core of two that handled messages: a line is a message, and what it sent and reported for it.
+fn run(rt: &impl Abort, alloc: Global, place: u16, steps: &str) -> RowCore
     requires { place < 2 }
 {
     let mut core = core_at(place, alloc);
-    for (kind, text) in steps {
-        let found = handled(alloc, &mut core, message(*kind))?;
-        assert_eq!(rt; found.as_str(), *text);
+    for step in steps.lines() {
+        let (msg, want) = step.split_once(": ").expect(rt, "an answer");
+        let found = handled(alloc, &mut core, message(rt, msg)).expect(rt, "memory");
+        assert_eq!(rt; found.as_str(), want, "at {msg}");
     }
-    Ok(core)
+    core
 }
 
-#[test]
-fn left_row_comes_first(rt: HostRuntime) -> Result<(), Fail> {
-    run(
-        &rt,
-        rt.alloc(),
-        1,
-        &[
-            (
-                Kind::S(1, 8),
-                "Some(S { no: EventNo(1), row: Row(8) }) / None None / Some(Handled { no: EventNo(1), side: Right, row: Row(8), partners: Partners { found: [] } })",
-            ),
-            // The right row is in flight.
-            (
-                Kind::R(0, 7),
-                "Some(EndR(EventNo(0))) / Some(R { no: EventNo(0), row: Row(7) }) None / Some(Handled { no: EventNo(0), side: Left, row: Row(7), partners: Partners { found: [Partner { no: EventNo(1), row: Row(8) }] } })",
-            ),
-            // It is acknowledged, and rests here unsettled.
-            (Kind::AckS(1), "None / None None / None"),
-            (
-                Kind::R(2, 7),
-                "Some(EndR(EventNo(2))) / Some(R { no: EventNo(2), row: Row(7) }) None / Some(Handled { no: EventNo(2), side: Left, row: Row(7), partners: Partners { found: [] } })",
-            ),
-        ],
-    )?;
-    run(
-        &rt,
-        rt.alloc(),
-        0,
-        &[
-            (
-                Kind::R(0, 7),
-                "None / Some(R { no: EventNo(0), row: Row(7) }) None / Some(Handled { no: EventNo(0), side: Left, row: Row(7), partners: Partners { found: [] } })",
-            ),
-            // The left row isn't settled.
-            (
-                Kind::S(1, 8),
-                "Some(S { no: EventNo(1), row: Row(8) }) / Some(AckS(EventNo(1))) Some(EndS(EventNo(1))) / Some(Handled { no: EventNo(1), side: Right, row: Row(8), partners: Partners { found: [] } })",
-            ),
-            (Kind::EndR(0), "Some(EndR(EventNo(0))) / None None / None"),
-            // Now it is.
-            (
-                Kind::S(3, 8),
-                "Some(S { no: EventNo(3), row: Row(8) }) / Some(AckS(EventNo(3))) Some(EndS(EventNo(3))) / Some(Handled { no: EventNo(3), side: Right, row: Row(8), partners: Partners { found: [Partner { no: EventNo(0), row: Row(7) }] } })",
-            ),
-        ],
-    )?;
-    Ok(())
-}
+/// The left row is the first. At the right core the right row is in flight; then it is acknowledged, and rests there unsettled.
+const LEFT_FIRST_AT_1: &str = "\
+S 1 8: Some(S { no: EventNo(1), row: Row(8) }) / None None / \
+Some(Handled { no: EventNo(1), side: Right, row: Row(8), partners: Partners { found: [] } })
+R 0 7: Some(EndR(EventNo(0))) / Some(R { no: EventNo(0), row: Row(7) }) None / \
+Some(Handled { no: EventNo(0), side: Left, row: Row(7), partners: Partners { found: [Partner { no: EventNo(1), row: Row(8) }] } })
+AckS 1: None / None None / None
+R 2 7: Some(EndR(EventNo(2))) / Some(R { no: EventNo(2), row: Row(7) }) None / \
+Some(Handled { no: EventNo(2), side: Left, row: Row(7), partners: Partners { found: [] } })";
+
+/// At the left core the left row isn't settled before its end.
+const LEFT_FIRST_AT_0: &str = "\
+R 0 7: None / Some(R { no: EventNo(0), row: Row(7) }) None / \
+Some(Handled { no: EventNo(0), side: Left, row: Row(7), partners: Partners { found: [] } })
+S 1 8: Some(S { no: EventNo(1), row: Row(8) }) / Some(AckS(EventNo(1))) Some(EndS(EventNo(1))) / \
+Some(Handled { no: EventNo(1), side: Right, row: Row(8), partners: Partners { found: [] } })
+EndR 0: Some(EndR(EventNo(0))) / None None / None
+S 3 8: Some(S { no: EventNo(3), row: Row(8) }) / Some(AckS(EventNo(3))) Some(EndS(EventNo(3))) / \
+Some(Handled { no: EventNo(3), side: Right, row: Row(8), partners: Partners { found: [Partner { no: EventNo(0), row: Row(7) }] } })";
 
 #[test]
-fn right_row_comes_first(rt: HostRuntime) -> Result<(), Fail> {
-    run(
-        &rt,
-        rt.alloc(),
-        1,
-        &[
-            (
-                Kind::R(1, 7),
-                "Some(EndR(EventNo(1))) / Some(R { no: EventNo(1), row: Row(7) }) None / Some(Handled { no: EventNo(1), side: Left, row: Row(7), partners: Partners { found: [] } })",
-            ),
-            // The left row rests here, settled.
-            (
-                Kind::S(0, 8),
-                "Some(S { no: EventNo(0), row: Row(8) }) / None None / Some(Handled { no: EventNo(0), side: Right, row: Row(8), partners: Partners { found: [Partner { no: EventNo(1), row: Row(7) }] } })",
-            ),
-        ],
-    )?;
-    let core = run(
-        &rt,
-        rt.alloc(),
-        0,
-        &[
-            (
-                Kind::R(1, 7),
-                "None / Some(R { no: EventNo(1), row: Row(7) }) None / Some(Handled { no: EventNo(1), side: Left, row: Row(7), partners: Partners { found: [] } })",
-            ),
-            // The left row rests at the other core.
-            (
-                Kind::S(0, 8),
-                "Some(S { no: EventNo(0), row: Row(8) }) / Some(AckS(EventNo(0))) Some(EndS(EventNo(0))) / Some(Handled { no: EventNo(0), side: Right, row: Row(8), partners: Partners { found: [] } })",
-            ),
-            (Kind::CloseL, "None / Some(CloseL) None / None"),
-            (Kind::CloseR, "Some(CloseR) / None None / Some(Ended)"),
-        ],
-    )?;
+fn left_row_comes_first(rt: HostRuntime) {
+    run(&rt, rt.alloc(), 1, LEFT_FIRST_AT_1);
+    run(&rt, rt.alloc(), 0, LEFT_FIRST_AT_0);
+}
+
+/// The right row is the first. At the right core the left row rests, settled.
+const RIGHT_FIRST_AT_1: &str = "\
+R 1 7: Some(EndR(EventNo(1))) / Some(R { no: EventNo(1), row: Row(7) }) None / \
+Some(Handled { no: EventNo(1), side: Left, row: Row(7), partners: Partners { found: [] } })
+S 0 8: Some(S { no: EventNo(0), row: Row(8) }) / None None / \
+Some(Handled { no: EventNo(0), side: Right, row: Row(8), partners: Partners { found: [Partner { no: EventNo(1), row: Row(7) }] } })";
+
+/// At the left core the right row meets no left row, which rests at the other core.
+const RIGHT_FIRST_AT_0: &str = "\
+R 1 7: None / Some(R { no: EventNo(1), row: Row(7) }) None / \
+Some(Handled { no: EventNo(1), side: Left, row: Row(7), partners: Partners { found: [] } })
+S 0 8: Some(S { no: EventNo(0), row: Row(8) }) / Some(AckS(EventNo(0))) Some(EndS(EventNo(0))) / \
+Some(Handled { no: EventNo(0), side: Right, row: Row(8), partners: Partners { found: [] } })
+CloseL: None / Some(CloseL) None / None
+CloseR: Some(CloseR) / None None / Some(Ended)";
+
+#[test]
+fn right_row_comes_first(rt: HostRuntime) {
+    run(&rt, rt.alloc(), 1, RIGHT_FIRST_AT_1);
+    let core = run(&rt, rt.alloc(), 0, RIGHT_FIRST_AT_0);
     assert!(rt; core.ended());
     assert_eq!(rt; core.place(), CoreNo(0));
-    Ok(())
 }
 
 /// A core goes to another thread where its rows, its join and its stores do.
@@ -151,8 +106,7 @@ fn sent_core<P: Send, J: Join<P> + Send, L: Store<P, J> + Send, R: Store<P, J> +
 }
 
 #[test]
-fn cores_are_sent(rt: HostRuntime) -> Result<(), Fail> {
+fn cores_are_sent(rt: HostRuntime) {
     let core = sent_core(core_at(1, rt.alloc()));
     assert!(rt; !core.ended());
-    Ok(())
 }

@@ -3,9 +3,10 @@ ghost use Rattle.hj_chain_samples.specs.TwoRows.{all_match};
 
 use hj_base::{EventNo, Memory, Share};
 use hj_msg::{Join, Msg};
+use std::process::Abort;
 
 /// The number of the row that can't be shared.
-pub(crate) const UNSHARED: u64 = 13;
+const UNSHARED: u64 = 13;
 
 /// A row of one number.
 #[derive(Debug, Drop)]
@@ -39,36 +40,27 @@ impl Join<Row> for Cross {
     }
 }
 
-/// A message. A row has its number behind that of its event.
-#[derive(Clone, Copy)]
-pub(crate) enum Kind {
-    R(u64, u64),
-    S(u64, u64),
-    AckS(u64),
-    EndR(u64),
-    ExpR(u64),
-    ExpS(u64),
-    CloseL,
-    CloseR,
+/// The message of a line: its name, the number of its event, and behind that the number of its row.
+pub(crate) fn message(rt: &impl Abort, line: &str) -> Msg<Row> {
+    let mut words = line.split(' ');
+    let name = words.next().expect(rt, "a name");
+    let no = EventNo(number_or_0(rt, words.next()));
+    let row = Row(number_or_0(rt, words.next()));
+    match name {
+        "R" => Msg::R { no, row },
+        "S" => Msg::S { no, row },
+        "AckS" => Msg::AckS(no),
+        "EndR" => Msg::EndR(no),
+        "ExpR" => Msg::ExpR(no),
+        "ExpS" => Msg::ExpS(no),
+        "CloseL" => Msg::CloseL,
+        "CloseR" => Msg::CloseR,
+        _ => panic!(rt; "no message: {line}"),
+    }
 }
 
-pub(crate) fn message(kind: Kind) -> Msg<Row> {
-    match kind {
-        Kind::R(no, row) => Msg::R {
-            no: EventNo(no),
-            row: Row(row),
-        },
-        Kind::S(no, row) => Msg::S {
-            no: EventNo(no),
-            row: Row(row),
-        },
-        Kind::AckS(no) => Msg::AckS(EventNo(no)),
-        Kind::EndR(no) => Msg::EndR(EventNo(no)),
-        Kind::ExpR(no) => Msg::ExpR(EventNo(no)),
-        Kind::ExpS(no) => Msg::ExpS(EventNo(no)),
-        Kind::CloseL => Msg::CloseL,
-        Kind::CloseR => Msg::CloseR,
-    }
+fn number_or_0(rt: &impl Abort, word: Option<&str>) -> u64 {
+    word.unwrap_or("0").parse::<u64>().expect(rt, "a number")
 }
 
 /// Takes what may go to another thread.

@@ -2,7 +2,7 @@ ghost use Rattle.std.specs.Prelude.{◌≡◌};
 ghost use Rattle.hj_base.specs.declared.numbers.Side.TheVariants as sides;
 
 use crate::rows::sent;
-use hj_base::{EventNo, Memory, Side};
+use hj_base::{EventNo, Side};
 use hj_eval::{QueryJoin, StorePlan, plan};
 use hj_index::{HashStore, OrderedStore};
 use hj_msg::Store;
@@ -10,7 +10,6 @@ use hj_query::{Query, parse};
 use hj_value::{Field, Row, SharedRow, Text};
 use std::alloc::Global;
 use std::process::Abort;
-use std::test::Fail;
 
 const OF_NUMBERS: &str =
     "left (ts int, k int) right (ts int, k int) window left rows 1 window right rows 1 on l.k = r.k";
@@ -21,110 +20,100 @@ const OF_TEXTS: &str =
 const OF_NEAR_NUMBERS: &str =
     "left (ts int, k int) right (ts int, k int) window left rows 1 window right rows 1 on l.k within 10 of r.k";
 
-fn query(alloc: Global, text: &str) -> Result<Query, Fail> {
-    match parse(alloc, text.as_bytes()) {
-        Ok(query) => Ok(query),
-        Err(_) => Err("no query".into()),
-    }
+fn query(rt: &impl Abort, alloc: Global, text: &str) -> Query {
+    parse(alloc, text.as_bytes()).expect(rt, "a query")
 }
 
-/// What a row has in its second column.
-#[derive(Clone, Copy)]
-enum Value<'a> {
-    Number(i64),
-    Text(&'a str),
-    Missing,
-}
-
-/// A row of a time and a value.
-fn row(alloc: Global, value: Value) -> Result<SharedRow, Memory> {
+/// A row of a time and a value: a text in quotes, or a number, or `none`.
+fn row(rt: &impl Abort, alloc: Global, value: &str) -> SharedRow {
     let mut row = Row::new(alloc);
-    row.push(Field::Int(1))?;
-    match value {
-        Value::Number(number) => row.push(Field::Int(number))?,
-        Value::Text(text) => {
-            if let Some(text) = Text::from_bytes(text.as_bytes()) {
-                row.push(Field::Text(text))?;
-            }
-        }
-        Value::Missing => (),
+    row.push(Field::Int(1)).expect(rt, "memory");
+    if value != "none" {
+        row.push(field(rt, value)).expect(rt, "memory");
     }
-    SharedRow::new(alloc, row)
+    SharedRow::new(alloc, row).expect(rt, "memory")
 }
 
-/// A call of a store, with its answer.
-#[derive(Drop)]
-enum Step<'a> {
-    Insert(u64, Value<'a>, bool),
-    Settle(u64, bool),
-    Remove(u64, bool),
-    /// The numbers of the left rows that a right row finds.
-    Find(Value<'a>, &'a [u64]),
+fn field<'a>(rt: &impl Abort, value: &'a str) -> Field<'a> {
+    match value.strip_prefix('\'') {
+        Some(quoted) => {
+            let text = quoted.strip_suffix('\'').expect(rt, "a quote");
+            Field::Text(Text::from_bytes(text.as_bytes()).expect(rt, "a text"))
+        }
+        None => Field::Int(value.parse::<i64>().expect(rt, "a number")),
+    }
+}
+
+fn number(rt: &impl Abort, text: &str) -> EventNo {
+    EventNo(text.parse::<u64>().expect(rt, "a number"))
 }
 
 fn insert<'q, S: Store<SharedRow, QueryJoin<'q>>>(
+    rt: &impl Abort,
     store: &mut S,
     join: &QueryJoin<'q>,
-    no: u64,
+    no: EventNo,
     row: SharedRow,
     settled: bool,
-) -> Result<(), Memory>
+)
     requires { S.suits store.old sides.Left join.now }
     ensures { S.suits store.new sides.Left join.now }
 {
-    store.reserve(EventNo(no), &row)?;
-    store.insert(EventNo(no), row, settled);
-    Ok(())
+    store.reserve(no, &row).expect(rt, "memory");
+    store.insert(no, row, settled);
 }
 
 /// The numbers of the left rows that a right row finds.
 fn found<'q, S: Store<SharedRow, QueryJoin<'q>>>(
+    rt: &impl Abort,
     alloc: Global,
     store: &S,
     join: &QueryJoin<'q>,
     against: &SharedRow,
-) -> Result<Vec<u64>, Memory>
+) -> String
     requires { S.suits store.now sides.Left join.now }
 {
-    let partners = store.probe(Side::Left, against, join)?;
+    let partners = store.probe(Side::Left, against, join).expect(rt, "memory");
     let mut numbers = Vec::new(alloc);
     for at in 0..partners.len() {
-        if let Some(partner) = partners.get(at) {
-            numbers.push(partner.no.0)?;
-        }
+        let partner = partners.get(at).expect(rt, "a partner");
+        numbers.push(partner.no.0).expect(rt, "memory");
     }
-    Ok(numbers)
+    format!(in alloc; "{numbers:?}").expect(rt, "memory")
 }
 
-/// Makes the call, which is the one at this place of a table.
+/// Makes a step: a row comes with its value, settled or not; or a number of a left row is settled or removed, where the store has
+/// it; or the left rows are found that a right row of this value joins, by their numbers.
 fn run_step<'q, S: Store<SharedRow, QueryJoin<'q>>>(
     rt: &impl Abort,
     alloc: Global,
     store: &mut S,
     join: &QueryJoin<'q>,
-    at: usize,
-    step: &Step,
-) -> Result<(), Memory>
+    step: &str,
+)
     requires { S.suits store.old sides.Left join.now }
     ensures { S.suits store.new sides.Left join.now }
 {
-    match step {
-        Step::Insert(no, value, settled) => insert(store, join, *no, row(alloc, *value)?, *settled),
-        Step::Settle(no, held) => {
-            assert_eq!(rt; store.settle(EventNo(*no)), *held, "step {at}");
-            Ok(())
+    let (call, want) = step.split_once(": ").expect(rt, "an answer");
+    let (name, what) = call.split_once(' ').expect(rt, "a call");
+    match name {
+        "settled" | "unsettled" => {
+            let row = row(rt, alloc, want);
+            insert(rt, store, join, number(rt, what), row, name == "settled");
         }
-        Step::Remove(no, held) => {
-            assert_eq!(rt; store.remove(EventNo(*no)), *held, "step {at}");
-            Ok(())
+        "settle" => answers(rt, step, store.settle(number(rt, what)), want),
+        "remove" => answers(rt, step, store.remove(number(rt, what)), want),
+        "find" => {
+            let found = found(rt, alloc, store, join, &row(rt, alloc, what));
+            assert_eq!(rt; found.as_str(), want, "{step}");
         }
-        Step::Find(value, numbers) => {
-            let against = row(alloc, *value)?;
-            let numbers_found = found(alloc, store, join, &against)?;
-            assert_eq!(rt; numbers_found.as_slice(), *numbers, "step {at}");
-            Ok(())
-        }
+        _ => panic!(rt; "no step: {step}"),
     }
+}
+
+fn answers(rt: &impl Abort, step: &str, found: bool, want: &str) {
+    let want = want.parse::<bool>().expect(rt, "an answer");
+    assert_eq!(rt; found, want, "{step}");
 }
 
 fn run<'q, S: Store<SharedRow, QueryJoin<'q>>>(
@@ -132,104 +121,100 @@ fn run<'q, S: Store<SharedRow, QueryJoin<'q>>>(
     alloc: Global,
     store: &mut S,
     join: &QueryJoin<'q>,
-    steps: &[Step],
-) -> Result<(), Memory>
+    steps: &str,
+)
     requires { S.suits store.old sides.Left join.now }
 {
-    for (at, step) in steps.iter().enumerate() {
-        run_step(rt, alloc, store, join, at, step)?;
+    for step in steps.lines() {
+        run_step(rt, alloc, store, join, step);
     }
-    Ok(())
 }
 
-fn run_hash(rt: &impl Abort, alloc: Global, text: &str, steps: &[Step]) -> Result<(), Fail> {
-    let query = query(alloc, text)?;
+fn run_hash(rt: &impl Abort, alloc: Global, text: &str, steps: &str) {
+    let query = query(rt, alloc, text);
     let StorePlan::Equal { left, right } = plan(&query) else {
-        return Err("another plan".into());
+        panic!(rt; "another plan");
     };
     let join = QueryJoin::new(&query);
     let mut store = sent(HashStore::new(alloc, left, right));
-    run(rt, alloc, &mut store, &join, steps)?;
-    Ok(())
+    run(rt, alloc, &mut store, &join, steps);
 }
+
+const EQUAL_NUMBERS: &str = "\
+settled 4: 7
+settled 2: 7
+unsettled 9: 7
+settled 6: none
+find 7: [2, 4]
+find 8: []
+find none: []
+settle 9: true
+settle 8: false
+find 7: [2, 4, 9]
+remove 2: true
+remove 2: false
+settled 4: -7
+find 7: [9]
+find -7: [4]";
 
 #[test]
-fn equal_numbers_are_found(rt: HostRuntime) -> Result<(), Fail> {
-    let steps = [
-        Step::Insert(4, Value::Number(7), true),
-        Step::Insert(2, Value::Number(7), true),
-        Step::Insert(9, Value::Number(7), false),
-        Step::Insert(6, Value::Missing, true),
-        Step::Find(Value::Number(7), &[2, 4]),
-        Step::Find(Value::Number(8), &[]),
-        Step::Find(Value::Missing, &[]),
-        Step::Settle(9, true),
-        Step::Settle(8, false),
-        Step::Find(Value::Number(7), &[2, 4, 9]),
-        Step::Remove(2, true),
-        Step::Remove(2, false),
-        Step::Insert(4, Value::Number(-7), true),
-        Step::Find(Value::Number(7), &[9]),
-        Step::Find(Value::Number(-7), &[4]),
-    ];
-    run_hash(&rt, rt.alloc(), OF_NUMBERS, &steps)
+fn equal_numbers_are_found(rt: HostRuntime) {
+    run_hash(&rt, rt.alloc(), OF_NUMBERS, EQUAL_NUMBERS);
 }
+
+/// The bits of the number are the mix of no bytes.
+const EQUAL_TEXTS: &str = "\
+settled 1: 'ab'
+settled 2: ''
+settled 3: 'ba'
+settled 4: -3750763034362895579
+find 'ab': [1]
+find '': [2]
+find 'abc': []
+find -3750763034362895579: []";
 
 #[test]
-fn equal_texts_are_found(rt: HostRuntime) -> Result<(), Fail> {
-    // The bits of this number are the mix of no bytes.
-    let number = Value::Number(-3_750_763_034_362_895_579);
-    let steps = [
-        Step::Insert(1, Value::Text("ab"), true),
-        Step::Insert(2, Value::Text(""), true),
-        Step::Insert(3, Value::Text("ba"), true),
-        Step::Insert(4, number, true),
-        Step::Find(Value::Text("ab"), &[1]),
-        Step::Find(Value::Text(""), &[2]),
-        Step::Find(Value::Text("abc"), &[]),
-        Step::Find(number, &[]),
-    ];
-    run_hash(&rt, rt.alloc(), OF_TEXTS, &steps)
+fn equal_texts_are_found(rt: HostRuntime) {
+    run_hash(&rt, rt.alloc(), OF_TEXTS, EQUAL_TEXTS);
 }
 
-fn run_ordered(rt: &impl Abort, alloc: Global, steps: &[Step]) -> Result<(), Fail> {
-    let query = query(alloc, OF_NEAR_NUMBERS)?;
+fn run_ordered(rt: &impl Abort, alloc: Global, steps: &str) {
+    let query = query(rt, alloc, OF_NEAR_NUMBERS);
     let StorePlan::Band {
         left,
         right,
         within,
     } = plan(&query)
     else {
-        return Err("another plan".into());
+        panic!(rt; "another plan");
     };
     let join = QueryJoin::new(&query);
     let mut store = sent(OrderedStore::new(alloc, left, right, within));
-    run(rt, alloc, &mut store, &join, steps)?;
-    Ok(())
+    run(rt, alloc, &mut store, &join, steps);
 }
 
+const NEAR_NUMBERS: &str = "\
+settled 0: -9223372036854775808
+settled 1: 5
+settled 2: 15
+settled 3: 16
+settled 4: '5'
+find 5: [1, 2]
+find -9223372036854775808: [0]
+find 9223372036854775807: []
+find '5': []
+find none: []
+unsettled 9: -5
+find 5: [1, 2]
+settle 9: true
+find 5: [1, 2, 9]
+settled 1: 26
+find 16: [1, 2, 3]
+remove 2: true
+remove 2: false
+find 5: [9]";
+
 #[test]
-fn near_numbers_are_found(rt: HostRuntime) -> Result<(), Fail> {
-    let steps = [
-        Step::Insert(0, Value::Number(i64::MIN), true),
-        Step::Insert(1, Value::Number(5), true),
-        Step::Insert(2, Value::Number(15), true),
-        Step::Insert(3, Value::Number(16), true),
-        Step::Insert(4, Value::Text("5"), true),
-        Step::Find(Value::Number(5), &[1, 2]),
-        Step::Find(Value::Number(i64::MIN), &[0]),
-        Step::Find(Value::Number(i64::MAX), &[]),
-        Step::Find(Value::Text("5"), &[]),
-        Step::Find(Value::Missing, &[]),
-        Step::Insert(9, Value::Number(-5), false),
-        Step::Find(Value::Number(5), &[1, 2]),
-        Step::Settle(9, true),
-        Step::Find(Value::Number(5), &[1, 2, 9]),
-        Step::Insert(1, Value::Number(26), true),
-        Step::Find(Value::Number(16), &[1, 2, 3]),
-        Step::Remove(2, true),
-        Step::Remove(2, false),
-        Step::Find(Value::Number(5), &[9]),
-    ];
-    run_ordered(&rt, rt.alloc(), &steps)
+fn near_numbers_are_found(rt: HostRuntime) {
+    run_ordered(&rt, rt.alloc(), NEAR_NUMBERS);
 }

@@ -1,13 +1,13 @@
 ghost use Rattle.std.specs.Prelude.{◌<◌, ◌≤◌};
 
-use crate::rows::{Cross, Kind, Row, UNSHARED, message, sent};
-use hj_base::{CoreNo, Gate, Memory, OpenGate, Side};
+use crate::rows::{Cross, Row, message, sent};
+use hj_base::{CoreNo, Gate, Memory, OpenGate};
 use hj_core::Core;
 use hj_link::{LeftEnd, Receiver, RightEnd, duplex, one_way};
 use hj_msg::{Join, Msg, Report, Store};
 use hj_rows::ListStore;
-use hj_worker::{Parts, Place, Turn, Worker};
-use std::alloc::Global;
+use hj_worker::{Parts, Worker};
+use std::alloc::{AllocError, Global};
 use std::cell::Cell;
 use std::process::Abort;
 use std::test::Fail;
@@ -45,181 +45,135 @@ fn set_up(alloc: Global, capacity: usize) -> Result<Bench, Memory>
     })
 }
 
-/// A step at a worker.
-#[derive(Clone, Copy)]
-enum Step<'a> {
-    /// A message comes on the link to the left, or on that to the right.
-    FromLeft(Kind),
-    FromRight(Kind),
-    /// The worker is called, and answers so.
-    Turns(Turn),
-    /// This is taken next at the other end of a link, or of the reports.
-    ToLeft(&'a str),
-    ToRight(&'a str),
-    Reports(&'a str),
+/// Makes a step at a worker: a message comes on the link to the left or on that to the right, the worker is called, or what is
+/// at the other end of a link, or of the reports, is taken. Answers what came of it.
+fn made(rt: &impl Abort, alloc: Global, bench: &mut Bench, step: &str, what: &str) -> String {
+    let text = match step {
+        "from left" => told(alloc, bench.left.put(0, message(rt, what)).is_ok(), what),
+        "from right" => told(alloc, bench.right.put(0, message(rt, what)).is_ok(), what),
+        "turn" => turned(rt, alloc, bench),
+        "to left" => format!(in alloc; "{:?}", bench.left.take(0)),
+        "to right" => format!(in alloc; "{:?}", bench.right.take(0)),
+        "reports" => format!(in alloc; "{:?}", bench.reports.take(0)),
+        _ => panic!(rt; "no step: {step}"),
+    };
+    text.expect(rt, "memory")
 }
 
-/// Makes a step, and looks at what came of it.
-fn make(rt: &impl Abort, alloc: Global, bench: &mut Bench, step: Step) -> Result<(), Memory> {
-    match step {
-        Step::FromLeft(kind) => assert!(rt; bench.left.put(0, message(kind)).is_ok()),
-        Step::FromRight(kind) => assert!(rt; bench.right.put(0, message(kind)).is_ok()),
-        Step::Turns(wanted) => {
-            assert!(rt; !bench.worker.spent());
-            assert_eq!(rt; bench.worker.turn(&OpenGate), wanted);
-        }
-        Step::ToLeft(wanted) => {
-            let found = format!(in alloc; "{:?}", bench.left.take(0))?;
-            assert_eq!(rt; found.as_str(), wanted);
-        }
-        Step::ToRight(wanted) => {
-            let found = format!(in alloc; "{:?}", bench.right.take(0))?;
-            assert_eq!(rt; found.as_str(), wanted);
-        }
-        Step::Reports(wanted) => {
-            let found = format!(in alloc; "{:?}", bench.reports.take(0))?;
-            assert_eq!(rt; found.as_str(), wanted);
-        }
-    }
-    Ok(())
+/// The message that was put, where there was room for it.
+fn told(alloc: Global, put: bool, msg: &str) -> Result<String, AllocError> {
+    String::from_str(alloc, if put { msg } else { "no room" })
 }
 
-/// Makes the steps at a worker over links with so much room, and hands its ends back.
-fn run(
-    rt: &impl Abort,
-    alloc: Global,
-    capacity: usize,
-    steps: &[Step],
-) -> Result<Parts<Row>, Memory>
+/// What the worker answers its call.
+fn turned(rt: &impl Abort, alloc: Global, bench: &mut Bench) -> Result<String, AllocError> {
+    assert!(rt; !bench.worker.spent());
+    format!(in alloc; "{:?}", bench.worker.turn(&OpenGate))
+}
+
+/// Makes the steps at a worker over links with so much room, and hands its ends back. A line is a step, and what comes or is
+/// wanted.
+fn run(rt: &impl Abort, alloc: Global, capacity: usize, steps: &str) -> Parts<Row>
     requires { (0 < capacity) × (capacity ≤ 514) }
 {
-    let mut bench = set_up(alloc, capacity)?;
-    for step in steps {
-        make(rt, alloc, &mut bench, *step)?;
+    let mut bench = set_up(alloc, capacity).expect(rt, "memory");
+    for line in steps.lines() {
+        let (step, what) = line.split_once(": ").expect(rt, "a step");
+        let found = made(rt, alloc, &mut bench, step, what);
+        assert_eq!(rt; found.as_str(), what, "{step}");
     }
-    Ok(bench.worker.parts())
+    bench.worker.parts()
 }
 
+/// The row 3 is taken, and nothing of it can be put before what was put of row 1 is taken.
+const FULL_PLACES: &str = "\
+turn: Idle
+from left: R 1 7
+turn: Did
+from left: R 3 8
+turn: Blocked(Reports)
+reports: Some(Handled { no: EventNo(1), side: Left, row: Row(7), partners: Partners { found: [] } })
+turn: Did
+turn: Blocked(Link(Left))
+to left: Some(EndR(EventNo(1)))
+turn: Blocked(Link(Right))
+to right: Some(R { no: EventNo(1), row: Row(7) })
+turn: Did
+to left: Some(EndR(EventNo(3)))
+to right: Some(R { no: EventNo(3), row: Row(8) })
+reports: Some(Handled { no: EventNo(3), side: Left, row: Row(8), partners: Partners { found: [] } })
+turn: Idle";
+
 #[test]
-fn full_places_block(rt: HostRuntime) -> Result<(), Fail> {
-    let parts = run(
-        &rt,
-        rt.alloc(),
-        1,
-        &[
-            Step::Turns(Turn::Idle),
-            Step::FromLeft(Kind::R(1, 7)),
-            Step::Turns(Turn::Did),
-            Step::FromLeft(Kind::R(3, 8)),
-            Step::Turns(Turn::Blocked(Place::Reports)),
-            Step::Reports(
-                "Some(Handled { no: EventNo(1), side: Left, row: Row(7), partners: Partners { found: [] } })",
-            ),
-            // The row is taken, and nothing of it can be put.
-            Step::Turns(Turn::Did),
-            Step::Turns(Turn::Blocked(Place::Link(Side::Left))),
-            Step::ToLeft("Some(EndR(EventNo(1)))"),
-            Step::Turns(Turn::Blocked(Place::Link(Side::Right))),
-            Step::ToRight("Some(R { no: EventNo(1), row: Row(7) })"),
-            Step::Turns(Turn::Did),
-            Step::ToLeft("Some(EndR(EventNo(3)))"),
-            Step::ToRight("Some(R { no: EventNo(3), row: Row(8) })"),
-            Step::Reports(
-                "Some(Handled { no: EventNo(3), side: Left, row: Row(8), partners: Partners { found: [] } })",
-            ),
-            Step::Turns(Turn::Idle),
-        ],
-    )?;
+fn full_places_block(rt: HostRuntime) {
+    let parts = run(&rt, rt.alloc(), 1, FULL_PLACES);
     assert_eq!(rt; parts.place, CoreNo(1));
-    Ok(())
 }
 
 /// A right row comes first, and a left row meets it in flight.
-#[test]
-fn rows_meet_in_flight(rt: HostRuntime) -> Result<(), Fail> {
-    run(
-        &rt,
-        rt.alloc(),
-        4,
-        &[
-            Step::FromRight(Kind::S(1, 8)),
-            Step::Turns(Turn::Did),
-            Step::FromLeft(Kind::R(0, 7)),
-            Step::Turns(Turn::Did),
-            Step::ToLeft("Some(S { no: EventNo(1), row: Row(8) })"),
-            Step::ToLeft("Some(EndR(EventNo(0)))"),
-            Step::ToRight("Some(R { no: EventNo(0), row: Row(7) })"),
-            Step::Reports(
-                "Some(Handled { no: EventNo(1), side: Right, row: Row(8), partners: Partners { found: [] } })",
-            ),
-            Step::Reports(
-                "Some(Handled { no: EventNo(0), side: Left, row: Row(7), partners: Partners { found: [Partner { no: EventNo(1), row: Row(8) }] } })",
-            ),
-        ],
-    )?;
-    Ok(())
-}
+const IN_FLIGHT: &str = "\
+from right: S 1 8
+turn: Did
+from left: R 0 7
+turn: Did
+to left: Some(S { no: EventNo(1), row: Row(8) })
+to left: Some(EndR(EventNo(0)))
+to right: Some(R { no: EventNo(0), row: Row(7) })
+reports: Some(Handled { no: EventNo(1), side: Right, row: Row(8), partners: Partners { found: [] } })
+reports: Some(Handled { no: EventNo(0), side: Left, row: Row(7), \
+partners: Partners { found: [Partner { no: EventNo(1), row: Row(8) }] } })";
 
 #[test]
-fn ends_after_both_closes(rt: HostRuntime) -> Result<(), Fail> {
-    run(
-        &rt,
-        rt.alloc(),
-        4,
-        &[
-            Step::FromLeft(Kind::CloseL),
-            Step::FromRight(Kind::CloseR),
-            Step::Turns(Turn::Did),
-            Step::ToRight("Some(CloseL)"),
-            Step::Reports("None"),
-            Step::Turns(Turn::Did),
-            Step::ToLeft("Some(CloseR)"),
-            Step::Reports("Some(Ended)"),
-            Step::Turns(Turn::Ended),
-            Step::Turns(Turn::Ended),
-        ],
-    )?;
-    Ok(())
+fn rows_meet_in_flight(rt: HostRuntime) {
+    run(&rt, rt.alloc(), 4, IN_FLIGHT);
 }
 
-#[test]
-fn looks_at_either_end_first(rt: HostRuntime) -> Result<(), Fail> {
-    run(
-        &rt,
-        rt.alloc(),
-        4,
-        &[
-            Step::FromLeft(Kind::ExpS(0)),
-            Step::FromLeft(Kind::ExpS(1)),
-            Step::FromRight(Kind::ExpR(2)),
-            Step::Turns(Turn::Did),
-            Step::ToRight("Some(ExpS(EventNo(0)))"),
-            Step::Turns(Turn::Did),
-            Step::ToRight("None"),
-            Step::ToLeft("Some(ExpR(EventNo(2)))"),
-            Step::Reports("None"),
-        ],
-    )?;
-    Ok(())
-}
+const CLOSES: &str = "\
+from left: CloseL
+from right: CloseR
+turn: Did
+to right: Some(CloseL)
+reports: None
+turn: Did
+to left: Some(CloseR)
+reports: Some(Ended)
+turn: Ended
+turn: Ended";
 
 #[test]
-fn keeps_the_refused_message(rt: HostRuntime) -> Result<(), Fail> {
-    run(
-        &rt,
-        rt.alloc(),
-        4,
-        &[
-            Step::FromLeft(Kind::R(1, UNSHARED)),
-            Step::Turns(Turn::NoMemory),
-            Step::Reports("Some(NoMemory)"),
-            Step::FromLeft(Kind::R(3, 7)),
-            Step::Turns(Turn::NoMemory),
-            Step::ToRight("None"),
-            Step::Reports("None"),
-        ],
-    )?;
-    Ok(())
+fn ends_after_both_closes(rt: HostRuntime) {
+    run(&rt, rt.alloc(), 4, CLOSES);
+}
+
+const FROM_BOTH_ENDS: &str = "\
+from left: ExpS 0
+from left: ExpS 1
+from right: ExpR 2
+turn: Did
+to right: Some(ExpS(EventNo(0)))
+turn: Did
+to right: None
+to left: Some(ExpR(EventNo(2)))
+reports: None";
+
+#[test]
+fn looks_at_either_end_first(rt: HostRuntime) {
+    run(&rt, rt.alloc(), 4, FROM_BOTH_ENDS);
+}
+
+/// The row 13 can't be shared.
+const UNSHARED_ROW: &str = "\
+from left: R 1 13
+turn: NoMemory
+reports: Some(NoMemory)
+from left: R 3 7
+turn: NoMemory
+to right: None
+reports: None";
+
+#[test]
+fn keeps_the_refused_message(rt: HostRuntime) {
+    run(&rt, rt.alloc(), 4, UNSHARED_ROW);
 }
 
 /// Keeps what it was called with last, and counts its calls.
