@@ -101,18 +101,25 @@ impl Source {
         Err(Stop::Memory)
     }
 
-    /// Whether a row, or the end, can be told without a read.
+    /// Whether a row, or the end, can be told without a read: the bytes that were read have the end of a line that isn't empty.
     #[inline(always)]
     pub(crate) fn is_ready(&self) -> bool {
-        self.ended
-            || self.is_before_line_end()
-            || self.cutter.has_end(&self.portion[self.taken..self.filled])
+        self.ended || self.has_line()
     }
 
-    /// Whether a record begins before the last end of a line in the bytes that were read, as far as that is known.
+    /// Whether the line that comes next, or a later one where this one is empty, has its end in the bytes that were read.
     #[inline(always)]
-    fn is_before_line_end(&self) -> bool {
-        self.taken < self.lines_end && self.cutter.piece().is_empty()
+    fn has_line(&self) -> bool {
+        let unread = &self.portion[self.taken..self.filled];
+        if let Some(&first) = self.cutter.piece().first() {
+            return !is_blank(first) && self.cutter.has_end(unread);
+        }
+        match unread.iter().position(|&byte| !is_blank(byte)) {
+            Some(first) => {
+                self.taken + first < self.lines_end || self.cutter.has_end(&unread[first..])
+            }
+            None => false,
+        }
     }
 
     /// Reads the next bytes, once all that were read are looked at.
@@ -218,6 +225,12 @@ impl Source {
         self.before = Some(time);
         Ok(Found::Row(shared))
     }
+}
+
+/// Whether a line may have this byte and be empty: one of a line's end, or of a byte order mark.
+#[inline(always)]
+fn is_blank(byte: u8) -> bool {
+    matches!(byte, b'\r' | b'\n' | 0xEF | 0xBB | 0xBF)
 }
 
 /// The place behind the last line feed of some bytes; 0 where they have a quote, so that a line feed may be a field's.
