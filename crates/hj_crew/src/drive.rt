@@ -13,10 +13,6 @@ use hj_msg::{Drain, Feed, Fin, Join, Store};
 use std::sync::Wait;
 use std::sync::atomic::{AtomicBool, Ordering};
 
-/// So often the calling thread lets another thread run before it sleeps. It waits long only where the cores have much to do, and they
-/// may need its processor.
-const YIELDS: u32 = 16;
-
 /// Makes rounds until the run has ended, and tells how. Between them it turns the teams of its `own`. After a round that got on it
 /// wakes the threads that get these signals. Once the run has ended, the flag `stop` is set.
 pub(crate) fn drive<
@@ -42,7 +38,7 @@ pub(crate) fn drive<
     ensures own { AllZip TeamStays own.old own.new }
 {
     let bell = Bell::new();
-    let mut pause = Pause::new(&bell, YIELDS);
+    let mut pause = Pause::new(&bell);
     for _ in rt.forever() {
         match round_of_all(caller, own, gate) {
             Round::Over(fin) => {

@@ -1,10 +1,17 @@
 //! How a thread waits that finds nothing to do, and how it is told to go on.
+use std::hint::spin_loop;
 use std::sync::Wait;
 use std::sync::atomic::{AtomicBool, Ordering};
 use std::thread::{Parker, yield_now};
 use std::time::Duration;
 
-/// A thread that finds nothing for long sleeps, for a microsecond, then for twice as long, and so on. So often the time is doubled.
+/// So often a thread that finds nothing to do looks again at once.
+const SPINS: u32 = 64;
+
+/// So often it then lets another thread run.
+const YIELDS: u32 = 64;
+
+/// From then on it sleeps, for a microsecond, then for twice as long, and so on. So often the time is doubled.
 const DOUBLINGS: u32 = 10;
 
 /// What a thread sleeps on, and is woken by.
@@ -37,25 +44,18 @@ impl Bell {
     }
 }
 
-/// What a thread does that found nothing to do. It doesn't spin: where there are more threads than processors, the one that it waits
-/// for may need its own.
+/// What a thread does that found nothing to do.
 #[derive(Drop)]
 pub(crate) struct Pause<'b> {
     bell: &'b Bell,
-    /// So often it lets another thread run before it sleeps.
-    yields: u32,
     /// How often in a row it found nothing.
     rounds: u32,
 }
 
 impl<'b> Pause<'b> {
-    /// A pause that a bell ends, with so many yields before it sleeps.
-    pub(crate) fn new(bell: &'b Bell, yields: u32) -> Self {
-        Pause {
-            bell,
-            yields,
-            rounds: 0,
-        }
+    /// A pause that a bell ends.
+    pub(crate) fn new(bell: &'b Bell) -> Self {
+        Pause { bell, rounds: 0 }
     }
 
     /// There was something to do.
@@ -67,10 +67,12 @@ impl<'b> Pause<'b> {
     pub(crate) fn wait<R: Wait>(&mut self, rt: &R) {
         let rounds = self.rounds;
         self.rounds = rounds.saturating_add(1);
-        if rounds < self.yields {
+        if rounds < SPINS {
+            spin_loop();
+        } else if rounds < SPINS + YIELDS {
             yield_now();
         } else {
-            let doublings = (rounds - self.yields).min(DOUBLINGS);
+            let doublings = (rounds - SPINS - YIELDS).min(DOUBLINGS);
             self.bell.sleep(rt, Duration::from_micros(1 << doublings));
         }
     }

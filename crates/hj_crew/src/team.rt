@@ -12,9 +12,6 @@ use std::sync::atomic::{AtomicBool, Ordering};
 /// So many turns a worker makes at most before the next one of its team is turned.
 const TURNS: u32 = 32;
 
-/// So often a thread that turns workers lets another thread run before it sleeps.
-const YIELDS: u32 = 128;
-
 /// The workers that one thread turns, one after another.
 #[derive(Drop)]
 pub(crate) struct Team<P: Drop, J: Join<P>, L: Store<P, J>, R: Store<P, J>> {
@@ -122,7 +119,7 @@ pub(crate) fn work<
     ensures { AllZip StaysItself team.workers.items result.workers.items }
 {
     let mut team = team;
-    let mut pause = Pause::new(&signals.bell, YIELDS);
+    let mut pause = Pause::new(&signals.bell);
     for _ in rt.forever() {
         if stop.load(Ordering::SeqCst) || signals.leave.load(Ordering::SeqCst) {
             return team;
