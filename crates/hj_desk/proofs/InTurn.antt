@@ -8,7 +8,8 @@ use Rattle.hj_base.specs.Journals.{Entry, IsInTurn, put, taken}
 use Rattle.hj_msg.specs.declared.message.Msg.{Msg}
 use Rattle.hj_msg.specs.declared.message.Report.{Report}
 use Rattle.hj_msg.specs.Turns.{Turn, Turns, TakesTurns, all_of, at_left, at_reports, at_right, only_at}
-use Rattle.hj_desk.proofs.Numbers.{NoFall, no_fall-lower, non_decreasing, tail_rises}
+use Rattle.hj_msg.proofs.NonFalling.{NoFall, no_fall-lower, non_decreasing}
+use Rattle.hj_desk.proofs.Numbers.{tail_rises}
 
 module _ {M : Type 0} where
   -- each entry is of this turn

@@ -16,7 +16,8 @@ use Rattle.hj_msg.specs.Turns.{Turns, TakesTurns}
 use Rattle.hj_msg.specs.Driver.{DriverTurn, admission, receipt, closing, outstanding, IsLawful, ClosesLast, HasComeOut}
 use Rattle.hj_msg.specs.Run.{IsRun, IsComplete, LogEntry}
 use Rattle.hj_msg.specs.Examples.{equal, event, two_events, whole_link, whole_queue, whole_run}
-use Rattle.hj_msg.proofs.Moments.{walked, strictly_increasing, non_decreasing, in_time, in_time_from}
+use Rattle.hj_msg.proofs.Moments.{walked, strictly_increasing, in_time, in_time_from}
+use Rattle.hj_msg.proofs.NonFalling.{non_decreasing}
 use Rattle.hj_msg.proofs.CoreTurns.{Received, whole_turns, are_whole}
 
 abbrev r : ℕ → Side → Msg ℕ → Received ℕ

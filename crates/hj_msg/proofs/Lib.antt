@@ -23,6 +23,7 @@ pub mod Members
 pub mod MetOnce
 mod Moments
 mod NoRunLemmas
+pub mod NonFalling
 pub mod Numbered
 pub mod OnlyMatches
 mod Orders

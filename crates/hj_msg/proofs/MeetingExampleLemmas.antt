@@ -23,7 +23,8 @@ use Rattle.hj_msg.specs.Meeting.{AllReport, CrossAt}
 use Rattle.hj_msg.specs.Examples.{equal, event, joined, partner, two_events, whole_run, whole_lists, whole_queue}
 use Rattle.hj_msg.specs.MeetingExamples.{Meets, reports_of, left_first_link, left_first_queue, left_first_run, right_then_left, right_first_link, right_first_queue, right_first_run}
 use Rattle.hj_msg.proofs.Members.{any_of}
-use Rattle.hj_msg.proofs.Moments.{walked, strictly_increasing, non_decreasing, in_time_from}
+use Rattle.hj_msg.proofs.Moments.{walked, strictly_increasing, in_time_from}
+use Rattle.hj_msg.proofs.NonFalling.{non_decreasing}
 use Rattle.hj_msg.proofs.CoreTurns.{Received, whole_turns, are_whole}
 use Rattle.hj_msg.proofs.ExampleLemmas.{is_run, turns_are, events_are, turns, rule_of_flight, rule_of_expiry}
 

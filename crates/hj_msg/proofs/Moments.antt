@@ -1,7 +1,7 @@
 -- Facts on every place of a list, from what is computed of the list.
-use Rattle.std.proofs.Common.{◌≡◌, ℕ, zero, suc, ◌+◌, ◌<◌, ◌≤◌, Bool, true, false, cond, not, ◌&&◌, nat_lt, List, [], ◌∷◌, ◌++◌, length, map, get_or, refl, ap, sym, ◌∙◌, subst, arith, append-nil, append_assoc, add-one, true≢false}
+use Rattle.std.proofs.Common.{◌≡◌, ℕ, zero, suc, ◌+◌, ◌<◌, Bool, true, false, cond, not, ◌&&◌, nat_lt, List, [], ◌∷◌, ◌++◌, length, map, get_or, refl, ap, sym, ◌∙◌, subst, arith, append-nil, append_assoc, add-one, true≢false}
 use Rattle.std.specs.List.{list_all, filter}
-use Rattle.std.specs.List.Sorted.{IsStrictlyIncreasing, IsNonDecreasing}
+use Rattle.std.specs.List.Sorted.{IsStrictlyIncreasing}
 use Rattle.std.proofs.lemmas.Bool.Decides.{nat_tests}
 use Rattle.hj_base.specs.Journals.{Entry, puts, takes}
 use Rattle.hj_base.specs.Link.{TookBeforePut}
@@ -22,7 +22,7 @@ walked Q done (z ∷ xs) walk (y ∷ earlier) later x e =
     let tail : xs ≡ earlier ++ x ∷ later = cc in
     subst (λ front. Q front x) (append_assoc done (z ∷ []) earlier ∙ ap (λ w. done ++ w ∷ earlier) same) (walked Q (done ++ z ∷ []) xs walk.1 earlier later x tail)
 
--- each number is below the next, or at most the next
+-- each number is below the next
 abbrev pub Rising : ℕ → List ℕ → Type 0
 Rising low [] = Unit {0}
 Rising low (x ∷ xs) = (low < x) × Rising x xs
@@ -34,22 +34,6 @@ rising_from low (x ∷ xs) all (suc k) within = rw (add-one (suc k)) (subst (λ 
 
 pub strictly_increasing : (low : ℕ) (xs : List ℕ) → Rising low xs → IsStrictlyIncreasing (low ∷ xs)
 strictly_increasing low xs all = rising_from low xs all
-
-abbrev pub NoFall : ℕ → List ℕ → Type 0
-NoFall low [] = Unit {0}
-NoFall low (x ∷ xs) = (low ≤ x) × NoFall x xs
-
-no_fall_from : (low : ℕ) (xs : List ℕ) → NoFall low xs → (j d : ℕ) → j < length xs → low ≤ get_or xs j d
-no_fall_from low [] all j d within = absurd (omega arith)
-no_fall_from low (x ∷ xs) all zero d within = all.0
-no_fall_from low (x ∷ xs) all (suc j) d within = omega (arith, all.0, no_fall_from x xs all.1 j d (omega arith))
-
-pub non_decreasing : (low : ℕ) (xs : List ℕ) → NoFall low xs → IsNonDecreasing xs
-non_decreasing low [] all i j d below within = absurd (omega arith)
-non_decreasing low (x ∷ xs) all zero zero d below within = omega arith
-non_decreasing low (x ∷ xs) all zero (suc j) d below within = no_fall_from x xs all.1 j d (omega arith)
-non_decreasing low (x ∷ xs) all (suc i) zero d below within = absurd (omega arith)
-non_decreasing low (x ∷ xs) all (suc i) (suc j) d below within = non_decreasing x xs all.1 i j d (omega arith) (omega arith)
 
 -- At each moment of a journal, how many takes and puts there were.
 record Counted : Type 0 where
