@@ -1,5 +1,6 @@
 pub mod Splits
 pub mod Streams
+pub mod Blanks
 pub mod CutLemmas
 pub mod Cuttings
 pub mod FieldLemmas

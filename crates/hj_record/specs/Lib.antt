@@ -1,3 +1,4 @@
+pub mod Blank
 pub mod Cuts
 pub mod Cutter
 pub mod CutterFields

@@ -4,13 +4,9 @@ ghost use Rattle.hj_record.specs.Cuts.{Cuts, LeadsBy};
 ghost use Rattle.hj_record.specs.LineEnd.{Finds, FindsFor, HasEnd};
 ghost use Rattle.hj_record.specs.Pieces.{IsUnended, quotes, most_in_piece};
 
-use crate::PieceFault;
+use crate::{LINE_FEED, PieceFault, QUOTE};
 use std::alloc::{AllocError, Global};
 use std::marker::Model;
-
-const LINE_FEED: u8 = b'\n';
-
-const QUOTE: u8 = b'"';
 
 const MOST_IN_PIECE: u64 = 65_536;
 

@@ -1,14 +1,8 @@
 ghost use Rattle.std.specs.Prelude.{◌≡◌, ◌≤◌, [], true, false, length, take, slice_get, All, IfOk, IfSome};
 ghost use Rattle.hj_record.specs.Plain.{BeginsWithField, CutsPlain, IsBare, IsLineEnd, IsNextQuote, StandsBehind, TakesField, is_special};
 
-use crate::Fields;
+use crate::{CARRIAGE_RETURN, Fields, LINE_FEED, QUOTE};
 use hj_base::Memory;
-
-const LINE_FEED: u8 = b'\n';
-
-const CARRIAGE_RETURN: u8 = b'\r';
-
-const QUOTE: u8 = b'"';
 
 const COMMA: u8 = b',';
 
