@@ -21,7 +21,7 @@ use Rattle.hj_event.specs.Cut.{IsCutOf}
 use Rattle.hj_event.proofs.CutPieces.{IsPrefix-cons, IsPrefix-nil, PiecesCut, pieces_of-cut}
 
 -- The same rows with the same ending, or the first of them, up to where the stream was cut off.
-abbrev RowsCut : Rows → Rows → Type 0
+abbrev pub RowsCut : Rows → Rows → Type 0
 RowsCut cut all = (cut ≡ all) ⊎ ((cut.ending ≡ rows_unread) × IsPrefix cut.rows all.rows)
 
 then_rows-cut : (row : List Field) (cut all : Rows) → RowsCut cut all → RowsCut (then_rows row cut) (then_rows row all)
@@ -38,7 +38,7 @@ rows_from-front columns record_no before [] others ending = inr (refl, IsPrefix-
 rows_from-front columns record_no before (piece ∷ pieces) others ending = put_row-cut record_no before (row_at columns before piece) (λ next time. rows_from columns next time pieces pieces_unread) (λ next time. rows_from columns next time (pieces ++ others) ending)
     (λ next time. rows_from-front columns next time pieces others ending)
 
-rows_from-cut : (columns : List Column) (record_no : ℕ) (before : Option ℤ) (cut all : Pieces) → PiecesCut cut all → RowsCut (rows_from columns record_no before cut.pieces cut.ending) (rows_from columns record_no before all.pieces all.ending)
+pub rows_from-cut : (columns : List Column) (record_no : ℕ) (before : Option ℤ) (cut all : Pieces) → PiecesCut cut all → RowsCut (rows_from columns record_no before cut.pieces cut.ending) (rows_from columns record_no before all.pieces all.ending)
 rows_from-cut columns record_no before cut all (inl e) = inl (ap (λ pieces. rows_from columns record_no before pieces.pieces pieces.ending) e)
 rows_from-cut columns record_no before cut all (inr e) = rw (e.0) (rw (e.1.is) (rows_from-front columns record_no before cut.pieces e.1.rest all.ending))
 

@@ -14,3 +14,6 @@ pub mod Stands
 pub mod Turns
 pub mod Whole
 pub mod CallerLemmas
+pub mod LinesAhead
+pub mod ToldLemmas
+pub mod LineLemmas

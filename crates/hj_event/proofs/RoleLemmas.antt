@@ -50,3 +50,19 @@ reads_end before now buf step reads =
       unended = λ e. cc;
       faults = reads.3;
     }
+
+-- A read that fails.
+pub reads_failed : (before now : RoleState) (buf : List ℕ) → IsInStep false before → Reads got.Failed buf before now → IsReadOn true [] false false before now
+reads_failed before now buf step reads =
+    let same : name_of now.phase ≡ name_of before.phase = ap name_of reads.1 in
+    record {
+      came = subst (λ (left : Option (List ℕ)). Consumes before.left left []) (sym reads.0) (Consumes-nil before.left);
+      name = same;
+      in_step = record {
+        phase = reads.1 ∙ step.phase ∙ ap (λ (name : List ℕ). opened name false) (sym same);
+        at_end = λ e. cc;
+      };
+      no_more = λ e. cc;
+      unended = λ e. refl;
+      faults = (reads.2, reads.3);
+    }

@@ -27,7 +27,7 @@ use Rattle.hj_event.specs.Roles.{IsReadOn, IsInStep}
 use Rattle.hj_event.specs.Taking.{IsNeeded, IsReadAsNeeded, ReadsPiece, Holds, FoundLeads, Advances, TakesRow, stop_of, unseen, has_failed}
 use Rattle.hj_event.proofs.Pieces.{range_rest, range_front, range_none, ahead_of, lent_within, piece_within, lent_ahead, piece_ahead, more_ahead, bad_ahead, last_ahead}
 use Rattle.hj_event.proofs.RowLemmas.{holds_leads, bad_leads, at_end_follows, holds_ended, holds_wants}
-use Rattle.hj_event.proofs.RoleLemmas.{not_read, read_more, reads_end}
+use Rattle.hj_event.proofs.RoleLemmas.{not_read, read_more, reads_end, reads_failed}
 
 -- ---- one piece
 
@@ -207,9 +207,15 @@ module _ (old now new : Reading) (before between after : RoleState) (so_far : So
       ap (λ (rest : List ℕ). rows_ahead (record now { rest = rest }) (in_front ys stream)) none
       ∙ ap (λ (r : Reading). rows_ahead r stream) (sym same)
 
+  -- a side that goes on went on before
+  went_on : (was : Bool) → IsReadOn false so_far.bytes was now.ended before between → was ≡ false
+  went_on true reads = cc ((reads.no_more refl).0, going)
+  went_on false reads = refl
+
   -- a read where the bytes gave no row
   needed_read : (ys : List ℕ) → length ys ≤ 4096 → rows_ahead now cut_off ≡ no_row unread → IsNeeded old (so_far.bytes ++ ys)
   needed_read ys within missing = record {
+    going = went_on old.ended so_far.reads;
     earlier = so_far.bytes;
     last = ys;
     is = refl;
@@ -257,16 +263,32 @@ fills_end old new before after buf step reads none same =
       failed = tt;
     }
 
+-- A read that failed.
+pub fills_failed : (old new : Reading) (before after : RoleState) (buf : List ℕ) → IsInStep false before → Reads got.Failed buf before after → old.ended ≡ false → old.rest ≡ [] → new ≡ old → Fills {T = Unit {0}} (Err stop.Failed) old new before after
+fills_failed old new before after buf step reads going none same =
+    let goes : new.ended ≡ false = ap (λ (r : Reading). r.ended) same ∙ going in
+    record {
+      bytes = [];
+      reads = subst (λ (e : Bool). IsReadOn true [] false e before after) (sym goes) (reads_failed before after buf step reads);
+      same = same ∙ (ap (λ (rest : List ℕ). record old { rest = rest }) none ∙ ap (λ (e : Bool). record old { rest = []; ended = e }) (ap (λ (r : Reading). r.ended) (sym same)));
+      within = omega arith;
+      failed = (refl, refl);
+    }
+
 range_empty : (xs ys : List ℕ) (taken filled : ℕ) → length ys ≡ length xs → slice_range xs taken filled ≡ [] → slice_range ys taken filled ≡ []
 range_empty xs ys taken filled same none =
     nil_from_length (slice_range ys taken filled)
     (omega (arith, same, ap length none, length-take (filled - taken) (drop taken xs), length-take (filled - taken) (drop taken ys), length-drop taken xs, length-drop taken ys))
 
 -- Where all bytes of a portion were looked at, the bytes of the next one aren't seen before they are counted.
+pub still_same : (columns : List Column) (cutting : Cutting) (portion buf : List ℕ) (taken filled : ℕ) (ended : Bool) (record_no : ℕ) (time : Option ℤ) (old : Reading) → reading columns cutting portion taken filled ended record_no time ≡ old → old.rest ≡ [] → length buf ≡ length portion
+    → reading columns cutting buf taken filled ended record_no time ≡ old
+still_same columns cutting portion buf taken filled ended record_no time old is rest same =
+    let none : slice_range portion taken filled ≡ [] = ap (λ (r : Reading). r.rest) is ∙ rest in
+    let still : slice_range buf taken filled ≡ slice_range portion taken filled = range_empty portion buf taken filled same none ∙ sym none in
+    ap (λ (bytes : List ℕ). record (reading columns cutting portion taken filled ended record_no time) { rest = bytes }) still ∙ is
+
 pub end_same : (columns : List Column) (cutting : Cutting) (portion buf : List ℕ) (taken filled : ℕ) (ended : Bool) (record_no : ℕ) (time : Option ℤ) (old : Reading) → reading columns cutting portion taken filled ended record_no time ≡ old → old.rest ≡ [] → length buf ≡ length portion
     → reading columns cutting buf taken filled true record_no time ≡ record old { ended = true }
 end_same columns cutting portion buf taken filled ended record_no time old is rest same =
-    let none : slice_range portion taken filled ≡ [] = ap (λ (r : Reading). r.rest) is ∙ rest in
-    let still : slice_range buf taken filled ≡ slice_range portion taken filled = range_empty portion buf taken filled same none ∙ sym none in
-    ap (λ (bytes : List ℕ). record (reading columns cutting portion taken filled true record_no time) { rest = bytes }) still
-    ∙ ap (λ (r : Reading). record r { ended = true }) is
+    ap (λ (r : Reading). record r { ended = true }) (still_same columns cutting portion buf taken filled ended record_no time old is rest same)

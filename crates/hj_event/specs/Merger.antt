@@ -106,6 +106,10 @@ AnswersFrom (Some last) answer old new before now = Repeats last answer old new 
 abbrev pub Answers : Next → Merging → Merging → (Role → RoleState) → (Role → RoleState) → Type 0
 Answers answer old new before now = AnswersFrom old.over answer old new before now
 
+-- The next call reads nothing, whatever it answers.
+abbrev pub ReadsNothingNext : Merging → Type 0
+ReadsNothingNext merging = (answer : Next) (new : Merging) (before now : Role → RoleState) → Answers answer merging new before now → (of : Role) → now of ≡ before of
+
 -- Nothing was read yet, and nothing given.
 pub record IsNew (query : Parts) (limit : ℕ) (merging : Merging) : Type 0 where
   pub left : merging.sides.left.reading.ended ≡ false

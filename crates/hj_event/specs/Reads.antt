@@ -1,5 +1,5 @@
 -- What is seen of a source of rows, and what its reads do.
-use Rattle.std.specs.Prelude.{◌≡◌, ℕ, ◌≤◌, Bool, false, ℤ, List, [], length, IfErr, slice_range}
+use Rattle.std.specs.Prelude.{◌≡◌, ◌≢◌, ℕ, ◌-◌, ◌<◌, ◌≤◌, Bool, false, ℤ, List, [], length, IfErr, slice_index, slice_range}
 use Rattle.std.specs.declared.option.Option.{Option}
 use Rattle.std.specs.declared.result.Result.{Result}
 use Rattle.hj_value.specs.declared.column.Column.{Column}
@@ -23,10 +23,14 @@ reading columns cutting portion taken filled ended record_no time = record {
   time = time;
 }
 
-pub record IsReadable (cutting : Cutting) (taken filled : ℕ) : Type 0 where
+-- Of the first bytes of a portion some were looked at; among the others no quote stands before the end of their lines.
+pub record IsReadable (cutting : Cutting) (portion : List ℕ) (taken filled lines_end : ℕ) : Type 0 where
   pub within : taken ≤ filled
   pub room : filled ≤ 4096
   pub going : cutting.whole ≡ false
+  pub lines : lines_end ≤ filled
+  pub line_feed : taken < lines_end → slice_index portion (lines_end - 1) ≡ 10
+  pub unquoted : (at : ℕ) → taken ≤ at → at < lines_end → slice_index portion at ≢ 34
 
 -- A read: these bytes came, or the end, or it failed.
 pub record Fills {T : Type 0} (answer : Result T Stop) (old new : Reading) (before now : RoleState) : Type 0 where

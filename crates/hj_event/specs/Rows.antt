@@ -18,11 +18,11 @@ abbrev pub in_time : Option ℤ → List Field → Result (Option (List Field)) 
 in_time None row = Ok (Some row)
 in_time (Some before) row = if int_lt (time_of row) before then Err (fault.TimeBack before (time_of row)) else Ok (Some row)
 
-abbrev row_in_time : Option ℤ → Result (List Field) RowFault → Result (Option (List Field)) RecordFault
+abbrev pub row_in_time : Option ℤ → Result (List Field) RowFault → Result (Option (List Field)) RecordFault
 row_in_time before (Err found) = Err (fault.Row found)
 row_in_time before (Ok row) = in_time before row
 
-abbrev record_row : List Column → Option ℤ → Result (Option (List (List ℕ))) PieceFault → Result (Option (List Field)) RecordFault
+abbrev pub record_row : List Column → Option ℤ → Result (Option (List (List ℕ))) PieceFault → Result (Option (List Field)) RecordFault
 record_row columns before (Err found) = Err (fault.Piece found)
 record_row columns before (Ok None) = Ok None
 record_row columns before (Ok (Some fields)) = row_in_time before (row_of columns fields)

@@ -1,5 +1,5 @@
 -- What taking the next row of a side says of the rows to come, and of its role.
-use Rattle.std.specs.Prelude.{◌≡◌, ◌⊎◌, ℕ, ◌+◌, ◌≤◌, Bool, true, false, ℤ, List, [], ◌++◌, length, Ok, Err, None, Some}
+use Rattle.std.specs.Prelude.{◌≡◌, ◌⊎◌, ℕ, ◌+◌, ◌≤◌, Bool, true, false, ℤ, List, [], ◌++◌, length, IsSome, Ok, Err, None, Some}
 use Rattle.std.specs.declared.option.Option.{Option}
 use Rattle.std.specs.declared.result.Result.{Result}
 use Rattle.hj_value.specs.declared.column.Column.{Column}
@@ -88,8 +88,9 @@ abbrev pub EndsSide : Result (Option (List Field)) Stop → Bool → Type 0
 EndsSide (Ok None) ended = ended ≡ true
 EndsSide answer ended = Unit {0}
 
--- These bytes were needed: without the last ones, of at most one read, what was read of the side gives no row.
+-- These bytes were needed: the side hadn't ended, and without the last ones, of at most one read, what was read of it gives no row.
 pub record IsNeeded (side : Reading) (bytes : List ℕ) : Type 0 where
+  pub going : side.ended ≡ false
   pub earlier : List ℕ
   pub last : List ℕ
   pub is : bytes ≡ earlier ++ last
@@ -100,6 +101,14 @@ pub record IsNeeded (side : Reading) (bytes : List ℕ) : Type 0 where
 abbrev pub IsReadAsNeeded : Option (List Field) → Reading → List ℕ → RoleState → RoleState → Type 0
 IsReadAsNeeded (Some row) side bytes before now = IsUnread bytes before now
 IsReadAsNeeded None side bytes before now = IsUnread bytes before now ⊎ IsNeeded side bytes
+
+-- What was read of a side tells its next row, or the fault in place of it.
+abbrev pub TellsRow : Reading → Type 0
+TellsRow side = ¬ (rows_ahead side cut_off ≡ no_row unread)
+
+-- What comes next of a side is told without a read: its head is known, or its end, or what was read tells it.
+abbrev pub IsTold : SideState → Type 0
+IsTold side = IsSome side.head ⊎ (side.reading.ended ≡ true) ⊎ TellsRow side.reading
 
 pub record TakesRow (answer : Result (Option (List Field)) Stop) (old new : SideState) (before now : RoleState) : Type 0 where
   pub bytes : List ℕ

@@ -1,10 +1,10 @@
-ghost use Rattle.std.specs.Prelude.{◌≡◌, List, ℕ, None, Some};
+ghost use Rattle.std.specs.Prelude.{◌≡◌, IsTrue, List, ℕ, None, Some};
 ghost use Rattle.hj_base.specs.declared.outside.Role.TheVariants as role;
 ghost use Rattle.hj_base.specs.Outside.{role_of, ChangesOnly};
 ghost use Rattle.hj_event.specs.Arriving.{last_of, TakesArrival};
 ghost use Rattle.hj_event.specs.Roles.{IsInStep};
 ghost use Rattle.hj_event.specs.Sides.{new_side, new_sides};
-ghost use Rattle.hj_event.specs.Taking.{TakesRow};
+ghost use Rattle.hj_event.specs.Taking.{TakesRow, IsTold};
 
 use crate::source::Source;
 use crate::stop::{Last, Stop};
@@ -61,8 +61,11 @@ impl Rows {
         self.head = Some(row);
     }
 
+    /// Whether the first row, or the end, can be told without a read.
     #[inline(always)]
-    fn is_ready(&self) -> bool {
+    fn is_ready(&self) -> bool
+        ensures { IsTrue result → IsTold self.now }
+    {
         self.head.is_some() || self.source.is_ready()
     }
 }
@@ -131,7 +134,9 @@ impl Arrivals {
 
     /// Whether the next arrival can be told without a read.
     #[inline(always)]
-    pub(crate) fn is_ready(&self) -> bool {
+    pub(crate) fn is_ready(&self) -> bool
+        ensures { IsTrue result → IsTold self.now.left × IsTold self.now.right }
+    {
         self.left.is_ready() && self.right.is_ready()
     }
 }

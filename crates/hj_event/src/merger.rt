@@ -1,6 +1,6 @@
 ghost use Rattle.std.specs.Prelude.{◌≡◌, IfOk, IsTrue, List, ℕ};
 ghost use Rattle.hj_base.specs.declared.outside.Role.TheVariants as role;
-ghost use Rattle.hj_event.specs.Merger.{answer_of, Answers, Steps, IsNew};
+ghost use Rattle.hj_event.specs.Merger.{answer_of, Answers, Steps, IsNew, ReadsNothingNext};
 ghost use Rattle.hj_event.specs.Roles.{IsInStep};
 
 use crate::RecordFault;
@@ -91,7 +91,9 @@ impl Merger {
 
     /// Whether the next answer can be given without a read, as far as that can be told without one.
     #[inline(always)]
-    pub fn is_ready(&self) -> bool {
+    pub fn is_ready(&self) -> bool
+        ensures { IsTrue result → ReadsNothingNext self.now }
+    {
         self.over.is_some() || self.numbering.has_due() || self.arrivals.is_ready()
     }
 

@@ -1,26 +1,24 @@
-ghost use Rattle.std.specs.Prelude.{◌≡◌, List, ℕ, [], true, false};
+ghost use Rattle.std.specs.Prelude.{◌≡◌, ◌≢◌, ◌==◌, ◌-◌, ◌<◌, ◌≤◌, List, ℕ, [], true, false, not, length, slice_index, position, All, IsTrue};
+ghost use Rattle.std.specs.List.{list_any};
 ghost use Rattle.hj_base.specs.Outside.{role_of, ChangesOnly};
+ghost use Rattle.hj_record.specs.Blank.{is_blank};
 ghost use Rattle.hj_record.specs.Cutter.{cleared};
 ghost use Rattle.hj_event.specs.Roles.{IsInStep};
 ghost use Rattle.hj_event.specs.Reads.{Fills};
 ghost use Rattle.hj_event.specs.Sides.{new_reading};
-ghost use Rattle.hj_event.specs.Taking.{stop_of, unseen, ReadsPiece, Holds, Advances, TakesRow};
+ghost use Rattle.hj_event.specs.Taking.{stop_of, unseen, ReadsPiece, Holds, Advances, TakesRow, TellsRow, IsTold};
 
 use crate::record::read_record;
 use crate::stop::{Found, Stop};
 use crate::{RecordFault, RowFault};
 use hj_base::{Got, Outside, Side};
-use hj_record::{Cut, Cutter, Fed, Fields, PieceFault};
+use hj_record::{CARRIAGE_RETURN, Cut, Cutter, Fed, Fields, LINE_FEED, PieceFault, QUOTE};
 use hj_value::{Row, Schema, SharedRow};
 use std::alloc::Global;
 use std::marker::Model;
 
 /// How many bytes one read asks for.
 const MOST_IN_READ: usize = 4_096;
-
-const LINE_FEED: u8 = b'\n';
-
-const QUOTE: u8 = b'"';
 
 /// How many bytes a stream may have.
 const MOST_IN_STREAM: u64 = 1 << 62;
@@ -55,7 +53,7 @@ impl Model for Source {
 
     ghost view = { λ s. reading s.schema.columns s.cutter s.portion s.taken s.filled s.ended s.record_no s.before };
 
-    ghost invariant = { λ s. IsReadable s.cutter s.taken s.filled };
+    ghost invariant = { λ s. IsReadable s.cutter s.portion s.taken s.filled s.lines_end };
 }
 
 impl Source {
@@ -103,22 +101,26 @@ impl Source {
 
     /// Whether a row, or the end, can be told without a read: the bytes that were read have the end of a line that isn't empty.
     #[inline(always)]
-    pub(crate) fn is_ready(&self) -> bool {
+    pub(crate) fn is_ready(&self) -> bool
+        ensures { IsTrue result → IsTold (unseen self.now) }
+    {
         self.ended || self.has_line()
     }
 
     /// Whether the line that comes next, or a later one where this one is empty, has its end in the bytes that were read.
     #[inline(always)]
-    fn has_line(&self) -> bool {
+    fn has_line(&self) -> bool
+        ensures { IsTrue result → TellsRow self.now }
+    {
         let unread = &self.portion[self.taken..self.filled];
-        if let Some(&first) = self.cutter.piece().first() {
-            return !is_blank(first) && self.cutter.has_end(unread);
-        }
-        match unread.iter().position(|&byte| !is_blank(byte)) {
-            Some(first) => {
-                self.taken + first < self.lines_end || self.cutter.has_end(&unread[first..])
-            }
-            None => false,
+        match self.cutter.piece().first() {
+            Some(&first) => !is_blank(first) && self.cutter.has_end(unread),
+            None => match first_written(unread) {
+                Some(first) => {
+                    self.taken + first < self.lines_end || self.cutter.has_end(&unread[first..])
+                }
+                None => false,
+            },
         }
     }
 
@@ -229,12 +231,26 @@ impl Source {
 
 /// Whether a line may have this byte and be empty: one of a line's end, or of a byte order mark.
 #[inline(always)]
-fn is_blank(byte: u8) -> bool {
-    matches!(byte, b'\r' | b'\n' | 0xEF | 0xBB | 0xBF)
+fn is_blank(byte: u8) -> bool
+    ensures { result ≡ is_blank byte }
+{
+    matches!(byte, CARRIAGE_RETURN | LINE_FEED | 0xEF | 0xBB | 0xBF)
+}
+
+/// The place of the first byte that no empty line has.
+#[inline(always)]
+fn first_written(bytes: &[u8]) -> Option<usize>
+    ensures { result ≡ position (λ byte. not (is_blank byte)) bytes.now }
+{
+    bytes.iter().position(|&byte| !is_blank(byte))
 }
 
 /// The place behind the last line feed of some bytes; 0 where they have a quote, so that a line feed may be a field's.
-fn lines_end(bytes: &[u8]) -> usize {
+fn lines_end(bytes: &[u8]) -> usize
+    ensures within { result ≤ length bytes.now }
+    ensures line_feed { 0 < result → slice_index bytes.now (result - 1) ≡ 10 }
+    ensures unquoted { 0 < result → All (λ byte. byte ≢ 34) bytes.now }
+{
     if has_quote(bytes) {
         return 0;
     }
@@ -247,7 +263,9 @@ fn lines_end(bytes: &[u8]) -> usize {
 }
 
 /// Whether there is a quote among some bytes. It looks at all of them, several at a time.
-fn has_quote(bytes: &[u8]) -> bool {
+fn has_quote(bytes: &[u8]) -> bool
+    ensures { result ≡ list_any (λ byte. byte == 34) bytes.now }
+{
     let mut found = false;
     for &byte in bytes {
         found |= byte == QUOTE;

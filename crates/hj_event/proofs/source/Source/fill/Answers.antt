@@ -1,7 +1,11 @@
 use Rattle.std.proofs.Common.{rules}
-use Rattle.hj_event.proofs.SourceLemmas.{fills_end, end_same}
+use Rattle.hj_event.proofs.SourceLemmas.{fills_end, fills_failed, end_same, still_same}
 use Rattle.hj_event.proofs.source.Source.fill.Goals as goal
 
 pub returns-in-End-clause-fills : goal.returns-in-End-clause-fills
 returns-in-End-clause-fills g c = fills_end c.args.self.now _ _ _ c.read.new.buf c.requires.in_step (search rules) c.requires.rest
     (end_same c.self.inside.schema.columns c.self.inside.cutter c.self.inside.portion c.read.new.buf c.self.inside.taken c.self.inside.filled c.self.inside.ended c.self.inside.record_no c.self.inside.before c.args.self.now c.self.view_is c.requires.rest (search rules))
+
+pub returns-in-Failed-clause-fills : goal.returns-in-Failed-clause-fills
+returns-in-Failed-clause-fills g c = fills_failed c.args.self.now _ _ _ c.read.new.buf c.requires.in_step (search rules) c.requires.going c.requires.rest
+    (still_same c.self.inside.schema.columns c.self.inside.cutter c.self.inside.portion c.read.new.buf c.self.inside.taken c.self.inside.filled c.self.inside.ended c.self.inside.record_no c.self.inside.before c.args.self.now c.self.view_is c.requires.rest (search rules))
