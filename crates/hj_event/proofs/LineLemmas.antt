@@ -13,7 +13,7 @@ use Rattle.hj_record.specs.LineEnd.{inside_after, may_take, EndsWithin, HasEnd}
 use Rattle.hj_record.specs.Pieces.{quotes}
 use Rattle.hj_record.proofs.Splits.{inside_by_quotes}
 use Rattle.hj_event.specs.Sides.{Reading}
-use Rattle.hj_event.specs.Reads.{reading}
+use Rattle.hj_event.specs.Reads.{reading, IsReadable}
 use Rattle.hj_event.specs.Taking.{TellsRow}
 use Rattle.hj_event.proofs.LinesAhead.{ends_behind, outside_through, tells_row}
 
@@ -40,6 +40,19 @@ within_by_feed (x ∷ xs) (suc at) is = omega (arith, within_by_feed xs at is)
 
 below-range : (xs : List ℕ) (from to k : ℕ) → k < to - from → from + k < length xs → k < length (slice_range xs from to)
 below-range xs from to k lt within = omega (arith, length-take (to - from) (drop from xs), length-drop from xs)
+
+-- Where all bytes of a portion were looked at, it doesn't matter what stands in their place.
+pub none_left : (cutting : Cutting) (portion buf : List ℕ) (taken filled lines_end : ℕ) → IsReadable cutting portion taken filled lines_end → filled ≤ length portion → slice_range portion taken filled ≡ [] → IsReadable cutting buf taken filled lines_end
+none_left cutting portion buf taken filled lines_end readable within none =
+    let all : filled ≤ taken = omega (arith, ap length none, length-take (filled - taken) (drop taken portion), length-drop taken portion) in
+    record {
+      within = readable.within;
+      room = readable.room;
+      going = readable.going;
+      lines = readable.lines;
+      line_feed = λ lt. absurd (omega (arith, readable.lines));
+      unquoted = λ at le lt. absurd (omega (arith, readable.lines));
+    }
 
 -- ---- what a line tells
 

@@ -10,7 +10,7 @@ use Rattle.hj_record.specs.declared.fault.PieceFault.{PieceFault}
 use Rattle.hj_record.specs.Pieces.{Pieces, pieces_of}
 use Rattle.hj_event.specs.declared.merger.Next.{Next}
 use Rattle.hj_event.specs.declared.stop.Last.{Last}
-use Rattle.hj_event.specs.Merger.{Merging, AnswersFrom, ReadsNothingNext}
+use Rattle.hj_event.specs.Merger.{Merging, AnswersFrom, ReadsNothingNext, TakesNext, TakesNoBytes}
 use Rattle.hj_event.specs.Numbering.{has_due}
 use Rattle.hj_event.specs.Roles.{IsUnread}
 use Rattle.hj_event.specs.Rows.{Rows, no_row, rows_in, unread}
@@ -79,18 +79,25 @@ same_roles before now query left right role.Query = query
 same_roles before now query left right role.Left = left
 same_roles before now query left right role.Right = right
 
-reads_none : (merging : Merging) (answer : Next) (new : Merging) (before now : Role → RoleState) (over : Option Last) → merging.over ≡ over → IsReady merging → AnswersFrom over answer merging new before now → (of : Role) → now of ≡ before of
-reads_none merging answer new before now (Some last) is ready repeats of = repeats.2 of
-reads_none merging answer new before now None is (inl some) takes of = absurd (none_over merging.over is some)
-  where
-    none_over : (over : Option Last) → over ≡ None → IsSome over → ⊥
-    none_over None e some = cc
-    none_over (Some last) e some = cc
-reads_none merging answer new before now None is (inr (inl due)) takes of = let both = takes.due due in same_roles before now takes.query both.0.1 both.1.1 of
-reads_none merging answer new before now None is (inr (inr told)) takes of =
-    same_roles before now takes.query
-    (told_unread merging.sides.left takes.left_bytes (before role.Left) (now role.Left) told.0 takes.left_needed).1
-    (told_unread merging.sides.right takes.right_bytes (before role.Right) (now role.Right) told.1 takes.right_needed).1 of
+-- A call reads nothing.
+abbrev ReadsNone : (over : Option Last) (answer : Next) (old new : Merging) (before now : Role → RoleState) → AnswersFrom over answer old new before now → Type 0
+ReadsNone over answer old new before now call = TakesNoBytes over answer old new before now call × ((of : Role) → now of ≡ before of)
+
+both_unread : (answer : Next) (old new : Merging) (before now : Role → RoleState) (takes : TakesNext answer old new before now) → IsUnread takes.left_bytes (before role.Left) (now role.Left) → IsUnread takes.right_bytes (before role.Right) (now role.Right) → ReadsNone None answer old new before now takes
+both_unread answer old new before now takes left right = ((left.0, right.0), same_roles before now takes.query left.1 right.1)
+
+none_over : (over : Option Last) → over ≡ None → IsSome over → ⊥
+none_over None e some = cc
+none_over (Some last) e some = cc
+
+reads_none : (merging : Merging) (answer : Next) (new : Merging) (before now : Role → RoleState) (over : Option Last) → merging.over ≡ over → IsReady merging → (call : AnswersFrom over answer merging new before now) → ReadsNone over answer merging new before now call
+reads_none merging answer new before now (Some last) is ready repeats = (tt, repeats.2)
+reads_none merging answer new before now None is (inl some) takes = absurd (none_over merging.over is some)
+reads_none merging answer new before now None is (inr (inl due)) takes = let both = takes.due due in both_unread answer merging new before now takes both.0 both.1
+reads_none merging answer new before now None is (inr (inr told)) takes =
+    both_unread answer merging new before now takes
+    (told_unread merging.sides.left takes.left_bytes (before role.Left) (now role.Left) told.0 takes.left_needed)
+    (told_unread merging.sides.right takes.right_bytes (before role.Right) (now role.Right) told.1 takes.right_needed)
 
 pub reads_nothing : (merging : Merging) → IsReady merging → ReadsNothingNext merging
-reads_nothing merging ready answer new before now answers of = reads_none merging answer new before now merging.over refl ready answers of
+reads_nothing merging ready answer new before now call = reads_none merging answer new before now merging.over refl ready call

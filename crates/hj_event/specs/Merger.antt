@@ -1,5 +1,5 @@
 -- What contracts see of a merger: a state from which the events to come are a function of the bytes to come.
-use Rattle.std.specs.Prelude.{◌≡◌, ℕ, Bool, true, false, List, None, Some, Ok, Err}
+use Rattle.std.specs.Prelude.{◌≡◌, ℕ, Bool, true, false, List, [], None, Some, Ok, Err}
 use Rattle.std.specs.declared.option.Option.{Option}
 use Rattle.std.specs.declared.result.Result.{Result}
 use Rattle.hj_value.specs.declared.field.Field.{Field}
@@ -106,9 +106,15 @@ AnswersFrom (Some last) answer old new before now = Repeats last answer old new 
 abbrev pub Answers : Next → Merging → Merging → (Role → RoleState) → (Role → RoleState) → Type 0
 Answers answer old new before now = AnswersFrom old.over answer old new before now
 
--- The next call reads nothing, whatever it answers.
+-- By this call no bytes came.
+abbrev pub TakesNoBytes : (over : Option Last) (answer : Next) (old new : Merging) (before now : Role → RoleState) → AnswersFrom over answer old new before now → Type 0
+TakesNoBytes None answer old new before now takes = (takes.left_bytes ≡ []) × (takes.right_bytes ≡ [])
+TakesNoBytes (Some last) answer old new before now repeats = Unit {0}
+
+-- The next call reads nothing, whatever it answers: no bytes come, and each role stays as it was.
 abbrev pub ReadsNothingNext : Merging → Type 0
-ReadsNothingNext merging = (answer : Next) (new : Merging) (before now : Role → RoleState) → Answers answer merging new before now → (of : Role) → now of ≡ before of
+ReadsNothingNext merging = (answer : Next) (new : Merging) (before now : Role → RoleState) (call : Answers answer merging new before now)
+    → TakesNoBytes merging.over answer merging new before now call × ((of : Role) → now of ≡ before of)
 
 -- Nothing was read yet, and nothing given.
 pub record IsNew (query : Parts) (limit : ℕ) (merging : Merging) : Type 0 where
