@@ -1,6 +1,6 @@
 -- Workers that are made one after another, from the last core to the first.
 use Rattle.std.proofs.Common.{◌≡◌, ℕ, ◌+◌, List, [], ◌∷◌, ◌++◌, All, length, get_or, ap, sym, ◌∙◌, subst, arith, append-nil, append_assoc, length-append, refl}
-use Rattle.std.proofs.lemmas.List.{get_or_append_left, length-map}
+use Rattle.std.proofs.lemmas.List.{get_or_append_left, get_or_at, length-map}
 use Rattle.hj_msg.specs.declared.message.Msg.{Msg}
 use Rattle.hj_msg.specs.declared.message.Report.{Report}
 use Rattle.hj_link.specs.Seen.{EndSeen, SenderSeen}
@@ -14,6 +14,11 @@ use Rattle.hj_crew.specs.Teams.{workers_in}
 -- what is so of all of a list is so of its first items
 pub all-front : {X : Type 0} (P : X → Type 0) (xs front back : List X) → xs ≡ front ++ back → All P xs → All P front
 all-front {X} P xs front back are all = λ k d low. subst P (ap (λ (l : List X). get_or l k d) are ∙ get_or_append_left front back d k low) (all k d (omega (arith, low, ap length are, length-append front back)))
+
+-- and of its last one
+pub last-of : {X : Type 0} (P : X → Type 0) (xs front : List X) (x : X) → xs ≡ front ++ x ∷ [] → All P xs → P x
+last-of {X} P xs front x are all =
+    subst P (ap (λ (l : List X). get_or l (length front) x) are ∙ get_or_at front x [] x (length front) refl) (all (length front) x (omega (arith, ap length are, length-append front (x ∷ []))))
 
 module _ {P J : Type 0} (workers : List (WorkerSeen P J)) (old new : ChainEnds P) (given : GivesEnds workers old new) where
   pub unused-left : AreUnused old → AreUnused new

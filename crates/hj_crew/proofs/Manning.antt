@@ -1,6 +1,6 @@
 -- A desk and workers that were given new ends: the crew of a chain.
-use Rattle.std.proofs.Common.{◌≡◌, ℕ, ◌+◌, ◌*◌, List, [], ◌∷◌, ◌++◌, All, length, get_or, ap, sym, ◌∙◌, subst, arith, length-append, refl}
-use Rattle.std.proofs.lemmas.List.{get_or_at, length-map}
+use Rattle.std.proofs.Common.{◌≡◌, ℕ, ◌+◌, ◌*◌, List, [], ◌∷◌, ◌++◌, All, length, ap, sym, ◌∙◌, subst, arith, length-append, refl}
+use Rattle.std.proofs.lemmas.List.{length-map}
 use Rattle.hj_msg.specs.declared.message.Msg.{Msg}
 use Rattle.hj_msg.specs.declared.message.Report.{Report}
 use Rattle.hj_link.specs.Seen.{EndSeen, ReceiverSeen, SenderSeen}
@@ -8,18 +8,15 @@ use Rattle.hj_worker.specs.Seen.{WorkerSeen}
 use Rattle.hj_desk.specs.declared.desk.Desk.{Desk}
 use Rattle.hj_crew.specs.declared.ends.ChainEnds.{ChainEnds}
 use Rattle.hj_crew.specs.declared.team.Team.{Team}
-use Rattle.hj_crew.specs.Cores.{AreCrew, AreEndsFor, MakesTeams, left_of, reports_of, right_of}
+use Rattle.hj_crew.specs.Cores.{AreCrew, AreEndsFor, AreUnused, MakesTeams, left_of, reports_of, right_of}
 use Rattle.hj_crew.specs.Ends.{AreNew}
 use Rattle.hj_crew.specs.Links.{AreLinked, AreQueues}
 use Rattle.hj_crew.proofs.ClosedLinks.{length-linked, length-queued}
-use Rattle.hj_crew.proofs.MadeTeams.{ends-left}
+use Rattle.hj_crew.proofs.MadeTeams.{all-front, ends-left, last-of}
 
 none-of : {X : Type 0} (xs : List X) → length xs ≡ 0 → xs ≡ []
 none-of [] none = refl
 none-of (x ∷ xs) none = absurd (omega (arith, none))
-
-one-of : {X : Type 0} (front : List X) (x : X) (xs : List X) → xs ≡ front ++ x ∷ [] → length xs ≡ 1 → xs ≡ x ∷ []
-one-of {X} front x xs is one = is ∙ ap (λ (l : List X). l ++ x ∷ []) (none-of front (omega (arith, one, ap length is, length-append front (x ∷ []))))
 
 -- The last right end is taken off new ends.
 pub record IsTakenOff {P : Type 0} (last : EndSeen (Msg P)) (ends others : ChainEnds P) : Type 0 where
@@ -39,25 +36,31 @@ module _ {P : Type 0} (cores capacity : ℕ) (ends others : ChainEnds P) (last :
     senders = ap (λ senders_of. length senders_of.items) off.senders ∙ new.queues;
   }
 
+  pub others_unused : AreUnused others
+  others_unused = record {
+    left = subst (λ ends_of. All (λ (end : EndSeen (Msg P)). end.journal ≡ []) ends_of.items) (sym off.left) (λ k d low. (new.left k d low).0);
+    right = all-front (λ (end : EndSeen (Msg P)). end.journal ≡ []) ends.right.items others.right.items (last ∷ []) off.right (λ k d low. (new.right k d low).0);
+    senders = subst (λ senders_of. All (λ (sender : SenderSeen (Report P)). sender.journal ≡ []) senders_of.items) (sym off.senders) (λ k d low. (new.senders k d low).0);
+  }
+
   pub last_unused : last.journal ≡ []
-  last_unused =
-      let at : get_or ends.right.items (length others.right.items) last ≡ last = ap (λ (l : List (EndSeen (Msg P))). get_or l (length others.right.items) last) off.right ∙ get_or_at others.right.items last [] last (length others.right.items) refl in
-      ap (λ (end : EndSeen (Msg P)). end.journal) (sym at)
-      ∙ (new.right (length others.right.items) last (omega (arith, ap length off.right, length-append others.right.items (last ∷ [])))).0
+  last_unused = (last-of (λ (end : EndSeen (Msg P)). (end.journal ≡ []) × (end.capacity ≡ capacity)) ends.right.items others.right.items last off.right new.right).0
 
-  module _ {J L R : Type 0} (join : J) (left : ChainEnds P) (teams : List (Team P J L R)) (makes : MakesTeams join cores 0 others left teams) (front : List (EndSeen (Msg P))) (first : EndSeen (Msg P)) (came : left.left.items ≡ front ++ first ∷ []) where
-    abbrev workers : List (WorkerSeen P J)
-    workers = makes.workers
-
+  module _ {J L R : Type 0} (join : J) (left : ChainEnds P) (teams : List (Team P J L R)) (makes : MakesTeams join cores 0 others left teams) where
     many : length makes.workers ≡ cores
     many = omega (arith, makes.many)
 
     left_over : AreEndsFor 0 left
     left_over = ends-left makes.workers others left makes.ends cores 0 (omega (arith, makes.many)) ends_for
 
-    all_left : ends.left.items ≡ first ∷ right_of makes.workers
-    all_left =
-        ap (λ ends_of. ends_of.items) (sym off.left) ∙ makes.ends.left ∙ ap (λ (l : List (EndSeen (Msg P))). l ++ right_of makes.workers) (one-of front first left.left.items came (omega (arith, left_over.left)))
+    pub one_left : length left.left.items ≡ 1
+    one_left = omega (arith, left_over.left)
+
+    all_left : ends.left.items ≡ left.left.items ++ right_of makes.workers
+    all_left = ap (λ ends_of. ends_of.items) (sym off.left) ∙ makes.ends.left
+
+    pub left_unused : All (λ (end : EndSeen (Msg P)). end.journal ≡ []) left.left.items
+    left_unused = all-front (λ (end : EndSeen (Msg P)). end.journal ≡ []) ends.left.items left.left.items (right_of makes.workers) all_left (λ k d low. (new.left k d low).0)
 
     all_right : ends.right.items ≡ left_of makes.workers ++ last ∷ []
     all_right =
@@ -73,15 +76,12 @@ module _ {P : Type 0} (cores capacity : ℕ) (ends others : ChainEnds P) (last :
     pub few_receivers : length left.receivers.items ≡ cores
     few_receivers = ap (λ receivers_of. length receivers_of.items) receivers ∙ length-queued ends.senders.items ends.receivers.items new.queued ∙ new.queues
 
-    pub first_unused : first.journal ≡ []
-    first_unused = (subst (All (λ (end : EndSeen (Msg P)). (end.journal ≡ []) × (end.capacity ≡ capacity))) all_left new.left 0 first (omega arith)).0
-
     pub receivers_unused : All (λ (receiver : ReceiverSeen (Report P)). receiver.journal ≡ []) left.receivers.items
     receivers_unused = subst (λ receivers_of. All (λ (receiver : ReceiverSeen (Report P)). receiver.journal ≡ []) receivers_of.items) (sym receivers) (λ k d low. (new.receivers k d low).0)
 
-    pub crew : (in_flight : ℕ) (desk : Desk P) → capacity ≡ 2 * in_flight + 2 → desk.ports.left ≡ first → desk.ports.right ≡ last → desk.reports ≡ left.receivers → desk.driver.flight ≡ in_flight → AreCrew join cores in_flight desk teams
+    pub crew : (in_flight : ℕ) (desk : Desk P) → capacity ≡ 2 * in_flight + 2 → left.left.items ≡ desk.ports.left ∷ [] → desk.ports.right ≡ last → desk.reports ≡ left.receivers → desk.driver.flight ≡ in_flight → AreCrew join cores in_flight desk teams
     crew in_flight desk room at_left at_right reports flight =
-        let lefts : ends.left.items ≡ desk.ports.left ∷ right_of makes.workers = all_left ∙ ap (λ (end : EndSeen (Msg P)). end ∷ right_of makes.workers) (sym at_left) in
+        let lefts : ends.left.items ≡ desk.ports.left ∷ right_of makes.workers = all_left ∙ ap (λ (l : List (EndSeen (Msg P))). l ++ right_of makes.workers) at_left in
         let rights : ends.right.items ≡ left_of makes.workers ++ desk.ports.right ∷ [] = all_right ∙ ap (λ (end : EndSeen (Msg P)). left_of makes.workers ++ end ∷ []) (sym at_right) in
         let queues : ends.receivers.items ≡ desk.reports.items = ap (λ receivers_of. receivers_of.items) (sym receivers ∙ sym reports) in
         let holds : capacity ≡ 2 * desk.driver.flight + 2 = room ∙ ap (λ (k : ℕ). 2 * k + 2) (sym flight) in

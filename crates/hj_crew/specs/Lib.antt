@@ -1,3 +1,4 @@
+pub mod Begun
 pub mod Cores
 pub mod Deal
 pub mod Ends

@@ -1,5 +1,5 @@
 //! The threads of a run: each is started by a level of its own, which joins it again.
-ghost use Rattle.std.specs.Prelude.{◌≡◌, ◌+◌, ◌≤◌, ◌++◌, length, vec_capacity, vec_len};
+ghost use Rattle.std.specs.Prelude.{◌≡◌, ◌+◌, ◌<◌, ◌≤◌, length, vec_capacity, vec_len, IfErr, IfOk};
 ghost use Rattle.std.specs.List.{AllZip};
 ghost use Rattle.hj_desk.specs.Caller.{Ends};
 ghost use Rattle.hj_desk.specs.Desk.{Stands};
@@ -13,7 +13,7 @@ use hj_msg::{Drain, Feed, Fin, Join, Store};
 use std::snapshot::Snapshot;
 use std::sync::Wait;
 use std::sync::atomic::{AtomicBool, Ordering};
-use std::thread::{Promise, Scope, Threads};
+use std::thread::{Promise, PromisedHandle, Scope, Threads};
 
 /// The promise of a thread: it hands back the team that it was given.
 #[derive(Drop)]
@@ -81,29 +81,58 @@ pub(crate) fn levels<
             shared.gate,
         );
     };
-    let rt = shared.rt;
-    let stop = shared.stop;
-    let signals = &shared.signals[teams.len()];
-    let gate = shared.gate;
-    let promise = SameTeam(Snapshot::of(&team));
-    let turning = move || -> Team<P, J, L, R>
-        ensures { TeamStays team result }
-    { work(rt, stop, signals, team, gate) };
-    match scope.spawn_with(promise, turning) {
+    match start(scope, shared, teams.len(), team) {
         Ok(child) => {
             let fin = levels(scope, shared, caller, teams, own, done);
-            done.push_reserved(child.join(rt));
+            done.push_reserved(child.join(shared.rt));
             fin
         }
-        Err(refused) => {
-            signals.leave.store(true, Ordering::SeqCst);
-            own.push_reserved((refused.value)());
+        Err(team) => {
+            own.push_reserved(team);
             let fin = levels(scope, shared, caller, teams, own, done);
             let Some(team) = own.pop() else {
                 unreachable!()
             };
             done.push_reserved(team);
             fin
+        }
+    }
+}
+
+/// Starts the thread of a team, which gets the signals at a place. Where none can be made, the team
+/// comes back at once.
+fn start<
+    's,
+    E,
+    P: Share + Send + Drop + 's,
+    J: Join<P> + Send + Drop + 's,
+    L: Store<P, J> + Send + Drop + 's,
+    R: Store<P, J> + Send + Drop + 's,
+    G: Gate + Sync + 's,
+    T: Threads + Wait + Sync + 's,
+>(
+    scope: &'s Scope<'s, E>,
+    shared: &Shared<'s, G, T>,
+    place: usize,
+    team: Team<P, J, L, R>,
+) -> Result<PromisedHandle<Team<P, J, L, R>, SameTeam<Team<P, J, L, R>>>, Team<P, J, L, R>>
+    requires { place < length shared.now.signals.now }
+    ensures started { IfOk result (λ child. child.promise.0.value ≡ team) }
+    ensures refused { IfErr result (TeamStays team) }
+{
+    let rt = shared.rt;
+    let stop = shared.stop;
+    let signals = &shared.signals[place];
+    let gate = shared.gate;
+    let promise = SameTeam(Snapshot::of(&team));
+    let turning = move || -> Team<P, J, L, R>
+        ensures { TeamStays team result }
+    { work(rt, stop, signals, team, gate) };
+    match scope.spawn_with(promise, turning) {
+        Ok(child) => Ok(child),
+        Err(refused) => {
+            signals.leave.store(true, Ordering::SeqCst);
+            Err((refused.value)())
         }
     }
 }

@@ -2,8 +2,11 @@
 ghost use Rattle.std.specs.Prelude.{◌≡◌, ◌+◌, ◌<◌, ◌≤◌, ◌∷◌, [], All, length, IfOk};
 ghost use Rattle.hj_base.specs.declared.numbers.Side.TheVariants.{Left, Right};
 ghost use Rattle.hj_msg.specs.Core.{empty_state};
+ghost use Rattle.hj_msg.specs.Feed.{FeedState, IsFresh};
 ghost use Rattle.hj_core.specs.Contents.{state_of};
-ghost use Rattle.hj_crew.specs.Cores.{AreEndsFor, AreUnused, GivesEnds, MakesTeams};
+ghost use Rattle.hj_desk.specs.Desk.{StandsFor, nothing_happened};
+ghost use Rattle.hj_crew.specs.Cores.{AreCrew, AreEndsFor, AreUnused, GivesEnds, MakesTeams};
+ghost use Rattle.hj_crew.specs.Room.{IsRoomOf};
 
 use crate::deal::{deal, empty_teams};
 use crate::ends::ChainEnds;
@@ -11,7 +14,8 @@ use crate::team::{Signals, Team};
 use hj_base::{CoreNo, Memory, Setup, Share};
 use hj_core::Core;
 use hj_desk::Desk;
-use hj_msg::{Join, Store};
+use hj_link::RightEnd;
+use hj_msg::{Join, Msg, Store};
 use hj_worker::Worker;
 use std::alloc::Global;
 
@@ -33,10 +37,7 @@ impl<P: Share + Drop, J: Join<P> + Drop, L: Store<P, J> + Drop, R: Store<P, J> +
     L,
     R,
 > {
-    ghost use Rattle.std.specs.Prelude.{min, vec_capacity};
-    ghost use Rattle.hj_msg.specs.Feed.{FeedState, IsFresh};
-    ghost use Rattle.hj_crew.specs.Cores.{AreCrew};
-    ghost use Rattle.hj_desk.specs.Desk.{StandsFor, nothing_happened};
+    ghost use Rattle.hj_crew.specs.Begun.{IsManned};
 
     /// The crew of a chain of as many cores as there are stores of each stream, in as many teams as
     /// there are threads and cores.
@@ -55,37 +56,35 @@ impl<P: Share + Drop, J: Join<P> + Drop, L: Store<P, J> + Drop, R: Store<P, J> +
         requires right_empty { All (λ store. R.entries store ≡ []) right.items }
         requires left_suits { All (λ store. L.suits store Left join.now) left.items }
         requires right_suits { All (λ store. R.suits store Right join.now) right.items }
-        ensures crew { IfOk result (λ crew.
-            AreCrew join.now setup.cores setup.flight crew.desk crew.teams.items) }
-        ensures stands { IfOk result (λ crew. (feed : FeedState) → IsFresh feed
-            → StandsFor crew.desk feed nothing_happened) }
-        ensures teams { IfOk result (λ crew.
-            length crew.teams.items ≡ min setup.threads setup.cores) }
-        ensures signals { IfOk result (λ crew.
-            length crew.signals.items ≡ length crew.teams.items) }
-        ensures own { IfOk result (λ crew. (crew.own.items ≡ [])
-            × (vec_capacity crew.own ≡ length crew.teams.items)) }
-        ensures done { IfOk result (λ crew. (crew.done.items ≡ [])
-            × (vec_capacity crew.done ≡ length crew.teams.items)) }
+        ensures { IfOk result (IsManned join.now setup) }
     {
-        let mut ends = ChainEnds::new(alloc, setup.cores, setup.flight)?;
-        let Some(last) = ends.right.pop() else {
-            unreachable!()
-        };
         let count = usize::from(setup.threads.min(setup.cores));
-        let teams = make_teams(alloc, join, left, right, &mut ends, count)?;
-        let Some(first) = ends.left.pop() else {
-            unreachable!()
-        };
-        let desk = Desk::new(alloc, setup.flight, first, last, ends.receivers)?;
+        let (desk, teams) = desk_and_teams(alloc, setup, join, left, right, count)?;
+        let (signals, own, done) = signals_and_room(alloc, count)?;
         Ok(Crew {
             desk,
             teams,
-            signals: make_signals(alloc, count)?,
-            own: Vec::with_capacity(alloc, count)?,
-            done: Vec::with_capacity(alloc, count)?,
+            signals,
+            own,
+            done,
         })
     }
+}
+
+/// What so many threads are told, and room for their teams: for those that the calling thread turns
+/// itself, and for those that came back.
+fn signals_and_room<T: Drop>(
+    alloc: Global,
+    count: usize,
+) -> Result<(Vec<Signals>, Vec<T>, Vec<T>), Memory>
+    ensures signals { IfOk result (λ made. length made.0.items ≡ count) }
+    ensures own { IfOk result (λ made. IsRoomOf count made.1) }
+    ensures done { IfOk result (λ made. IsRoomOf count made.2) }
+{
+    let signals = make_signals(alloc, count)?;
+    let own = Vec::with_capacity(alloc, count)?;
+    let done = Vec::with_capacity(alloc, count)?;
+    Ok((signals, own, done))
 }
 
 /// The signals of so many threads.
@@ -97,6 +96,69 @@ fn make_signals(alloc: Global, count: usize) -> Result<Vec<Signals>, Memory>
         signals.push(Signals::new())?;
     }
     Ok(signals)
+}
+
+/// The desk of a chain, and its workers in so many teams.
+fn desk_and_teams<P: Share + Drop, J: Join<P> + Drop, L: Store<P, J> + Drop, R: Store<P, J> + Drop>(
+    alloc: Global,
+    setup: Setup,
+    join: &J,
+    left: Vec<L>,
+    right: Vec<R>,
+    count: usize,
+) -> Result<(Desk<P>, Vec<Team<P, J, L, R>>), Memory>
+    requires cores { (1 ≤ setup.cores) × (setup.cores ≤ 64) × (length left.items ≡ setup.cores)
+        × (length right.items ≡ setup.cores) }
+    requires some_team { 0 < count }
+    requires flight { (1 ≤ setup.flight) × (setup.flight ≤ 256) }
+    requires left_empty { All (λ store. L.entries store ≡ []) left.items }
+    requires right_empty { All (λ store. R.entries store ≡ []) right.items }
+    requires left_suits { All (λ store. L.suits store Left join.now) left.items }
+    requires right_suits { All (λ store. R.suits store Right join.now) right.items }
+    ensures crew { IfOk result (λ made.
+        AreCrew join.now setup.cores setup.flight made.0 made.1.items) }
+    ensures stands { IfOk result (λ made. (feed : FeedState) → IsFresh feed
+        → StandsFor made.0 feed nothing_happened) }
+    ensures count { IfOk result (λ made. length made.1.items ≡ count) }
+{
+    let mut ends = ChainEnds::new(alloc, setup.cores, setup.flight)?;
+    let Some(last) = ends.right.pop() else {
+        unreachable!()
+    };
+    let teams = make_teams(alloc, join, left, right, &mut ends, count)?;
+    let desk = desk_at(alloc, setup.flight, ends, last)?;
+    Ok((desk, teams))
+}
+
+/// The desk of a chain with at most `flight` events outstanding, at the one left end that its workers
+/// left, and at the last right end.
+fn desk_at<P: Share + Drop>(
+    alloc: Global,
+    flight: u16,
+    ends: ChainEnds<P>,
+    last: RightEnd<Msg<P>>,
+) -> Result<Desk<P>, Memory>
+    requires first { length ends.left.items ≡ 1 }
+    requires left_unused { All (λ end. end.journal ≡ []) ends.left.items }
+    requires last_unused { last.journal ≡ [] }
+    requires few { length ends.receivers.items ≤ 64 }
+    requires receivers_unused { All (λ receiver. receiver.journal ≡ []) ends.receivers.items }
+    ensures stands { IfOk result (λ desk. (feed : FeedState) → IsFresh feed
+        → StandsFor desk feed nothing_happened) }
+    ensures left { IfOk result (λ desk. ends.left.items ≡ desk.ports.left ∷ []) }
+    ensures right { IfOk result (λ desk. desk.ports.right ≡ last) }
+    ensures reports { IfOk result (λ desk. desk.reports ≡ ends.receivers) }
+    ensures flight { IfOk result (λ desk. desk.driver.flight ≡ flight) }
+{
+    let ChainEnds {
+        mut left,
+        receivers,
+        ..
+    } = ends;
+    let Some(first) = left.pop() else {
+        unreachable!()
+    };
+    Desk::new(alloc, flight, first, last, receivers)
 }
 
 /// The workers of a chain, each with its core and its ends, dealt to so many teams. The last core
@@ -134,11 +196,30 @@ pub(crate) fn make_teams<
             unreachable!()
         };
         let place = left.len();
-        let at = CoreNo(place as u16);
-        let core = Core::new(join.share()?, left_store, right_store, at, cores, alloc);
+        let core = make_core(alloc, join, left_store, right_store, place, cores)?;
         deal(teams.as_mut_slice(), place, last_worker(core, ends))?;
     }
     Ok(teams)
+}
+
+/// The core at a place of so many, over these stores. It gets a share of the join.
+fn make_core<P: Share + Drop, J: Join<P> + Drop, L: Store<P, J> + Drop, R: Store<P, J> + Drop>(
+    alloc: Global,
+    join: &J,
+    left: L,
+    right: R,
+    place: usize,
+    cores: u16,
+) -> Result<Core<P, J, L, R>, Memory>
+    requires place { (place < cores) × (cores ≤ 64) }
+    requires left { (L.entries left ≡ []) × L.suits left Left join.now }
+    requires right { (R.entries right ≡ []) × R.suits right Right join.now }
+    ensures state { IfOk result (λ core. state_of L.entries R.entries core ≡ empty_state) }
+    ensures core { IfOk result (λ core. (core.join ≡ join.now) × (core.place ≡ place)
+        × (core.cores ≡ cores)) }
+{
+    let at = CoreNo(place as u16);
+    Ok(Core::new(join.share()?, left, right, at, cores, alloc))
 }
 
 /// The worker of a core, which gets the last ones of the ends.

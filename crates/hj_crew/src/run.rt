@@ -1,11 +1,13 @@
 //! A run of a chain on threads.
-ghost use Rattle.std.specs.Prelude.{◌≡◌, ◌≤◌, ◌<◌, [], All, length, vec_capacity, IfOk, OnErr};
+ghost use Rattle.std.specs.Prelude.{◌≡◌, ◌≤◌, [], All, length, IfOk, OnErr};
 ghost use Rattle.std.specs.List.{AllZip};
 ghost use Rattle.hj_base.specs.declared.numbers.Side.TheVariants.{Left, Right};
 ghost use Rattle.hj_msg.specs.Feed.{IsFresh};
 ghost use Rattle.hj_desk.specs.Caller.{Ends};
 ghost use Rattle.hj_desk.specs.Desk.{Stands};
+ghost use Rattle.hj_crew.specs.Begun.{CanStart, HasRun, IsManned};
 ghost use Rattle.hj_crew.specs.Ran.{RunsOnThreads};
+ghost use Rattle.hj_crew.specs.Room.{IsRoomFor, IsRoomOf};
 ghost use Rattle.hj_crew.specs.Teams.{TeamStays};
 
 use crate::closing::close_crew;
@@ -13,7 +15,7 @@ use crate::levels::{Shared, levels};
 use crate::making::Crew;
 use crate::ran::Ran;
 use crate::room::Room;
-use crate::team::Team;
+use crate::team::{Signals, Team};
 use hj_base::{Gate, Memory, Setup, Share};
 use hj_desk::Caller;
 use hj_msg::{Drain, Feed, Fin, Join, Store};
@@ -21,7 +23,7 @@ use std::alloc::Global;
 use std::sync::Wait;
 use std::sync::atomic::AtomicBool;
 use std::thread;
-use std::thread::Threads;
+use std::thread::{Scope, Threads};
 
 /// Runs a chain of cores between a feed and a drain, on threads. The calling thread drives the
 /// chain at its two ends, and up to `setup.threads` threads, no more than there are cores, turn its
@@ -88,6 +90,37 @@ pub fn run_threads<
     let Ok(room) = Room::new(alloc, setup.cores) else {
         return (Err(Memory), feed, drain);
     };
+    let (ran, feed, drain) = run_and_close(rt, setup, crew, room, feed, drain, gate);
+    (Ok(ran), feed, drain)
+}
+
+/// Lets the crew of a chain run until the run has ended, and closes it.
+fn run_and_close<
+    P: Share + Send + Drop,
+    J: Join<P> + Send + Drop,
+    L: Store<P, J> + Send + Drop,
+    R: Store<P, J> + Send + Drop,
+    F: Feed<P> + Drop,
+    D: Drain<P> + Drop,
+    G: Gate + Sync,
+    T: Threads + Wait + Sync,
+>(
+    rt: &T,
+    setup: Setup,
+    crew: Crew<P, J, L, R>,
+    room: Room<P, J, L, R>,
+    feed: F,
+    drain: D,
+    gate: &G,
+) -> (Ran<P>, F, D)
+    requires cores { (1 ≤ setup.cores) × (setup.cores ≤ 64) }
+    requires threads { 1 ≤ setup.threads }
+    requires crew { (join : J) × IsManned join setup crew }
+    requires room { IsRoomFor setup.cores room }
+    requires fresh { IsFresh (F.state feed) }
+    ensures { (join : J) → IsManned join setup crew → RunsOnThreads F.gives F.state D.takes
+        (J.predicate join) setup.cores setup.flight feed result.1 drain result.2 result.0 }
+{
     let Returned { caller, teams, fin } = run_crew(rt, crew, feed, drain, gate);
     let Caller {
         desk,
@@ -96,14 +129,24 @@ pub fn run_threads<
         ..
     } = caller;
     let ran = close_crew(desk, teams, setup.cores, setup.flight, fin, room);
-    (Ok(ran), feed, drain)
+    (ran, feed, drain)
+}
+
+/// What a run has before its first thread is started.
+#[derive(Drop)]
+pub(crate) struct Begun<P: Drop, J: Join<P>, L: Store<P, J>, R: Store<P, J>, F, D> {
+    pub(crate) caller: Caller<P, F, D>,
+    pub(crate) teams: Vec<Team<P, J, L, R>>,
+    /// Room for the teams that the calling thread turns itself, and for those that came back.
+    pub(crate) own: Vec<Team<P, J, L, R>>,
+    pub(crate) done: Vec<Team<P, J, L, R>>,
 }
 
 /// What comes back of a run.
-struct Returned<P: Drop, J: Join<P>, L: Store<P, J>, R: Store<P, J>, F, D> {
-    caller: Caller<P, F, D>,
-    teams: Vec<Team<P, J, L, R>>,
-    fin: Fin,
+pub(crate) struct Returned<P: Drop, J: Join<P>, L: Store<P, J>, R: Store<P, J>, F, D> {
+    pub(crate) caller: Caller<P, F, D>,
+    pub(crate) teams: Vec<Team<P, J, L, R>>,
+    pub(crate) fin: Fin,
 }
 
 /// Lets a crew run, each team in a thread of its own, until the run has ended.
@@ -121,8 +164,8 @@ fn run_crew<
     requires cores { length crew.desk.reports.items ≤ 64 }
     requires teams { length crew.teams.items ≤ 64 }
     requires signals { length crew.signals.items ≡ length crew.teams.items }
-    requires own { (crew.own.items ≡ []) × (length crew.teams.items ≤ vec_capacity crew.own) }
-    requires done { (crew.done.items ≡ []) × (length crew.teams.items ≤ vec_capacity crew.done) }
+    requires own { IsRoomOf (length crew.teams.items) crew.own }
+    requires done { IsRoomOf (length crew.teams.items) crew.done }
     ensures ends { Ends F.gives F.state D.takes result.fin
         (record { desk = crew.desk; feed = feed; drain = drain; awaited = 0 }) result.caller }
     ensures teams { AllZip TeamStays crew.teams.items result.teams.items }
@@ -140,35 +183,81 @@ fn run_crew<
         drain,
         awaited: 0,
     };
+    let begun = Begun {
+        caller,
+        teams,
+        own,
+        done,
+    };
+    run_in_scope(rt, signals.as_slice(), begun, gate)
+}
+
+/// Starts the threads of a run, and joins them when it has ended.
+fn run_in_scope<
+    P: Share + Send + Drop,
+    J: Join<P> + Send + Drop,
+    L: Store<P, J> + Send + Drop,
+    R: Store<P, J> + Send + Drop,
+    F: Feed<P> + Drop,
+    D: Drain<P> + Drop,
+    G: Gate + Sync,
+    T: Threads + Wait + Sync,
+>(
+    rt: &T,
+    signals: &[Signals],
+    begun: Begun<P, J, L, R, F, D>,
+    gate: &G,
+) -> Returned<P, J, L, R, F, D>
+    requires { CanStart F.state (length signals.now) begun }
+    ensures { HasRun F.gives F.state D.takes begun result }
+{
     let stop = AtomicBool::new(false);
     let shared = Shared {
         rt,
         stop: &stop,
-        signals: signals.as_slice(),
+        signals,
         gate,
     };
     thread::scope(
         thread::scope_env(),
         rt,
         move |scope| -> Returned<P, J, L, R, F, D>
-            requires stands { Stands caller.desk (F.state caller.feed) }
-            requires cores { length caller.desk.reports.items ≤ 64 }
-            requires signals { length teams.items ≤ length shared.signals.now }
-            requires few { length shared.signals.now ≤ 64 }
-            requires own { (own.items ≡ []) × (length teams.items ≤ vec_capacity own) }
-            requires done { (done.items ≡ []) × (length teams.items ≤ vec_capacity done) }
-            ensures ends { Ends F.gives F.state D.takes result.fin caller result.caller }
-            ensures teams { AllZip TeamStays teams.items result.teams.items }
-        {
-            let mut caller = caller;
-            let mut own = own;
-            let mut done = done;
-            let fin = levels(scope, &shared, &mut caller, teams, &mut own, &mut done);
-            Returned {
-                caller,
-                teams: done,
-                fin,
-            }
-        },
+            requires { CanStart F.state (length shared.signals.now) begun }
+            ensures { HasRun F.gives F.state D.takes begun result }
+        { all_levels(scope, &shared, begun) },
     )
+}
+
+/// Starts the thread of each team, makes the calling thread's rounds, and joins the threads.
+fn all_levels<
+    's,
+    E,
+    P: Share + Send + Drop + 's,
+    J: Join<P> + Send + Drop + 's,
+    L: Store<P, J> + Send + Drop + 's,
+    R: Store<P, J> + Send + Drop + 's,
+    F: Feed<P>,
+    D: Drain<P>,
+    G: Gate + Sync + 's,
+    T: Threads + Wait + Sync + 's,
+>(
+    scope: &'s Scope<'s, E>,
+    shared: &Shared<'s, G, T>,
+    begun: Begun<P, J, L, R, F, D>,
+) -> Returned<P, J, L, R, F, D>
+    requires { CanStart F.state (length shared.now.signals.now) begun }
+    ensures { HasRun F.gives F.state D.takes begun result }
+{
+    let Begun {
+        mut caller,
+        teams,
+        mut own,
+        mut done,
+    } = begun;
+    let fin = levels(scope, shared, &mut caller, teams, &mut own, &mut done);
+    Returned {
+        caller,
+        teams: done,
+        fin,
+    }
 }

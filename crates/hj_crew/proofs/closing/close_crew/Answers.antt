@@ -2,8 +2,16 @@ use Rattle.std.proofs.Common.{◌∙◌, List, ap, length, sym, subst}
 use Rattle.hj_worker.specs.Seen.{WorkerSeen}
 use Rattle.hj_crew.specs.Cores.{AreClosed, left_of, reports_of, right_of}
 use Rattle.hj_crew.specs.Ends.{FormChain}
-use Rattle.hj_crew.specs.Room.{IsChainRoomFor}
+use Rattle.hj_crew.specs.Room.{IsChainRoomFor, IsRoomOf}
 use Rattle.hj_crew.proofs.closing.close_crew.Goals as goal
+
+pub gather-workers-requires-clause-dealt : goal.gather-workers-requires-clause-dealt
+gather-workers-requires-clause-dealt g c =
+    let crew = c.requires.crew.1 in
+    (crew.workers, crew.many ∙ sym c.from.ensures, crew.dealt_out)
+
+pub gather-workers-requires-clause-room : goal.gather-workers-requires-clause-room
+gather-workers-requires-clause-room g c = subst (λ count. IsRoomOf count c.args.room.workers) (sym c.from.ensures) c.requires.room.workers
 
 pub close_run-requires-clause-chain : goal.close_run-requires-clause-chain
 close_run-requires-clause-chain g c =

@@ -19,6 +19,9 @@ unreachable-requires g c =
     (record { workers = c.pop.new.self }) c.index_mut.ensures.value (ap (λ k. place % k) long) c.requires.some_team next.item (drop (place + 1) workers) (left ∙ ap (dealt teams place) next.behind) in
     omega (arith, some, c.in_default.ensures.cases.0)
 
+pub push_reserved-requires : goal.push_reserved-requires
+push_reserved-requires g c = omega (arith, c.loop-place.invariant.so_many, c.loop-place.invariant.room, c.loop-place-test.true)
+
 pub loop-place-preserved : goal.loop-place-preserved
 loop-place-preserved g c =
     let teams = length c.args.teams.items in

@@ -1,4 +1,4 @@
-use Rattle.std.proofs.Common.{◌∙◌, ap, arith, subst}
+use Rattle.std.proofs.Common.{arith, subst}
 use Rattle.std.proofs.lemmas.Slice.Zip.{AllZip-long}
 use Rattle.hj_crew.specs.Teams.{TeamStays}
 use Rattle.hj_crew.proofs.Teaming.{appends-with, last_stays, length-appended, others_stay, team-stays_on}
@@ -22,21 +22,19 @@ push_reserved-requires-in-Err-2 g t c =
 pub returns-in-Ok-clause-done : goal.returns-in-Ok-clause-done
 returns-in-Ok-clause-done g t c =
     let team = c.in-Some.team in
-    let promised = ap (λ promise. promise.0.value) c.in-Ok.ensures.ok ∙ c.of.ensures in
-    let stays : TeamStays team c.join.result = subst (λ before. TeamStays before c.join.result) promised c.join.ensures in
+    let stays : TeamStays team c.join.result = subst (λ before. TeamStays before c.join.result) c.in-Ok.ensures.started c.join.ensures in
     appends-with c.args.teams.items c.pop.new.self.items c.args.done.now.items c.levels-fin.new.done.items c.push_reserved.new.self.items team c.join.result c.in-Some.ensures.items
     c.levels-fin.ensures.done stays c.push_reserved.ensures.items
 
 pub returns-in-Some-pop-clause-own : goal.returns-in-Some-pop-clause-own
 returns-in-Some-pop-clause-own g t c =
-    others_stay c.args.own.now.items c.push_reserved-in-Err.new.self.items c.levels-fin-in-Err.new.own.items c.pop-in-Err.new.self.items c.turning.result c.in-Some-pop.team c.push_reserved-in-Err.ensures.items
+    others_stay c.args.own.now.items c.push_reserved-in-Err.new.self.items c.levels-fin-in-Err.new.own.items c.pop-in-Err.new.self.items c.in-Err.team c.in-Some-pop.team c.push_reserved-in-Err.ensures.items
     c.levels-fin-in-Err.ensures.own c.in-Some-pop.ensures.items
 
 pub returns-in-Some-pop-clause-done : goal.returns-in-Some-pop-clause-done
 returns-in-Some-pop-clause-done g t c =
     let team = c.in-Some.team in
-    let came : TeamStays team c.turning.result = subst (λ before. TeamStays before c.turning.result) (ap (λ captured. captured.3) c.in-Err.ensures.err) c.turning.ensures in
-    let left = last_stays c.args.own.now.items c.push_reserved-in-Err.new.self.items c.levels-fin-in-Err.new.own.items c.pop-in-Err.new.self.items c.turning.result c.in-Some-pop.team c.push_reserved-in-Err.ensures.items
+    let left = last_stays c.args.own.now.items c.push_reserved-in-Err.new.self.items c.levels-fin-in-Err.new.own.items c.pop-in-Err.new.self.items c.in-Err.team c.in-Some-pop.team c.push_reserved-in-Err.ensures.items
     c.levels-fin-in-Err.ensures.own c.in-Some-pop.ensures.items in
     appends-with c.args.teams.items c.pop.new.self.items c.args.done.now.items c.levels-fin-in-Err.new.done.items c.push_reserved-in-Err-2.new.self.items team c.in-Some-pop.team c.in-Some.ensures.items
-    c.levels-fin-in-Err.ensures.done (team-stays_on team c.turning.result c.in-Some-pop.team came left) c.push_reserved-in-Err-2.ensures.items
+    c.levels-fin-in-Err.ensures.done (team-stays_on team c.in-Err.team c.in-Some-pop.team c.in-Err.ensures.refused left) c.push_reserved-in-Err-2.ensures.items

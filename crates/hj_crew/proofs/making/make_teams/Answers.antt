@@ -57,6 +57,6 @@ loop-left_store-preserved g c =
       made =
           subst (MakesTeams c.args.join.now (length c.args.left.items) place c.args.ends.now c.last_worker.new.ends) (sym back)
           (makes-more c.args.join.now (length c.args.left.items) place (length c.loop-left_store.left.items) c.args.ends.now c.loop-left_store.ends c.last_worker.new.ends held c.deal.new.teams worker fewer made
-          (c.last_worker.ensures.core.0 ∙ c.new-core.ensures.join ∙ c.in_ok-share.ensures) (c.last_worker.ensures.core.1 ∙ omega (arith, c.new-core.ensures.place, at))
-          (c.last_worker.ensures.core.2 ∙ omega (arith, c.new-core.ensures.cores, c.len-cores.ensures, c.args.left.ok.0)) given (omega (arith, c.deal.auto.teams)) deals);
+          (c.last_worker.ensures.core.0 ∙ c.in_ok-core.ensures.core.0) (c.last_worker.ensures.core.1 ∙ c.in_ok-core.ensures.core.1 ∙ at)
+          (c.last_worker.ensures.core.2 ∙ omega (arith, c.in_ok-core.ensures.core.2, c.len-cores.ensures, c.args.left.ok.0)) given (omega (arith, c.deal.auto.teams)) deals);
     }
