@@ -1,64 +1,68 @@
 //! Streams that a seed determines, and sums of what was joined.
 
+use crate::texts::{case, same};
 use hj_gen::{Tally, streams, summary};
-use std::test::Fail;
+use std::alloc::Global;
+use std::process::Abort;
 
-#[test]
-fn makes_streams(rt: HostRuntime) -> Result<(), Fail> {
-    let table = [
-        (1, 1, 1, "2,0\n", "1,0\n"),
-        (0, 1, 1, "", ""),
-        (3, 100, 1, "2,53\n2,70\n2,95\n", "1,82\n1,4\n3,99\n"),
-        (
-            2,
-            1_000_000_000,
-            u64::MAX,
-            "1,490332343\n2,901017602\n",
-            "2,218396424\n3,861605236\n",
-        ),
-    ];
-    for (n, keys, seed, left, right) in table {
-        assert!(rt; keys > 0);
-        let two = streams(rt.alloc(), n, keys, seed)?;
-        assert_eq!(rt; two.left.bytes(), left.as_bytes());
-        assert_eq!(rt; two.right.bytes(), right.as_bytes());
-    }
-    Ok(())
+/// How many rows a stream has, how many keys, the seed, and behind a bar both streams.
+const STREAMS: &str = "\
+1 1 1 | 2,0⏎ => 1,0⏎
+0 1 1 | ε => ε
+3 100 1 | 2,53⏎2,70⏎2,95⏎ => 1,82⏎1,4⏎3,99⏎
+2 1000000000 18446744073709551615 | 1,490332343⏎2,901017602⏎ => 2,218396424⏎3,861605236⏎";
+
+/// Makes the streams of these three numbers.
+fn makes(rt: &impl Abort, alloc: Global, numbers: &str, left: &[u8], right: &[u8]) {
+    let (n, behind) = numbers.split_once(' ').expect(rt, "keys");
+    let (keys, seed) = behind.split_once(' ').expect(rt, "a seed");
+    let n = n.parse::<u32>().expect(rt, "a number");
+    let keys = keys.parse::<u32>().expect(rt, "a number");
+    let seed = seed.parse::<u64>().expect(rt, "a number");
+    assert!(rt; keys > 0);
+    let two = streams(alloc, n, keys, seed).expect(rt, "memory");
+    same(rt, numbers, two.left.bytes(), left);
+    same(rt, numbers, two.right.bytes(), right);
 }
 
 #[test]
-fn sums_up(rt: HostRuntime) -> Result<(), Fail> {
-    let table = [
-        (
-            2,
-            "2,0,1,0\n",
-            "events 2 pairs 1 bytes 8 mix 1416097205227\n",
-        ),
-        (0, "", "events 0 pairs 0 bytes 0 mix 0\n"),
-        (
-            5,
-            "1,0,1,0\n1,0,2,0\n",
-            "events 5 pairs 2 bytes 16 mix 11936216673693296247\n",
-        ),
-    ];
-    for (events, text, want) in table {
-        let line = summary(rt.alloc(), events, text.as_bytes())?;
-        assert_eq!(rt; line.bytes(), want.as_bytes());
+fn makes_streams(rt: HostRuntime) {
+    for line in STREAMS.lines() {
+        let (numbers, behind) = line.split_once(" | ").expect(&rt, "a case");
+        let (left, right) = case(&rt, rt.alloc(), behind);
+        makes(&rt, rt.alloc(), numbers, &left, &right);
     }
-    Ok(())
+}
+
+/// How many events came, the lines of what they joined, and the sums.
+const SUMS: &str = "\
+2 | 2,0,1,0⏎ => events 2 pairs 1 bytes 8 mix 1416097205227⏎
+0 | ε => events 0 pairs 0 bytes 0 mix 0⏎
+5 | 1,0,1,0⏎1,0,2,0⏎ => events 5 pairs 2 bytes 16 mix 11936216673693296247⏎";
+
+fn sums(rt: &impl Abort, alloc: Global, line: &str) {
+    let (events, behind) = line.split_once(" | ").expect(rt, "a case");
+    let events = events.parse::<u64>().expect(rt, "a number");
+    let (text, want) = case(rt, alloc, behind);
+    let found = summary(alloc, events, &text).expect(rt, "memory");
+    same(rt, line, found.bytes(), &want);
 }
 
 #[test]
-fn sums_up_pieces(rt: HostRuntime) -> Result<(), Fail> {
+fn sums_up(rt: HostRuntime) {
+    for line in SUMS.lines() {
+        sums(&rt, rt.alloc(), line);
+    }
+}
+
+#[test]
+fn sums_up_pieces(rt: HostRuntime) {
     let mut tally = Tally::new();
     for piece in ["2,0", "", ",1,0\n"] {
         assert!(rt; tally.has_room(piece.len()));
         tally.take(piece.as_bytes());
     }
-    let line = tally.line(rt.alloc(), 2)?;
-    assert_eq!(rt;
-        line.bytes(),
-        b"events 2 pairs 1 bytes 8 mix 1416097205227\n".as_slice()
-    );
-    Ok(())
+    let line = tally.line(rt.alloc(), 2).expect(&rt, "memory");
+    let want = b"events 2 pairs 1 bytes 8 mix 1416097205227\n";
+    same(&rt, "pieces", line.bytes(), want);
 }

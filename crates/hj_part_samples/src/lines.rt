@@ -1,69 +1,72 @@
 //! Lines of joined rows.
 
-use crate::values::text_field;
-use hj_base::Memory;
+use crate::texts::{same, spelled};
+use crate::values::{field, text_field};
 use hj_emit::{fill_line, line};
-use hj_value::{Field, Row};
+use hj_value::Row;
 use std::alloc::Global;
-use std::test::Fail;
+use std::process::Abort;
 
-/// A row of a number, and a text if there is one.
-fn row(alloc: Global, number: i64, text: Option<&str>) -> Result<Row, Memory> {
+/// A row of a number, and the text behind it if there is one.
+fn row(rt: &impl Abort, alloc: Global, text: &str) -> Row {
     let mut row = Row::new(alloc);
-    row.push(Field::Int(number))?;
-    if let Some(text) = text {
-        row.push(text_field(text))?;
+    match text.split_once(' ') {
+        Some((number, text)) => {
+            row.push(field(rt, number)).expect(rt, "memory");
+            let text = spelled(rt, alloc, text);
+            row.push(text_field(rt, &text)).expect(rt, "memory");
+        }
+        None => row.push(field(rt, text)).expect(rt, "memory"),
     }
-    Ok(row)
+    row
+}
+
+/// Both rows, and their line.
+const LINES: &str = "\
+1 | 2 | 1,2⏎
+-9223372036854775808 | 9223372036854775807 | -9223372036854775808,9223372036854775807⏎
+1 a,b | 3 a,b | 1,\"a,b\",3,\"a,b\"⏎
+2 say \"x\" | 4 say \"x\" | 2,\"say \"\"x\"\"\",4,\"say \"\"x\"\"\"⏎
+0 \r | -1 a⏎b | 0,\"\r\",-1,\"a⏎b\"⏎
+10 ε | 0  a\u{fc};' | 10,,0, a\u{fc};'⏎";
+
+/// Writes the line of these rows, which is also what `filled` holds in the end.
+fn writes(
+    rt: &impl Abort,
+    alloc: Global,
+    filled: &mut Vec<u8>,
+    left: &Row,
+    right: &Row,
+    want: &[u8],
+) {
+    let written = line(alloc, left, right).expect(rt, "memory");
+    same(rt, "a line", written.bytes(), want);
+    fill_line(filled, left, right).expect(rt, "memory");
+    same(rt, "a filled line", filled, want);
 }
 
 #[test]
-fn writes_lines(rt: HostRuntime) -> Result<(), Fail> {
-    let table = [
-        (1, None, 2, None, "1,2\n"),
-        (
-            i64::MIN,
-            None,
-            i64::MAX,
-            None,
-            "-9223372036854775808,9223372036854775807\n",
-        ),
-        (1, Some("a,b"), 3, Some("a,b"), "1,\"a,b\",3,\"a,b\"\n"),
-        (
-            2,
-            Some("say \"x\""),
-            4,
-            Some("say \"x\""),
-            "2,\"say \"\"x\"\"\",4,\"say \"\"x\"\"\"\n",
-        ),
-        (0, Some("\r"), -1, Some("a\nb"), "0,\"\r\",-1,\"a\nb\"\n"),
-        (10, Some(""), 0, Some(" a\u{fc};'"), "10,,0, a\u{fc};'\n"),
-    ];
+fn writes_lines(rt: HostRuntime) {
     let mut filled = Vec::new(rt.alloc());
-    for (left, left_text, right, right_text, want) in table {
-        let left = row(rt.alloc(), left, left_text)?;
-        let right = row(rt.alloc(), right, right_text)?;
-        let written = line(rt.alloc(), &left, &right)?;
-        assert_eq!(rt; written.bytes(), want.as_bytes());
-        fill_line(&mut filled, &left, &right)?;
-        assert_eq!(rt; filled.as_slice(), want.as_bytes());
+    for case in LINES.lines() {
+        let (left, behind) = case.split_once(" | ").expect(&rt, "a case");
+        let (right, want) = behind.split_once(" | ").expect(&rt, "a line");
+        let left = row(&rt, rt.alloc(), left);
+        let right = row(&rt, rt.alloc(), right);
+        let want = spelled(&rt, rt.alloc(), want);
+        writes(&rt, rt.alloc(), &mut filled, &left, &right, &want);
     }
-    Ok(())
 }
 
 #[test]
-fn writes_a_record_of_no_bytes(rt: HostRuntime) -> Result<(), Fail> {
+fn writes_a_record_of_no_bytes(rt: HostRuntime) {
     let none = Row::new(rt.alloc());
     let mut empty = Row::new(rt.alloc());
-    empty.push(text_field(""))?;
+    empty.push(text_field(&rt, b"")).expect(&rt, "memory");
     let mut filled = Vec::new(rt.alloc());
-    for left in [&none, &empty] {
-        let written = line(rt.alloc(), left, &none)?;
-        assert_eq!(rt; written.bytes(), b"\"\"\n".as_slice());
-        fill_line(&mut filled, left, &none)?;
-        assert_eq!(rt; filled.as_slice(), b"\"\"\n".as_slice());
-    }
-    fill_line(&mut filled, &empty, &empty)?;
-    assert_eq!(rt; filled.as_slice(), b",\n".as_slice());
-    Ok(())
+    let want = b"\"\"\n";
+    writes(&rt, rt.alloc(), &mut filled, &none, &none, want);
+    writes(&rt, rt.alloc(), &mut filled, &empty, &none, want);
+    fill_line(&mut filled, &empty, &empty).expect(&rt, "memory");
+    same(&rt, "a comma", &filled, b",\n");
 }

@@ -1,9 +1,17 @@
 //! Contents and sinks in memory, draws, bytes and texts.
 
+ghost use Rattle.std.specs.Prelude.{◌≡◌, ◌<◌, length};
+ghost use Rattle.hj_base.specs.MemOutside.{role_at};
+ghost use Rattle.hj_base.specs.Outside.{unbegun, IsOpen, ChangesOnly};
+ghost use Rattle.hj_base.specs.declared.outside.Role.TheVariants as role;
+
+use crate::texts::{same, spelled};
 use hj_base::{
     Bytes, CoreNo, Gate, Got, Lcg, MemOutside, MemSink, OpenGate, Opened, Outside, Put, Role, Side,
     Sink, TextBytes,
 };
+use std::alloc::Global;
+use std::process::Abort;
 use std::test::Fail;
 
 #[test]
@@ -23,34 +31,100 @@ fn writes_until_a_listed_call(rt: HostRuntime) -> Result<(), Fail> {
     Ok(())
 }
 
-#[test]
-fn reads_each_byte_to_the_end(rt: HostRuntime) -> Result<(), Fail> {
-    let mut outside = MemOutside::new(rt.alloc(), 1);
-    outside.add("ab.csv", b"ab")?;
-    assert_eq!(rt; outside.start(Role::Left, "ab.csv"), Opened::Ready);
-    let mut buf = [0; 4];
-    assert_eq!(rt; outside.read(Role::Left, &mut buf), Got::Bytes(1));
-    assert_eq!(rt; buf[0], b'a');
-    assert_eq!(rt; outside.read(Role::Left, &mut buf), Got::Bytes(1));
-    assert_eq!(rt; buf[0], b'b');
-    assert_eq!(rt; outside.read(Role::Left, &mut buf), Got::End);
-    assert_eq!(rt; outside.read(Role::Left, &mut buf), Got::End);
-    Ok(())
+/// Starts a role, which is ready.
+fn starts<O: Outside>(rt: &impl Abort, outside: &mut O, role: Role, name: &str)
+    requires { (O.state outside.old role).phase ≡ unbegun }
+    ensures open { IsOpen (O.state outside.new role).phase }
+    ensures others { ChangesOnly role (O.state outside.old) (O.state outside.new) }
+{
+    let opened = outside.start(role, name);
+    assert!(rt; matches!(opened, Opened::Ready));
+}
+
+/// Starts a role, which fails.
+fn fails_to_start<O: Outside>(rt: &impl Abort, outside: &mut O, role: Role, name: &str)
+    requires { (O.state outside.old role).phase ≡ unbegun }
+    ensures { ChangesOnly role (O.state outside.old) (O.state outside.new) }
+{
+    let opened = outside.start(role, name);
+    assert!(rt; matches!(opened, Opened::Failed));
+}
+
+/// Reads a role once, which gives this word: the bytes that came, `end` or `failed`.
+fn reads_once<O: Outside>(rt: &impl Abort, outside: &mut O, role: Role, buf: &mut [u8], word: &str)
+    requires open { IsOpen (O.state outside.old role).phase }
+    requires room { 0 < length buf.old }
+    ensures open { IsOpen (O.state outside.new role).phase }
+    ensures others { ChangesOnly role (O.state outside.old) (O.state outside.new) }
+{
+    let found = match outside.read(role, buf) {
+        Got::Bytes(count) => buf.get(..count).expect(rt, "room"),
+        Got::End => b"end",
+        Got::Failed => b"failed",
+    };
+    same(rt, "a read", found, word.as_bytes());
+}
+
+/// Reads a role again and again, which gives these words.
+fn reads<O: Outside>(rt: &impl Abort, outside: &mut O, role: Role, buf: &mut [u8], words: &str)
+    requires open { IsOpen (O.state outside.old role).phase }
+    requires room { 0 < length buf.old }
+{
+    for word in words.split(' ') {
+        reads_once(rt, outside, role, buf, word);
+    }
+}
+
+/// Contents of one name, of which a read gives one byte.
+fn one_name(rt: &impl Abort, alloc: Global) -> MemOutside
+    ensures left { (role_at result role.Left).phase ≡ unbegun }
+    ensures right { (role_at result role.Right).phase ≡ unbegun }
+{
+    let mut outside = MemOutside::new(alloc, 1);
+    outside.add("ab.csv", b"ab").expect(rt, "memory");
+    outside
 }
 
 #[test]
-fn starts_with_what_stands(rt: HostRuntime) -> Result<(), Fail> {
-    let mut outside = MemOutside::new(rt.alloc(), 9);
-    outside.add("l", b"old")?;
-    assert_eq!(rt; outside.start(Role::Left, "l"), Opened::Ready);
-    outside.add("l", b"newer")?;
-    assert_eq!(rt; outside.start(Role::Right, "l"), Opened::Ready);
-    assert_eq!(rt; outside.start(Role::Query, "q"), Opened::Failed);
+fn reads_each_byte_to_the_end(rt: HostRuntime) {
+    let mut outside = one_name(&rt, rt.alloc());
+    starts(&rt, &mut outside, Role::Left, "ab.csv");
+    let mut buf = [0; 4];
+    reads(&rt, &mut outside, Role::Left, &mut buf, "a b end end");
+}
+
+/// No contents, of which a read gives nine bytes.
+fn nothing_begun(alloc: Global) -> MemOutside
+    ensures left { (role_at result role.Left).phase ≡ unbegun }
+    ensures right { (role_at result role.Right).phase ≡ unbegun }
+{
+    MemOutside::new(alloc, 9)
+}
+
+/// Puts bytes under a name, in place of those that stood there.
+fn puts(rt: &impl Abort, outside: &mut MemOutside, bytes: &[u8])
+    ensures left { role_at outside.new role.Left ≡ role_at outside.old role.Left }
+    ensures right { role_at outside.new role.Right ≡ role_at outside.old role.Right }
+{
+    outside.add("l", bytes).expect(rt, "memory");
+}
+
+#[test]
+fn starts_with_what_stands(rt: HostRuntime) {
+    let mut outside = nothing_begun(rt.alloc());
+    puts(&rt, &mut outside, b"old");
+    starts(&rt, &mut outside, Role::Left, "l");
+    puts(&rt, &mut outside, b"newer");
+    starts(&rt, &mut outside, Role::Right, "l");
     let mut buf = [0; 9];
-    assert_eq!(rt; outside.read(Role::Left, &mut buf), Got::Bytes(3));
-    assert_eq!(rt; outside.read(Role::Right, &mut buf), Got::Bytes(5));
-    assert_eq!(rt; &buf[..5], b"newer".as_slice());
-    Ok(())
+    reads_once(&rt, &mut outside, Role::Left, &mut buf, "old");
+    reads_once(&rt, &mut outside, Role::Right, &mut buf, "newer");
+}
+
+#[test]
+fn fails_to_start_a_missing_name(rt: HostRuntime) {
+    let mut outside = one_name(&rt, rt.alloc());
+    fails_to_start(&rt, &mut outside, Role::Right, "q");
 }
 
 #[test]
@@ -64,23 +138,26 @@ fn names_the_role_of_a_side(rt: HostRuntime) {
     assert_eq!(rt; Side::Right.role(), Role::Right);
 }
 
+/// Contents of one name, of which two reads and a start fail.
+fn failing(rt: &impl Abort, alloc: Global) -> MemOutside
+    ensures left { (role_at result role.Left).phase ≡ unbegun }
+    ensures right { (role_at result role.Right).phase ≡ unbegun }
+{
+    let mut outside = one_name(rt, alloc);
+    outside.fail_read(Role::Left, 2).expect(rt, "memory");
+    outside.fail_read(Role::Left, 4).expect(rt, "memory");
+    outside.fail_start(Role::Right).expect(rt, "memory");
+    outside
+}
+
 #[test]
-fn fails_where_that_was_listed(rt: HostRuntime) -> Result<(), Fail> {
-    let mut outside = MemOutside::new(rt.alloc(), 1);
-    outside.add("ab.csv", b"ab")?;
-    outside.fail_read(Role::Left, 2)?;
-    outside.fail_read(Role::Left, 4)?;
-    outside.fail_start(Role::Right)?;
-    assert_eq!(rt; outside.start(Role::Left, "ab.csv"), Opened::Ready);
-    assert_eq!(rt; outside.start(Role::Right, "ab.csv"), Opened::Failed);
+fn fails_where_that_was_listed(rt: HostRuntime) {
+    let mut outside = failing(&rt, rt.alloc());
+    starts(&rt, &mut outside, Role::Left, "ab.csv");
+    fails_to_start(&rt, &mut outside, Role::Right, "ab.csv");
     let mut buf = [0; 4];
-    assert_eq!(rt; outside.read(Role::Left, &mut buf), Got::Bytes(1));
-    assert_eq!(rt; outside.read(Role::Left, &mut buf), Got::Failed);
-    assert_eq!(rt; outside.read(Role::Left, &mut buf), Got::Bytes(1));
-    assert_eq!(rt; buf[0], b'b');
-    assert_eq!(rt; outside.read(Role::Left, &mut buf), Got::Failed);
-    assert_eq!(rt; outside.read(Role::Left, &mut buf), Got::End);
-    Ok(())
+    let words = "a failed b failed end";
+    reads(&rt, &mut outside, Role::Left, &mut buf, words);
 }
 
 #[test]
@@ -102,26 +179,41 @@ fn keeps_bytes(rt: HostRuntime) -> Result<(), Fail> {
     Ok(())
 }
 
+const TAKEN: &str = "\
+ε
+ts
+a\u{fc}\u{1f600}
+«00»«7f»";
+
+fn takes(rt: &impl Abort, alloc: Global, bytes: &[u8]) {
+    let text = TextBytes::from_bytes(alloc, bytes).expect(rt, "memory");
+    let text = text.expect(rt, "a text");
+    same(rt, "a text", text.bytes(), bytes);
+    assert_eq!(rt; text.len(), bytes.len());
+    assert_eq!(rt; text.get(0), bytes.first());
+    assert_eq!(rt; text.get(bytes.len()), None);
+}
+
 #[test]
-fn takes_utf8_alone(rt: HostRuntime) -> Result<(), Fail> {
-    let taken: [&[u8]; 4] = [b"", b"ts", "a\u{fc}\u{1f600}".as_bytes(), b"\x00\x7f"];
-    for bytes in taken {
-        let text = TextBytes::from_bytes(rt.alloc(), bytes)?.ok_or("refused")?;
-        assert_eq!(rt; text.bytes(), bytes);
-        assert_eq!(rt; text.len(), bytes.len());
-        assert_eq!(rt; text.get(0), bytes.first());
-        assert_eq!(rt; text.get(bytes.len()), None);
+fn takes_utf8(rt: HostRuntime) {
+    for line in TAKEN.lines() {
+        takes(&rt, rt.alloc(), &spelled(&rt, rt.alloc(), line));
     }
-    let refused: [&[u8]; 6] = [
-        b"\x80",
-        b"a\xff",
-        b"\xc3",
-        b"\xc0\xaf",
-        b"\xed\xa0\x80",
-        b"\xf4\x90\x80\x80",
-    ];
-    for bytes in refused {
-        assert!(rt; TextBytes::from_bytes(rt.alloc(), bytes)?.is_none());
+}
+
+const REFUSED: &str = "\
+«80»
+a«ff»
+«c3»
+«c0»«af»
+«ed»«a0»«80»
+«f4»«90»«80»«80»";
+
+#[test]
+fn refuses_what_is_no_utf8(rt: HostRuntime) {
+    for line in REFUSED.lines() {
+        let bytes = spelled(&rt, rt.alloc(), line);
+        let text = TextBytes::from_bytes(rt.alloc(), &bytes).expect(&rt, "memory");
+        assert!(rt; text.is_none(), "{line}");
     }
-    Ok(())
 }

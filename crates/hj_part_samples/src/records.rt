@@ -2,96 +2,113 @@
 
 ghost use Rattle.std.specs.Prelude.{◌<◌, ◌≤◌, length};
 
+use crate::texts::{case, same};
 use hj_record::{Cut, Cutter, Fed, Fields, PieceFault, read_piece, read_piece_into};
 use std::alloc::{AllocError, Global};
-use std::test::Fail;
+use std::process::Abort;
 
 /// What a piece reads as: each field with a bar in front, or why there is none.
-fn read(alloc: Global, piece: &[u8]) -> Result<String, Fail>
+fn read(rt: &impl Abort, alloc: Global, piece: &[u8]) -> Vec<u8>
     requires { length piece.now ≤ 65536 }
 {
-    let mut text = String::new(alloc);
     match read_piece(alloc, piece) {
-        Ok(None) => text.push_str("none")?,
-        Ok(Some(fields)) => {
-            for at in 0..fields.len() {
-                let field = fields.get(at).ok_or("no field")?;
-                text.push('|')?;
-                text.push_str(std::str::from_utf8(field)?)?;
-            }
-        }
-        Err(fault) => text.push_str(fault.to_string(alloc)?.as_str())?,
+        Ok(None) => Vec::from_slice(alloc, b"none").expect(rt, "memory"),
+        Ok(Some(fields)) => barred(rt, alloc, &fields),
+        Err(fault) => fault.to_string(alloc).expect(rt, "memory").into_bytes(),
     }
-    Ok(text)
+}
+
+/// These fields, each with a bar in front.
+fn barred(rt: &impl Abort, alloc: Global, fields: &Fields) -> Vec<u8> {
+    let mut bytes = Vec::new(alloc);
+    for at in 0..fields.len() {
+        let field = fields.get(at).expect(rt, "a field");
+        bytes.push(b'|').expect(rt, "memory");
+        bytes.extend_from_slice(field).expect(rt, "memory");
+    }
+    bytes
+}
+
+/// Pieces, and what each reads as.
+const PIECES: &str = "\
+ε => none
+⏎ => none
+\r⏎ => none
+⏎⏎ => none
+1,7⏎ => |1|7
+1,7\r⏎ => |1|7
+1,a,b => |1|a|b
+⏎⏎1,7⏎⏎ => |1|7
+, => ||
+a,,⏎ => |a||
+1,\"a,b\"⏎ => |1|a,b
+1,\"a\"\"b\"\r⏎ => |1|a\"b
+\"a\r⏎b\",\"\",2 => |a\r⏎b||2
+1,\"\"⏎ => |1|
+\"\" => |
+\"\"\"\"\"\" => |\"\"
+\u{FEFF}1,7⏎ => |1|7
+\u{FEFF}\u{FEFF}\"1\",7 => |1|7
+\u{FEFF}⏎ => none
+1\u{FEFF},7 => |1\u{FEFF}|7
+\r1,7\r => |1|7
+1,a\"b⏎ => |1|a\"b
+1,\"a\"b⏎ => |1|ab
+1,\"a\"\r => |1|a
+1,\"a\"\"\"b,c\"⏎ => |1|a\"b|c\"
+1,7⏎2,7⏎ => not one record
+1⏎⏎2 => not one record
+1,7\r2,7⏎ => not one record
+\"1\"\r⏎2 => not one record
+\u{FEFF}1\r\r2 => not one record";
+
+fn reads(rt: &impl Abort, alloc: Global, line: &str) {
+    let (piece, want) = case(rt, alloc, line);
+    assert!(rt; piece.len() <= 65_536);
+    let found = read(rt, alloc, &piece);
+    same(rt, line, &found, &want);
 }
 
 #[test]
-fn reads_one_record(rt: HostRuntime) -> Result<(), Fail> {
-    let rows: [(&[u8], &str); 30] = [
-        (b"", "none"),
-        (b"\n", "none"),
-        (b"\r\n", "none"),
-        (b"\n\n", "none"),
-        (b"1,7\n", "|1|7"),
-        (b"1,7\r\n", "|1|7"),
-        (b"1,a,b", "|1|a|b"),
-        (b"\n\n1,7\n\n", "|1|7"),
-        (b",", "||"),
-        (b"a,,\n", "|a||"),
-        (b"1,\"a,b\"\n", "|1|a,b"),
-        (b"1,\"a\"\"b\"\r\n", "|1|a\"b"),
-        (b"\"a\r\nb\",\"\",2", "|a\r\nb||2"),
-        (b"1,\"\"\n", "|1|"),
-        (b"\"\"", "|"),
-        (b"\"\"\"\"\"\"", "|\"\""),
-        (b"\xEF\xBB\xBF1,7\n", "|1|7"),
-        (b"\xEF\xBB\xBF\xEF\xBB\xBF\"1\",7", "|1|7"),
-        (b"\xEF\xBB\xBF\n", "none"),
-        (b"1\xEF\xBB\xBF,7", "|1\u{FEFF}|7"),
-        (b"\r1,7\r", "|1|7"),
-        (b"1,a\"b\n", "|1|a\"b"),
-        (b"1,\"a\"b\n", "|1|ab"),
-        (b"1,\"a\"\r", "|1|a"),
-        (b"1,\"a\"\"\"b,c\"\n", "|1|a\"b|c\""),
-        (b"1,7\n2,7\n", "not one record"),
-        (b"1\n\n2", "not one record"),
-        (b"1,7\r2,7\n", "not one record"),
-        (b"\"1\"\r\n2", "not one record"),
-        (b"\xEF\xBB\xBF1\r\r2", "not one record"),
-    ];
-    for (piece, text) in rows {
-        assert!(rt; piece.len() <= 65_536);
-        assert_eq!(rt; read(rt.alloc(), piece)?.as_str(), text, "{piece:?}");
+fn reads_one_record(rt: HostRuntime) {
+    for line in PIECES.lines() {
+        reads(&rt, rt.alloc(), line);
     }
-    Ok(())
 }
 
 #[test]
-fn reads_the_longest_piece(rt: HostRuntime) -> Result<(), Fail> {
-    let piece = vec![in rt.alloc(); b'x'; 65_536]?;
+fn reads_the_longest_piece(rt: HostRuntime) {
+    let piece = vec![in rt.alloc(); b'x'; 65_536].expect(&rt, "memory");
     let mut fields = Fields::new(rt.alloc());
     assert_eq!(rt; read_piece_into(&piece, &mut fields), Ok(true));
     assert_eq!(rt; fields.len(), 1);
     assert_eq!(rt; fields.get(0), Some(piece.as_slice()));
-    Ok(())
+}
+
+/// Pieces, the answer to each, and how many fields it has.
+const ANSWERS: &str = "\
+1,2,3 => Ok(true) 3
+⏎ => Ok(false) 0
+\"a\"\"b\",\r⏎ => Ok(true) 2
+1,2\r3⏎ => Err(NotOneRecord) 0
+\"\",a\"b,\"c => Ok(true) 3
+\r\r => Ok(false) 0
+7 => Ok(true) 1";
+
+fn reads_into(rt: &impl Abort, alloc: Global, fields: &mut Fields, line: &str) {
+    let (piece, want) = case(rt, alloc, line);
+    assert!(rt; piece.len() <= 65_536);
+    let answer = read_piece_into(&piece, fields);
+    let count = fields.len();
+    let found = format!(in alloc; "{answer:?} {count}").expect(rt, "memory");
+    same(rt, line, found.as_bytes(), &want);
 }
 
 #[test]
 fn reads_into_the_same_fields(rt: HostRuntime) {
-    let rows: [(&[u8], Result<bool, PieceFault>, usize); 7] = [
-        (b"1,2,3", Ok(true), 3),
-        (b"\n", Ok(false), 0),
-        (b"\"a\"\"b\",\r\n", Ok(true), 2),
-        (b"1,2\r3\n", Err(PieceFault::NotOneRecord), 0),
-        (b"\"\",a\"b,\"c", Ok(true), 3),
-        (b"\r\r", Ok(false), 0),
-        (b"7", Ok(true), 1),
-    ];
     let mut fields = Fields::new(rt.alloc());
-    for (piece, answer, count) in rows {
-        assert!(rt; piece.len() <= 65_536);
-        assert_eq!(rt; read_piece_into(piece, &mut fields), answer, "{piece:?}");
-        assert_eq!(rt; fields.len(), count, "{piece:?}");
+    for line in ANSWERS.lines() {
+        reads_into(&rt, rt.alloc(), &mut fields, line);
     }
 }
 
@@ -129,56 +146,59 @@ fn cut(alloc: Global, limit: u64, stream: &[u8], portion: usize) -> Result<Vec<u
     Ok(cuts)
 }
 
-#[test]
-fn cuts_alike_in_any_portions(rt: HostRuntime) -> Result<(), Fail> {
-    let rows = [
-        ("", 0, ""),
-        ("\n", 1, "\n|"),
-        ("\n", 0, "stream too long"),
-        ("1,7\n2,7\n3,7", 11, "1,7\n|2,7\n|3,7|"),
-        ("1,7\n2,7\n3,7", 10, "1,7\n|2,7\n|stream too long"),
-        ("1,7\n\n2,7\n", 100, "1,7\n|\n|2,7\n|"),
-        (
-            "1,\"a\nb\"\n2,\"\"\"\n\"\n",
-            100,
-            "1,\"a\nb\"\n|2,\"\"\"\n\"\n|",
-        ),
-        ("1,7\n2,\"7", 100, "1,7\n|open quote"),
-        ("1,\"\n2,7\n", 100, "open quote"),
-    ];
-    for (stream, limit, cuts) in rows {
-        for portion in [1, 3, 4096] {
-            let found = cut(rt.alloc(), limit, stream.as_bytes(), portion)?;
-            assert_eq!(rt;
-                found.as_slice(),
-                cuts.as_bytes(),
-                "{stream:?} by {portion}"
-            );
-        }
-    }
-    Ok(())
+/// Limits of a stream, streams, and their pieces.
+const STREAMS: &str = "\
+0: ε => ε
+1: ⏎ => ⏎|
+0: ⏎ => stream too long
+11: 1,7⏎2,7⏎3,7 => 1,7⏎|2,7⏎|3,7|
+10: 1,7⏎2,7⏎3,7 => 1,7⏎|2,7⏎|stream too long
+100: 1,7⏎⏎2,7⏎ => 1,7⏎|⏎|2,7⏎|
+100: 1,\"a⏎b\"⏎2,\"\"\"⏎\"⏎ => 1,\"a⏎b\"⏎|2,\"\"\"⏎\"⏎|
+100: 1,7⏎2,\"7 => 1,7⏎|open quote
+100: 1,\"⏎2,7⏎ => open quote";
+
+/// Cuts the stream of a line in portions of so many bytes.
+fn cuts(rt: &impl Abort, alloc: Global, line: &str, portion: usize)
+    requires { 0 < portion }
+{
+    let (limit, behind) = line.split_once(": ").expect(rt, "a limit");
+    let limit = limit.parse::<u64>().expect(rt, "a number");
+    let (stream, want) = case(rt, alloc, behind);
+    let found = cut(alloc, limit, &stream, portion).expect(rt, "memory");
+    same(rt, line, &found, &want);
 }
 
 #[test]
-fn holds_to_both_limits(rt: HostRuntime) -> Result<(), Fail> {
-    let rows = [
-        (65_536, 65_536, None),
-        (65_537, 65_536, Some("stream too long")),
-        (65_537, 65_537, Some("piece too long")),
-        (70_000, 69_000, Some("piece too long")),
-        (70_000, 1_000, Some("stream too long")),
-    ];
-    for (size, limit, fault) in rows {
-        let stream = vec![in rt.alloc(); b'x'; size]?;
-        for portion in [1, 4096, 100_000] {
-            let found = cut(rt.alloc(), limit, &stream, portion)?;
-            match fault {
-                Some(fault) => assert_eq!(rt; found.as_slice(), fault.as_bytes(), "{size}"),
-                None => assert_eq!(rt; found.len(), size + 1, "{size}"),
-            }
+fn cuts_alike_in_any_portions(rt: HostRuntime) {
+    for line in STREAMS.lines() {
+        cuts(&rt, rt.alloc(), line, 1);
+        cuts(&rt, rt.alloc(), line, 3);
+        cuts(&rt, rt.alloc(), line, 4096);
+    }
+}
+
+/// The only piece of a stream of so many bytes has them all, or there is this fault.
+fn holds_to(rt: &impl Abort, alloc: Global, size: usize, limit: u64, fault: Option<&str>) {
+    let stream = vec![in alloc; b'x'; size].expect(rt, "memory");
+    for portion in [1, 4096, 100_000] {
+        let found = cut(alloc, limit, &stream, portion).expect(rt, "memory");
+        match fault {
+            Some(fault) => same(rt, fault, &found, fault.as_bytes()),
+            None => assert!(rt; found.len().checked_sub(1) == Some(size)),
         }
     }
-    Ok(())
+}
+
+#[test]
+fn holds_to_both_limits(rt: HostRuntime) {
+    let stream_long = Some("stream too long");
+    let piece_long = Some("piece too long");
+    holds_to(&rt, rt.alloc(), 65_536, 65_536, None);
+    holds_to(&rt, rt.alloc(), 65_537, 65_536, stream_long);
+    holds_to(&rt, rt.alloc(), 65_537, 65_537, piece_long);
+    holds_to(&rt, rt.alloc(), 70_000, 69_000, piece_long);
+    holds_to(&rt, rt.alloc(), 70_000, 1_000, stream_long);
 }
 
 #[test]
@@ -217,21 +237,14 @@ fn lends_whole_pieces(rt: HostRuntime) {
 }
 
 #[test]
-fn keeps_each_field(rt: HostRuntime) -> Result<(), Fail> {
+fn keeps_each_field(rt: HostRuntime) {
     let mut fields = Fields::new(rt.alloc());
     for field in ["a", "", "bc"] {
-        assert!(rt; fields.push(field.as_bytes()).is_ok());
+        fields.push(field.as_bytes()).expect(&rt, "memory");
     }
     assert_eq!(rt; fields.len(), 3);
-    let rows = [(0, Some("a")), (1, Some("")), (2, Some("bc")), (3, None)];
-    for (at, field) in rows {
-        assert_eq!(rt;
-            fields.get(at),
-            field.map(|text| text.as_bytes()),
-            "at {at}"
-        );
-    }
-    Ok(())
+    same(&rt, "fields", &barred(&rt, rt.alloc(), &fields), b"|a||bc");
+    assert!(rt; fields.get(3).is_none());
 }
 
 #[test]

@@ -2,12 +2,13 @@
 
 ghost use Rattle.std.specs.Prelude.{◌≡◌, IfOk};
 
+use crate::texts::{same, spelled};
 use hj_base::Memory;
 use hj_record::Fields;
 use hj_schema::{RowFault, read_row};
 use hj_value::{Column, ColumnType, Columns, Field, Row, Schema, TextBytes};
 use std::alloc::Global;
-use std::test::Fail;
+use std::process::Abort;
 
 /// `ts int, sym text, px int`.
 fn schema(alloc: Global) -> Result<Schema, Memory> {
@@ -27,10 +28,12 @@ fn column(alloc: Global, name: &str, kind: ColumnType) -> Result<Column, Memory>
     Ok(Column { name, kind })
 }
 
-fn read(alloc: Global, schema: &Schema, texts: &[&[u8]]) -> Result<Row, RowFault> {
+/// What the record of a text reads as. Bars stand between its fields.
+fn read(rt: &impl Abort, alloc: Global, schema: &Schema, text: &str) -> Result<Row, RowFault> {
     let mut fields = Fields::new(alloc);
-    for text in texts {
-        fields.push(text)?;
+    for field in text.split('|') {
+        let field = spelled(rt, alloc, field);
+        fields.push(&field).expect(rt, "memory");
     }
     read_row(alloc, schema, &fields)
 }
@@ -43,39 +46,35 @@ fn is_row(row: &Row, ts: i64, sym: &[u8], px: i64) -> bool {
 }
 
 #[test]
-fn reads_rows(rt: HostRuntime) -> Result<(), Fail> {
-    let schema = schema(rt.alloc())?;
-    let rows: [(&[&[u8]], i64, &[u8], i64); 2] = [
-        (&[b"1000", b"AB", b"+7"], 1000, b"AB", 7),
-        (&[b"-1", b"", b"0007"], -1, b"", 7),
-    ];
-    for (texts, ts, sym, px) in rows {
-        let row = read(rt.alloc(), &schema, texts)?;
-        assert!(rt; is_row(&row, ts, sym, px));
-    }
-    Ok(())
+fn reads_rows(rt: HostRuntime) {
+    let schema = schema(rt.alloc()).expect(&rt, "memory");
+    let row = read(&rt, rt.alloc(), &schema, "1000|AB|+7").expect(&rt, "a row");
+    assert!(rt; is_row(&row, 1000, b"AB", 7));
+    let row = read(&rt, rt.alloc(), &schema, "-1||0007").expect(&rt, "a row");
+    assert!(rt; is_row(&row, -1, b"", 7));
+}
+
+/// Records, and their first faults.
+const REFUSED: &str = "\
+1|A => FieldCount(2)
+x|«ff»||4 => FieldCount(4)
+|«ff»|x => NotNumber(1)
+9223372036854775808|A|1 => NumberRange(1)
+1|«c3»|x => NotText(2)
+1|A|1  => NotNumber(3)
+1|A|-9223372036854775809 => NumberRange(3)";
+
+fn refuses(rt: &impl Abort, alloc: Global, schema: &Schema, line: &str) {
+    let (text, want) = line.split_once(" => ").expect(rt, "a case");
+    let fault = read(rt, alloc, schema, text).err().expect(rt, "a fault");
+    let found = format!(in alloc; "{fault:?}").expect(rt, "memory");
+    same(rt, line, found.as_bytes(), want.as_bytes());
 }
 
 #[test]
-fn refuses_the_first_fault(rt: HostRuntime) -> Result<(), Fail> {
-    let schema = schema(rt.alloc())?;
-    let refused: [(&[&[u8]], RowFault); 7] = [
-        (&[b"1", b"A"], RowFault::FieldCount(2)),
-        (&[b"x", b"\xff", b"", b"4"], RowFault::FieldCount(4)),
-        (&[b"", b"\xff", b"x"], RowFault::NotNumber(1)),
-        (
-            &[b"9223372036854775808", b"A", b"1"],
-            RowFault::NumberRange(1),
-        ),
-        (&[b"1", b"\xc3", b"x"], RowFault::NotText(2)),
-        (&[b"1", b"A", b"1 "], RowFault::NotNumber(3)),
-        (
-            &[b"1", b"A", b"-9223372036854775809"],
-            RowFault::NumberRange(3),
-        ),
-    ];
-    for (texts, want) in refused {
-        assert_eq!(rt; read(rt.alloc(), &schema, texts).err(), Some(want));
+fn refuses_the_first_fault(rt: HostRuntime) {
+    let schema = schema(rt.alloc()).expect(&rt, "memory");
+    for line in REFUSED.lines() {
+        refuses(&rt, rt.alloc(), &schema, line);
     }
-    Ok(())
 }

@@ -2,132 +2,163 @@
 
 ghost use Rattle.std.specs.Prelude.{◌≡◌, codes};
 
+use crate::texts::{case, number, same};
 use hj_base::{Memory, Share};
 use hj_value::{
-    Column, ColumnType, Columns, Field, IntFault, Row, Schema, SharedRow, Text, TextBytes, compare,
+    Column, ColumnType, Columns, Field, Row, Schema, SharedRow, Text, TextBytes, compare,
     print_int, read_int,
 };
 use std::alloc::Global;
 use std::cmp::Ordering;
-use std::test::Fail;
+use std::process::Abort;
 
 /// Takes what may go to other threads and be read by them.
 fn crosses<T: Send + Sync + Drop>(_value: T) {}
 
-/// A row of a number, two texts and a number.
-fn row_of_four(alloc: Global) -> Result<Row, Memory> {
-    let mut row = Row::with_capacity(alloc, 4, 3)?;
-    row.push(Field::Int(5))?;
-    row.push(text_field("a\u{fc}"))?;
-    row.push(text_field(""))?;
-    row.push(Field::Int(-3))?;
-    Ok(row)
+pub(crate) fn text_field<'a>(rt: &impl Abort, text: &'a [u8]) -> Field<'a> {
+    Field::Text(Text::from_bytes(text).expect(rt, "a text"))
 }
 
-/// A text, where it is UTF-8.
-pub(crate) fn text_field(text: &str) -> Field<'_> {
-    match Text::from_bytes(text.as_bytes()) {
-        Some(text) => Field::Text(text),
-        None => Field::Int(0),
+/// A text in quotes, or a number.
+pub(crate) fn field<'a>(rt: &impl Abort, word: &'a str) -> Field<'a> {
+    match word.strip_prefix('\'') {
+        Some(quoted) => {
+            let text = quoted.strip_suffix('\'').expect(rt, "a quote");
+            text_field(rt, text.as_bytes())
+        }
+        None => Field::Int(number(rt, word)),
     }
 }
 
-fn is_same(row: &Row, at: usize, want: &Field<'_>) -> bool {
+/// The fields of a row.
+const FIELDS: &str = "\
+5
+'a\u{fc}'
+''
+-3";
+
+/// The row of these fields.
+fn row_of(rt: &impl Abort, alloc: Global, fields: &str) -> Row {
+    let mut row = Row::with_capacity(alloc, 4, 3).expect(rt, "memory");
+    for word in fields.lines() {
+        row.push(field(rt, word)).expect(rt, "memory");
+    }
+    row
+}
+
+/// Whether a row has this field here.
+fn has(rt: &impl Abort, row: &Row, at: usize, word: &str) -> bool {
     match row.get(at) {
-        Some(field) => compare(&field, want) == Ordering::Equal,
+        Some(found) => compare(&found, &field(rt, word)) == Ordering::Equal,
         None => false,
     }
 }
 
 #[test]
-fn keeps_fields(rt: HostRuntime) -> Result<(), Fail> {
-    let row = row_of_four(rt.alloc())?;
+fn keeps_fields(rt: HostRuntime) {
+    let row = row_of(&rt, rt.alloc(), FIELDS);
     assert_eq!(rt; row.len(), 4);
     assert_eq!(rt; row.time(), 5);
-    assert!(rt; is_same(&row, 0, &Field::Int(5)));
-    assert!(rt; is_same(&row, 1, &text_field("a\u{fc}")));
-    assert!(rt; is_same(&row, 2, &text_field("")));
-    assert!(rt; is_same(&row, 3, &Field::Int(-3)));
+    for (at, word) in FIELDS.lines().enumerate() {
+        assert!(rt; has(&rt, &row, at, word), "at {at}");
+    }
     assert!(rt; row.get(4).is_none());
-    let mut untimed = Row::new(rt.alloc());
-    assert_eq!(rt; untimed.time(), 0);
-    untimed.push(text_field("7"))?;
-    assert_eq!(rt; untimed.time(), 0);
-    Ok(())
 }
 
 #[test]
-fn shares_a_row(rt: HostRuntime) -> Result<(), Fail> {
-    let shared = SharedRow::new(rt.alloc(), row_of_four(rt.alloc())?)?;
-    let second = shared.share()?;
+fn has_no_time_without_a_number(rt: HostRuntime) {
+    let mut row = Row::new(rt.alloc());
+    assert_eq!(rt; row.time(), 0);
+    row.push(text_field(&rt, b"7")).expect(&rt, "memory");
+    assert_eq!(rt; row.time(), 0);
+}
+
+#[test]
+fn shares_a_row(rt: HostRuntime) {
+    let row = row_of(&rt, rt.alloc(), FIELDS);
+    let shared = SharedRow::new(rt.alloc(), row).expect(&rt, "memory");
+    let second = shared.share().expect(&rt, "memory");
     crosses(shared);
     assert_eq!(rt; second.row().len(), 4);
-    assert!(rt; is_same(second.row(), 1, &text_field("a\u{fc}")));
-    crosses(row_of_four(rt.alloc())?);
-    Ok(())
+    assert!(rt; has(&rt, second.row(), 1, "'a\u{fc}'"));
+    crosses(row_of(&rt, rt.alloc(), FIELDS));
+}
+
+/// Fields, the lower ones first.
+const ASCENDING: &str = "\
+-9223372036854775808
+-1
+10
+''
+'9'
+'9a'
+'a'
+'\u{fc}'";
+
+/// Compares the field at a place of that table with each.
+fn compares(rt: &impl Abort, at: usize, word: &str) {
+    let lower = field(rt, word);
+    for (other, word) in ASCENDING.lines().enumerate() {
+        assert_eq!(rt; compare(&lower, &field(rt, word)), at.cmp(&other));
+    }
 }
 
 #[test]
 fn compares_fields(rt: HostRuntime) {
-    let ascending = [
-        Field::Int(i64::MIN),
-        Field::Int(-1),
-        Field::Int(10),
-        text_field(""),
-        text_field("9"),
-        text_field("9a"),
-        text_field("a"),
-        text_field("\u{fc}"),
-    ];
-    for (at, lower) in ascending.iter().enumerate() {
-        for (other, higher) in ascending.iter().enumerate() {
-            assert_eq!(rt; compare(lower, higher), at.cmp(&other));
-        }
+    for (at, word) in ASCENDING.lines().enumerate() {
+        compares(&rt, at, word);
     }
+}
+
+/// Texts, and the numbers that they are.
+const TEXTS: &str = "\
+0 => Ok(0)
+-0 => Ok(0)
++7 => Ok(7)
+007 => Ok(7)
+9223372036854775807 => Ok(9223372036854775807)
+9223372036854775808 => Err(NumberRange)
+-9223372036854775808 => Ok(-9223372036854775808)
+-9223372036854775809 => Err(NumberRange)
+99999999999999999999 => Err(NumberRange)
+ε => Err(NotNumber)
++ => Err(NotNumber)
+- => Err(NotNumber)
++-1 => Err(NotNumber)
+ 1 => Err(NotNumber)
+1  => Err(NotNumber)
+1a => Err(NotNumber)
+99999999999999999999a => Err(NotNumber)
+«ff» => Err(NotNumber)
+1«c3» => Err(NotNumber)
+«d9»«a1» => Err(NotNumber)";
+
+fn reads(rt: &impl Abort, alloc: Global, line: &str) {
+    let (text, want) = case(rt, alloc, line);
+    let read = read_int(&text);
+    let found = format!(in alloc; "{read:?}").expect(rt, "memory");
+    same(rt, line, found.as_bytes(), &want);
 }
 
 #[test]
 fn reads_numbers(rt: HostRuntime) {
-    let table: [(&[u8], Result<i64, IntFault>); 20] = [
-        (b"0", Ok(0)),
-        (b"-0", Ok(0)),
-        (b"+7", Ok(7)),
-        (b"007", Ok(7)),
-        (b"9223372036854775807", Ok(i64::MAX)),
-        (b"9223372036854775808", Err(IntFault::NumberRange)),
-        (b"-9223372036854775808", Ok(i64::MIN)),
-        (b"-9223372036854775809", Err(IntFault::NumberRange)),
-        (b"99999999999999999999", Err(IntFault::NumberRange)),
-        (b"", Err(IntFault::NotNumber)),
-        (b"+", Err(IntFault::NotNumber)),
-        (b"-", Err(IntFault::NotNumber)),
-        (b"+-1", Err(IntFault::NotNumber)),
-        (b" 1", Err(IntFault::NotNumber)),
-        (b"1 ", Err(IntFault::NotNumber)),
-        (b"1a", Err(IntFault::NotNumber)),
-        (b"99999999999999999999a", Err(IntFault::NotNumber)),
-        (b"\xff", Err(IntFault::NotNumber)),
-        (b"1\xc3", Err(IntFault::NotNumber)),
-        (b"\xd9\xa1", Err(IntFault::NotNumber)),
-    ];
-    for (bytes, want) in table {
-        assert_eq!(rt; read_int(bytes), want);
+    for line in TEXTS.lines() {
+        reads(&rt, rt.alloc(), line);
     }
 }
 
+const NUMBERS: &str = "\
+0
+-1
+-9223372036854775808
+9223372036854775807";
+
 #[test]
-fn prints_numbers(rt: HostRuntime) -> Result<(), Fail> {
-    let table: [(i64, &[u8]); 4] = [
-        (0, b"0"),
-        (-1, b"-1"),
-        (i64::MIN, b"-9223372036854775808"),
-        (i64::MAX, b"9223372036854775807"),
-    ];
-    for (value, want) in table {
-        let text = print_int(rt.alloc(), value)?;
-        assert_eq!(rt; text.bytes(), want);
+fn prints_numbers(rt: HostRuntime) {
+    for line in NUMBERS.lines() {
+        let text = print_int(rt.alloc(), number(&rt, line)).expect(&rt, "memory");
+        same(&rt, line, text.bytes(), line.as_bytes());
     }
-    Ok(())
 }
 
 fn timed(alloc: Global, name: TextBytes) -> Result<Schema, Memory>
@@ -140,14 +171,14 @@ fn timed(alloc: Global, name: TextBytes) -> Result<Schema, Memory>
 }
 
 #[test]
-fn begins_with_the_time(rt: HostRuntime) -> Result<(), Fail> {
-    let bytes = b"ts";
-    let name = TextBytes::from_bytes(rt.alloc(), bytes)?.ok_or("refused")?;
-    let schema = timed(rt.alloc(), name)?.copy(rt.alloc())?;
-    let first = schema.columns.get(0).ok_or("none")?;
+fn begins_with_the_time(rt: HostRuntime) {
+    let name = TextBytes::from_bytes(rt.alloc(), b"ts").expect(&rt, "memory");
+    let name = name.expect(&rt, "a text");
+    let schema = timed(rt.alloc(), name).expect(&rt, "memory");
+    let schema = schema.copy(rt.alloc()).expect(&rt, "memory");
+    let first = schema.columns.get(0).expect(&rt, "a column");
     assert_eq!(rt; schema.columns.len(), 1);
     assert_eq!(rt; first.name.bytes(), b"ts".as_slice());
     assert_eq!(rt; first.kind, ColumnType::Int);
     assert!(rt; schema.columns.get(1).is_none());
-    Ok(())
 }

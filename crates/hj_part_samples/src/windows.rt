@@ -1,30 +1,30 @@
 //! Rows that expire.
 
-ghost use Rattle.std.specs.Prelude.{[]};
-ghost use Rattle.hj_window.specs.LiveRows.{AllBelow};
+ghost use Rattle.std.specs.Prelude.{◌+◌, ◌^◌, ◌<◌, ◌≤◌};
 
+use crate::texts::{number, same};
 use hj_base::Side::{Left, Right};
-use hj_base::{EventNo, Memory, Side, Window};
-use hj_window::{Live, Numbers};
-use std::alloc::{AllocError, Global};
+use hj_base::{EventNo, Side, Window};
+use hj_window::{Expired, Live, Numbers};
+use std::alloc::Global;
 use std::fmt::Write;
-use std::test::Fail;
+use std::process::Abort;
 
 #[test]
-fn numbers_in_their_order(rt: HostRuntime) -> Result<(), Fail> {
+fn numbers_in_their_order(rt: HostRuntime) {
     let mut numbers = Numbers::new(rt.alloc());
     assert_eq!(rt; numbers.len(), 0);
     assert!(rt; numbers.get(0).is_none());
-    for (side, no) in [(Right, 4), (Left, 9), (Right, 4)] {
-        numbers.push((side, EventNo(no)))?;
+    let rows = [(Right, 4), (Left, 9), (Right, 4)];
+    for (side, no) in rows {
+        numbers.push((side, EventNo(no))).expect(&rt, "memory");
     }
     assert_eq!(rt; numbers.len(), 3);
-    for (at, side, no) in [(0, Right, 4), (1, Left, 9), (2, Right, 4)] {
+    for (at, (side, no)) in rows.into_iter().enumerate() {
         let found = numbers.get(at).map(|row| (row.0, row.1));
         assert_eq!(rt; found, Some((side, EventNo(no))), "at {at}");
     }
     assert!(rt; numbers.get(3).is_none());
-    Ok(())
 }
 
 fn letter(side: Side) -> char {
@@ -35,145 +35,125 @@ fn letter(side: Side) -> char {
 }
 
 /// Adds the expiries of these rows, a blank behind each.
-fn push_expiries(text: &mut String, numbers: &Numbers) -> Result<(), AllocError> {
+fn push_expiries(rt: &impl Abort, text: &mut String, numbers: &Numbers) {
     for at in 0..numbers.len() {
-        if let Some((side, no)) = numbers.get(at) {
-            write!(text, "-{}{} ", no.0, letter(*side))?;
-        }
+        let (side, no) = numbers.get(at).expect(rt, "a row");
+        write!(text, "-{}{} ", no.0, letter(*side)).expect(rt, "memory");
     }
-    Ok(())
 }
 
-/// The events of these arrivals: `+` and `-` for an arrival and an expiry, then the row's number and the letter of its side, a blank behind each.
+/// Adds the events of the arrival of this number: `+` and `-` for an arrival and an expiry, then the row's number and the letter
+/// of its side, a blank behind each. Answers the next number.
+fn push_events(rt: &impl Abort, text: &mut String, expired: &Expired, side: Side, no: u64) -> u64
+    requires { no + 2 < 2 ^ 64 }
+    ensures { no + 1 ≤ result }
+{
+    push_expiries(rt, text, &expired.before);
+    let letter = letter(side);
+    write!(text, "+{no}{letter} ").expect(rt, "memory");
+    match expired.after {
+        Some(gone) => {
+            write!(text, "-{}{letter} ", gone.0).expect(rt, "memory");
+            no + 2
+        }
+        None => no + 1,
+    }
+}
+
+/// The events of these arrivals.
 fn events(
+    rt: &impl Abort,
     alloc: Global,
     windows: (Window, Window),
     arrivals: &[(Side, i64)],
-) -> Result<String, Memory> {
+) -> String {
     let mut live = Live::new(alloc, windows.0, windows.1);
     let mut next = 0;
     let mut text = String::new(alloc);
     for (side, time) in arrivals {
-        if next >= 1000 {
-            return Err(Memory);
-        }
-        let expired = live.arrive(*side, *time, EventNo(next))?;
-        push_expiries(&mut text, &expired.before)?;
-        next += expired.before.len() as u64;
-        write!(text, "+{}{} ", next, letter(*side))?;
-        next += 1;
-        if let Some(no) = expired.after {
-            write!(text, "-{}{} ", no.0, letter(*side))?;
-            next += 1;
-        }
+        assert!(rt; next < 1000);
+        let expired = live.arrive(*side, *time, EventNo(next));
+        let expired = expired.expect(rt, "memory");
+        let no = next + expired.before.len() as u64;
+        next = push_events(rt, &mut text, &expired, *side, no);
     }
-    Ok(text)
+    text
 }
 
-#[test]
-fn rows_expire_in_turn(rt: HostRuntime) -> Result<(), Fail> {
-    let cases = [
-        // Windows of rows.
-        (
-            (Window::Rows(1), Window::Rows(1)),
-            [(Left, 1), (Left, 2), (Right, 3)].as_slice(),
-            "+0L +1L -0L +3R ",
-        ),
-        (
-            (Window::Rows(2), Window::Rows(1)),
-            [(Left, 1), (Right, 1), (Left, 2), (Left, 2), (Right, 2)].as_slice(),
-            "+0L +1R +2L +3L -0L +5R -1R ",
-        ),
-        // A row of age exactly the window's length is gone.
-        (
-            (Window::Time(5), Window::Rows(10)),
-            [(Left, 0), (Right, 4), (Right, 5)].as_slice(),
-            "+0L +1R -0L +3R ",
-        ),
-        // Both sides, in the order of arrival.
-        (
-            (Window::Time(5), Window::Time(4)),
-            [
-                (Right, 0),
-                (Left, 0),
-                (Left, 1),
-                (Right, 1),
-                (Right, 3),
-                (Left, 6),
-            ]
-            .as_slice(),
-            "+0R +1L +2L +3R +4R -0R -1L -2L -3R +9L ",
-        ),
-        // Trades and quotes.
-        (
-            (Window::Rows(100), Window::Time(5000)),
-            [
-                (Left, 1000),
-                (Right, 1000),
-                (Right, 1200),
-                (Left, 1500),
-                (Left, 2000),
-                (Right, 2500),
-                (Left, 3000),
-                (Right, 3500),
-                (Left, 4000),
-                (Right, 5000),
-                (Left, 6000),
-                (Right, 6000),
-                (Left, 7000),
-                (Right, 7500),
-                (Left, 9000),
-                (Right, 9000),
-            ]
-            .as_slice(),
-            "+0L +1R +2R +3L +4L +5R +6L +7R +8L +9R -1R +11L +12R -2R +14L -5R +16R -7R +18L +19R ",
-        ),
-        // Times that fall: a row is gone by its own age, wherever it stands.
-        (
-            (Window::Time(5), Window::Time(5)),
-            [
-                (Left, 10),
-                (Left, 3),
-                (Right, 20),
-                (Right, 8),
-                (Left, 8),
-                (Right, 13),
-            ]
-            .as_slice(),
-            "+0L +1L -0L -1L +4R +5R +6L -5R -6L +9R ",
-        ),
-        // Windows that hold no row.
-        (
-            (Window::Rows(0), Window::Time(0)),
-            [(Left, 7), (Right, 7), (Right, 6), (Left, 7)].as_slice(),
-            "+0L -0L +2R +3R -2R -3R +6L -6L ",
-        ),
-    ];
-    for (windows, arrivals, wanted) in cases {
-        let found = events(rt.alloc(), windows, arrivals)?;
-        assert_eq!(rt; found.as_str(), wanted);
+/// A window of so many rows, or of so long a time.
+fn window(rt: &impl Abort, text: &str) -> Window {
+    let (kind, count) = text.split_once(' ').expect(rt, "a window");
+    match kind {
+        "rows" => Window::Rows(count.parse::<u32>().expect(rt, "a number")),
+        "time" => Window::Time(count.parse::<u64>().expect(rt, "a number")),
+        _ => panic!(rt; "no window: {text}"),
     }
-    Ok(())
 }
 
-#[test]
-fn ages_pass_64_bits(rt: HostRuntime) -> Result<(), Fail> {
-    let least = i64::MIN;
-    let most = i64::MAX;
-    let longest = u64::MAX;
-    let cases = [
-        (longest, least, most, "+0L -0L +2R "),
-        (longest, least + 1, most, "+0L +1R "),
-        (1 << 63, least, -1, "+0L +1R "),
-        (1 << 63, least, 0, "+0L -0L +2R "),
-        (1, most, least, "+0L +1R "),
-        (1 << 62, -1 << 62, 0, "+0L -0L +2R "),
-    ];
-    for (span, first, second, wanted) in cases {
-        let arrivals = [(Left, first), (Right, second)];
-        let windows = (Window::Time(span), Window::Rows(1));
-        let found = events(rt.alloc(), windows, &arrivals)?;
-        assert_eq!(rt; found.as_str(), wanted);
+/// The letter of a side, and a time behind it.
+fn arrival(rt: &impl Abort, word: &str) -> (Side, i64) {
+    let (side, time) = match word.strip_prefix('L') {
+        Some(time) => (Left, time),
+        None => (Right, word.strip_prefix('R').expect(rt, "a side")),
+    };
+    (side, number(rt, time))
+}
+
+fn arrivals(rt: &impl Abort, alloc: Global, text: &str) -> Vec<(Side, i64)> {
+    let mut arrivals = Vec::new(alloc);
+    for word in text.split(' ') {
+        arrivals.push(arrival(rt, word)).expect(rt, "memory");
     }
-    Ok(())
+    arrivals
+}
+
+/// Lets the rows of a line arrive.
+fn expires(rt: &impl Abort, alloc: Global, line: &str) {
+    let (both, behind) = line.split_once(" | ").expect(rt, "a case");
+    let (rows, want) = behind.split_once(" | ").expect(rt, "events");
+    let (left, right) = both.split_once(", ").expect(rt, "windows");
+    let windows = (window(rt, left), window(rt, right));
+    let arrivals = arrivals(rt, alloc, rows);
+    let found = events(rt, alloc, windows, &arrivals);
+    let found = found.strip_suffix(' ').expect(rt, "a blank");
+    same(rt, line, found.as_bytes(), want.as_bytes());
+}
+
+fn expires_all(rt: &impl Abort, alloc: Global, table: &str) {
+    for line in table.lines() {
+        expires(rt, alloc, line);
+    }
+}
+
+/// Both windows, the rows that arrive, and the events.
+///
+/// Two windows of rows; a row of age exactly the window's length, which is gone; both sides, in the order of arrival; trades and
+/// quotes; times that fall, where a row is gone by its own age, wherever it stands; and windows that hold no row.
+const IN_TURN: &str = "\
+rows 1, rows 1 | L1 L2 R3 | +0L +1L -0L +3R
+rows 2, rows 1 | L1 R1 L2 L2 R2 | +0L +1R +2L +3L -0L +5R -1R
+time 5, rows 10 | L0 R4 R5 | +0L +1R -0L +3R
+time 5, time 4 | R0 L0 L1 R1 R3 L6 | +0R +1L +2L +3R +4R -0R -1L -2L -3R +9L
+rows 100, time 5000 | L1000 R1000 R1200 L1500 L2000 R2500 L3000 R3500 L4000 R5000 L6000 R6000 L7000 R7500 L9000 R9000 | \
++0L +1R +2R +3L +4L +5R +6L +7R +8L +9R -1R +11L +12R -2R +14L -5R +16R -7R +18L +19R
+time 5, time 5 | L10 L3 R20 R8 L8 R13 | +0L +1L -0L -1L +4R +5R +6L -5R -6L +9R
+rows 0, time 0 | L7 R7 R6 L7 | +0L -0L +2R +3R -2R -3R +6L -6L";
+
+#[test]
+fn rows_expire_in_turn(rt: HostRuntime) {
+    expires_all(&rt, rt.alloc(), IN_TURN);
+}
+
+/// Ages at the ends of the numbers of 64 bits.
+const AGES: &str = "\
+time 18446744073709551615, rows 1 | L-9223372036854775808 R9223372036854775807 | +0L -0L +2R
+time 18446744073709551615, rows 1 | L-9223372036854775807 R9223372036854775807 | +0L +1R
+time 9223372036854775808, rows 1 | L-9223372036854775808 R-1 | +0L +1R
+time 9223372036854775808, rows 1 | L-9223372036854775808 R0 | +0L -0L +2R
+time 1, rows 1 | L9223372036854775807 R-9223372036854775808 | +0L +1R
+time 4611686018427387904, rows 1 | L-4611686018427387904 R0 | +0L -0L +2R";
+
+#[test]
+fn ages_pass_64_bits(rt: HostRuntime) {
+    expires_all(&rt, rt.alloc(), AGES);
 }

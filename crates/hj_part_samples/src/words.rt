@@ -1,18 +1,20 @@
 //! Words of the command line.
 
+use crate::texts::same;
 use hj_base::Setup;
 use hj_words::{Order, Usage, read_words};
-use std::alloc::Global;
-use std::test::Fail;
+use std::alloc::{AllocError, Global};
+use std::process::Abort;
 
 /// The words of a line, which blanks separate; `.` stands for an empty word.
-fn split(alloc: Global, line: &str) -> Result<Vec<String>, Fail> {
+fn split(rt: &impl Abort, alloc: Global, line: &str) -> Vec<String> {
     let mut words = Vec::new(alloc);
     for word in line.split(' ') {
         let word = if word == "." { "" } else { word };
-        words.push(String::from_str(alloc, word)?)?;
+        let word = String::from_str(alloc, word).expect(rt, "memory");
+        words.push(word).expect(rt, "memory");
     }
-    Ok(words)
+    words
 }
 
 /// Lines that spell no order.
@@ -65,23 +67,26 @@ gen 1 1000000001 0 1
 gen 1 1 18446744073709551616 1
 gen 1 1 1";
 
-#[test]
-fn refuses_what_spells_no_order(rt: HostRuntime) -> Result<(), Fail> {
-    for line in REFUSED.lines() {
-        let words = split(rt.alloc(), line)?;
-        assert!(rt;
-            matches!(&read_words(rt.alloc(), &words), Err(Usage::Words)),
-            "at {line}"
-        );
-    }
-    let none = read_words(rt.alloc(), &[]);
-    assert!(rt; matches!(&none, Err(Usage::Words)));
-    Ok(())
+fn is_refused(alloc: Global, words: &[String]) -> bool {
+    matches!(read_words(alloc, words), Err(Usage::Words))
 }
 
-/// What a line of a `join` spells, as numbers and names.
-fn join(alloc: Global, line: &str) -> Result<String, Fail> {
-    match read_words(alloc, &split(alloc, line)?)? {
+#[test]
+fn refuses_what_spells_no_order(rt: HostRuntime) {
+    for line in REFUSED.lines() {
+        let words = split(&rt, rt.alloc(), line);
+        assert!(rt; is_refused(rt.alloc(), &words), "at {line}");
+    }
+    assert!(rt; is_refused(rt.alloc(), &[]));
+}
+
+/// An order as a line that spells it, with each number that may be left out.
+fn told(alloc: Global, order: &Order) -> Result<String, AllocError> {
+    match order {
+        Order::Equi { w, left, right } => {
+            let (left, right) = (left.text(), right.text());
+            format!(in alloc; "equi {w} {left} {right}")
+        }
         Order::Join {
             setup,
             limit,
@@ -90,70 +95,49 @@ fn join(alloc: Global, line: &str) -> Result<String, Fail> {
             left,
             right,
         } => {
-            let Setup {
-                cores,
-                threads,
-                flight,
-            } = setup;
-            let (query, left, right) = (query.text(), left.text(), right.text());
+            let setup = told_setup(alloc, setup)?;
             let seed = schedule.unwrap_or(0);
-            Ok(format!(in alloc;
-                "{cores} {threads} {flight} {limit} {seed} {query} {left} {right}"
-            )?)
+            let (query, left, right) = (query.text(), left.text(), right.text());
+            format!(in alloc; "join {setup} {limit} {seed} {query} {left} {right}")
         }
-        _ => Err("no join".into()),
+        Order::Check { query } => {
+            let query = query.text();
+            format!(in alloc; "check {query}")
+        }
+        Order::Gen { n, keys, seed, w } => format!(in alloc; "gen {n} {keys} {seed} {w}"),
     }
 }
 
-/// Each line of words, and what it spells.
-const JOINS: [(&str, &str); 6] = [
-    ("join q a b", "4 4 32 4294967295 0 q a b"),
-    ("join --cores=2 -- q -a b", "2 4 32 4294967295 0 q -a b"),
-    (
-        "join q --cores 1 a b --threads=0",
-        "1 0 32 4294967295 0 q a b",
-    ),
-    ("join q a b --", "4 4 32 4294967295 0 q a b"),
-    ("join -- -- a --cores", "4 4 32 4294967295 0 -- a --cores"),
-    (
-        "join --schedule 18446744073709551615 --threads 00 --max-events 1 --flight 256 q a= b",
-        "4 0 256 1 18446744073709551615 q a= b",
-    ),
-];
+fn told_setup(alloc: Global, setup: &Setup) -> Result<String, AllocError> {
+    let (cores, threads, flight) = (setup.cores, setup.threads, setup.flight);
+    format!(in alloc; "{cores} {threads} {flight}")
+}
 
-#[test]
-fn reads_joins(rt: HostRuntime) -> Result<(), Fail> {
-    for (line, order) in &JOINS {
-        assert_eq!(rt; join(rt.alloc(), line)?.as_str(), *order);
-    }
-    Ok(())
+/// Lines of words, and what each spells: of a join the cores, the threads, the flight, the most events and the seed first.
+const ORDERS: &str = "\
+join q a b | join 4 4 32 4294967295 0 q a b
+join --cores=2 -- q -a b | join 2 4 32 4294967295 0 q -a b
+join q --cores 1 a b --threads=0 | join 1 0 32 4294967295 0 q a b
+join q a b -- | join 4 4 32 4294967295 0 q a b
+join -- -- a --cores | join 4 4 32 4294967295 0 -- a --cores
+join --schedule 18446744073709551615 --threads 00 --max-events 1 --flight 256 q a= b | \
+join 4 0 256 1 18446744073709551615 q a= b
+equi 00000000000001000000 a -- -b | equi 1000000 a -b
+check q- | check q-
+gen 0 1000000000 18446744073709551615 1 | gen 0 1000000000 18446744073709551615 1";
+
+/// Reads the words of a line.
+fn reads(rt: &impl Abort, alloc: Global, line: &str) {
+    let (words, want) = line.split_once(" | ").expect(rt, "a case");
+    let words = split(rt, alloc, words);
+    let order = read_words(alloc, &words).expect(rt, "an order");
+    let found = told(alloc, &order).expect(rt, "memory");
+    same(rt, line, found.as_bytes(), want.as_bytes());
 }
 
 #[test]
-fn reads_the_other_orders(rt: HostRuntime) -> Result<(), Fail> {
-    let equi = read_words(
-        rt.alloc(),
-        &split(rt.alloc(), "equi 00000000000001000000 a -- -b")?,
-    )?;
-    assert!(rt;
-        matches!(&equi, Order::Equi { w: 1_000_000, left, right } if left.text() == "a" && right.text() == "-b")
-    );
-    let check = read_words(rt.alloc(), &split(rt.alloc(), "check q-")?)?;
-    assert!(rt; matches!(&check, Order::Check { query } if query.text() == "q-"));
-    let made = read_words(
-        rt.alloc(),
-        &split(rt.alloc(), "gen 0 1000000000 18446744073709551615 1")?,
-    )?;
-    assert!(rt;
-        matches!(
-            &made,
-            Order::Gen {
-                n: 0,
-                keys: 1_000_000_000,
-                seed: u64::MAX,
-                w: 1
-            }
-        )
-    );
-    Ok(())
+fn reads_orders(rt: HostRuntime) {
+    for line in ORDERS.lines() {
+        reads(&rt, rt.alloc(), line);
+    }
 }
