@@ -1,7 +1,7 @@
 //! Streams that a seed determines, and sums of what was joined.
 
 use crate::texts::{case, same};
-use hj_gen::{Tally, streams, summary};
+use hj_gen::{Tally, TwoStreams, streams, summary};
 use std::alloc::Global;
 use std::process::Abort;
 
@@ -12,25 +12,30 @@ const STREAMS: &str = "\
 3 100 1 | 2,53⏎2,70⏎2,95⏎ => 1,82⏎1,4⏎3,99⏎
 2 1000000000 18446744073709551615 | 1,490332343⏎2,901017602⏎ => 2,218396424⏎3,861605236⏎";
 
-/// Makes the streams of these three numbers.
-fn makes(rt: &impl Abort, alloc: Global, numbers: &str, left: &[u8], right: &[u8]) {
+/// The streams of these three numbers.
+fn made(rt: &impl Abort, alloc: Global, numbers: &str) -> TwoStreams {
     let (n, behind) = numbers.split_once(' ').expect(rt, "keys");
     let (keys, seed) = behind.split_once(' ').expect(rt, "a seed");
     let n = n.parse::<u32>().expect(rt, "a number");
     let keys = keys.parse::<u32>().expect(rt, "a number");
     let seed = seed.parse::<u64>().expect(rt, "a number");
     assert!(rt; keys > 0);
-    let two = streams(alloc, n, keys, seed).expect(rt, "memory");
-    same(rt, numbers, two.left.bytes(), left);
-    same(rt, numbers, two.right.bytes(), right);
+    streams(alloc, n, keys, seed).expect(rt, "memory")
+}
+
+/// Makes the streams of a line.
+fn makes(rt: &impl Abort, alloc: Global, line: &str) {
+    let (numbers, behind) = line.split_once(" | ").expect(rt, "a case");
+    let (left, right) = case(rt, alloc, behind);
+    let two = made(rt, alloc, numbers);
+    same(rt, line, two.left.bytes(), &left);
+    same(rt, line, two.right.bytes(), &right);
 }
 
 #[test]
 fn makes_streams(rt: HostRuntime) {
     for line in STREAMS.lines() {
-        let (numbers, behind) = line.split_once(" | ").expect(&rt, "a case");
-        let (left, right) = case(&rt, rt.alloc(), behind);
-        makes(&rt, rt.alloc(), numbers, &left, &right);
+        makes(&rt, rt.alloc(), line);
     }
 }
 

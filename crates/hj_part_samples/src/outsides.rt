@@ -7,28 +7,35 @@ ghost use Rattle.hj_base.specs.declared.outside.Role.TheVariants as role;
 
 use crate::texts::{same, spelled};
 use hj_base::{
-    Bytes, CoreNo, Gate, Got, Lcg, MemOutside, MemSink, OpenGate, Opened, Outside, Put, Role, Side,
+    Bytes, CoreNo, Gate, Got, Lcg, MemOutside, MemSink, OpenGate, Opened, Outside, Role, Side,
     Sink, TextBytes,
 };
 use std::alloc::Global;
 use std::process::Abort;
-use std::test::Fail;
+
+/// Pieces, and the answer to the write of each.
+const PIECES: &str = "\
+abc Wrote(2)
+c Failed
+c Wrote(1)";
+
+/// Writes the piece of a line.
+fn writes(rt: &impl Abort, alloc: Global, sink: &mut MemSink, line: &str) {
+    let (piece, want) = line.split_once(' ').expect(rt, "an answer");
+    assert!(rt; !piece.is_empty());
+    let put = sink.write(piece.as_bytes());
+    let found = format!(in alloc; "{put:?}").expect(rt, "memory");
+    same(rt, line, found.as_bytes(), want.as_bytes());
+}
 
 #[test]
-fn writes_until_a_listed_call(rt: HostRuntime) -> Result<(), Fail> {
+fn writes_until_a_listed_call(rt: HostRuntime) {
     let mut sink = MemSink::new(rt.alloc(), 2);
-    sink.fail_write(2)?;
-    let pieces = [
-        ("abc", Put::Wrote(2)),
-        ("c", Put::Failed),
-        ("c", Put::Wrote(1)),
-    ];
-    for (piece, want) in pieces {
-        assert!(rt; !piece.is_empty());
-        assert_eq!(rt; sink.write(piece.as_bytes()), want, "at {piece}");
+    sink.fail_write(2).expect(&rt, "memory");
+    for line in PIECES.lines() {
+        writes(&rt, rt.alloc(), &mut sink, line);
     }
-    assert_eq!(rt; sink.bytes(), b"abc".as_slice());
-    Ok(())
+    same(&rt, "all pieces", sink.bytes(), b"abc");
 }
 
 /// Starts a role, which is ready.
@@ -160,23 +167,31 @@ fn fails_where_that_was_listed(rt: HostRuntime) {
     reads(&rt, &mut outside, Role::Left, &mut buf, words);
 }
 
+/// The first draw of a seed is this one.
+fn draws(rt: &impl Abort, seed: u64, first: u64) {
+    assert_eq!(rt; Lcg::new(seed).draw(), first);
+}
+
 #[test]
 fn draws_by_the_seed(rt: HostRuntime) {
-    for (seed, first) in [(1, 908_834_774), (2, 1_649_717_740)] {
-        assert_eq!(rt; Lcg::new(seed).draw(), first);
+    draws(&rt, 1, 908_834_774);
+    draws(&rt, 2, 1_649_717_740);
+}
+
+fn push_all(rt: &impl Abort, bytes: &mut Bytes, more: &[u8]) {
+    for byte in more {
+        bytes.push(*byte).expect(rt, "memory");
     }
 }
 
 #[test]
-fn keeps_bytes(rt: HostRuntime) -> Result<(), Fail> {
+fn keeps_bytes(rt: HostRuntime) {
     let mut digits = Bytes::new(rt.alloc());
-    digits.push(b'4')?;
-    digits.push(b'2')?;
-    assert_eq!(rt; digits.bytes(), b"42".as_slice());
+    push_all(&rt, &mut digits, b"42");
+    same(&rt, "digits", digits.bytes(), b"42");
     assert_eq!(rt; digits.len(), 2);
     assert_eq!(rt; digits.get(1), Some(&b'2'));
     assert_eq!(rt; digits.get(2), None);
-    Ok(())
 }
 
 const TAKEN: &str = "\
@@ -185,9 +200,13 @@ ts
 a\u{fc}\u{1f600}
 «00»«7f»";
 
-fn takes(rt: &impl Abort, alloc: Global, bytes: &[u8]) {
+fn text_of(rt: &impl Abort, alloc: Global, bytes: &[u8]) -> TextBytes {
     let text = TextBytes::from_bytes(alloc, bytes).expect(rt, "memory");
-    let text = text.expect(rt, "a text");
+    text.expect(rt, "a text")
+}
+
+fn takes(rt: &impl Abort, alloc: Global, bytes: &[u8]) {
+    let text = text_of(rt, alloc, bytes);
     same(rt, "a text", text.bytes(), bytes);
     assert_eq!(rt; text.len(), bytes.len());
     assert_eq!(rt; text.get(0), bytes.first());

@@ -1,6 +1,6 @@
 //! Pieces of a stream, and the fields of a record.
 
-ghost use Rattle.std.specs.Prelude.{◌<◌, ◌≤◌, length};
+ghost use Rattle.std.specs.Prelude.{◌≡◌, ◌<◌, ◌≤◌, false, length};
 
 use crate::texts::{case, same};
 use hj_record::{Cut, Cutter, Fed, Fields, PieceFault, read_piece, read_piece_into};
@@ -201,47 +201,108 @@ fn holds_to_both_limits(rt: HostRuntime) {
     holds_to(&rt, rt.alloc(), 70_000, 1_000, stream_long);
 }
 
+/// Portions, and what comes of each: a piece, behind how many bytes of the portion were taken, or the fault.
+const PORTIONS: &str = "\
+1,7⏎2,7⏎3,7 => 4 1,7⏎
+2,7⏎3,7 => 4 2,7⏎
+3, => ε
+7 => stream too long
+ε => stream too long";
+
+/// What comes of a portion. A piece is taken out.
+fn fed(rt: &impl Abort, alloc: Global, cutter: &mut Cutter, portion: &[u8]) -> Vec<u8>
+    requires { cutter.old.whole ≡ false }
+    ensures { cutter.new.whole ≡ false }
+{
+    match cutter.feed(portion) {
+        Fed::More => Vec::new(alloc),
+        Fed::Piece(used) => {
+            let found = format!(in alloc; "{used} ").expect(rt, "memory");
+            let mut found = found.into_bytes();
+            found.extend_from_slice(cutter.piece()).expect(rt, "memory");
+            cutter.clear();
+            found
+        }
+        Fed::Bad(fault) => fault.to_string(alloc).expect(rt, "memory").into_bytes(),
+    }
+}
+
+/// Feeds the portion of a line.
+fn takes(rt: &impl Abort, alloc: Global, cutter: &mut Cutter, line: &str)
+    requires { cutter.old.whole ≡ false }
+    ensures { cutter.new.whole ≡ false }
+{
+    let (portion, want) = case(rt, alloc, line);
+    let found = fed(rt, alloc, cutter, &portion);
+    same(rt, line, &found, &want);
+}
+
 #[test]
 fn takes_up_to_the_end_of_a_piece(rt: HostRuntime) {
     let mut cutter = Cutter::new(rt.alloc(), 10);
-    let stream = b"1,7\n2,7\n3,7";
-    assert_eq!(rt; cutter.feed(stream), Fed::Piece(4));
-    assert_eq!(rt; cutter.piece(), b"1,7\n".as_slice());
+    for line in PORTIONS.lines() {
+        takes(&rt, rt.alloc(), &mut cutter, line);
+    }
+    assert_eq!(rt; cutter.end(), Fed::Bad(PieceFault::StreamLong));
     cutter.clear();
-    assert_eq!(rt; cutter.feed(&stream[4..]), Fed::Piece(4));
-    assert_eq!(rt; cutter.piece(), b"2,7\n".as_slice());
-    cutter.clear();
-    assert_eq!(rt; cutter.feed(b"3,"), Fed::More);
-    let refused = Fed::Bad(PieceFault::StreamLong);
-    assert_eq!(rt; cutter.feed(b"7"), refused);
-    assert_eq!(rt; cutter.feed(b""), refused);
-    assert_eq!(rt; cutter.end(), refused);
-    cutter.clear();
-    assert_eq!(rt; cutter.feed(b"\n"), refused);
+    takes(&rt, rt.alloc(), &mut cutter, "⏎ => stream too long");
+}
+
+/// What comes of a portion of which a whole piece is lent. A piece that was copied is taken out.
+fn lent(rt: &impl Abort, alloc: Global, cutter: &mut Cutter, portion: &[u8]) -> Vec<u8>
+    requires { cutter.old.whole ≡ false }
+    ensures { cutter.new.whole ≡ false }
+{
+    match cutter.cut(portion) {
+        Cut::More => Vec::new(alloc),
+        Cut::Lent(used) => {
+            let found = format!(in alloc; "lent {used}").expect(rt, "memory");
+            found.into_bytes()
+        }
+        Cut::Piece(used) => {
+            let found = format!(in alloc; "{used} ").expect(rt, "memory");
+            let mut found = found.into_bytes();
+            found.extend_from_slice(cutter.piece()).expect(rt, "memory");
+            cutter.clear();
+            found
+        }
+        Cut::Bad(fault) => fault.to_string(alloc).expect(rt, "memory").into_bytes(),
+    }
+}
+
+/// Cuts the portion of a line.
+fn lends(rt: &impl Abort, alloc: Global, cutter: &mut Cutter, line: &str)
+    requires { cutter.old.whole ≡ false }
+    ensures { cutter.new.whole ≡ false }
+{
+    let (portion, want) = case(rt, alloc, line);
+    let found = lent(rt, alloc, cutter, &portion);
+    same(rt, line, &found, &want);
 }
 
 #[test]
 fn lends_whole_pieces(rt: HostRuntime) {
     let mut cutter = Cutter::new(rt.alloc(), 10);
-    let stream = b"1,7\n2,7\n3,7";
-    assert!(rt; cutter.has_end(stream));
-    assert_eq!(rt; cutter.cut(stream), Cut::Lent(4));
-    assert_eq!(rt; cutter.cut(&stream[4..6]), Cut::More);
+    assert!(rt; cutter.has_end(b"1,7\n2,7\n3,7"));
+    lends(&rt, rt.alloc(), &mut cutter, "1,7⏎2,7⏎3,7 => lent 4");
+    lends(&rt, rt.alloc(), &mut cutter, "2, => ε");
     assert!(rt; !cutter.has_end(b"7"));
-    assert_eq!(rt; cutter.cut(&stream[6..]), Cut::Piece(2));
-    assert_eq!(rt; cutter.piece(), b"2,7\n".as_slice());
-    cutter.clear();
-    let refused = Cut::Bad(PieceFault::StreamLong);
-    assert_eq!(rt; cutter.cut(&stream[8..]), refused);
-    assert_eq!(rt; cutter.cut(b"\n"), refused);
+    lends(&rt, rt.alloc(), &mut cutter, "7⏎3,7 => 2 2,7⏎");
+    lends(&rt, rt.alloc(), &mut cutter, "3,7 => stream too long");
+    lends(&rt, rt.alloc(), &mut cutter, "⏎ => stream too long");
+}
+
+/// Adds these fields, which commas separate.
+fn push_all(rt: &impl Abort, fields: &mut Fields, text: &str) {
+    for field in text.split(',') {
+        fields.push(field.as_bytes()).expect(rt, "memory");
+    }
 }
 
 #[test]
 fn keeps_each_field(rt: HostRuntime) {
     let mut fields = Fields::new(rt.alloc());
-    for field in ["a", "", "bc"] {
-        fields.push(field.as_bytes()).expect(&rt, "memory");
-    }
+    push_all(&rt, &mut fields, "a,,bc");
     assert_eq!(rt; fields.len(), 3);
     same(&rt, "fields", &barred(&rt, rt.alloc(), &fields), b"|a||bc");
     assert!(rt; fields.get(3).is_none());
@@ -250,9 +311,9 @@ fn keeps_each_field(rt: HostRuntime) {
 #[test]
 fn is_used_again(rt: HostRuntime) {
     let mut fields = Fields::new(rt.alloc());
-    assert!(rt; fields.push(b"a").is_ok());
+    push_all(&rt, &mut fields, "a");
     fields.clear();
     assert_eq!(rt; fields.len(), 0);
-    assert!(rt; fields.push(b"b").is_ok());
-    assert_eq!(rt; fields.get(0), Some(b"b".as_slice()));
+    push_all(&rt, &mut fields, "b");
+    same(&rt, "fields", &barred(&rt, rt.alloc(), &fields), b"|b");
 }

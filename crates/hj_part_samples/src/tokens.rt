@@ -141,12 +141,17 @@ const NUMBERS: &str = "\
 1) => 1
 9223372036854775807 => 9223372036854775807";
 
+/// Reads the number of a line.
+fn reads_number(rt: &impl Abort, alloc: Global, line: &str) {
+    let (text, want) = line.split_once(" => ").expect(rt, "a case");
+    let found = number_in(rt, alloc, text.as_bytes());
+    assert_eq!(rt; found, number(rt, want));
+}
+
 #[test]
 fn reads_numbers(rt: HostRuntime) {
     for line in NUMBERS.lines() {
-        let (text, want) = line.split_once(" => ").expect(&rt, "a case");
-        let found = number_in(&rt, rt.alloc(), text.as_bytes());
-        assert_eq!(rt; found, number(&rt, want));
+        reads_number(&rt, rt.alloc(), line);
     }
 }
 

@@ -54,14 +54,19 @@ fn has(rt: &impl Abort, row: &Row, at: usize, word: &str) -> bool {
     }
 }
 
+/// A row has these fields.
+fn has_all(rt: &impl Abort, row: &Row, fields: &str) {
+    for (at, word) in fields.lines().enumerate() {
+        assert!(rt; has(rt, row, at, word), "at {at}");
+    }
+}
+
 #[test]
 fn keeps_fields(rt: HostRuntime) {
     let row = row_of(&rt, rt.alloc(), FIELDS);
     assert_eq!(rt; row.len(), 4);
     assert_eq!(rt; row.time(), 5);
-    for (at, word) in FIELDS.lines().enumerate() {
-        assert!(rt; has(&rt, &row, at, word), "at {at}");
-    }
+    has_all(&rt, &row, FIELDS);
     assert!(rt; row.get(4).is_none());
 }
 
@@ -170,15 +175,24 @@ fn timed(alloc: Global, name: TextBytes) -> Result<Schema, Memory>
     Ok(Schema { columns })
 }
 
-#[test]
-fn begins_with_the_time(rt: HostRuntime) {
-    let name = TextBytes::from_bytes(rt.alloc(), b"ts").expect(&rt, "memory");
-    let name = name.expect(&rt, "a text");
-    let schema = timed(rt.alloc(), name).expect(&rt, "memory");
-    let schema = schema.copy(rt.alloc()).expect(&rt, "memory");
-    let first = schema.columns.get(0).expect(&rt, "a column");
+/// A schema of the time alone.
+fn only_time(rt: &impl Abort, alloc: Global) -> Schema {
+    let name = TextBytes::from_bytes(alloc, b"ts").expect(rt, "memory");
+    let name = name.expect(rt, "a text");
+    timed(alloc, name).expect(rt, "memory")
+}
+
+fn is_only_time(rt: &impl Abort, schema: &Schema) {
     assert_eq!(rt; schema.columns.len(), 1);
-    assert_eq!(rt; first.name.bytes(), b"ts".as_slice());
+    let first = schema.columns.get(0).expect(rt, "a column");
+    same(rt, "the time", first.name.bytes(), b"ts");
     assert_eq!(rt; first.kind, ColumnType::Int);
     assert!(rt; schema.columns.get(1).is_none());
+}
+
+#[test]
+fn begins_with_the_time(rt: HostRuntime) {
+    let schema = only_time(&rt, rt.alloc());
+    let copy = schema.copy(rt.alloc()).expect(&rt, "memory");
+    is_only_time(&rt, &copy);
 }

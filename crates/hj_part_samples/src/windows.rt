@@ -10,23 +10,6 @@ use std::alloc::Global;
 use std::fmt::Write;
 use std::process::Abort;
 
-#[test]
-fn numbers_in_their_order(rt: HostRuntime) {
-    let mut numbers = Numbers::new(rt.alloc());
-    assert_eq!(rt; numbers.len(), 0);
-    assert!(rt; numbers.get(0).is_none());
-    let rows = [(Right, 4), (Left, 9), (Right, 4)];
-    for (side, no) in rows {
-        numbers.push((side, EventNo(no))).expect(&rt, "memory");
-    }
-    assert_eq!(rt; numbers.len(), 3);
-    for (at, (side, no)) in rows.into_iter().enumerate() {
-        let found = numbers.get(at).map(|row| (row.0, row.1));
-        assert_eq!(rt; found, Some((side, EventNo(no))), "at {at}");
-    }
-    assert!(rt; numbers.get(3).is_none());
-}
-
 fn letter(side: Side) -> char {
     match side {
         Left => 'L',
@@ -40,6 +23,30 @@ fn push_expiries(rt: &impl Abort, text: &mut String, numbers: &Numbers) {
         let (side, no) = numbers.get(at).expect(rt, "a row");
         write!(text, "-{}{} ", no.0, letter(*side)).expect(rt, "memory");
     }
+}
+
+/// The numbers of rows, each behind the letter of its side.
+fn numbers_of(rt: &impl Abort, alloc: Global, text: &str) -> Numbers {
+    let mut numbers = Numbers::new(alloc);
+    for word in text.split(' ') {
+        let (side, no) = arrival(rt, word);
+        let row = (side, EventNo(no.unsigned_abs()));
+        numbers.push(row).expect(rt, "memory");
+    }
+    numbers
+}
+
+#[test]
+fn numbers_in_their_order(rt: HostRuntime) {
+    let none = Numbers::new(rt.alloc());
+    assert_eq!(rt; none.len(), 0);
+    assert!(rt; none.get(0).is_none());
+    let numbers = numbers_of(&rt, rt.alloc(), "R4 L9 R4");
+    let mut text = String::new(rt.alloc());
+    push_expiries(&rt, &mut text, &numbers);
+    assert_eq!(rt; text.as_str(), "-4R -9L -4R ");
+    assert_eq!(rt; numbers.len(), 3);
+    assert!(rt; numbers.get(3).is_none());
 }
 
 /// Adds the events of the arrival of this number: `+` and `-` for an arrival and an expiry, then the row's number and the letter

@@ -2,7 +2,7 @@
 
 use crate::texts::same;
 use hj_base::Setup;
-use hj_words::{Order, Usage, read_words};
+use hj_words::{Order, read_words};
 use std::alloc::{AllocError, Global};
 use std::process::Abort;
 
@@ -67,19 +67,6 @@ gen 1 1000000001 0 1
 gen 1 1 18446744073709551616 1
 gen 1 1 1";
 
-fn is_refused(alloc: Global, words: &[String]) -> bool {
-    matches!(read_words(alloc, words), Err(Usage::Words))
-}
-
-#[test]
-fn refuses_what_spells_no_order(rt: HostRuntime) {
-    for line in REFUSED.lines() {
-        let words = split(&rt, rt.alloc(), line);
-        assert!(rt; is_refused(rt.alloc(), &words), "at {line}");
-    }
-    assert!(rt; is_refused(rt.alloc(), &[]));
-}
-
 /// An order as a line that spells it, with each number that may be left out.
 fn told(alloc: Global, order: &Order) -> Result<String, AllocError> {
     match order {
@@ -113,6 +100,29 @@ fn told_setup(alloc: Global, setup: &Setup) -> Result<String, AllocError> {
     format!(in alloc; "{cores} {threads} {flight}")
 }
 
+/// What words spell: an order, or why there is none.
+fn judgement(rt: &impl Abort, alloc: Global, words: &[String]) -> String {
+    match read_words(alloc, words) {
+        Ok(order) => told(alloc, &order).expect(rt, "memory"),
+        Err(usage) => usage.to_string(alloc).expect(rt, "memory"),
+    }
+}
+
+/// Holds what the words of a line spell to what is wanted.
+fn spells(rt: &impl Abort, alloc: Global, words: &str, want: &str) {
+    let found = judgement(rt, alloc, &split(rt, alloc, words));
+    same(rt, words, found.as_bytes(), want.as_bytes());
+}
+
+#[test]
+fn refuses_what_spells_no_order(rt: HostRuntime) {
+    for words in REFUSED.lines() {
+        spells(&rt, rt.alloc(), words, "usage");
+    }
+    let none = judgement(&rt, rt.alloc(), &[]);
+    assert_eq!(rt; none.as_str(), "usage");
+}
+
 /// Lines of words, and what each spells: of a join the cores, the threads, the flight, the most events and the seed first.
 const ORDERS: &str = "\
 join q a b | join 4 4 32 4294967295 0 q a b
@@ -126,18 +136,10 @@ equi 00000000000001000000 a -- -b | equi 1000000 a -b
 check q- | check q-
 gen 0 1000000000 18446744073709551615 1 | gen 0 1000000000 18446744073709551615 1";
 
-/// Reads the words of a line.
-fn reads(rt: &impl Abort, alloc: Global, line: &str) {
-    let (words, want) = line.split_once(" | ").expect(rt, "a case");
-    let words = split(rt, alloc, words);
-    let order = read_words(alloc, &words).expect(rt, "an order");
-    let found = told(alloc, &order).expect(rt, "memory");
-    same(rt, line, found.as_bytes(), want.as_bytes());
-}
-
 #[test]
 fn reads_orders(rt: HostRuntime) {
     for line in ORDERS.lines() {
-        reads(&rt, rt.alloc(), line);
+        let (words, order) = line.split_once(" | ").expect(&rt, "a case");
+        spells(&rt, rt.alloc(), words, order);
     }
 }
