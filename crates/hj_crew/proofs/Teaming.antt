@@ -1,5 +1,5 @@
 -- Teams that come back, one after another.
-use Rattle.std.proofs.Common.{◌≡◌, ◌+◌, List, [], ◌∷◌, ◌++◌, length, ap, sym, ◌∙◌, subst, arith, append_assoc, length-append}
+use Rattle.std.proofs.Common.{◌≡◌, ◌+◌, List, [], ◌∷◌, ◌++◌, length, ap, sym, ◌∙◌, subst, arith, append-nil, append_assoc, length-append}
 use Rattle.std.specs.List.{AllZip}
 use Rattle.std.proofs.lemmas.List.{same_from_push}
 use Rattle.std.proofs.lemmas.Slice.Zip.{AllZip-long, all_zipped_more}
@@ -15,6 +15,11 @@ module _ {P J L R : Type 0} where
 
   pub length-appended : (teams old new : List (Team P J L R)) → AppendsTeams teams old new → length new ≡ length old + length teams
   length-appended teams old new more = omega (arith, ap length more.behind, length-append old more.back, AllZip-long TeamStays teams more.back more.same)
+
+  -- no team came back where none was left
+  pub appends-none : (teams old : List (Team P J L R)) → length teams ≡ 0 → AppendsTeams teams old old
+  appends-none [] old none = record { back = []; same = tt; behind = sym (append-nil old) }
+  appends-none (team ∷ teams) old none = absurd (omega (arith, none))
 
   -- one team more came back
   pub appends-with : (teams fewer old middle new : List (Team P J L R)) (team back : Team P J L R) → teams ≡ fewer ++ team ∷ [] → AppendsTeams fewer old middle → TeamStays team back → new ≡ middle ++ back ∷ []

@@ -1,4 +1,4 @@
-use Rattle.std.proofs.Common.{◌≡◌, ◌+◌, ◌%◌, ◌++◌, ◌∷◌, [], List, arith, length, ap, sym, ◌∙◌, drop, take}
+use Rattle.std.proofs.Common.{◌≡◌, ◌+◌, ◌%◌, ◌++◌, ◌∷◌, [], List, arith, length, ap, sym, ◌∙◌, drop, refl, take}
 use Rattle.std.proofs.lemmas.List.{length-set, take_all}
 use Rattle.hj_worker.specs.Seen.{WorkerSeen}
 use Rattle.hj_crew.specs.declared.team.Team.{Team}
@@ -18,6 +18,15 @@ unreachable-requires g c =
     is_some (λ (team : Team g.row.P.Denot g.row.J.Denot g.row.L.Denot g.row.R.Denot). team.workers.items) teams place c.loop-place.teams.items (place % c.len.result) c.index_mut.result.now
     (record { workers = c.pop.new.self }) c.index_mut.ensures.value (ap (λ k. place % k) long) c.requires.some_team next.item (drop (place + 1) workers) (left ∙ ap (dealt teams place) next.behind) in
     omega (arith, some, c.in_default.ensures.cases.0)
+
+pub loop-place-init : goal.loop-place-init
+loop-place-init g c = record {
+  as_many = refl;
+  left = λ workers count are. are;
+  gathered = λ workers count are. c.requires.room.empty;
+  so_many = omega (arith, ap length c.requires.room.empty);
+  room = omega (arith, c.requires.room.room);
+}
 
 pub push_reserved-requires : goal.push_reserved-requires
 push_reserved-requires g c = omega (arith, c.loop-place.invariant.so_many, c.loop-place.invariant.room, c.loop-place-test.true)

@@ -1,7 +1,7 @@
 use Rattle.std.proofs.Common.{arith, subst}
 use Rattle.std.proofs.lemmas.Slice.Zip.{AllZip-long}
 use Rattle.hj_crew.specs.Teams.{TeamStays}
-use Rattle.hj_crew.proofs.Teaming.{appends-with, last_stays, length-appended, others_stay, team-stays_on}
+use Rattle.hj_crew.proofs.Teaming.{appends-none, appends-with, last_stays, length-appended, others_stay, team-stays_on}
 use Rattle.hj_crew.proofs.levels.+levels.Goals as goal
 
 pub push_reserved-requires : goal.push_reserved-requires
@@ -38,3 +38,66 @@ returns-in-Some-pop-clause-done g t c =
     c.levels-fin-in-Err.ensures.own c.in-Some-pop.ensures.items in
     appends-with c.args.teams.items c.pop.new.self.items c.args.done.now.items c.levels-fin-in-Err.new.done.items c.push_reserved-in-Err-2.new.self.items team c.in-Some-pop.team c.in-Some.ensures.items
     c.levels-fin-in-Err.ensures.done (team-stays_on team c.in-Err.team c.in-Some-pop.team c.in-Err.ensures.refused left) c.push_reserved-in-Err-2.ensures.items
+
+pub drive-requires-clause-stands : goal.drive-requires-clause-stands
+drive-requires-clause-stands g t c = c.requires.stands
+
+pub drive-requires-clause-few : goal.drive-requires-clause-few
+drive-requires-clause-few g t c = c.requires.cores
+
+pub returns-in_default-clause-done : goal.returns-in_default-clause-done
+returns-in_default-clause-done g t c = appends-none c.args.teams.items c.args.done.now.items (omega (arith, c.in_default.ensures.cases.0))
+
+pub levels-fin-requires-clause-stands : goal.levels-fin-requires-clause-stands
+levels-fin-requires-clause-stands g t c κs within = c.requires.stands
+
+pub levels-fin-requires-clause-cores : goal.levels-fin-requires-clause-cores
+levels-fin-requires-clause-cores g t c κs within = c.requires.cores
+
+pub levels-fin-requires-clause-signals : goal.levels-fin-requires-clause-signals
+levels-fin-requires-clause-signals g t c κs within = omega (arith, c.requires.signals, c.in-Some.ensures.len)
+
+pub levels-fin-requires-clause-few : goal.levels-fin-requires-clause-few
+levels-fin-requires-clause-few g t c κs within = c.requires.few
+
+pub levels-fin-requires-clause-done_room : goal.levels-fin-requires-clause-done_room
+levels-fin-requires-clause-done_room g t c κs within = omega (arith, c.requires.done_room, c.in-Some.ensures.len)
+
+pub levels-fin-requires-clause-own_room : goal.levels-fin-requires-clause-own_room
+levels-fin-requires-clause-own_room g t c κs within = omega (arith, c.requires.own_room, c.in-Some.ensures.len)
+
+pub levels-fin-requires-in-Err-clause-stands : goal.levels-fin-requires-in-Err-clause-stands
+levels-fin-requires-in-Err-clause-stands g t c κs within = c.requires.stands
+
+pub levels-fin-requires-in-Err-clause-cores : goal.levels-fin-requires-in-Err-clause-cores
+levels-fin-requires-in-Err-clause-cores g t c κs within = c.requires.cores
+
+pub levels-fin-requires-in-Err-clause-signals : goal.levels-fin-requires-in-Err-clause-signals
+levels-fin-requires-in-Err-clause-signals g t c κs within = omega (arith, c.requires.signals, c.in-Some.ensures.len)
+
+pub levels-fin-requires-in-Err-clause-few : goal.levels-fin-requires-in-Err-clause-few
+levels-fin-requires-in-Err-clause-few g t c κs within = c.requires.few
+
+pub levels-fin-requires-in-Err-clause-done_room : goal.levels-fin-requires-in-Err-clause-done_room
+levels-fin-requires-in-Err-clause-done_room g t c κs within = omega (arith, c.requires.done_room, c.in-Some.ensures.len)
+
+pub levels-fin-requires-in-Err-clause-own_room : goal.levels-fin-requires-in-Err-clause-own_room
+levels-fin-requires-in-Err-clause-own_room g t c κs within = omega (arith, c.requires.own_room, c.in-Some.ensures.len, c.push_reserved-in-Err.ensures.len, c.push_reserved-in-Err.ensures.capacity)
+
+pub push_reserved-requires-in-Err : goal.push_reserved-requires-in-Err
+push_reserved-requires-in-Err g t c = omega (arith, c.requires.own_room, c.in-Some.ensures.len)
+
+pub returns-in-Ok-clause-ends : goal.returns-in-Ok-clause-ends
+returns-in-Ok-clause-ends g t c = c.levels-fin.ensures.ends
+
+pub returns-in-Ok-clause-own : goal.returns-in-Ok-clause-own
+returns-in-Ok-clause-own g t c = c.levels-fin.ensures.own
+
+pub returns-in-Ok-clause-done_capacity : goal.returns-in-Ok-clause-done_capacity
+returns-in-Ok-clause-done_capacity g t c = omega (arith, c.push_reserved.ensures.capacity, c.levels-fin.ensures.done_capacity)
+
+pub returns-in-Some-pop-clause-ends : goal.returns-in-Some-pop-clause-ends
+returns-in-Some-pop-clause-ends g t c = c.levels-fin-in-Err.ensures.ends
+
+pub returns-in-Some-pop-clause-done_capacity : goal.returns-in-Some-pop-clause-done_capacity
+returns-in-Some-pop-clause-done_capacity g t c = omega (arith, c.push_reserved-in-Err-2.ensures.capacity, c.levels-fin-in-Err.ensures.done_capacity)

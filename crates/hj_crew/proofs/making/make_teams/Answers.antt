@@ -60,3 +60,18 @@ loop-left_store-preserved g c =
           (c.last_worker.ensures.core.0 ∙ c.in_ok-core.ensures.core.0) (c.last_worker.ensures.core.1 ∙ c.in_ok-core.ensures.core.1 ∙ at)
           (c.last_worker.ensures.core.2 ∙ omega (arith, c.in_ok-core.ensures.core.2, c.len-cores.ensures, c.args.left.ok.0)) given (omega (arith, c.deal.auto.teams)) deals);
     }
+
+pub last_worker-requires-clause-core : goal.last_worker-requires-clause-core
+last_worker-requires-clause-core g c = c.in_ok-core.ensures.state
+
+pub last_worker-requires-clause-unused : goal.last_worker-requires-clause-unused
+last_worker-requires-clause-unused g c = c.loop-left_store.invariant.unused
+
+pub last_worker-requires-clause-left : goal.last_worker-requires-clause-left
+last_worker-requires-clause-left g c = omega (arith, c.loop-left_store.invariant.ends.left)
+
+pub last_worker-requires-clause-right : goal.last_worker-requires-clause-right
+last_worker-requires-clause-right g c = omega (arith, c.loop-left_store.invariant.ends.right, c.in-Some.ensures.len)
+
+pub last_worker-requires-clause-senders : goal.last_worker-requires-clause-senders
+last_worker-requires-clause-senders g c = omega (arith, c.loop-left_store.invariant.ends.senders, c.in-Some.ensures.len)
