@@ -3,8 +3,8 @@ use Rattle.std.proofs.Common.{◌≡◌, Bool, true, false, List, [], ◌∷◌,
 use Rattle.std.specs.Str.{bytes_eq}
 use Rattle.std.proofs.lemmas.Slice.Eq.{bytes_eq-Decides}
 use Rattle.clap.specs.Walk.{Rule, arg_by_id, arg_by_long}
-use Rattle.clap.specs.Simple.{App, with_rule}
-use Rattle.hj_words.specs.Arguments.{bare_app, option_rule, positional_rule}
+use Rattle.clap.specs.Simple.{App}
+use Rattle.hj_words.specs.Arguments.{command_app}
 use Rattle.hj_words.specs.Orders.{check_names, equi_names, gen_names, join_names, join_options, no_options}
 use Rattle.hj_words.specs.Values.{Text, is_among}
 use Rattle.hj_words.proofs.Given.{IsRead}
@@ -53,7 +53,7 @@ long_unknown (o ∷ options) behind name none e = go (bytes_eq o name) refl (lon
 -- ---- the commands
 
 abbrev pub equi_app : App
-equi_app = with_rule (with_rule (with_rule (bare_app (codes "equi")) (positional_rule (codes "w"))) (positional_rule (codes "left"))) (positional_rule (codes "right"))
+equi_app = command_app (codes "equi") no_options equi_names
 
 abbrev pub equi_args : List Rule
 equi_args = options_then no_options (positional_arg 1 (codes "w") ∷ positional_arg 2 (codes "left") ∷ positional_arg 3 (codes "right") ∷ [])
@@ -84,7 +84,7 @@ equi_read = record {
 }
 
 abbrev pub check_app : App
-check_app = with_rule (bare_app (codes "check")) (positional_rule (codes "query"))
+check_app = command_app (codes "check") no_options check_names
 
 abbrev pub check_args : List Rule
 check_args = options_then no_options (positional_arg 1 (codes "query") ∷ [])
@@ -115,7 +115,7 @@ check_read = record {
 }
 
 abbrev pub gen_app : App
-gen_app = with_rule (with_rule (with_rule (with_rule (bare_app (codes "gen")) (positional_rule (codes "n"))) (positional_rule (codes "keys"))) (positional_rule (codes "seed"))) (positional_rule (codes "w"))
+gen_app = command_app (codes "gen") no_options gen_names
 
 abbrev pub gen_args : List Rule
 gen_args = options_then no_options (positional_arg 1 (codes "n") ∷ positional_arg 2 (codes "keys") ∷ positional_arg 3 (codes "seed") ∷ positional_arg 4 (codes "w") ∷ [])
@@ -146,8 +146,7 @@ gen_read = record {
 }
 
 abbrev pub join_app : App
-join_app = with_rule (with_rule (with_rule (with_rule (with_rule (with_rule (with_rule (with_rule (bare_app (codes "join")) (option_rule (codes "cores"))) (option_rule (codes "threads")))
-    (option_rule (codes "flight"))) (option_rule (codes "max-events"))) (option_rule (codes "schedule"))) (positional_rule (codes "query"))) (positional_rule (codes "left"))) (positional_rule (codes "right"))
+join_app = command_app (codes "join") join_options join_names
 
 abbrev pub join_behind : List Rule
 join_behind = positional_arg 1 (codes "query") ∷ positional_arg 2 (codes "left") ∷ positional_arg 3 (codes "right") ∷ []

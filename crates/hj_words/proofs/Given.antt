@@ -1,5 +1,6 @@
 -- A command's faults and matches, by the values that the words give.
-use Rattle.std.proofs.Common.{◌≡◌, ◌∙◌, Bool, cond, true, false, List, [], ◌∷◌, map, Option, Some, None, Result, Ok, Err, IfErr, IsErrAnd, refl, sym, ap, ap₂, subst, true≢false, inl, inr}
+use Rattle.std.proofs.Common.{◌≡◌, ◌∙◌, Bool, cond, true, false, List, [], ◌∷◌, map, Option, Some, None, Result, Ok, Err, IfOk, IfErr, IsErrAnd, refl, sym, ap, ap₂, subst, true≢false, inl, inr}
+use Rattle.std.specs.List.{fold}
 use Rattle.std.specs.Str.{bytes_eq}
 use Rattle.std.specs.String.{string_bytes}
 use Rattle.std.specs.declared.string.String.{String}
@@ -13,11 +14,7 @@ use Rattle.clap.specs.Faults.{built_fault, fault_of, level_fault, walk_fault}
 use Rattle.clap.specs.Matches.{found_of}
 use Rattle.clap.specs.Simple.{HasMatchesOf, is_simple}
 use Rattle.clap.specs.Faults.{is_simple_and_free}
-use Rattle.clap.specs.Built.{AddsArg}
-use Rattle.clap.specs.Simple.{app_of, with_rule}
-use Rattle.clap.specs.Walk.{rule_of}
-use Rattle.clap.specs.declared.builder.arg.Arg.{Arg}
-use Rattle.clap.specs.declared.builder.command.Command.{Command}
+use Rattle.clap.specs.Simple.{with_rule}
 use Rattle.clap.specs.declared.error.Error.{Error}
 use Rattle.hj_words.specs.declared.order.Usage.{Usage}
 use Rattle.hj_words.specs.declared.order.Usage.TheVariants as usage
@@ -25,7 +22,7 @@ use Rattle.clap.specs.declared.error.kind.ErrorKind.TheVariants.{OutOfMemory}
 use Rattle.clap.specs.declared.parser.matches.ArgMatches.{ArgMatches}
 use Rattle.clap.proofs.WalkLemmas.{first_value-rows}
 use Rattle.clap.proofs.FaultLemmas.{leaf_fault}
-use Rattle.hj_words.specs.Arguments.{Carries}
+use Rattle.hj_words.specs.Arguments.{Accepts, Carries, Refuses, bare_app, command_app, option_rule, positional_rule}
 use Rattle.hj_words.specs.Values.{Text, Value, given, once, text_of, values_of}
 use Rattle.hj_words.proofs.Commands.{Finds, Places, top_of}
 use Rattle.hj_words.proofs.Law.{AreTexts, Agrees, agrees, at, is_accepted}
@@ -79,9 +76,9 @@ module _ (app : App) (options names : List Text) (read : IsRead app options name
   matches_are : (values : List Value) → values_of options words names None ≡ Some values → once_after [] values ≡ true → matches_of app words ≡ rows_of values
   matches_are values is alone = ap₂ (λ (a : App) ws. walk.rows_after a.top.rules (names_of a) ws) read.is_built argument_words_are ∙ law.1 values is alone
 
-  refused_kinds : (kinds : Kinds) (e : Error) → HasKind kinds e → (clap.kind_of e ≡ OutOfMemory → ⊥) → no_kinds kinds ≡ false
-  refused_kinds [] e has other = elim has [ inl memory ↦ absurd (other memory) | inr none ↦ absurd none ]
-  refused_kinds (k ∷ kinds) e has other = refl
+  refused_kinds : (kinds : Kinds) → (kinds ≡ [] → ⊥) → no_kinds kinds ≡ false
+  refused_kinds [] none = absurd (none refl)
+  refused_kinds (k ∷ kinds) none = refl
 
   carried_by : (m : ArgMatches) → fault_of app words ≡ [] → HasMatchesOf app words m → Carries options names words m
   carried_by m none has =
@@ -93,21 +90,42 @@ module _ (app : App) (options names : List Text) (read : IsRead app options name
       }
 
   -- the matches of a parse give what the words give
-  pub carried : (actual : App) → actual ≡ app → (m : ArgMatches) → (is_simple_and_free actual ≡ true → fault_of actual words ≡ []) → HasMatchesOf actual words m → Carries options names words m
-  carried actual is m kinds has =
-      carried_by m (ap (λ a. fault_of a words) (sym is) ∙ kinds (ap is_simple_and_free is ∙ read.free)) (subst (λ a. HasMatchesOf a words m) is has)
+  pub carried : (m : ArgMatches) → Accepts app words m → Carries options names words m
+  carried m accepts = carried_by m (accepts.no_fault read.free) accepts.has_matches
 
-  -- an error other than that memory ran out comes of words that give nothing
-  pub refused : (actual : App) → actual ≡ app → (e : Error) → (is_simple_and_free actual ≡ true → HasKind (fault_of actual words) e) → (clap.kind_of e ≡ OutOfMemory → ⊥) → given options names words ≡ None
-  refused actual is e kinds other =
-      let has : HasKind (fault_of app words) e = subst (λ a. HasKind (fault_of a words) e) is (kinds (ap is_simple_and_free is ∙ read.free)) in
-      none_where (values_of options words names None) (sym verdict ∙ refused_kinds (fault_of app words) e has other)
+  -- words that are refused give nothing
+  pub refused : Refuses app words → given options names words ≡ None
+  refused refuses = none_where (values_of options words names None) (sym verdict ∙ refused_kinds (fault_of app words) (refuses read.free))
 
 -- ---- steps of the code
 
--- an argument is added
-pub added : {old : Command} {arg : Arg} {new : Command} {app : App} {rule : Rule} → AddsArg old arg new → arg.global ≡ false → app_of old ≡ app → rule_of arg ≡ rule → app_of new ≡ with_rule app rule
-added adds local is rule = adds.shape local ∙ ap₂ with_rule is rule
+-- a command is built from a bare one, by options and then by words by their place
+pub built_up : (name : Text) (options names : List Text) (bare optioned whole : App) → bare ≡ bare_app name → optioned ≡ fold with_rule bare (map option_rule options)
+    → whole ≡ fold with_rule optioned (map positional_rule names) → whole ≡ command_app name options names
+built_up name options names bare optioned whole is_bare is_optioned is_whole =
+    is_whole ∙ ap (λ app. fold with_rule app (map positional_rule names)) (is_optioned ∙ ap (λ app. fold with_rule app (map option_rule options)) is_bare)
+
+pub accepted : (actual app : App) (words : List Text) (m : ArgMatches) → actual ≡ app → (is_simple_and_free actual ≡ true → fault_of actual words ≡ []) → HasMatchesOf actual words m → Accepts app words m
+accepted actual app words m is kinds has = subst (λ a. Accepts a words m) is (record { no_fault = kinds; has_matches = has })
+
+-- the matches of a command that is read, or that the words give nothing
+pub carried_matches : {X : Type 0} (app : App) (options names words : List Text) → IsRead app options names → AreTexts words → (result : Result ArgMatches X)
+    → IfOk result (Accepts app words) → IfOk result (Carries options names words)
+carried_matches app options names words read texts (Ok m) accepts = carried app options names read words texts m accepts
+carried_matches app options names words read texts (Err e) accepts = tt
+
+pub refused_words : {X : Type 0} (app : App) (options names words : List Text) → IsRead app options names → AreTexts words → (result : Result X Usage)
+    → IfErr result (λ fault. fault ≡ usage.Words → Refuses app words) → IfErr result (λ fault. fault ≡ usage.Words → given options names words ≡ None)
+refused_words app options names words read texts (Ok m) refuses = tt
+refused_words app options names words read texts (Err fault) refuses = λ is. refused app options names read words texts (refuses is)
+
+-- an error of some kinds means that there are some
+some_kinds : (kinds : Kinds) (e : Error) → HasKind kinds e → (clap.kind_of e ≡ OutOfMemory → ⊥) → kinds ≡ [] → ⊥
+some_kinds [] e has other none = elim has [ inl memory ↦ other memory | inr never ↦ never ]
+some_kinds (k ∷ kinds) e has other none = absurd (cc)
+
+pub refuses : (actual app : App) (words : List Text) (e : Error) → actual ≡ app → (is_simple_and_free actual ≡ true → HasKind (fault_of actual words) e) → (clap.kind_of e ≡ OutOfMemory → ⊥) → Refuses app words
+refuses actual app words e is kinds other = subst (λ a. Refuses a words) is (λ free. some_kinds (fault_of actual words) e (kinds free) other)
 
 -- an error that becomes Words is not that memory ran out
 pub words_refused : {X : Type 0} (result : Result X Usage) (e : Error) (Claim : Type 0) → IsErrAnd result (λ fault. fault ≡ usage.Words → clap.kind_of e ≡ OutOfMemory → ⊥)

@@ -1,13 +1,17 @@
 //! What `clap` makes of the words behind each command.
 ghost use Rattle.std.specs.Prelude.{◌≡◌, IfOk, IfErr, None, false, map, string_bytes};
+ghost use Rattle.std.specs.List.{fold};
+ghost use Rattle.clap.specs.Simple.{with_rule};
 ghost use Rattle.clap.specs.Words.{app_of, rule_of};
-ghost use Rattle.hj_words.specs.Arguments.{Carries, bare_app, option_rule, positional_rule};
+ghost use Rattle.hj_words.specs.Arguments.{Accepts, Carries, Refuses, bare_app, command_app, option_rule, positional_rule};
 ghost use Rattle.hj_words.specs.Orders.{no_options, equi_names, join_options, join_names, check_names, gen_names};
 ghost use Rattle.hj_words.specs.Values.{given};
 
 use crate::order::Usage;
 use clap::{Arg, ArgAction, ArgMatches, Command};
-use std::alloc::Global;
+use std::alloc::{AllocError, Global};
+
+const JOIN_OPTIONS: [&str; 5] = ["cores", "threads", "flight", "max-events", "schedule"];
 
 /// The values of the words behind `equi`.
 pub fn equi_matches<'a>(alloc: Global, words: &'a [String]) -> Result<ArgMatches<'a>, Usage>
@@ -15,11 +19,7 @@ pub fn equi_matches<'a>(alloc: Global, words: &'a [String]) -> Result<ArgMatches
     ensures err { IfErr result (λ fault. fault ≡ Usage.Words
         → given no_options equi_names (map string_bytes words.entry.now) ≡ None) }
 {
-    let command = bare(alloc, "equi")
-        .arg(positional(alloc, "w"))?
-        .arg(positional(alloc, "left"))?
-        .arg(positional(alloc, "right"))?;
-    Ok(command.try_get_matches_from(words)?)
+    matches(alloc, "equi", &[], &["w", "left", "right"], words)
 }
 
 /// The values of the words behind `join`.
@@ -28,16 +28,13 @@ pub fn join_matches<'a>(alloc: Global, words: &'a [String]) -> Result<ArgMatches
     ensures err { IfErr result (λ fault. fault ≡ Usage.Words
         → given join_options join_names (map string_bytes words.entry.now) ≡ None) }
 {
-    let command = bare(alloc, "join")
-        .arg(option(alloc, "cores"))?
-        .arg(option(alloc, "threads"))?
-        .arg(option(alloc, "flight"))?
-        .arg(option(alloc, "max-events"))?
-        .arg(option(alloc, "schedule"))?
-        .arg(positional(alloc, "query"))?
-        .arg(positional(alloc, "left"))?
-        .arg(positional(alloc, "right"))?;
-    Ok(command.try_get_matches_from(words)?)
+    matches(
+        alloc,
+        "join",
+        &JOIN_OPTIONS,
+        &["query", "left", "right"],
+        words,
+    )
 }
 
 /// The values of the words behind `check`.
@@ -46,8 +43,7 @@ pub fn check_matches<'a>(alloc: Global, words: &'a [String]) -> Result<ArgMatche
     ensures err { IfErr result (λ fault. fault ≡ Usage.Words
         → given no_options check_names (map string_bytes words.entry.now) ≡ None) }
 {
-    let command = bare(alloc, "check").arg(positional(alloc, "query"))?;
-    Ok(command.try_get_matches_from(words)?)
+    matches(alloc, "check", &[], &["query"], words)
 }
 
 /// The values of the words behind `gen`.
@@ -56,12 +52,58 @@ pub fn gen_matches<'a>(alloc: Global, words: &'a [String]) -> Result<ArgMatches<
     ensures err { IfErr result (λ fault. fault ≡ Usage.Words
         → given no_options gen_names (map string_bytes words.entry.now) ≡ None) }
 {
-    let command = bare(alloc, "gen")
-        .arg(positional(alloc, "n"))?
-        .arg(positional(alloc, "keys"))?
-        .arg(positional(alloc, "seed"))?
-        .arg(positional(alloc, "w"))?;
+    matches(alloc, "gen", &[], &["n", "keys", "seed", "w"], words)
+}
+
+/// The values of the words behind a command with these options, and these names for words by their place.
+fn matches<'a>(
+    alloc: Global,
+    name: &'a str,
+    options: &[&'a str],
+    names: &[&'a str],
+    words: &'a [String],
+) -> Result<ArgMatches<'a>, Usage>
+    ensures ok { IfOk result (Accepts (command_app name.entry.now (map (λ o. o.now) options.now)
+        (map (λ n. n.now) names.now)) (map string_bytes words.entry.now)) }
+    ensures err { IfErr result (λ fault. fault ≡ Usage.Words
+        → Refuses (command_app name.entry.now (map (λ o. o.now) options.now) (map (λ n. n.now) names.now))
+        (map string_bytes words.entry.now)) }
+{
+    let command = with_options(alloc, bare(alloc, name), options)?;
+    let command = with_positionals(alloc, command, names)?;
     Ok(command.try_get_matches_from(words)?)
+}
+
+/// The command with these options behind its arguments.
+fn with_options<'a>(
+    alloc: Global,
+    command: Command<'a>,
+    names: &[&'a str],
+) -> Result<Command<'a>, AllocError>
+    ensures { IfOk result (λ new. app_of new
+        ≡ fold with_rule (app_of command.entry) (map option_rule (map (λ n. n.now) names.now))) }
+{
+    let mut command = command;
+    for name in names {
+        command = command.arg(option(alloc, name))?;
+    }
+    Ok(command)
+}
+
+/// The command with these words by their place behind its arguments.
+fn with_positionals<'a>(
+    alloc: Global,
+    command: Command<'a>,
+    names: &[&'a str],
+) -> Result<Command<'a>, AllocError>
+    ensures { IfOk result (λ new. app_of new
+        ≡ fold with_rule (app_of command.entry) (map positional_rule (map (λ n. n.now) names.now))) }
+{
+    let mut command = command;
+    for name in names {
+        command = command.arg(positional(alloc, name))?;
+    }
+    Ok(command)
 }
 
 /// A command that reads every word, and has no word of its own.
