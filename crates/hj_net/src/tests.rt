@@ -1,26 +1,53 @@
+ghost use Rattle.std.specs.Prelude.{◌≡◌, ◌<◌, length};
+ghost use Rattle.hj_base.specs.Outside.{unbegun, IsOpen};
+ghost use Rattle.hj_base.specs.declared.outside.Role.TheVariants as role;
+ghost use Rattle.hj_net.specs.Source.{role_of};
+
 use crate::address::{Address, address_of};
 use crate::channel::open;
 use crate::source::Source;
 use crate::{Output, RealOutside, RealSink};
 use hj_base::{Got, Opened, Outside, Put, Role, Sink};
+use std::alloc::Global;
 use std::cell::Cell;
 use std::io::{ErrorKind, Read, Write};
-use std::net::{Ipv4Addr, TcpListener, TcpStream};
-use std::test::Fail;
+use std::net::{Ipv4Addr, Net, OpenListener, TcpListener, TcpStream};
+use std::process::Abort;
+use std::rt::Files;
 use std::{fs, io};
 
-/// A writer that takes at most 3,000 bytes a write, and counts its writes and the bytes that it took.
+/// How many writes there were, and how many bytes they took.
+#[derive(Drop)]
+struct Taken {
+    writes: Cell<usize>,
+    bytes: Cell<usize>,
+}
+
+impl Taken {
+    fn new() -> Taken {
+        Taken {
+            writes: Cell::new(0),
+            bytes: Cell::new(0),
+        }
+    }
+
+    /// Counts a write.
+    fn count(&self, bytes: usize) {
+        self.writes.set(self.writes.get().saturating_add(1));
+        self.bytes.set(self.bytes.get().saturating_add(bytes));
+    }
+}
+
+/// A writer that takes at most 3,000 bytes a write, and counts them.
 #[derive(Drop)]
 struct Counting<'a> {
-    writes: &'a Cell<usize>,
-    bytes: &'a Cell<usize>,
+    taken: &'a Taken,
 }
 
 impl Write for Counting<'_> {
     fn write(&mut self, piece: &[u8]) -> io::Result<usize> {
         let count = piece.len().min(3_000);
-        self.writes.set(self.writes.get().saturating_add(1));
-        self.bytes.set(self.bytes.get().saturating_add(count));
+        self.taken.count(count);
         Ok(count)
     }
 
@@ -29,101 +56,180 @@ impl Write for Counting<'_> {
     }
 }
 
-#[test]
-fn collects_until_handed_on(rt: HostRuntime) -> Result<(), Fail> {
-    let (writes, bytes) = (Cell::new(0), Cell::new(0));
-    let writer = Counting {
-        writes: &writes,
-        bytes: &bytes,
-    };
-    let output = Output::new(rt.alloc(), writer)?;
-    let mut sink = RealSink::output(&output);
+/// Holds the counts to what is wanted.
+fn has_taken(rt: &impl Abort, taken: &Taken, writes: usize, bytes: usize) {
+    assert_eq!(rt; (taken.writes.get(), taken.bytes.get()), (writes, bytes));
+}
+
+/// An output whose writes are counted.
+fn counted<'a>(rt: &impl Abort, alloc: Global, taken: &'a Taken) -> Output<Counting<'a>> {
+    Output::new(alloc, Counting { taken }).expect(rt, "memory")
+}
+
+/// Writes a piece once, which answers this.
+fn puts<S: Sink>(rt: &impl Abort, sink: &mut S, piece: &[u8], put: Put)
+    requires { 0 < length piece.now }
+{
+    assert_eq!(rt; sink.write(piece), put);
+}
+
+fn holds(rt: &impl Abort, found: &[u8], bytes: &[u8]) {
+    assert_eq!(rt; found, bytes);
+}
+
+fn puts_lines<W: Write + Drop>(rt: &impl Abort, output: &Output<W>) {
+    let mut sink = RealSink::output(output);
     for _ in 0..800 {
-        assert_eq!(rt; sink.write(b"1,7,2,7,8\n"), Put::Wrote(10));
+        puts(rt, &mut sink, b"1,7,2,7,8\n", Put::Wrote(10));
     }
-    assert_eq!(rt; writes.get(), 0);
+}
+
+fn hands_on<W: Write + Drop>(rt: &impl Abort, output: &Output<W>) {
     assert!(rt; output.hand_on().is_ok());
-    assert!(rt; output.hand_on().is_ok());
-    assert_eq!(rt; writes.get(), 3);
-    assert_eq!(rt; bytes.get(), 8_000);
-    Ok(())
 }
 
 #[test]
-fn keeps_a_refusal(rt: HostRuntime) -> Result<(), Fail> {
+fn collects_until_handed_on(rt: HostRuntime) {
+    let taken = Taken::new();
+    let output = counted(&rt, rt.alloc(), &taken);
+    puts_lines(&rt, &output);
+    has_taken(&rt, &taken, 0, 0);
+    hands_on(&rt, &output);
+    hands_on(&rt, &output);
+    has_taken(&rt, &taken, 3, 8_000);
+}
+
+/// Writes lines past the room of the output, which has 5 bytes, and notes behind it.
+fn puts_past_the_room<W: Write + Drop, E: Write + Drop>(
+    rt: &impl Abort,
+    output: &Output<W>,
+    writer: E,
+) {
+    let mut sink = RealSink::output(output);
+    let mut notes = RealSink::errors(output, writer);
+    puts(rt, &mut sink, b"1,7\n", Put::Wrote(4));
+    puts(rt, &mut notes, b"note\n", Put::Wrote(5));
+    puts(rt, &mut sink, b"2,7\n", Put::Wrote(4));
+    puts(rt, &mut notes, b"no", Put::Failed);
+    puts(rt, &mut sink, b"3,7\n", Put::Failed);
+}
+
+fn fills(rt: &impl Abort, alloc: Global, room: &mut [u8], written: &mut [u8]) {
+    let output = Output::new(alloc, room).expect(rt, "memory");
+    puts_past_the_room(rt, &output, written);
+}
+
+#[test]
+fn keeps_a_refusal(rt: HostRuntime) {
     let (mut room, mut written) = ([0; 5], [0; 7]);
-    let output = Output::new(rt.alloc(), room.as_mut_slice())?;
-    let mut sink = RealSink::output(&output);
-    let mut notes = RealSink::errors(&output, written.as_mut_slice());
-    assert_eq!(rt; sink.write(b"1,7\n"), Put::Wrote(4));
-    assert_eq!(rt; notes.write(b"note\n"), Put::Wrote(5));
-    assert_eq!(rt; sink.write(b"2,7\n"), Put::Wrote(4));
-    assert_eq!(rt; notes.write(b"no"), Put::Failed);
-    assert_eq!(rt; sink.write(b"3,7\n"), Put::Failed);
-    drop(notes);
-    assert_eq!(rt; written, *b"note\n\0\0");
-    drop(sink);
-    drop(output);
-    assert_eq!(rt; room, *b"1,7\n2");
-    Ok(())
+    fills(&rt, rt.alloc(), &mut room, &mut written);
+    holds(&rt, &room, b"1,7\n2");
+    holds(&rt, &written, b"note\n\0\0");
 }
 
-#[test]
-fn hands_on_before_it_reads(rt: HostRuntime) -> Result<(), Fail> {
-    let name = "hands_on_before_it_reads.csv";
-    fs::write(&rt, name, "1,7\n")?;
-    let (writes, bytes) = (Cell::new(0), Cell::new(0));
-    let writer = Counting {
-        writes: &writes,
-        bytes: &bytes,
-    };
-    let output = Output::new(rt.alloc(), writer)?;
-    assert_eq!(rt; RealSink::output(&output).write(b"a pair\n"), Put::Wrote(7));
-    let mut outside = RealOutside::new(&rt, rt.alloc(), &output);
-    assert_eq!(rt; outside.start(Role::Left, name), Opened::Ready);
+/// Starts the left stream, whose one line is read.
+fn reads_a_line<O: Outside + Drop>(rt: &impl Abort, mut outside: O, name: &str)
+    requires { (O.state outside role.Left).phase ≡ unbegun }
+{
+    let opened = outside.start(Role::Left, name);
+    assert!(rt; matches!(opened, Opened::Ready));
     let mut buf = [0; 5];
-    assert_eq!(rt; outside.read(Role::Left, &mut buf), Got::Bytes(4));
-    assert_eq!(rt; buf, *b"1,7\n\0");
-    assert_eq!(rt; bytes.get(), 7);
-    fs::remove_file(&rt, name)?;
-    Ok(())
+    let got = outside.read(Role::Left, &mut buf);
+    assert!(rt; matches!(got, Got::Bytes(4)));
+    holds(rt, &buf, b"1,7\n\0");
+}
+
+fn makes_a_file(rt: &(impl Files + Abort), name: &str) {
+    assert!(rt; fs::write(rt, name, "1,7\n").is_ok());
+}
+
+fn reads_a_file<R, W>(rt: &R, alloc: Global, output: &Output<W>, name: &str)
+where
+    R: Files + Net + Abort,
+    W: Write + Drop,
+{
+    let outside = RealOutside::new(rt, alloc, output);
+    reads_a_line(rt, outside, name);
+}
+
+fn puts_a_pair<W: Write + Drop>(rt: &impl Abort, output: &Output<W>) {
+    let mut sink = RealSink::output(output);
+    puts(rt, &mut sink, b"a pair\n", Put::Wrote(7));
 }
 
 #[test]
-fn refuses_what_it_cannot_open(rt: HostRuntime) -> Result<(), Fail> {
-    let taken = TcpListener::bind(&rt, (Ipv4Addr::LOCALHOST, 0))?;
-    let port = taken.local_addr()?.port();
-    let in_use = format!(in rt.alloc(); "listen:{port}")?;
-    for name in [
-        "no_such_file.csv",
-        ".",
-        "listen:0",
-        "listen:",
-        in_use.as_str(),
-    ] {
-        assert!(rt; open(&rt, name).is_none(), "at {name}");
+fn hands_on_before_it_reads(rt: HostRuntime) {
+    let name = "hands_on_before_it_reads.csv";
+    makes_a_file(&rt, name);
+    let taken = Taken::new();
+    let output = counted(&rt, rt.alloc(), &taken);
+    puts_a_pair(&rt, &output);
+    reads_a_file(&rt, rt.alloc(), &output, name);
+    has_taken(&rt, &taken, 1, 7);
+    assert!(rt; fs::remove_file(&rt, name).is_ok());
+}
+
+/// A listener of a port that was free, and the port.
+fn free_port<R: Net + Abort>(rt: &R) -> (R::Listener, u16) {
+    let listener = TcpListener::bind(rt, (Ipv4Addr::LOCALHOST, 0)).expect(rt, "a port");
+    let port = listener.local_addr().expect(rt, "an address").port();
+    (listener, port)
+}
+
+fn is_refused<R: Files + Net + Abort>(rt: &R, name: &str) {
+    assert!(rt; open(rt, name).is_none(), "at {name}");
+}
+
+#[test]
+fn refuses_what_it_cannot_open(rt: HostRuntime) {
+    for name in ["no_such_file.csv", ".", "listen:0", "listen:"] {
+        is_refused(&rt, name);
     }
-    Ok(())
+    let (_taken, port) = free_port(&rt);
+    is_refused(&rt, &listening(&rt, rt.alloc(), port));
+}
+
+const PORTS: &str = "\
+listen:47811 47811
+listen:1 1
+listen:65535 65535
+listen:080 80";
+
+/// A name a line, the last of which is empty.
+const FILES: &str = "\
+./listen:80
+listen
+";
+
+const REFUSED: &str = "\
+listen:65536
+listen:0
+listen:
+listen:+80
+listen:80 ";
+
+/// Holds what a name spells to what is wanted.
+fn spells(rt: &impl Abort, name: &str, address: Option<Address>) {
+    assert!(rt; address_of(name) == address, "at {name}");
+}
+
+/// A line of a name, and the port that it spells.
+fn spells_a_port(rt: &impl Abort, line: &str) {
+    let (name, digits) = line.split_once(' ').expect(rt, "a port");
+    let port = digits.parse::<u16>().expect(rt, "a number");
+    spells(rt, name, Some(Address::Port(port)));
 }
 
 #[test]
 fn reads_addresses(rt: HostRuntime) {
-    let table = [
-        ("listen:47811", Some(Address::Port(47_811))),
-        ("listen:1", Some(Address::Port(1))),
-        ("listen:65535", Some(Address::Port(65_535))),
-        ("listen:080", Some(Address::Port(80))),
-        ("listen:65536", None),
-        ("listen:0", None),
-        ("listen:", None),
-        ("listen:+80", None),
-        ("listen:80 ", None),
-        ("./listen:80", Some(Address::File)),
-        ("listen", Some(Address::File)),
-        ("", Some(Address::File)),
-    ];
-    for (name, address) in table {
-        assert_eq!(rt; address_of(name), address, "at {name}");
+    for line in PORTS.lines() {
+        spells_a_port(&rt, line);
+    }
+    for name in FILES.split('\n') {
+        spells(&rt, name, Some(Address::File));
+    }
+    for name in REFUSED.lines() {
+        spells(&rt, name, None);
     }
 }
 
@@ -144,46 +250,66 @@ impl Read for Interrupted<'_> {
     }
 }
 
-#[test]
-fn reads_on_after_a_failed_read(rt: HostRuntime) -> Result<(), Fail> {
+/// Begins a source, which is ready.
+fn begun<S: Read + Drop>(rt: &impl Abort, alloc: Global, stream: S) -> Source<S>
+    ensures { IsOpen (role_of result).phase }
+{
     let mut source = Source::new();
+    let name = String::from_str(alloc, "name").expect(rt, "memory");
+    let opened = source.begin(name, Some(stream));
+    assert!(rt; matches!(opened, Opened::Ready));
+    source
+}
+
+/// Reads a source once, which answers this.
+fn reads_once<S: Read + Drop>(rt: &impl Abort, source: &mut Source<S>, buf: &mut [u8], got: Got)
+    requires open { IsOpen (role_of source.old).phase }
+    requires room { 0 < length buf.old }
+    ensures { IsOpen (role_of source.new).phase }
+{
+    assert_eq!(rt; source.read(buf), got);
+}
+
+#[test]
+fn reads_on_after_a_failed_read(rt: HostRuntime) {
     let stream = Interrupted {
         reads: 0,
         bytes: b"abcd",
     };
-    let name = String::from_str(rt.alloc(), "name")?;
-    assert_eq!(rt; source.begin(name, Some(stream)), Opened::Ready);
+    let mut source = begun(&rt, rt.alloc(), stream);
     let mut buf = [0; 3];
-    assert_eq!(rt; source.read(&mut buf), Got::Bytes(3));
-    assert_eq!(rt; source.read(&mut buf), Got::Failed);
-    assert_eq!(rt; source.read(&mut buf), Got::Bytes(1));
-    assert_eq!(rt; buf, *b"dbc");
-    assert_eq!(rt; source.read(&mut buf), Got::End);
-    Ok(())
+    reads_once(&rt, &mut source, &mut buf, Got::Bytes(3));
+    reads_once(&rt, &mut source, &mut buf, Got::Failed);
+    reads_once(&rt, &mut source, &mut buf, Got::Bytes(1));
+    holds(&rt, &buf, b"dbc");
+    reads_once(&rt, &mut source, &mut buf, Got::End);
 }
 
-/// A name under which a role can listen: that of a port that was free just now.
-fn free_name(rt: &HostRuntime) -> Result<(String, u16), Fail> {
-    let port = TcpListener::bind(rt, (Ipv4Addr::LOCALHOST, 0))?
-        .local_addr()?
-        .port();
-    Ok((format!(in rt.alloc(); "listen:{port}")?, port))
+/// The name under which a role listens to a port.
+fn listening(rt: &impl Abort, alloc: Global, port: u16) -> String {
+    format!(in alloc; "listen:{port}").expect(rt, "memory")
 }
 
 /// A peer of a port sends bytes and closes.
-fn send(rt: &HostRuntime, port: u16, bytes: &[u8]) -> io::Result<()> {
-    TcpStream::connect(rt, (Ipv4Addr::LOCALHOST, port))?.write_all(bytes)
+fn send(rt: &(impl Net + Abort), port: u16, bytes: &[u8]) {
+    let mut peer = TcpStream::connect(rt, (Ipv4Addr::LOCALHOST, port)).expect(rt, "a peer");
+    assert!(rt; peer.write_all(bytes).is_ok());
+}
+
+/// Reads once, which gives this many bytes.
+fn reads_bytes<C: Read>(rt: &impl Abort, channel: &mut C, buf: &mut [u8], count: usize) {
+    assert_eq!(rt; channel.read(buf).ok(), Some(count));
 }
 
 #[test]
-fn reads_the_first_peer_alone(rt: HostRuntime) -> Result<(), Fail> {
-    let (name, port) = free_name(&rt)?;
-    let mut channel = open(&rt, name.as_str()).ok_or("the port is taken")?;
-    send(&rt, port, b"1,7")?;
-    send(&rt, port, b"2,7\n")?;
+fn reads_the_first_peer_alone(rt: HostRuntime) {
+    let (_, port) = free_port(&rt);
+    let name = listening(&rt, rt.alloc(), port);
+    let mut channel = open(&rt, &name).expect(&rt, "the port is taken");
+    send(&rt, port, b"1,7");
+    send(&rt, port, b"2,7\n");
     let mut buf = [0; 4];
-    assert_eq!(rt; channel.read(&mut buf)?, 3);
-    assert_eq!(rt; buf, *b"1,7\0");
-    assert_eq!(rt; channel.read(&mut buf)?, 0);
-    Ok(())
+    reads_bytes(&rt, &mut channel, &mut buf, 3);
+    holds(&rt, &buf, b"1,7\0");
+    reads_bytes(&rt, &mut channel, &mut buf, 0);
 }
