@@ -4,6 +4,7 @@ use Rattle.std.specs.Str.{all_ascii_digits, bytes_eq}
 use Rattle.std.specs.Str.Parse.{digits_value}
 use Rattle.hj_words.specs.Values.{Text, Value, given, text_of}
 use Rattle.hj_words.specs.declared.order.Order.{Order}
+use Rattle.hj_words.specs.declared.read.JoinNumbers.{JoinNumbers}
 use Rattle.hj_words.specs.declared.order.Order.TheVariants.{Equi, Join, Check, Gen}
 
 -- 1 to 20 decimal digits
@@ -57,44 +58,59 @@ schedule_of threads None = Some None
 schedule_of threads (Some word) =
     if threads == 0 then option_map (λ seed. Some seed) (number_of 0 most_seed word) else None
 
--- `join [--cores N] [--threads N] [--flight N] [--max-events N] [--schedule SEED] QUERY LEFT RIGHT`
-abbrev pub join_of : List Value → Option Order
-join_of values =
+-- the numbers of the texts of `join`'s options
+abbrev pub join_numbers : Option Text → Option Text → Option Text → Option Text → Option Text → Option JoinNumbers
+join_numbers cores threads flight limit schedule =
     option_and_then (λ cores.
     option_and_then (λ threads.
     option_and_then (λ flight.
     option_and_then (λ limit.
-    option_and_then (λ schedule.
+    option_map (λ schedule. record {
+      setup = record { cores = cores; threads = threads; flight = flight };
+      limit = limit;
+      schedule = schedule;
+    })
+    (schedule_of threads schedule))
+    (number_or most_events 1 most_events limit))
+    (number_or 32 1 256 flight))
+    (number_or 4 0 64 threads))
+    (number_or 4 1 64 cores)
+
+-- `join [--cores N] [--threads N] [--flight N] [--max-events N] [--schedule SEED] QUERY LEFT RIGHT`
+abbrev pub join_of : List Value → Option Order
+join_of values =
+    option_and_then (λ numbers.
     option_and_then (λ query.
     option_and_then (λ left.
-    option_map (λ right. Join
-    (record { cores = cores; threads = threads; flight = flight })
-    limit schedule query left right)
+    option_map (λ right. Join numbers.setup numbers.limit numbers.schedule query left right)
     (name_in (text_of (codes "right") values)))
     (name_in (text_of (codes "left") values)))
     (name_in (text_of (codes "query") values)))
-    (schedule_of threads (text_of (codes "schedule") values)))
-    (number_or most_events 1 most_events (text_of (codes "max-events") values)))
-    (number_or 32 1 256 (text_of (codes "flight") values)))
-    (number_or 4 0 64 (text_of (codes "threads") values)))
-    (number_or 4 1 64 (text_of (codes "cores") values))
+    (join_numbers (text_of (codes "cores") values) (text_of (codes "threads") values)
+    (text_of (codes "flight") values) (text_of (codes "max-events") values)
+    (text_of (codes "schedule") values))
 
 -- `check QUERY`
 abbrev pub check_of : List Value → Option Order
 check_of values =
     option_map (λ query. Check query) (name_in (text_of (codes "query") values))
 
--- `gen N KEYS SEED W`
-abbrev pub gen_of : List Value → Option Order
-gen_of values =
+-- the order of the texts of `gen`'s words
+abbrev pub gen_order : Option Text → Option Text → Option Text → Option Text → Option Order
+gen_order n keys seed w =
     option_and_then (λ n.
     option_and_then (λ keys.
     option_and_then (λ seed.
     option_map (λ w. Gen n keys seed w)
-    (number_in 1 most_rows (text_of (codes "w") values)))
-    (number_in 0 most_seed (text_of (codes "seed") values)))
-    (number_in 1 1000000000 (text_of (codes "keys") values)))
-    (number_in 0 100000 (text_of (codes "n") values))
+    (number_in 1 most_rows w))
+    (number_in 0 most_seed seed))
+    (number_in 1 1000000000 keys))
+    (number_in 0 100000 n)
+
+-- `gen N KEYS SEED W`
+abbrev pub gen_of : List Value → Option Order
+gen_of values = gen_order (text_of (codes "n") values) (text_of (codes "keys") values)
+    (text_of (codes "seed") values) (text_of (codes "w") values)
 
 abbrev pub no_options : List Text
 no_options = []

@@ -1,16 +1,24 @@
-ghost use Rattle.std.specs.Prelude.{◌≡◌, IfOk, IfErr, Some, None, map, string_bytes};
-ghost use Rattle.hj_words.specs.Orders.{order_of, equi_spelled, join_spelled, check_spelled, gen_spelled};
-ghost use Rattle.hj_words.specs.Ranges.{IsInRange};
+ghost use Rattle.std.specs.Prelude.{◌≡◌, IfOk, IfErr, IfSome, Some, None, map, option_map, string_bytes};
+ghost use Rattle.hj_words.specs.Orders.{order_of, equi_spelled, join_spelled, check_spelled, gen_spelled, gen_order, join_numbers, name_in};
+ghost use Rattle.hj_words.specs.Ranges.{AreOptions, IsInRange};
 
 use crate::arguments::{check_matches, equi_matches, gen_matches, join_matches};
 use crate::order::{Order, Usage};
 use crate::values::{name, number, number_or, schedule};
-use hj_base::Setup;
+use hj_base::{Name, Setup};
 use std::alloc::Global;
 
 const MOST_ROWS: u64 = 1_000_000;
 
 const MOST_EVENTS: u64 = 4_294_967_295;
+
+/// The numbers of `join`'s options.
+#[derive(Clone, Copy)]
+struct JoinNumbers {
+    setup: Setup,
+    limit: u64,
+    schedule: Option<u64>,
+}
 
 /// The order that the words after the program's name spell. Words exactly where they spell none.
 pub fn read_words(alloc: Global, words: &[String]) -> Result<Order, Usage>
@@ -38,8 +46,8 @@ fn read_equi(alloc: Global, words: &[String]) -> Result<Order, Usage>
 {
     let matches = equi_matches(alloc, words)?;
     let w = number(matches.get_str("w"), 1, MOST_ROWS).ok_or(Usage::Words)?;
-    let left = name(alloc, matches.get_str("left"))?.ok_or(Usage::Words)?;
-    let right = name(alloc, matches.get_str("right"))?.ok_or(Usage::Words)?;
+    let left = named(alloc, matches.get_str("left"))?;
+    let right = named(alloc, matches.get_str("right"))?;
     Ok(Order::Equi {
         w: w as u32,
         left,
@@ -54,28 +62,54 @@ fn read_join(alloc: Global, words: &[String]) -> Result<Order, Usage>
     ensures err { IfErr result (λ fault. fault ≡ Usage.Words → join_spelled (map string_bytes words.now) ≡ None) }
 {
     let matches = join_matches(alloc, words)?;
-    let cores = number_or(matches.get_str("cores"), 4, 1, 64).ok_or(Usage::Words)?;
-    let threads = number_or(matches.get_str("threads"), 4, 0, 64).ok_or(Usage::Words)?;
-    let flight = number_or(matches.get_str("flight"), 32, 1, 256).ok_or(Usage::Words)?;
-    let limit = number_or(matches.get_str("max-events"), MOST_EVENTS, 1, MOST_EVENTS).ok_or(
-        Usage::Words,
-    )?;
-    let schedule = schedule(matches.get_str("schedule"), threads).ok_or(Usage::Words)?;
-    let query = name(alloc, matches.get_str("query"))?.ok_or(Usage::Words)?;
-    let left = name(alloc, matches.get_str("left"))?.ok_or(Usage::Words)?;
-    let right = name(alloc, matches.get_str("right"))?.ok_or(Usage::Words)?;
+    let numbers = join_numbers(
+        matches.get_str("cores"),
+        matches.get_str("threads"),
+        matches.get_str("flight"),
+        matches.get_str("max-events"),
+        matches.get_str("schedule"),
+    )
+    .ok_or(Usage::Words)?;
+    let query = named(alloc, matches.get_str("query"))?;
+    let left = named(alloc, matches.get_str("left"))?;
+    let right = named(alloc, matches.get_str("right"))?;
+    Ok(Order::Join {
+        setup: numbers.setup,
+        limit: numbers.limit,
+        schedule: numbers.schedule,
+        query,
+        left,
+        right,
+    })
+}
+
+/// The numbers of the words of `join`'s options.
+fn join_numbers(
+    cores: Option<&str>,
+    threads: Option<&str>,
+    flight: Option<&str>,
+    limit: Option<&str>,
+    seed: Option<&str>,
+) -> Option<JoinNumbers>
+    ensures value { result ≡ join_numbers (option_map (λ w. w.now) cores.entry) (option_map (λ w. w.now) threads.entry)
+        (option_map (λ w. w.now) flight.entry) (option_map (λ w. w.now) limit.entry)
+        (option_map (λ w. w.now) seed.entry) }
+    ensures range { IfSome result (λ numbers. AreOptions numbers.setup numbers.limit) }
+{
+    let cores = number_or(cores, 4, 1, 64)?;
+    let threads = number_or(threads, 4, 0, 64)?;
+    let flight = number_or(flight, 32, 1, 256)?;
+    let limit = number_or(limit, MOST_EVENTS, 1, MOST_EVENTS)?;
+    let schedule = schedule(seed, threads)?;
     let setup = Setup {
         cores: cores as u16,
         threads: threads as u16,
         flight: flight as u16,
     };
-    Ok(Order::Join {
+    Some(JoinNumbers {
         setup,
         limit,
         schedule,
-        query,
-        left,
-        right,
     })
 }
 
@@ -86,7 +120,7 @@ fn read_check(alloc: Global, words: &[String]) -> Result<Order, Usage>
     ensures err { IfErr result (λ fault. fault ≡ Usage.Words → check_spelled (map string_bytes words.now) ≡ None) }
 {
     let matches = check_matches(alloc, words)?;
-    let query = name(alloc, matches.get_str("query"))?.ok_or(Usage::Words)?;
+    let query = named(alloc, matches.get_str("query"))?;
     Ok(Order::Check { query })
 }
 
@@ -97,14 +131,43 @@ fn read_gen(alloc: Global, words: &[String]) -> Result<Order, Usage>
     ensures err { IfErr result (λ fault. fault ≡ Usage.Words → gen_spelled (map string_bytes words.now) ≡ None) }
 {
     let matches = gen_matches(alloc, words)?;
-    let n = number(matches.get_str("n"), 0, 100_000).ok_or(Usage::Words)?;
-    let keys = number(matches.get_str("keys"), 1, 1_000_000_000).ok_or(Usage::Words)?;
-    let seed = number(matches.get_str("seed"), 0, u64::MAX).ok_or(Usage::Words)?;
-    let w = number(matches.get_str("w"), 1, MOST_ROWS).ok_or(Usage::Words)?;
-    Ok(Order::Gen {
+    gen_order(
+        matches.get_str("n"),
+        matches.get_str("keys"),
+        matches.get_str("seed"),
+        matches.get_str("w"),
+    )
+    .ok_or(Usage::Words)
+}
+
+/// The order of the words of `gen`.
+fn gen_order(
+    n: Option<&str>,
+    keys: Option<&str>,
+    seed: Option<&str>,
+    w: Option<&str>,
+) -> Option<Order>
+    ensures order { result ≡ gen_order (option_map (λ w. w.now) n.entry) (option_map (λ w. w.now) keys.entry)
+        (option_map (λ w. w.now) seed.entry) (option_map (λ w. w.now) w.entry) }
+    ensures ranges { IfSome result IsInRange }
+{
+    let n = number(n, 0, 100_000)?;
+    let keys = number(keys, 1, 1_000_000_000)?;
+    let seed = number(seed, 0, u64::MAX)?;
+    let w = number(w, 1, MOST_ROWS)?;
+    Some(Order::Gen {
         n: n as u32,
         keys: keys as u32,
         seed,
         w: w as u32,
     })
+}
+
+/// The name of a word.
+fn named(alloc: Global, word: Option<&str>) -> Result<Name, Usage>
+    ensures ok { IfOk result (λ name. name_in (option_map (λ w. w.now) word.entry) ≡ Some name) }
+    ensures err { IfErr result (λ fault. fault ≡ Usage.Words
+        → name_in (option_map (λ w. w.now) word.entry) ≡ None) }
+{
+    name(alloc, word)?.ok_or(Usage::Words)
 }
