@@ -1,4 +1,3 @@
-use crate::texts::{joined, repeated};
 use hj_query::{QueryText, parse, print};
 use std::alloc::Global;
 use std::process::Abort;
@@ -20,8 +19,8 @@ fn prints(rt: &impl Abort, alloc: Global, text: &str, canonical: &str) {
 
 /// Prints the query with a condition, and the query that the canonical text spells.
 fn prints_condition(rt: &impl Abort, alloc: Global, condition: &str, canonical: &str) {
-    let text = joined(rt, alloc, &[HEAD, condition]);
-    let want = joined(rt, alloc, &[HEAD, canonical, "\n"]);
+    let text = [HEAD, condition].concat(alloc).expect(rt, "memory");
+    let want = [HEAD, canonical, "\n"].concat(alloc).expect(rt, "memory");
     prints(rt, alloc, &text, &want);
     prints(rt, alloc, &want, &want);
 }
@@ -84,15 +83,15 @@ on l.sym = r.l and l.px within 10 of r.left and not l.qty < r.left
 
 /// Prints a condition of one comparison and so many more behind a word.
 fn prints_long(rt: &impl Abort, alloc: Global, word: &str, count: usize) {
-    let dense = joined(rt, alloc, &[word, "''=''"]);
-    let dense = repeated(rt, alloc, &dense, count);
-    let spaced = joined(rt, alloc, &[" ", word, " '' = ''"]);
-    let spaced = repeated(rt, alloc, &spaced, count);
+    let dense = [word, "''=''"].concat(alloc).expect(rt, "memory");
+    let dense = dense.repeat(alloc, count).expect(rt, "memory");
+    let spaced = [" ", word, " '' = ''"].concat(alloc).expect(rt, "memory");
+    let spaced = spaced.repeat(alloc, count).expect(rt, "memory");
     let head = "left(ts int)right(ts int)window left rows 1 window right rows 1 on''=''";
     let lines =
         "left (ts int)\nright (ts int)\nwindow left rows 1\nwindow right rows 1\non '' = ''";
-    let text = joined(rt, alloc, &[head, &dense]);
-    let want = joined(rt, alloc, &[lines, &spaced, "\n"]);
+    let text = [head, &dense].concat(alloc).expect(rt, "memory");
+    let want = [lines, &spaced, "\n"].concat(alloc).expect(rt, "memory");
     let found = printed(rt, alloc, &text);
     assert!(rt; found.bytes() == want.as_bytes());
 }

@@ -1,4 +1,3 @@
-use crate::texts::{joined, repeated};
 use hj_eval::{QueryJoin, StorePlan, holds, plan};
 use hj_query::{Query, parse};
 use hj_value::{Field, Row, Text};
@@ -10,7 +9,7 @@ const HEAD: &str =
 
 /// The query with this condition.
 fn query(rt: &impl Abort, alloc: Global, condition: &str) -> Query {
-    let text = joined(rt, alloc, &[HEAD, condition]);
+    let text = [HEAD, condition].concat(alloc).expect(rt, "memory");
     parse(alloc, text.as_bytes()).expect(rt, "a query")
 }
 
@@ -171,14 +170,18 @@ fn negates_what_misses_a_value(rt: HostRuntime) {
     assert!(rt; holds(&query, &whole, &Row::new(rt.alloc())));
 }
 
+/// Whether a condition of one comparison and so many more, then an end, holds of a row on both sides.
+fn holds_long(rt: &impl Abort, alloc: Global, row: &Row, count: usize, end: &str) -> bool {
+    let operands = " or 1=2".repeat(alloc, count).expect(rt, "memory");
+    let condition = ["1=2", &operands, end].concat(alloc).expect(rt, "memory");
+    holds(&query(rt, alloc, &condition), row, row)
+}
+
 #[test]
 fn evaluates_long_conditions(rt: HostRuntime) {
     let row = short_row(&rt, rt.alloc(), Field::Int(0));
-    let operands = repeated(&rt, rt.alloc(), " or 1=2", 9300);
-    let condition = joined(&rt, rt.alloc(), &["1=2", &operands]);
-    assert!(rt; !holds(&query(&rt, rt.alloc(), &condition), &row, &row));
-    let condition = joined(&rt, rt.alloc(), &["1=2", &operands, " or 1=1"]);
-    assert!(rt; holds(&query(&rt, rt.alloc(), &condition), &row, &row));
+    assert!(rt; !holds_long(&rt, rt.alloc(), &row, 9300, ""));
+    assert!(rt; holds_long(&rt, rt.alloc(), &row, 9300, " or 1=1"));
 }
 
 /// Conditions, and the plan for each: columns of the left rows and of the right ones, and how far apart.

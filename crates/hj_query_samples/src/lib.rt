@@ -11,5 +11,3 @@ mod conditions;
 mod merges;
 #[cfg(test)]
 mod queries;
-#[cfg(test)]
-mod texts;

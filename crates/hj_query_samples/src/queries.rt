@@ -1,10 +1,8 @@
-use crate::texts::{joined, repeated};
 use hj_base::{Side, Window};
-use hj_query::{Op, Pred, Sum, Term, equi, parse};
-use hj_value::ColumnType;
+use hj_query::{Op, Pred, Query, Sum, Term, equi, parse};
+use hj_value::{ColumnType, Schema};
 use std::alloc::Global;
 use std::process::Abort;
-use std::test::Fail;
 
 const HEAD: &str =
     "left (ts int, k int) right (ts int, k int) window left rows 1 window right rows 1 ";
@@ -31,7 +29,7 @@ fn judgement(rt: &impl Abort, alloc: Global, text: &[u8]) -> String {
 
 /// Judges the text that is these parts, one behind the other.
 fn judge(rt: &impl Abort, alloc: Global, parts: &[&str], want: &str) {
-    let text = joined(rt, alloc, parts);
+    let text = parts.concat(alloc).expect(rt, "memory");
     let found = judgement(rt, alloc, text.as_bytes());
     assert_eq!(rt; found.as_str(), want, "of {text}");
 }
@@ -257,58 +255,87 @@ fn bounds_the_numbers(rt: HostRuntime) {
     );
 }
 
-/// Judges a condition that stands inside so many openings.
-fn judge_nested(rt: &impl Abort, alloc: Global, around: (&str, &str), count: usize, want: &str) {
-    let open = repeated(rt, alloc, around.0, count);
-    let close = repeated(rt, alloc, around.1, count);
+/// What opens and closes around a condition, how often, and what the text is.
+const DEPTHS: &str = "\
+( | ) | 64 | a query
+( | ) | 65 | too deep at 149
+not  |  | 64 | a query
+not  |  | 65 | too deep at 341
+not ( | ) | 32 | a query
+not ( | ) | 33 | too deep at 245";
+
+/// Judges a condition that stands inside the openings of a line.
+fn judge_nested(rt: &impl Abort, alloc: Global, line: &str) {
+    let mut fields = line.split(" | ");
+    let open = fields.next().expect(rt, "what opens");
+    let close = fields.next().expect(rt, "what closes");
+    let count = fields.next().expect(rt, "how often");
+    let count = count.parse::<usize>().expect(rt, "a number");
+    let want = fields.next().expect(rt, "what it is");
+    let open = open.repeat(alloc, count).expect(rt, "memory");
+    let close = close.repeat(alloc, count).expect(rt, "memory");
     judge(rt, alloc, &[HEAD, "on ", &open, "l.k = r.k", &close], want);
 }
 
 #[test]
 fn bounds_the_depth(rt: HostRuntime) {
-    for (around, count, want) in [
-        (("(", ")"), 64, "a query"),
-        (("(", ")"), 65, "too deep at 149"),
-        (("not ", ""), 64, "a query"),
-        (("not ", ""), 65, "too deep at 341"),
-        (("not (", ")"), 32, "a query"),
-        (("not (", ")"), 33, "too deep at 245"),
-    ] {
-        judge_nested(&rt, rt.alloc(), around, count, want);
+    for line in DEPTHS.lines() {
+        judge_nested(&rt, rt.alloc(), line);
     }
+}
+
+/// Judges a condition between so many parentheses behind another one, and inside one more.
+fn judge_behind(rt: &impl Abort, alloc: Global, count: usize, inside: &str, deeper: &str) {
+    let open = "(".repeat(alloc, count).expect(rt, "memory");
+    let close = ")".repeat(alloc, count).expect(rt, "memory");
+    let front = [HEAD, "on ", &open, "l.k = r.k", &close, " and "].concat(alloc);
+    let front = front.expect(rt, "memory");
+    judge(rt, alloc, &[&front, &open, "1=1", &close], inside);
+    let parts = [&front, "(", &open, "1=1", &close, ")"];
+    judge(rt, alloc, &parts, deeper);
 }
 
 // Behind what was closed the depth is what it was.
 #[test]
 fn depth_ends_where_it_is_closed(rt: HostRuntime) {
-    let open = repeated(&rt, rt.alloc(), "(", 64);
-    let close = repeated(&rt, rt.alloc(), ")", 64);
-    let front = joined(
-        &rt,
-        rt.alloc(),
-        &[HEAD, "on ", &open, "l.k = r.k", &close, " and "],
-    );
-    judge(&rt, rt.alloc(), &[&front, &open, "1=1", &close], "a query");
-    judge(
-        &rt,
-        rt.alloc(),
-        &[&front, "(", &open, "1=1", &close, ")"],
-        "too deep at 291",
-    );
+    judge_behind(&rt, rt.alloc(), 64, "a query", "too deep at 291");
+}
+
+/// Judges a text in which so many of the same part stand between a front and a back.
+fn judge_long(
+    rt: &impl Abort,
+    alloc: Global,
+    front: &[&str],
+    part: &str,
+    count: usize,
+    back: &str,
+    want: &str,
+) {
+    let front = front.concat(alloc).expect(rt, "memory");
+    let middle = part.repeat(alloc, count).expect(rt, "memory");
+    judge(rt, alloc, &[&front, &middle, back], want);
 }
 
 // What isn't nested may be as long as the text.
 #[test]
 fn length_is_no_depth(rt: HostRuntime) {
-    let operands = repeated(&rt, rt.alloc(), "1=1 or 1=1 and ", 4000);
-    judge(&rt, rt.alloc(), &[HEAD, "on ", &operands, "1=1"], "a query");
-    let terms = repeated(&rt, rt.alloc(), "+1", 30000);
-    judge(&rt, rt.alloc(), &[HEAD, "on 1", &terms, "=1"], "a query");
+    let on = &[HEAD, "on "];
+    judge_long(
+        &rt,
+        rt.alloc(),
+        on,
+        "1=1 or 1=1 and ",
+        4000,
+        "1=1",
+        "a query",
+    );
+    let on_one = &[HEAD, "on 1"];
+    judge_long(&rt, rt.alloc(), on_one, "+1", 30000, "=1", "a query");
 }
 
 /// So many columns of a schema behind its word.
 fn columns_behind(rt: &impl Abort, alloc: Global, word: &str, count: usize) -> String {
-    let mut text = joined(rt, alloc, &[word, " (ts int"]);
+    let mut text = [word, " (ts int"].concat(alloc).expect(rt, "memory");
     for number in 1..count {
         let digits = number.to_string(alloc).expect(rt, "memory");
         text.push_str(", c").expect(rt, "memory");
@@ -356,13 +383,12 @@ fn refuses_more_columns(rt: HostRuntime) {
 
 #[test]
 fn bounds_the_text(rt: HostRuntime) {
-    let blanks = repeated(&rt, rt.alloc(), " ", 65536);
-    judge(&rt, rt.alloc(), &[&blanks], "expected LeftWord at 65536");
-    let longer = repeated(&rt, rt.alloc(), "'", 65537);
-    judge(&rt, rt.alloc(), &[&longer], "text too long");
-    let blanks = repeated(&rt, rt.alloc(), " ", 65411);
-    judge(&rt, rt.alloc(), &[WHOLE, &blanks], "a query");
-    judge(&rt, rt.alloc(), &[WHOLE, &blanks, " "], "text too long");
+    let missing = "expected LeftWord at 65536";
+    judge_long(&rt, rt.alloc(), &[], " ", 65_536, "", missing);
+    let long = "text too long";
+    judge_long(&rt, rt.alloc(), &[], "'", 65_537, "", long);
+    judge_long(&rt, rt.alloc(), &[WHOLE], " ", 65_411, "", "a query");
+    judge_long(&rt, rt.alloc(), &[WHOLE], " ", 65_411, " ", long);
 }
 
 /// The operands of an `or`.
@@ -398,20 +424,29 @@ fn part_of<'a>(rt: &impl Abort, sum: &'a Sum, at: usize) -> (bool, &'a Term) {
     (part.plus, &part.term)
 }
 
+/// The query that a text is.
+fn query(rt: &impl Abort, alloc: Global, text: &str) -> Query {
+    parse(alloc, text.as_bytes()).expect(rt, "a query")
+}
+
 const TREE: &str = "on 1=1 or 2=2 or 3=3 and 4=4 and not l.k - 5 + r.ts < -6";
+
+/// Looks at the condition of that text.
+fn is_tree(rt: &impl Abort, pred: &Pred) {
+    let (ors, ands) = or_of(rt, pred);
+    assert!(rt; matches!(ors, Pred::Or(_, _)));
+    let (front, last) = and_of(rt, ands);
+    assert!(rt; matches!(front, Pred::And(_, _)));
+    let (left, right) = not_less_of(rt, last);
+    is_left_sum(rt, left);
+    assert!(rt; matches!(&right.first, Term::Number(-6)));
+    assert_eq!(rt; right.rest.len(), 0);
+}
 
 #[test]
 fn makes_the_tree(rt: HostRuntime) {
-    let text = joined(&rt, rt.alloc(), &[HEAD, TREE]);
-    let query = parse(rt.alloc(), text.as_bytes()).expect(&rt, "a query");
-    let (ors, ands) = or_of(&rt, query.pred());
-    assert!(rt; matches!(ors, Pred::Or(_, _)));
-    let (front, last) = and_of(&rt, ands);
-    assert!(rt; matches!(front, Pred::And(_, _)));
-    let (left, right) = not_less_of(&rt, last);
-    is_left_sum(&rt, left);
-    assert!(rt; matches!(&right.first, Term::Number(-6)));
-    assert_eq!(rt; right.rest.len(), 0);
+    let text = [HEAD, TREE].concat(rt.alloc()).expect(&rt, "memory");
+    is_tree(&rt, query(&rt, rt.alloc(), &text).pred());
 }
 
 /// Looks at the sum of `l.k - 5 + r.ts`.
@@ -424,30 +459,37 @@ fn is_left_sum(rt: &impl Abort, sum: &Sum) {
     assert!(rt; plus && matches!(term, Term::Column(Side::Right, 0)));
 }
 
-#[test]
-fn keeps_schemas_and_windows(rt: HostRuntime) -> Result<(), Fail> {
-    let query = parse(rt.alloc(), WHOLE.as_bytes())?;
-    assert_eq!(rt; query.window(Side::Left), Window::Rows(1));
-    assert_eq!(rt; query.window(Side::Right), Window::Time(5));
-    assert_eq!(rt; query.schema(Side::Left).columns.len(), 2);
-    assert_eq!(rt; query.schema(Side::Right).columns.len(), 1);
-    let column = query.schema(Side::Left).columns.get(1).ok_or("none")?;
-    assert_eq!(rt; column.name.bytes(), b"k".as_slice());
-    assert_eq!(rt; column.kind, ColumnType::Text);
-    Ok(())
+/// Looks at a column of the schema of a side.
+fn is_column(rt: &impl Abort, schema: &Schema, at: usize, name: &str, kind: ColumnType) {
+    let column = schema.columns.get(at).expect(rt, "a column");
+    assert_eq!(rt; column.name.bytes(), name.as_bytes());
+    assert_eq!(rt; column.kind, kind);
 }
 
 #[test]
-fn makes_the_query_of_equal_keys(rt: HostRuntime) -> Result<(), Fail> {
-    let query = equi(rt.alloc(), 7)?;
-    for side in [Side::Left, Side::Right] {
-        assert_eq!(rt; query.window(side), Window::Rows(7));
-        let columns = &query.schema(side).columns;
-        assert_eq!(rt; columns.len(), 2);
-        let key = columns.get(1).ok_or("none")?;
-        assert_eq!(rt; key.name.bytes(), b"key".as_slice());
-    }
+fn keeps_schemas_and_windows(rt: HostRuntime) {
+    let query = query(&rt, rt.alloc(), WHOLE);
+    assert_eq!(rt; query.window(Side::Left), Window::Rows(1));
+    assert_eq!(rt; query.window(Side::Right), Window::Time(5));
+    let left = query.schema(Side::Left);
+    assert_eq!(rt; left.columns.len(), 2);
+    is_column(&rt, left, 1, "k", ColumnType::Text);
+    assert_eq!(rt; query.schema(Side::Right).columns.len(), 1);
+}
+
+/// Looks at a side of the query of equal keys in windows of seven rows.
+fn is_keyed(rt: &impl Abort, query: &Query, side: Side) {
+    assert_eq!(rt; query.window(side), Window::Rows(7));
+    let schema = query.schema(side);
+    assert_eq!(rt; schema.columns.len(), 2);
+    is_column(rt, schema, 1, "key", ColumnType::Int);
+}
+
+#[test]
+fn makes_the_query_of_equal_keys(rt: HostRuntime) {
+    let query = equi(rt.alloc(), 7).expect(&rt, "memory");
+    is_keyed(&rt, &query, Side::Left);
+    is_keyed(&rt, &query, Side::Right);
     assert!(rt; matches!(query.pred(), Pred::Compare(Op::Eq, _, _)));
     crosses(query);
-    Ok(())
 }
