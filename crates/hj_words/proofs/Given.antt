@@ -1,5 +1,5 @@
 -- A command's faults and matches, by the values that the words give.
-use Rattle.std.proofs.Common.{◌≡◌, ◌∙◌, Bool, cond, true, false, List, [], ◌∷◌, map, Option, Some, None, Result, Ok, Err, IfOk, IfErr, IsErrAnd, refl, sym, ap, ap₂, subst, true≢false, inl, inr}
+use Rattle.std.proofs.Common.{◌≡◌, ◌∙◌, ◌+◌, ◌<◌, ℕ, Bor, add-one, drop, drop-cons, get_or, length, Bool, cond, true, false, List, [], ◌∷◌, map, Option, Some, None, Result, Ok, Err, IfOk, IfErr, IsErrAnd, refl, sym, ap, ap₂, subst, true≢false, inl, inr}
 use Rattle.std.specs.List.{fold}
 use Rattle.std.specs.Str.{bytes_eq}
 use Rattle.std.specs.String.{string_bytes}
@@ -14,7 +14,11 @@ use Rattle.clap.specs.Faults.{built_fault, fault_of, level_fault, walk_fault}
 use Rattle.clap.specs.Matches.{found_of}
 use Rattle.clap.specs.Simple.{HasMatchesOf, is_simple}
 use Rattle.clap.specs.Faults.{is_simple_and_free}
-use Rattle.clap.specs.Simple.{with_rule}
+use Rattle.clap.specs.Built.{AddsArg}
+use Rattle.clap.specs.Simple.{app_of, with_rule}
+use Rattle.clap.specs.Walk.{rule_of}
+use Rattle.clap.specs.declared.builder.arg.Arg.{Arg}
+use Rattle.clap.specs.declared.builder.command.Command.{Command}
 use Rattle.clap.specs.declared.error.Error.{Error}
 use Rattle.hj_words.specs.declared.order.Usage.{Usage}
 use Rattle.hj_words.specs.declared.order.Usage.TheVariants as usage
@@ -98,6 +102,20 @@ module _ (app : App) (options names : List Text) (read : IsRead app options name
   refused refuses = none_where (values_of options words names None) (sym verdict ∙ refused_kinds (fault_of app words) (refuses read.free))
 
 -- ---- steps of the code
+
+-- an argument is added
+pub added : {old : Command} {arg : Arg} {new : Command} {rule : Rule} → AddsArg old arg new → arg.global ≡ false → rule_of arg ≡ rule → app_of new ≡ with_rule (app_of old) rule
+added {old = old} adds local rule = adds.shape local ∙ ap (with_rule (app_of old)) rule
+
+-- one more name's argument is added, and the names behind it lead to the same command
+pub one_more : (rule : Text → Rule) (names : List (Bor Text)) (i : ℕ) (none : Bor Text) (old new whole : App) → i < length names → new ≡ with_rule old (rule (get_or names i none).now)
+    → fold with_rule old (map rule (map (λ n. n.now) (drop i names))) ≡ whole → fold with_rule new (map rule (map (λ n. n.now) (drop (i + 1) names))) ≡ whole
+one_more rule names i none old new whole within is whole_is =
+    ap (λ app. fold with_rule app (map rule (map (λ n. n.now) (drop (i + 1) names)))) is
+    ∙ (sym (ap (λ ns. fold with_rule old (map rule (map (λ n. n.now) ns))) front) ∙ whole_is)
+  where
+    front : drop i names ≡ get_or names i none ∷ drop (i + 1) names
+    front = rw (add-one, drop-cons names i none) refl
 
 -- a command is built from a bare one, by options and then by words by their place
 pub built_up : (name : Text) (options names : List Text) (bare optioned whole : App) → bare ≡ bare_app name → optioned ≡ fold with_rule bare (map option_rule options)

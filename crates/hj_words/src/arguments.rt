@@ -77,13 +77,12 @@ fn matches<'a>(
 /// The command with these options behind its arguments.
 fn with_options<'a>(
     alloc: Global,
-    command: Command<'a>,
+    mut command: Command<'a>,
     names: &[&'a str],
 ) -> Result<Command<'a>, AllocError>
     ensures { IfOk result (λ new. app_of new
         ≡ fold with_rule (app_of command.entry) (map option_rule (map (λ n. n.now) names.now))) }
 {
-    let mut command = command;
     for name in names {
         command = command.arg(option(alloc, name))?;
     }
@@ -93,13 +92,12 @@ fn with_options<'a>(
 /// The command with these words by their place behind its arguments.
 fn with_positionals<'a>(
     alloc: Global,
-    command: Command<'a>,
+    mut command: Command<'a>,
     names: &[&'a str],
 ) -> Result<Command<'a>, AllocError>
     ensures { IfOk result (λ new. app_of new
         ≡ fold with_rule (app_of command.entry) (map positional_rule (map (λ n. n.now) names.now))) }
 {
-    let mut command = command;
     for name in names {
         command = command.arg(positional(alloc, name))?;
     }
