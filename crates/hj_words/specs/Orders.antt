@@ -59,7 +59,7 @@ schedule_of threads (Some word) =
     if threads == 0 then option_map (λ seed. Some seed) (number_of 0 most_seed word) else None
 
 -- the numbers of the texts of `join`'s options
-abbrev pub join_numbers : Option Text → Option Text → Option Text → Option Text → Option Text → Option JoinNumbers
+unfoldable pub join_numbers : Option Text → Option Text → Option Text → Option Text → Option Text → Option JoinNumbers
 join_numbers cores threads flight limit schedule =
     option_and_then (λ cores.
     option_and_then (λ threads.
@@ -96,7 +96,7 @@ check_of values =
     option_map (λ query. Check query) (name_in (text_of (codes "query") values))
 
 -- the order of the texts of `gen`'s words
-abbrev pub gen_order : Option Text → Option Text → Option Text → Option Text → Option Order
+unfoldable pub gen_order : Option Text → Option Text → Option Text → Option Text → Option Order
 gen_order n keys seed w =
     option_and_then (λ n.
     option_and_then (λ keys.

@@ -84,6 +84,7 @@ fn read_join(alloc: Global, words: &[String]) -> Result<Order, Usage>
 }
 
 /// The numbers of the words of `join`'s options.
+#[tactic(auto, unfolding(crate::specs::Orders::join_numbers))]
 fn join_numbers(
     cores: Option<&str>,
     threads: Option<&str>,
@@ -141,6 +142,7 @@ fn read_gen(alloc: Global, words: &[String]) -> Result<Order, Usage>
 }
 
 /// The order of the words of `gen`.
+#[tactic(auto, unfolding(crate::specs::Orders::gen_order))]
 fn gen_order(
     n: Option<&str>,
     keys: Option<&str>,
