@@ -76,16 +76,21 @@ join_numbers cores threads flight limit schedule =
     (number_or 4 0 64 threads))
     (number_or 4 1 64 cores)
 
--- `join [--cores N] [--threads N] [--flight N] [--max-events N] [--schedule SEED] QUERY LEFT RIGHT`
-abbrev pub join_of : List Value → Option Order
-join_of values =
-    option_and_then (λ numbers.
+-- the order of `join` with these numbers, and the names of these texts
+unfoldable pub join_order : JoinNumbers → Option Text → Option Text → Option Text → Option Order
+join_order numbers query left right =
     option_and_then (λ query.
     option_and_then (λ left.
     option_map (λ right. Join numbers.setup numbers.limit numbers.schedule query left right)
-    (name_in (text_of (codes "right") values)))
-    (name_in (text_of (codes "left") values)))
-    (name_in (text_of (codes "query") values)))
+    (name_in right))
+    (name_in left))
+    (name_in query)
+
+-- `join [--cores N] [--threads N] [--flight N] [--max-events N] [--schedule SEED] QUERY LEFT RIGHT`
+abbrev pub join_of : List Value → Option Order
+join_of values =
+    option_and_then (λ numbers. join_order numbers (text_of (codes "query") values)
+    (text_of (codes "left") values) (text_of (codes "right") values))
     (join_numbers (text_of (codes "cores") values) (text_of (codes "threads") values)
     (text_of (codes "flight") values) (text_of (codes "max-events") values)
     (text_of (codes "schedule") values))

@@ -1,5 +1,5 @@
 ghost use Rattle.std.specs.Prelude.{◌≡◌, IfOk, IfErr, IfSome, Some, None, map, option_map, string_bytes};
-ghost use Rattle.hj_words.specs.Orders.{order_of, equi_spelled, join_spelled, check_spelled, gen_spelled, gen_order, join_numbers, name_in};
+ghost use Rattle.hj_words.specs.Orders.{order_of, equi_spelled, join_spelled, check_spelled, gen_spelled, gen_order, join_numbers, join_order, name_in};
 ghost use Rattle.hj_words.specs.Ranges.{AreOptions, IsInRange};
 
 use crate::arguments::{check_matches, equi_matches, gen_matches, join_matches};
@@ -70,9 +70,34 @@ fn read_join(alloc: Global, words: &[String]) -> Result<Order, Usage>
         matches.get_str("schedule"),
     )
     .ok_or(Usage::Words)?;
-    let query = named(alloc, matches.get_str("query"))?;
-    let left = named(alloc, matches.get_str("left"))?;
-    let right = named(alloc, matches.get_str("right"))?;
+    join_order(
+        alloc,
+        numbers,
+        matches.get_str("query"),
+        matches.get_str("left"),
+        matches.get_str("right"),
+    )
+}
+
+/// The order of `join` with these numbers, and the names of these words.
+#[tactic(auto, unfolding(crate::specs::Orders::join_order))]
+fn join_order(
+    alloc: Global,
+    numbers: JoinNumbers,
+    query: Option<&str>,
+    left: Option<&str>,
+    right: Option<&str>,
+) -> Result<Order, Usage>
+    ensures ok { IfOk result (λ order. join_order numbers (option_map (λ w. w.now) query.entry)
+        (option_map (λ w. w.now) left.entry) (option_map (λ w. w.now) right.entry) ≡ Some order) }
+    ensures ranges { AreOptions numbers.setup numbers.limit → IfOk result IsInRange }
+    ensures err { IfErr result (λ fault. fault ≡ Usage.Words
+        → join_order numbers (option_map (λ w. w.now) query.entry)
+        (option_map (λ w. w.now) left.entry) (option_map (λ w. w.now) right.entry) ≡ None) }
+{
+    let query = named(alloc, query)?;
+    let left = named(alloc, left)?;
+    let right = named(alloc, right)?;
     Ok(Order::Join {
         setup: numbers.setup,
         limit: numbers.limit,
