@@ -86,6 +86,7 @@ fn reads<O: Outside>(rt: &impl Abort, outside: &mut O, role: Role, buf: &mut [u8
 fn one_name(rt: &impl Abort, alloc: Global) -> MemOutside
     ensures left { (role_at result role.Left).phase ≡ unbegun }
     ensures right { (role_at result role.Right).phase ≡ unbegun }
+    ensures query { (role_at result role.Query).phase ≡ unbegun }
 {
     let mut outside = MemOutside::new(alloc, 1);
     outside.add("ab.csv", b"ab").expect(rt, "memory");
@@ -131,7 +132,7 @@ fn starts_with_what_stands(rt: HostRuntime) {
 #[test]
 fn fails_to_start_a_missing_name(rt: HostRuntime) {
     let mut outside = one_name(&rt, rt.alloc());
-    fails_to_start(&rt, &mut outside, Role::Right, "q");
+    fails_to_start(&rt, &mut outside, Role::Query, "q");
 }
 
 #[test]
