@@ -1,16 +1,15 @@
-ghost use Rattle.std.specs.Prelude.{◌≡◌, ◌≤◌, IfOk};
+ghost use Rattle.std.specs.Prelude.{◌≡◌, ◌≤◌, ◌<◌, false, length};
 ghost use Rattle.hj_base.specs.MemOutside.{role_at};
-ghost use Rattle.hj_base.specs.Outside.{unbegun};
+ghost use Rattle.hj_base.specs.Outside.{unbegun, IsOpen, ChangesOnly};
 ghost use Rattle.hj_base.specs.declared.outside.Role.TheVariants as role;
 ghost use Rattle.hj_event.specs.Roles.{IsInStep};
 
-use hj_base::{Got, MemOutside, Memory, Opened, Outside, Role, Side};
+use hj_base::{Got, MemOutside, Opened, Outside, Role};
 use hj_event::{Merger, Next};
 use hj_msg::Event;
 use hj_query::{Query, parse};
 use std::alloc::{AllocError, Global};
 use std::process::Abort;
-use std::test::Fail;
 
 /// What a merger is made of, and what it answers.
 #[derive(Drop)]
@@ -51,13 +50,139 @@ fn case_of<'a>(rt: &impl Abort, alloc: Global, line: &'a str) -> Case<'a> {
     }
 }
 
+/// The bytes of a case's streams, under `l` and `r`, of which a read gives so many.
+fn contents(rt: &impl Abort, alloc: Global, case: &Case<'_>, chunk: usize) -> MemOutside
+    requires { 1 ≤ chunk }
+    ensures left { (role_at result role.Left).phase ≡ unbegun }
+    ensures right { (role_at result role.Right).phase ≡ unbegun }
+{
+    let mut outside = MemOutside::new(alloc, chunk);
+    let left = outside.add("l", case.left.as_bytes());
+    left.expect(rt, "memory");
+    let right = outside.add("r", case.right.as_bytes());
+    right.expect(rt, "memory");
+    outside
+}
+
+/// Has one read of a role fail.
+fn fails(rt: &impl Abort, outside: &mut MemOutside, failing: Role, nth: u64)
+    requires first { 1 ≤ nth }
+    requires last { nth ≤ 9 }
+    ensures left { (role_at outside.new role.Left).phase ≡ (role_at outside.old role.Left).phase }
+    ensures right { (role_at outside.new role.Right).phase ≡ (role_at outside.old role.Right).phase }
+{
+    outside.fail_read(failing, nth).expect(rt, "memory");
+}
+
+/// Starts a role, which is ready.
+fn starts<O: Outside>(rt: &impl Abort, outside: &mut O, role: Role, name: &str)
+    requires { (O.state outside.old role).phase ≡ unbegun }
+    ensures ready { IsInStep false (O.state outside.new role) }
+    ensures others { ChangesOnly role (O.state outside.old) (O.state outside.new) }
+{
+    let opened = outside.start(role, name);
+    assert!(rt; matches!(opened, Opened::Ready));
+}
+
+/// Starts both sides, which are ready.
+fn starts_both<O: Outside>(rt: &impl Abort, outside: &mut O)
+    requires left { (O.state outside.old role.Left).phase ≡ unbegun }
+    requires right { (O.state outside.old role.Right).phase ≡ unbegun }
+    ensures left { IsInStep false (O.state outside.new role.Left) }
+    ensures right { IsInStep false (O.state outside.new role.Right) }
+{
+    starts(rt, outside, Role::Left, "l");
+    starts(rt, outside, Role::Right, "r");
+}
+
+/// The query of rows of two numbers under these windows.
+fn query(rt: &impl Abort, alloc: Global, windows: &str) -> Query {
+    let schemas = "left (ts int, k int) right (ts int, k int) ";
+    let text = [schemas, windows, " on l.k = r.k"].concat(alloc);
+    let text = text.expect(rt, "memory");
+    parse(alloc, text.as_bytes()).expect(rt, "a query")
+}
+
+/// A merger of a case's streams, which has read nothing.
+fn merger_of(rt: &impl Abort, alloc: Global, case: &Case<'_>) -> Merger
+    ensures left { result.sides.left.reading.ended ≡ false }
+    ensures right { result.sides.right.reading.ended ≡ false }
+{
+    let query = query(rt, alloc, case.windows);
+    Merger::new(alloc, &query, case.limit).expect(rt, "memory")
+}
+
+/// Starts both sides, and makes a merger of a case's streams, which has read nothing.
+fn begun<O: Outside>(rt: &impl Abort, alloc: Global, case: &Case<'_>, outside: &mut O) -> Merger
+    requires left { (O.state outside.old role.Left).phase ≡ unbegun }
+    requires right { (O.state outside.old role.Right).phase ≡ unbegun }
+    ensures left { IsInStep result.sides.left.reading.ended (O.state outside.new role.Left) }
+    ensures right { IsInStep result.sides.right.reading.ended (O.state outside.new role.Right) }
+{
+    starts_both(rt, outside);
+    merger_of(rt, alloc, case)
+}
+
+/// The next answer of a merger.
+fn answer_of<O: Outside>(merger: &mut Merger, outside: &mut O) -> Next
+    requires left { IsInStep merger.old.sides.left.reading.ended (O.state outside.old role.Left) }
+    requires right { IsInStep merger.old.sides.right.reading.ended (O.state outside.old role.Right) }
+    ensures left { IsInStep merger.new.sides.left.reading.ended (O.state outside.new role.Left) }
+    ensures right { IsInStep merger.new.sides.right.reading.ended (O.state outside.new role.Right) }
+{
+    merger.next(outside)
+}
+
+/// Adds an answer to a text, and tells whether it is the last one.
+fn puts(rt: &impl Abort, text: &mut String, answer: Next) -> bool {
+    let over = !matches!(answer, Next::Event(_));
+    put(text, answer).expect(rt, "memory");
+    over
+}
+
+/// What a merger of a case answers, up to its last answer, and that one again.
+fn merged<O: Outside>(
+    rt: &impl Abort,
+    alloc: Global,
+    merger: &mut Merger,
+    outside: &mut O,
+) -> String
+    requires left { IsInStep merger.old.sides.left.reading.ended (O.state outside.old role.Left) }
+    requires right { IsInStep merger.old.sides.right.reading.ended (O.state outside.old role.Right) }
+{
+    let mut text = String::new(alloc);
+    let mut over = false;
+    for _ in 0..12 {
+        let again = over;
+        over = puts(rt, &mut text, answer_of(merger, outside));
+        if again {
+            break;
+        }
+    }
+    text
+}
+
+/// Holds a text, but for the blanks at its end, to what is wanted.
+fn same(rt: &impl Abort, text: &str, want: &str) {
+    assert_eq!(rt; text.trim_end(), want);
+}
+
+/// Holds what a merger of a case answers to what is wanted.
+fn answers<O: Outside>(rt: &impl Abort, alloc: Global, case: &Case<'_>, outside: &mut O, want: &str)
+    requires left { (O.state outside.old role.Left).phase ≡ unbegun }
+    requires right { (O.state outside.old role.Right).phase ≡ unbegun }
+{
+    let mut merger = begun(rt, alloc, case, outside);
+    let text = merged(rt, alloc, &mut merger, outside);
+    same(rt, &text, want);
+}
+
 /// Merges the streams of a case, of which a read gives so many bytes.
 fn merges(rt: &impl Abort, alloc: Global, case: &Case<'_>, chunk: usize)
     requires { 1 ≤ chunk }
 {
-    let mut outside = MemOutside::new(alloc, chunk);
-    let text = merged(alloc, case, &mut outside).expect(rt, "memory");
-    assert_eq!(rt; text.trim_end(), case.want, "by {chunk}");
+    let mut outside = contents(rt, alloc, case, chunk);
+    answers(rt, alloc, case, &mut outside, case.want);
 }
 
 #[test]
@@ -70,20 +195,19 @@ fn merges_two_streams(rt: HostRuntime) {
     }
 }
 
+const TWO_A_SIDE: &str =
+    "window left rows 9 window right rows 9 | 100 | 1,7/2,7/ | 0,7/5,7/ | what was read before a failed read";
+
 /// Merges two rows a side, where one read of a role fails.
 fn fails_to_read(rt: &impl Abort, alloc: Global, role: Role, nth: u64, want: &str)
     requires first { 1 ≤ nth }
     requires last { nth ≤ 9 }
 {
     let case = case_of(rt, alloc, TWO_A_SIDE);
-    let mut outside = MemOutside::new(alloc, 4);
-    outside.fail_read(role, nth).expect(rt, "memory");
-    let text = merged(alloc, &case, &mut outside).expect(rt, "memory");
-    assert_eq!(rt; text.trim_end(), want, "{role:?} {nth}");
+    let mut outside = contents(rt, alloc, &case, 4);
+    fails(rt, &mut outside, role, nth);
+    answers(rt, alloc, &case, &mut outside, want);
 }
-
-const TWO_A_SIDE: &str =
-    "window left rows 9 window right rows 9 | 100 | 1,7/2,7/ | 0,7/5,7/ | what was read before a failed read";
 
 #[test]
 fn gives_what_was_read_before_a_failed_read(rt: HostRuntime) {
@@ -98,64 +222,31 @@ fn gives_what_was_read_before_a_failed_read(rt: HostRuntime) {
 const FOUR_A_SIDE: &str =
     "window left rows 9 window right rows 9 | 100 | 1,7/1,7/1,7/1,7/ | 2,7/2,7/2,7/2,7/ | what is read";
 
-#[test]
-fn reads_no_more_than_the_heads(rt: HostRuntime) -> Result<(), Fail> {
-    let case = case_of(&rt, rt.alloc(), FOUR_A_SIDE);
-    let mut outside = MemOutside::new(rt.alloc(), 4);
-    let mut merger = open(rt.alloc(), &case, &mut outside)?;
-    assert!(rt; !merger.is_ready());
-    let _ = merger.next(&mut outside);
+/// Reads four bytes of the left role, which is open.
+fn reads_four<O: Outside>(rt: &impl Abort, outside: &mut O)
+    requires { IsOpen (O.state outside.old role.Left).phase }
+{
     let mut buf = [0; 16];
-    assert_eq!(rt; outside.read(Role::Left, &mut buf), Got::Bytes(4));
-    Ok(())
+    let got = outside.read(Role::Left, &mut buf);
+    assert!(rt; matches!(got, Got::Bytes(4)));
 }
 
-/// The query of rows of two numbers under these windows.
-fn query(alloc: Global, windows: &str) -> Result<Query, Memory> {
-    let mut text = String::from_str(alloc, "left (ts int, k int) right (ts int, k int) ")?;
-    text.push_str(windows)?;
-    text.push_str(" on l.k = r.k")?;
-    parse(alloc, text.as_bytes()).map_err(|_| Memory)
-}
-
-/// A merger of a case's streams, which stand in `outside` under `l` and `r`.
-fn open(alloc: Global, case: &Case<'_>, outside: &mut MemOutside) -> Result<Merger, Memory>
-    requires left { (role_at outside.old role.Left).phase ≡ unbegun }
-    requires right { (role_at outside.old role.Right).phase ≡ unbegun }
-    ensures left { IfOk result (λ merger. IsInStep merger.sides.left.reading.ended (role_at outside.new role.Left)) }
-    ensures right { IfOk result (λ merger. IsInStep merger.sides.right.reading.ended (role_at outside.new role.Right)) }
+/// Asks a merger of a case for its first answer, and reads what comes behind it.
+fn reads_behind<O: Outside>(rt: &impl Abort, alloc: Global, case: &Case<'_>, outside: &mut O)
+    requires left { (O.state outside.old role.Left).phase ≡ unbegun }
+    requires right { (O.state outside.old role.Right).phase ≡ unbegun }
 {
-    outside.add("l", case.left.as_bytes())?;
-    outside.add("r", case.right.as_bytes())?;
-    let query = query(alloc, case.windows)?;
-    let merger = Merger::new(alloc, &query, case.limit)?;
-    let Opened::Ready = outside.start(Role::Left, "l") else {
-        return Err(Memory);
-    };
-    let Opened::Ready = outside.start(Role::Right, "r") else {
-        return Err(Memory);
-    };
-    Ok(merger)
+    let mut merger = begun(rt, alloc, case, outside);
+    assert!(rt; !merger.is_ready());
+    let _ = answer_of(&mut merger, outside);
+    reads_four(rt, outside);
 }
 
-/// What a merger of a case answers, up to its last answer, and that one again.
-fn merged(alloc: Global, case: &Case<'_>, outside: &mut MemOutside) -> Result<String, Memory>
-    requires left { (role_at outside.old role.Left).phase ≡ unbegun }
-    requires right { (role_at outside.old role.Right).phase ≡ unbegun }
-{
-    let mut merger = open(alloc, case, outside)?;
-    let mut text = String::new(alloc);
-    let mut over = false;
-    for _ in 0..12 {
-        let again = over;
-        let answer = merger.next(outside);
-        over = !matches!(answer, Next::Event(_));
-        put(&mut text, answer)?;
-        if again {
-            break;
-        }
-    }
-    Ok(text)
+#[test]
+fn reads_no_more_than_the_heads(rt: HostRuntime) {
+    let case = case_of(&rt, rt.alloc(), FOUR_A_SIDE);
+    let mut outside = contents(&rt, rt.alloc(), &case, 4);
+    reads_behind(&rt, rt.alloc(), &case, &mut outside);
 }
 
 fn put(text: &mut String, answer: Next) -> Result<(), AllocError> {
