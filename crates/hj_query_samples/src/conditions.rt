@@ -36,6 +36,16 @@ fn number<'a>(rt: &impl Abort, text: &str) -> Field<'a> {
     Field::Int(text.parse::<i64>().expect(rt, "a number"))
 }
 
+/// A row of a time and a number.
+fn number_row(rt: &impl Abort, alloc: Global, k: &str) -> Row {
+    short_row(rt, alloc, number(rt, k))
+}
+
+/// A row of a time, a number and a text.
+fn whole_row(rt: &impl Abort, alloc: Global, k: &str, s: &str) -> Row {
+    row(rt, alloc, number(rt, k), text(rt, s))
+}
+
 /// Conditions, and the orders of `l.k` and `r.k` in which each holds.
 const ORDERS: &str = "\
 l.k = r.k | =
@@ -62,8 +72,8 @@ const PAIRS: &str = "\
 fn compares(rt: &impl Abort, alloc: Global, query: &Query, orders: &str, pair: &str) {
     let (left, behind) = pair.split_once(' ').expect(rt, "an order");
     let (order, right) = behind.split_once(' ').expect(rt, "a right number");
-    let left_row = short_row(rt, alloc, number(rt, left));
-    let right_row = short_row(rt, alloc, number(rt, right));
+    let left_row = number_row(rt, alloc, left);
+    let right_row = number_row(rt, alloc, right);
     let found = holds(query, &left_row, &right_row);
     assert_eq!(rt; found, orders.contains(order), "{orders} at {pair}");
 }
@@ -124,8 +134,8 @@ fn evaluates(rt: &impl Abort, alloc: Global, line: &str) {
     let (right, want) = behind.split_once(' ').expect(rt, "what is wanted");
     let want = want.parse::<bool>().expect(rt, "whether it holds");
     let query = query(rt, alloc, condition);
-    let left = row(rt, alloc, number(rt, left), text(rt, "ab"));
-    let right = row(rt, alloc, number(rt, right), text(rt, "b"));
+    let left = whole_row(rt, alloc, left, "ab");
+    let right = whole_row(rt, alloc, right, "b");
     assert_eq!(rt; says(&query, &left, &right), (want, want), "{line}");
 }
 
@@ -218,11 +228,16 @@ fn told(rt: &impl Abort, alloc: Global, plan: StorePlan) -> String {
     told.expect(rt, "memory")
 }
 
+/// Plans by the condition of a line.
+fn plans(rt: &impl Abort, alloc: Global, line: &str) {
+    let (condition, want) = line.split_once(" | ").expect(rt, "a case");
+    let found = plan(&query(rt, alloc, condition));
+    assert_eq!(rt; told(rt, alloc, found).as_str(), want, "{condition}");
+}
+
 #[test]
 fn plans_by_the_first_conjunct(rt: HostRuntime) {
     for line in PLANS.lines() {
-        let (condition, want) = line.split_once(" | ").expect(&rt, "a case");
-        let found = plan(&query(&rt, rt.alloc(), condition));
-        assert_eq!(rt; told(&rt, rt.alloc(), found).as_str(), want, "{condition}");
+        plans(&rt, rt.alloc(), line);
     }
 }

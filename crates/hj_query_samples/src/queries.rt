@@ -89,14 +89,19 @@ const FRONTS: &str = "\
 121 | expected Term at 121
 125 | a query";
 
+/// Judges the front of the whole text that a line tells.
+fn judge_front(rt: &impl Abort, alloc: Global, line: &str) {
+    let (length, want) = line.split_once(" | ").expect(rt, "a case");
+    let length = length.parse::<usize>().expect(rt, "a length");
+    let front = WHOLE.as_bytes().get(..length).expect(rt, "a front");
+    let found = judgement(rt, alloc, front);
+    assert_eq!(rt; found.as_str(), want, "at {length}");
+}
+
 #[test]
 fn asks_for_more(rt: HostRuntime) {
     for line in FRONTS.lines() {
-        let (length, want) = line.split_once(" | ").expect(&rt, "a case");
-        let length = length.parse::<usize>().expect(&rt, "a length");
-        let front = WHOLE.as_bytes().get(..length).expect(&rt, "a front");
-        let found = judgement(&rt, rt.alloc(), front);
-        assert_eq!(rt; found.as_str(), want, "at {length}");
+        judge_front(&rt, rt.alloc(), line);
     }
 }
 
