@@ -68,13 +68,23 @@ const PAIRS: &str = "\
 0 > -1
 0 = 0";
 
+/// Whether a condition holds of a left number and a right one.
+fn holds_of(rt: &impl Abort, alloc: Global, query: &Query, left: &str, right: &str) -> bool {
+    let left = number_row(rt, alloc, left);
+    let right = number_row(rt, alloc, right);
+    holds(query, &left, &right)
+}
+
+/// Holds what was found for a line of a table to what is wanted.
+fn same(rt: &impl Abort, line: &str, found: bool, want: bool) {
+    assert_eq!(rt; found, want, "{line}");
+}
+
 /// Compares the numbers of a pair by a condition, which holds in these orders.
 fn compares(rt: &impl Abort, alloc: Global, query: &Query, orders: &str, pair: &str) {
     let (left, behind) = pair.split_once(' ').expect(rt, "an order");
     let (order, right) = behind.split_once(' ').expect(rt, "a right number");
-    let left_row = number_row(rt, alloc, left);
-    let right_row = number_row(rt, alloc, right);
-    let found = holds(query, &left_row, &right_row);
+    let found = holds_of(rt, alloc, query, left, right);
     assert_eq!(rt; found, orders.contains(order), "{orders} at {pair}");
 }
 
@@ -127,6 +137,13 @@ fn says(query: &Query, left: &Row, right: &Row) -> (bool, bool) {
     )
 }
 
+/// What a condition says of two rows of these numbers, as it is and made ready.
+fn says_of(rt: &impl Abort, alloc: Global, query: &Query, left: &str, right: &str) -> (bool, bool) {
+    let left = whole_row(rt, alloc, left, "ab");
+    let right = whole_row(rt, alloc, right, "b");
+    says(query, &left, &right)
+}
+
 /// Evaluates the condition of a line.
 fn evaluates(rt: &impl Abort, alloc: Global, line: &str) {
     let (condition, rows) = line.split_once(" | ").expect(rt, "rows");
@@ -134,9 +151,9 @@ fn evaluates(rt: &impl Abort, alloc: Global, line: &str) {
     let (right, want) = behind.split_once(' ').expect(rt, "what is wanted");
     let want = want.parse::<bool>().expect(rt, "whether it holds");
     let query = query(rt, alloc, condition);
-    let left = whole_row(rt, alloc, left, "ab");
-    let right = whole_row(rt, alloc, right, "b");
-    assert_eq!(rt; says(&query, &left, &right), (want, want), "{line}");
+    let (found, ready) = says_of(rt, alloc, &query, left, right);
+    same(rt, line, found, want);
+    same(rt, line, ready, want);
 }
 
 #[test]
@@ -155,13 +172,23 @@ l.k within 5 of r.k + 0
 l.s = r.s
 r.s != 'a'";
 
-/// Evaluates each condition of a table on a row that lacks its values: it fails.
+/// A row of a time, zero and a text.
+fn zero_row(rt: &impl Abort, alloc: Global) -> Row {
+    row(rt, alloc, Field::Int(0), text(rt, "b"))
+}
+
+/// Evaluates a condition on a right row that lacks its values: it fails.
+fn misses_one(rt: &impl Abort, alloc: Global, condition: &str, left: &Row, missing: &Row) {
+    let query = query(rt, alloc, condition);
+    same(rt, condition, holds(&query, missing, missing), false);
+    same(rt, condition, holds(&query, left, missing), false);
+}
+
+/// Evaluates each condition of a table on a row that lacks its values.
 fn misses(rt: &impl Abort, alloc: Global, missing: &Row) {
-    let whole = row(rt, alloc, Field::Int(0), text(rt, "b"));
+    let whole = zero_row(rt, alloc);
     for condition in ON_VALUES.lines() {
-        let query = query(rt, alloc, condition);
-        assert!(rt; !holds(&query, missing, missing), "{condition}");
-        assert!(rt; !holds(&query, &whole, missing), "{condition}");
+        misses_one(rt, alloc, condition, &whole, missing);
     }
 }
 
@@ -173,11 +200,17 @@ fn misses_values(rt: HostRuntime) {
     misses(&rt, rt.alloc(), &turned);
 }
 
+/// Whether a condition holds of a left row and a right row with no field.
+fn holds_of_none(rt: &impl Abort, alloc: Global, query: &Query) -> bool {
+    let whole = zero_row(rt, alloc);
+    let none = Row::new(alloc);
+    holds(query, &whole, &none)
+}
+
 #[test]
 fn negates_what_misses_a_value(rt: HostRuntime) {
     let query = query(&rt, rt.alloc(), "not l.k = r.k");
-    let whole = row(&rt, rt.alloc(), Field::Int(0), text(&rt, "b"));
-    assert!(rt; holds(&query, &whole, &Row::new(rt.alloc())));
+    assert!(rt; holds_of_none(&rt, rt.alloc(), &query));
 }
 
 /// Whether a condition of one comparison and so many more, then an end, holds of a row on both sides.

@@ -471,23 +471,28 @@ fn is_column(rt: &impl Abort, schema: &Schema, at: usize, name: &str, kind: Colu
     assert_eq!(rt; column.kind, kind);
 }
 
+/// Looks at the window of a side, and at how many columns its schema has.
+fn is_side(rt: &impl Abort, query: &Query, side: Side, window: Window, columns: usize) {
+    assert_eq!(rt; query.window(side), window);
+    assert_eq!(rt; query.schema(side).columns.len(), columns);
+}
+
+/// Looks at the windows and the schemas of the whole text.
+fn is_whole(rt: &impl Abort, query: &Query) {
+    is_side(rt, query, Side::Left, Window::Rows(1), 2);
+    is_column(rt, query.schema(Side::Left), 1, "k", ColumnType::Text);
+    is_side(rt, query, Side::Right, Window::Time(5), 1);
+}
+
 #[test]
 fn keeps_schemas_and_windows(rt: HostRuntime) {
-    let query = query(&rt, rt.alloc(), WHOLE);
-    assert_eq!(rt; query.window(Side::Left), Window::Rows(1));
-    assert_eq!(rt; query.window(Side::Right), Window::Time(5));
-    let left = query.schema(Side::Left);
-    assert_eq!(rt; left.columns.len(), 2);
-    is_column(&rt, left, 1, "k", ColumnType::Text);
-    assert_eq!(rt; query.schema(Side::Right).columns.len(), 1);
+    is_whole(&rt, &query(&rt, rt.alloc(), WHOLE));
 }
 
 /// Looks at a side of the query of equal keys in windows of seven rows.
 fn is_keyed(rt: &impl Abort, query: &Query, side: Side) {
-    assert_eq!(rt; query.window(side), Window::Rows(7));
-    let schema = query.schema(side);
-    assert_eq!(rt; schema.columns.len(), 2);
-    is_column(rt, schema, 1, "key", ColumnType::Int);
+    is_side(rt, query, side, Window::Rows(7), 2);
+    is_column(rt, query.schema(side), 1, "key", ColumnType::Int);
 }
 
 #[test]
