@@ -1,4 +1,5 @@
-use hj_query::{QueryText, parse, print};
+use crate::texts::{long_text, query_of};
+use hj_query::{QueryText, print};
 use std::alloc::Global;
 use std::process::Abort;
 
@@ -7,7 +8,7 @@ const HEAD: &str =
 
 /// The canonical text of the query that a text spells.
 fn printed(rt: &impl Abort, alloc: Global, text: &str) -> QueryText {
-    let query = parse(alloc, text.as_bytes()).expect(rt, "a query");
+    let query = query_of(rt, alloc, &[text]);
     print(alloc, &query).expect(rt, "memory")
 }
 
@@ -81,19 +82,22 @@ on l.sym = r.l and l.px within 10 of r.left and not l.qty < r.left
     prints(&rt, rt.alloc(), lone, lone);
 }
 
+/// Prints the query that a long text spells.
+fn is_printed(rt: &impl Abort, alloc: Global, text: &str, want: &str) {
+    let found = printed(rt, alloc, text);
+    assert!(rt; found.bytes() == want.as_bytes());
+}
+
 /// Prints a condition of one comparison and so many more behind a word.
 fn prints_long(rt: &impl Abort, alloc: Global, word: &str, count: usize) {
     let dense = [word, "''=''"].concat(alloc).expect(rt, "memory");
-    let dense = dense.repeat(alloc, count).expect(rt, "memory");
     let spaced = [" ", word, " '' = ''"].concat(alloc).expect(rt, "memory");
-    let spaced = spaced.repeat(alloc, count).expect(rt, "memory");
     let head = "left(ts int)right(ts int)window left rows 1 window right rows 1 on''=''";
     let lines =
         "left (ts int)\nright (ts int)\nwindow left rows 1\nwindow right rows 1\non '' = ''";
-    let text = [head, &dense].concat(alloc).expect(rt, "memory");
-    let want = [lines, &spaced, "\n"].concat(alloc).expect(rt, "memory");
-    let found = printed(rt, alloc, &text);
-    assert!(rt; found.bytes() == want.as_bytes());
+    let text = long_text(rt, alloc, head, &dense, count, "");
+    let want = long_text(rt, alloc, lines, &spaced, count, "\n");
+    is_printed(rt, alloc, &text, &want);
 }
 
 #[test]

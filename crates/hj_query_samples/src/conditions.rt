@@ -1,5 +1,6 @@
+use crate::texts::{long_text, query_of};
 use hj_eval::{QueryJoin, StorePlan, holds, plan};
-use hj_query::{Query, parse};
+use hj_query::Query;
 use hj_value::{Field, Row, Text};
 use std::alloc::Global;
 use std::process::Abort;
@@ -9,8 +10,7 @@ const HEAD: &str =
 
 /// The query with this condition.
 fn query(rt: &impl Abort, alloc: Global, condition: &str) -> Query {
-    let text = [HEAD, condition].concat(alloc).expect(rt, "memory");
-    parse(alloc, text.as_bytes()).expect(rt, "a query")
+    query_of(rt, alloc, &[HEAD, condition])
 }
 
 /// A row of a time and this field.
@@ -215,8 +215,7 @@ fn negates_what_misses_a_value(rt: HostRuntime) {
 
 /// Whether a condition of one comparison and so many more, then an end, holds of a row on both sides.
 fn holds_long(rt: &impl Abort, alloc: Global, row: &Row, count: usize, end: &str) -> bool {
-    let operands = " or 1=2".repeat(alloc, count).expect(rt, "memory");
-    let condition = ["1=2", &operands, end].concat(alloc).expect(rt, "memory");
+    let condition = long_text(rt, alloc, "1=2", " or 1=2", count, end);
     holds(&query(rt, alloc, &condition), row, row)
 }
 

@@ -11,3 +11,5 @@ mod conditions;
 mod merges;
 #[cfg(test)]
 mod queries;
+#[cfg(test)]
+mod texts;

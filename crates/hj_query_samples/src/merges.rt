@@ -4,10 +4,11 @@ ghost use Rattle.hj_base.specs.Outside.{unbegun, IsOpen, ChangesOnly};
 ghost use Rattle.hj_base.specs.declared.outside.Role.TheVariants as role;
 ghost use Rattle.hj_event.specs.Roles.{IsInStep};
 
+use crate::texts::query_of;
 use hj_base::{Got, MemOutside, Opened, Outside, Role};
 use hj_event::{Merger, Next};
 use hj_msg::Event;
-use hj_query::{Query, parse};
+use hj_value::SharedRow;
 use std::alloc::{AllocError, Global};
 use std::process::Abort;
 
@@ -95,20 +96,15 @@ fn starts_both<O: Outside>(rt: &impl Abort, outside: &mut O)
     starts(rt, outside, Role::Right, "r");
 }
 
-/// The query of rows of two numbers under these windows.
-fn query(rt: &impl Abort, alloc: Global, windows: &str) -> Query {
-    let schemas = "left (ts int, k int) right (ts int, k int) ";
-    let text = [schemas, windows, " on l.k = r.k"].concat(alloc);
-    let text = text.expect(rt, "memory");
-    parse(alloc, text.as_bytes()).expect(rt, "a query")
-}
+/// The schemas of rows of two numbers.
+const SCHEMAS: &str = "left (ts int, k int) right (ts int, k int) ";
 
 /// A merger of a case's streams, which has read nothing.
 fn merger_of(rt: &impl Abort, alloc: Global, case: &Case<'_>) -> Merger
     ensures left { result.sides.left.reading.ended ≡ false }
     ensures right { result.sides.right.reading.ended ≡ false }
 {
-    let query = query(rt, alloc, case.windows);
+    let query = query_of(rt, alloc, &[SCHEMAS, case.windows, " on l.k = r.k"]);
     Merger::new(alloc, &query, case.limit).expect(rt, "memory")
 }
 
@@ -231,14 +227,23 @@ fn reads_four<O: Outside>(rt: &impl Abort, outside: &mut O)
     assert!(rt; matches!(got, Got::Bytes(4)));
 }
 
+/// Asks a merger that has read nothing for its first answer.
+fn asks_once<O: Outside>(rt: &impl Abort, merger: &mut Merger, outside: &mut O)
+    requires left { IsInStep merger.old.sides.left.reading.ended (O.state outside.old role.Left) }
+    requires right { IsInStep merger.old.sides.right.reading.ended (O.state outside.old role.Right) }
+    ensures { IsOpen (O.state outside.new role.Left).phase }
+{
+    assert!(rt; !merger.is_ready());
+    let _ = answer_of(merger, outside);
+}
+
 /// Asks a merger of a case for its first answer, and reads what comes behind it.
 fn reads_behind<O: Outside>(rt: &impl Abort, alloc: Global, case: &Case<'_>, outside: &mut O)
     requires left { (O.state outside.old role.Left).phase ≡ unbegun }
     requires right { (O.state outside.old role.Right).phase ≡ unbegun }
 {
     let mut merger = begun(rt, alloc, case, outside);
-    assert!(rt; !merger.is_ready());
-    let _ = answer_of(&mut merger, outside);
+    asks_once(rt, &mut merger, outside);
     reads_four(rt, outside);
 }
 
@@ -249,18 +254,24 @@ fn reads_no_more_than_the_heads(rt: HostRuntime) {
     reads_behind(&rt, rt.alloc(), &case, &mut outside);
 }
 
-fn put(text: &mut String, answer: Next) -> Result<(), AllocError> {
-    match answer {
-        Next::Event(Event::Arrive { no, side, row }) => {
+fn put_event(text: &mut String, event: Event<SharedRow>) -> Result<(), AllocError> {
+    match event {
+        Event::Arrive { no, side, row } => {
             let no = no.0;
             let time = row.row().time();
             write!(text, "{side:?} {no}: {time}; ")
         }
-        Next::Event(Event::Expire { no, side, of }) => {
+        Event::Expire { no, side, of } => {
             let no = no.0;
             let of = of.0;
             write!(text, "{side:?} {no}: {of} expires; ")
         }
+    }
+}
+
+fn put(text: &mut String, answer: Next) -> Result<(), AllocError> {
+    match answer {
+        Next::Event(event) => put_event(text, event),
         Next::Done => text.push_str("done; "),
         Next::Bad { side, at, fault } => write!(text, "{side:?} record {at}: {fault}; "),
         Next::Failed(side) => write!(text, "{side:?} failed; "),

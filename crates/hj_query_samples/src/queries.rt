@@ -1,3 +1,4 @@
+use crate::texts::query_of;
 use hj_base::{Side, Window};
 use hj_query::{Op, Pred, Query, Sum, Term, equi, parse};
 use hj_value::{ColumnType, Schema};
@@ -269,6 +270,21 @@ not  |  | 65 | too deep at 341
 not ( | ) | 32 | a query
 not ( | ) | 33 | too deep at 245";
 
+/// A condition that stands inside so many openings.
+fn nested(
+    rt: &impl Abort,
+    alloc: Global,
+    open: &str,
+    close: &str,
+    count: usize,
+    condition: &str,
+) -> String {
+    let open = open.repeat(alloc, count).expect(rt, "memory");
+    let close = close.repeat(alloc, count).expect(rt, "memory");
+    let text = [&open, condition, &close].concat(alloc);
+    text.expect(rt, "memory")
+}
+
 /// Judges a condition that stands inside the openings of a line.
 fn judge_nested(rt: &impl Abort, alloc: Global, line: &str) {
     let mut fields = line.split(" | ");
@@ -277,9 +293,8 @@ fn judge_nested(rt: &impl Abort, alloc: Global, line: &str) {
     let count = fields.next().expect(rt, "how often");
     let count = count.parse::<usize>().expect(rt, "a number");
     let want = fields.next().expect(rt, "what it is");
-    let open = open.repeat(alloc, count).expect(rt, "memory");
-    let close = close.repeat(alloc, count).expect(rt, "memory");
-    judge(rt, alloc, &[HEAD, "on ", &open, "l.k = r.k", &close], want);
+    let condition = nested(rt, alloc, open, close, count, "l.k = r.k");
+    judge(rt, alloc, &[HEAD, "on ", &condition], want);
 }
 
 #[test]
@@ -291,13 +306,15 @@ fn bounds_the_depth(rt: HostRuntime) {
 
 /// Judges a condition between so many parentheses behind another one, and inside one more.
 fn judge_behind(rt: &impl Abort, alloc: Global, count: usize, inside: &str, deeper: &str) {
-    let open = "(".repeat(alloc, count).expect(rt, "memory");
-    let close = ")".repeat(alloc, count).expect(rt, "memory");
-    let front = [HEAD, "on ", &open, "l.k = r.k", &close, " and "].concat(alloc);
-    let front = front.expect(rt, "memory");
-    judge(rt, alloc, &[&front, &open, "1=1", &close], inside);
-    let parts = [&front, "(", &open, "1=1", &close, ")"];
-    judge(rt, alloc, &parts, deeper);
+    let front = nested(rt, alloc, "(", ")", count, "l.k = r.k");
+    let back = nested(rt, alloc, "(", ")", count, "1=1");
+    judge(rt, alloc, &[HEAD, "on ", &front, " and ", &back], inside);
+    judge(
+        rt,
+        alloc,
+        &[HEAD, "on ", &front, " and (", &back, ")"],
+        deeper,
+    );
 }
 
 // Behind what was closed the depth is what it was.
@@ -429,11 +446,6 @@ fn part_of<'a>(rt: &impl Abort, sum: &'a Sum, at: usize) -> (bool, &'a Term) {
     (part.plus, &part.term)
 }
 
-/// The query that a text is.
-fn query(rt: &impl Abort, alloc: Global, text: &str) -> Query {
-    parse(alloc, text.as_bytes()).expect(rt, "a query")
-}
-
 const TREE: &str = "on 1=1 or 2=2 or 3=3 and 4=4 and not l.k - 5 + r.ts < -6";
 
 /// Looks at the condition of that text.
@@ -450,8 +462,7 @@ fn is_tree(rt: &impl Abort, pred: &Pred) {
 
 #[test]
 fn makes_the_tree(rt: HostRuntime) {
-    let text = [HEAD, TREE].concat(rt.alloc()).expect(&rt, "memory");
-    is_tree(&rt, query(&rt, rt.alloc(), &text).pred());
+    is_tree(&rt, query_of(&rt, rt.alloc(), &[HEAD, TREE]).pred());
 }
 
 /// Looks at the sum of `l.k - 5 + r.ts`.
@@ -486,7 +497,7 @@ fn is_whole(rt: &impl Abort, query: &Query) {
 
 #[test]
 fn keeps_schemas_and_windows(rt: HostRuntime) {
-    is_whole(&rt, &query(&rt, rt.alloc(), WHOLE));
+    is_whole(&rt, &query_of(&rt, rt.alloc(), &[WHOLE]));
 }
 
 /// Looks at a side of the query of equal keys in windows of seven rows.
