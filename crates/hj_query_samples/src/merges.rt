@@ -1,4 +1,4 @@
-ghost use Rattle.std.specs.Prelude.{◌≡◌, ◌≤◌, ◌<◌, false, length};
+ghost use Rattle.std.specs.Prelude.{◌≡◌, ◌≤◌, false};
 ghost use Rattle.hj_base.specs.MemOutside.{role_at};
 ghost use Rattle.hj_base.specs.Outside.{unbegun, IsOpen, ChangesOnly};
 ghost use Rattle.hj_base.specs.declared.outside.Role.TheVariants as role;
