@@ -25,7 +25,7 @@ fn push_expiries(rt: &impl Abort, text: &mut String, numbers: &Numbers) {
     }
 }
 
-/// The numbers of rows, each behind the letter of its side.
+/// The numbers of rows, each in front of the letter of its side.
 fn numbers_of(rt: &impl Abort, alloc: Global, text: &str) -> Numbers {
     let mut numbers = Numbers::new(alloc);
     for word in text.split(' ') {
@@ -41,7 +41,7 @@ fn numbers_in_their_order(rt: HostRuntime) {
     let none = Numbers::new(rt.alloc());
     assert_eq!(rt; none.len(), 0);
     assert!(rt; none.get(0).is_none());
-    let numbers = numbers_of(&rt, rt.alloc(), "R4 L9 R4");
+    let numbers = numbers_of(&rt, rt.alloc(), "4R 9L 4R");
     let mut text = String::new(rt.alloc());
     push_expiries(&rt, &mut text, &numbers);
     assert_eq!(rt; text.as_str(), "-4R -9L -4R ");
@@ -97,11 +97,11 @@ fn window(rt: &impl Abort, text: &str) -> Window {
     }
 }
 
-/// The letter of a side, and a time behind it.
+/// A time, and the letter of a side behind it.
 fn arrival(rt: &impl Abort, word: &str) -> (Side, i64) {
-    let (side, time) = match word.strip_prefix('L') {
+    let (side, time) = match word.strip_suffix('L') {
         Some(time) => (Left, time),
-        None => (Right, word.strip_prefix('R').expect(rt, "a side")),
+        None => (Right, word.strip_suffix('R').expect(rt, "a side")),
     };
     (side, number(rt, time))
 }
@@ -137,14 +137,14 @@ fn expires_all(rt: &impl Abort, alloc: Global, table: &str) {
 /// Two windows of rows; a row of age exactly the window's length, which is gone; both sides, in the order of arrival; trades and
 /// quotes; times that fall, where a row is gone by its own age, wherever it stands; and windows that hold no row.
 const IN_TURN: &str = "\
-rows 1, rows 1 | L1 L2 R3 | +0L +1L -0L +3R
-rows 2, rows 1 | L1 R1 L2 L2 R2 | +0L +1R +2L +3L -0L +5R -1R
-time 5, rows 10 | L0 R4 R5 | +0L +1R -0L +3R
-time 5, time 4 | R0 L0 L1 R1 R3 L6 | +0R +1L +2L +3R +4R -0R -1L -2L -3R +9L
-rows 100, time 5000 | L1000 R1000 R1200 L1500 L2000 R2500 L3000 R3500 L4000 R5000 L6000 R6000 L7000 R7500 L9000 R9000 | \
+rows 1, rows 1 | 1L 2L 3R | +0L +1L -0L +3R
+rows 2, rows 1 | 1L 1R 2L 2L 2R | +0L +1R +2L +3L -0L +5R -1R
+time 5, rows 10 | 0L 4R 5R | +0L +1R -0L +3R
+time 5, time 4 | 0R 0L 1L 1R 3R 6L | +0R +1L +2L +3R +4R -0R -1L -2L -3R +9L
+rows 100, time 5000 | 1000L 1000R 1200R 1500L 2000L 2500R 3000L 3500R 4000L 5000R 6000L 6000R 7000L 7500R 9000L 9000R | \
 +0L +1R +2R +3L +4L +5R +6L +7R +8L +9R -1R +11L +12R -2R +14L -5R +16R -7R +18L +19R
-time 5, time 5 | L10 L3 R20 R8 L8 R13 | +0L +1L -0L -1L +4R +5R +6L -5R -6L +9R
-rows 0, time 0 | L7 R7 R6 L7 | +0L -0L +2R +3R -2R -3R +6L -6L";
+time 5, time 5 | 10L 3L 20R 8R 8L 13R | +0L +1L -0L -1L +4R +5R +6L -5R -6L +9R
+rows 0, time 0 | 7L 7R 6R 7L | +0L -0L +2R +3R -2R -3R +6L -6L";
 
 #[test]
 fn rows_expire_in_turn(rt: HostRuntime) {
@@ -153,12 +153,12 @@ fn rows_expire_in_turn(rt: HostRuntime) {
 
 /// Ages at the ends of the numbers of 64 bits.
 const AGES: &str = "\
-time 18446744073709551615, rows 1 | L-9223372036854775808 R9223372036854775807 | +0L -0L +2R
-time 18446744073709551615, rows 1 | L-9223372036854775807 R9223372036854775807 | +0L +1R
-time 9223372036854775808, rows 1 | L-9223372036854775808 R-1 | +0L +1R
-time 9223372036854775808, rows 1 | L-9223372036854775808 R0 | +0L -0L +2R
-time 1, rows 1 | L9223372036854775807 R-9223372036854775808 | +0L +1R
-time 4611686018427387904, rows 1 | L-4611686018427387904 R0 | +0L -0L +2R";
+time 18446744073709551615, rows 1 | -9223372036854775808L 9223372036854775807R | +0L -0L +2R
+time 18446744073709551615, rows 1 | -9223372036854775807L 9223372036854775807R | +0L +1R
+time 9223372036854775808, rows 1 | -9223372036854775808L -1R | +0L +1R
+time 9223372036854775808, rows 1 | -9223372036854775808L 0R | +0L -0L +2R
+time 1, rows 1 | 9223372036854775807L -9223372036854775808R | +0L +1R
+time 4611686018427387904, rows 1 | -4611686018427387904L 0R | +0L -0L +2R";
 
 #[test]
 fn ages_pass_64_bits(rt: HostRuntime) {
