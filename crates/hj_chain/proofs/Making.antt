@@ -13,18 +13,19 @@ pub record Made {P J L R : Type 0} (view : core.Contents P J L R → step.State 
   pub empty : map view (reverse cores) ≡ replicate (length cores) step.empty_state
 
 module _ {P J L R : Type 0} (view : core.Contents P J L R → step.State P) (join : J) (n : ℕ) where
-  pub made-more : (old new : ℕ) (cores : List (core.Contents P J L R)) (one : core.Contents P J L R) → Made view join n old cores → new + 1 ≡ old → one.place ≡ new → one.cores ≡ n → one.join ≡ join → view one ≡ step.empty_state
-      → Made view join n new (cores ++ one ∷ [])
-  made-more old new cores one made less place all same empty =
+  pub made-more : (old new : ℕ) (cores more : List (core.Contents P J L R)) (one : core.Contents P J L R) → Made view join n old cores → more ≡ cores ++ one ∷ [] → new + 1 ≡ old → one.place ≡ new → one.cores ≡ n → one.join ≡ join
+      → view one ≡ step.empty_state → Made view join n new more
+  made-more old new cores more one made added less place all same empty =
       let first : reverse (cores ++ one ∷ []) ≡ one ∷ reverse cores = reverse-append cores (one ∷ []) in
       let longer : suc (length cores) ≡ length (cores ++ one ∷ []) = omega (arith, length-append cores (one ∷ [])) in
-      record {
+      subst (Made view join n new) (sym added)
+      (record {
         counted = omega (arith, made.counted, less, longer);
         placed =
             subst (ArePlaced join n new) (sym first) (place, all, same, subst (λ (p : ℕ). ArePlaced join n p (reverse cores)) (sym less) made.placed);
         empty =
             ap (map view) first ∙ ap₂ (λ (s : step.State P) (ss : List (step.State P)). s ∷ ss) empty made.empty ∙ ap (λ (k : ℕ). replicate k step.empty_state) longer;
-      }
+      })
 
 -- a list from whose end an element was taken
 pub popped : {X : Type 0} (xs ys : List X) (r : Option X) (x : X) → xs ≡ ys ++ option_to_list r → r ≡ Some x → length ys + 1 ≡ length xs

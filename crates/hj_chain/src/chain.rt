@@ -106,14 +106,34 @@ impl<P: Share + Drop, J: Join<P> + Drop, L: Store<P, J> + Drop, R: Store<P, J> +
         ensures goes { IfOk result (λ chain. GoesWith J.predicate chain (F.state feed.new)) }
         ensures refused { OnErr result (feed.new ≡ feed.old) }
     {
-        let cores = left.len();
-        let capacity = 2 * usize::from(flight) + 2;
-        let driver = Driver::new(alloc, cores as u16, flight)?;
-        let links = Links::new(alloc, cores, capacity)?;
-        let reports = Reports::new(alloc, cores, capacity)?;
-        let collector = Collector::new(alloc, cores as u16)?;
-        let kept = Ordered::new(alloc);
         let cores = placed_cores(alloc, &join, left, right)?;
+        Self::of_cores(alloc, join, cores, flight, feed)
+    }
+
+    /// The same of cores that hold nothing, each at its place.
+    fn of_cores<F: Feed<P>>(
+        alloc: Global,
+        join: J,
+        cores: Vec<Core<P, J, L, R>>,
+        flight: u16,
+        feed: &mut F,
+    ) -> Result<Self, Memory>
+        requires cores { (1 ≤ length cores.items) × (length cores.items ≤ 64) }
+        requires placed { ArePlaced join (length cores.items) 0 cores.items }
+        requires empty { map (state_of L.entries R.entries) cores.items ≡ replicate (length cores.items) empty_state }
+        requires flight { (1 ≤ flight) × (flight ≤ 256) }
+        requires fresh { IsFresh (F.state feed.old) }
+        ensures begins { IfOk result (λ chain. (first : Given P) × (chain ≡ record { join = join; state = empty_chain (length cores.items) flight first; collector = nothing_taken (length cores.items); kept = [] }) × F.gives feed.old first feed.new) }
+        ensures goes { IfOk result (λ chain. GoesWith J.predicate chain (F.state feed.new)) }
+        ensures refused { OnErr result (feed.new ≡ feed.old) }
+    {
+        let count = cores.len();
+        let capacity = 2 * usize::from(flight) + 2;
+        let driver = Driver::new(alloc, count as u16, flight)?;
+        let links = Links::new(alloc, count, capacity)?;
+        let reports = Reports::new(alloc, count, capacity)?;
+        let collector = Collector::new(alloc, count as u16)?;
+        let kept = Ordered::new(alloc);
         Ok(Chain {
             join,
             driver,
@@ -380,8 +400,32 @@ fn placed_cores<P: Share + Drop, J: Join<P> + Drop, L: Store<P, J> + Drop, R: St
             unreachable!()
         };
         let place = CoreNo(left.len() as u16);
-        cores.push(Core::new(join.share()?, left_store, right_store, place, count, alloc))?;
+        let core = placed_core(alloc, join, left_store, right_store, place, count)?;
+        cores.push(core)?;
     }
     cores.reverse();
     Ok(cores)
+}
+
+/// The core at a place, with these stores.
+fn placed_core<P: Share + Drop, J: Join<P> + Drop, L: Store<P, J> + Drop, R: Store<P, J> + Drop>(
+    alloc: Global,
+    join: &J,
+    left: L,
+    right: R,
+    place: CoreNo,
+    cores: u16,
+) -> Result<Core<P, J, L, R>, Memory>
+    requires place { place.0 < cores }
+    requires most { cores ≤ 64 }
+    requires left_empty { L.entries left ≡ [] }
+    requires right_empty { R.entries right ≡ [] }
+    requires left_suits { L.suits left Left join.now }
+    requires right_suits { R.suits right Right join.now }
+    ensures join { IfOk result (λ core. core.join ≡ join.now) }
+    ensures place { IfOk result (λ core. core.place ≡ place.0) }
+    ensures cores { IfOk result (λ core. core.cores ≡ cores) }
+    ensures empty { IfOk result (λ core. state_of L.entries R.entries core ≡ empty_state) }
+{
+    Ok(Core::new(join.share()?, left, right, place, cores, alloc))
 }

@@ -28,16 +28,6 @@ impl Join<Row> for Tenth {
     }
 }
 
-/// A call of a store, with its answer.
-#[derive(Drop)]
-enum Step<'a> {
-    Insert(u64, u64, bool),
-    Settle(u64, bool),
-    Remove(u64, bool),
-    /// The numbers that a row finds among right rows.
-    Find(u64, &'a [u64]),
-}
-
 fn insert<S: Store<Row, Tenth>>(
     store: &mut S,
     no: u64,
@@ -77,51 +67,65 @@ fn found<S: Store<Row, Tenth>>(
     Ok(numbers)
 }
 
-fn run_step(
-    rt: &impl Abort,
-    alloc: Global,
-    store: &mut ListStore<Row>,
-    step: &Step,
-) -> Result<(), Memory> {
-    match step {
-        Step::Insert(no, row, settled) => insert(store, *no, *row, *settled)?,
-        Step::Settle(no, held) => assert_eq!(rt; settle(store, *no), *held, "settle {no}"),
-        Step::Remove(no, held) => assert_eq!(rt; remove(store, *no), *held, "remove {no}"),
-        Step::Find(row, numbers) => {
-            let numbers_found = found(alloc, store, Side::Right, *row)?;
-            assert_eq!(rt; numbers_found.as_slice(), *numbers, "find {row}");
-        }
-    }
-    Ok(())
+fn number(rt: &impl Abort, text: &str) -> u64 {
+    text.parse::<u64>().expect(rt, "a number")
 }
 
-#[test]
-fn rows_settle_and_are_replaced_in_place(rt: HostRuntime) -> Result<(), Fail> {
-    let mut store = ListStore::new(rt.alloc());
-    for step in [
-        Step::Find(7, &[]),
-        Step::Insert(1, 71, false),
-        Step::Find(7, &[]),
-        Step::Settle(2, false),
-        Step::Settle(1, true),
-        Step::Find(7, &[1]),
-        Step::Insert(4, 79, true),
-        Step::Insert(2, 70, true),
-        Step::Insert(3, 60, true),
-        Step::Find(7, &[1, 2, 4]),
-        Step::Insert(4, 61, true),
-        Step::Find(7, &[1, 2]),
-        Step::Find(6, &[3, 4]),
-        Step::Remove(2, true),
-        Step::Remove(2, false),
-        Step::Settle(2, false),
-        Step::Remove(9, false),
-        Step::Insert(2, 75, true),
-        Step::Find(7, &[1, 2]),
-    ] {
-        run_step(&rt, rt.alloc(), &mut store, &step)?;
+fn answers(rt: &impl Abort, step: &str, answer: bool, want: &str) {
+    let want = want.parse::<bool>().expect(rt, "an answer");
+    assert_eq!(rt; answer, want, "{step}");
+}
+
+/// A row finds right rows with these numbers.
+fn finds(rt: &impl Abort, alloc: Global, store: &ListStore<Row>, row: u64, want: &str) {
+    let numbers = found(alloc, store, Side::Right, row).expect(rt, "memory");
+    let numbers = format!(in alloc; "{numbers:?}").expect(rt, "memory");
+    assert_eq!(rt; numbers.as_str(), want, "find {row}");
+}
+
+/// Makes a step: a row comes under a number, settled or not; or a number is settled or removed, where the store has it; or a row
+/// finds right rows.
+fn run_step(rt: &impl Abort, alloc: Global, store: &mut ListStore<Row>, step: &str) {
+    let (call, want) = step.split_once(": ").expect(rt, "an answer");
+    let (name, what) = call.split_once(' ').expect(rt, "a call");
+    let what = number(rt, what);
+    match name {
+        "settled" => insert(store, what, number(rt, want), true).expect(rt, "memory"),
+        "unsettled" => insert(store, what, number(rt, want), false).expect(rt, "memory"),
+        "settle" => answers(rt, step, settle(store, what), want),
+        "remove" => answers(rt, step, remove(store, what), want),
+        "find" => finds(rt, alloc, store, what, want),
+        _ => panic!(rt; "no step: {step}"),
     }
-    Ok(())
+}
+
+const STEPS: &str = "\
+find 7: []
+unsettled 1: 71
+find 7: []
+settle 2: false
+settle 1: true
+find 7: [1]
+settled 4: 79
+settled 2: 70
+settled 3: 60
+find 7: [1, 2, 4]
+settled 4: 61
+find 7: [1, 2]
+find 6: [3, 4]
+remove 2: true
+remove 2: false
+settle 2: false
+remove 9: false
+settled 2: 75
+find 7: [1, 2]";
+
+#[test]
+fn rows_settle_and_are_replaced_in_place(rt: HostRuntime) {
+    let mut store = ListStore::new(rt.alloc());
+    for step in STEPS.lines() {
+        run_step(&rt, rt.alloc(), &mut store, step);
+    }
 }
 
 #[test]

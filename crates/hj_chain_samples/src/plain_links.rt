@@ -2,6 +2,8 @@
 
 use crate::rows::sent;
 use hj_queue::{Full, PlainLink};
+use std::alloc::Global;
+use std::process::Abort;
 use std::test::Fail;
 
 /// The message that a put hands back, if it does.
@@ -12,24 +14,52 @@ fn refused(answer: Result<(), Full<char>>) -> Option<char> {
     }
 }
 
+/// Calls of a link with room for one message, and the message that comes of each.
+const CALLS: &str = "\
+put_right a: None
+put_right b: Some('b')
+look_right: Some('a')
+put_left c: None
+look_left: Some('c')
+put_left d: Some('d')
+take_left: Some('c')
+take_left: None
+take_right: Some('a')
+put_right b: None
+take_right: Some('b')
+take_right: None
+look_right: None
+look_left: None";
+
+/// Makes a call of this name, a put with this message.
+fn called(rt: &impl Abort, link: &mut PlainLink<char>, name: &str, message: char) -> Option<char> {
+    match name {
+        "put_right" => refused(link.put_right(message)),
+        "put_left" => refused(link.put_left(message)),
+        "look_right" => link.look_right().copied(),
+        "look_left" => link.look_left().copied(),
+        "take_right" => link.take_right(),
+        "take_left" => link.take_left(),
+        _ => panic!(rt; "no call: {name}"),
+    }
+}
+
+/// Makes the call of a line.
+fn answers(rt: &impl Abort, alloc: Global, link: &mut PlainLink<char>, line: &str) {
+    let (call, want) = line.split_once(": ").expect(rt, "an answer");
+    let (name, message) = call.split_once(' ').unwrap_or((call, "-"));
+    let message = message.chars().next().expect(rt, "a message");
+    let found = called(rt, link, name, message);
+    let found = format!(in alloc; "{found:?}").expect(rt, "memory");
+    assert_eq!(rt; found.as_str(), want, "{line}");
+}
+
 #[test]
-fn one_message_each_way(rt: HostRuntime) -> Result<(), Fail> {
-    let mut link = PlainLink::new(rt.alloc(), 1)?;
-    assert_eq!(rt; refused(link.put_right('a')), None);
-    assert_eq!(rt; refused(link.put_right('b')), Some('b'));
-    assert_eq!(rt; link.look_right().copied(), Some('a'));
-    assert_eq!(rt; refused(link.put_left('c')), None);
-    assert_eq!(rt; link.look_left().copied(), Some('c'));
-    assert_eq!(rt; refused(link.put_left('d')), Some('d'));
-    assert_eq!(rt; link.take_left(), Some('c'));
-    assert_eq!(rt; link.take_left(), None);
-    assert_eq!(rt; link.take_right(), Some('a'));
-    assert_eq!(rt; refused(link.put_right('b')), None);
-    assert_eq!(rt; link.take_right(), Some('b'));
-    assert_eq!(rt; link.take_right(), None);
-    assert!(rt; link.look_right().is_none());
-    assert!(rt; link.look_left().is_none());
-    Ok(())
+fn one_message_each_way(rt: HostRuntime) {
+    let mut link = PlainLink::new(rt.alloc(), 1).expect(&rt, "memory");
+    for line in CALLS.lines() {
+        answers(&rt, rt.alloc(), &mut link, line);
+    }
 }
 
 /// A link goes to another thread where its messages do.

@@ -4,43 +4,72 @@ use hj_base::EventNo;
 use hj_collect::Mark;
 use hj_msg::Pair;
 use hj_order::Ordered;
-use std::alloc::{AllocError, Global};
-use std::test::Fail;
+use std::alloc::Global;
+use std::process::Abort;
 
-/// Pairs of left and right rows, each row being its own number.
-fn pairs_of(alloc: Global, numbers: &[(u64, u64)]) -> Result<Vec<Pair<u64>>, AllocError> {
-    let mut pairs = Vec::new(alloc);
-    for (left, right) in numbers {
-        pairs.push(Pair {
-            left_no: EventNo(*left),
-            right_no: EventNo(*right),
-            left: *left,
-            right: *right,
-        })?;
+fn number(rt: &impl Abort, text: &str) -> u64 {
+    text.parse::<u64>().expect(rt, "a number")
+}
+
+/// A left row and a right one, each row being its own number.
+fn pair_of(rt: &impl Abort, text: &str) -> Pair<u64> {
+    let (left, right) = text.split_once(' ').expect(rt, "a right row");
+    let (left, right) = (number(rt, left), number(rt, right));
+    Pair {
+        left_no: EventNo(left),
+        right_no: EventNo(right),
+        left,
+        right,
     }
-    Ok(pairs)
+}
+
+fn pairs_of(rt: &impl Abort, alloc: Global, text: &str) -> Vec<Pair<u64>> {
+    let mut pairs = Vec::new(alloc);
+    for pair in text.split(", ") {
+        pairs.push(pair_of(rt, pair)).expect(rt, "memory");
+    }
+    pairs
+}
+
+/// Marks, the number up to which pairs may come or all, and the rows of the pair that comes.
+const RELEASED: &str = "\
+3: None
+5: Some((1, 4))
+5: Some((3, 4))
+5: None
+7: Some((6, 5))
+7: Some((0, 7))
+7: Some((7, 2))
+8: None
+all: Some((9, 8))
+all: None";
+
+fn mark(rt: &impl Abort, text: &str) -> Mark {
+    if text == "all" {
+        Mark::All
+    } else {
+        Mark::UpTo(EventNo(number(rt, text)))
+    }
+}
+
+/// Lets the pair of a line out.
+fn releases(rt: &impl Abort, alloc: Global, ordered: &mut Ordered<u64>, line: &str) {
+    let (up_to, want) = line.split_once(": ").expect(rt, "a pair");
+    let pair = ordered.release(mark(rt, up_to));
+    let rows = pair.map(|pair| (pair.left, pair.right));
+    let found = format!(in alloc; "{rows:?}").expect(rt, "memory");
+    assert_eq!(rt; found.as_str(), want, "{line}");
 }
 
 #[test]
-fn pairs_come_by_their_numbers(rt: HostRuntime) -> Result<(), Fail> {
+fn pairs_come_by_their_numbers(rt: HostRuntime) {
     let mut ordered = Ordered::new(rt.alloc());
     assert!(rt; ordered.release(Mark::All).is_none());
-    ordered.add(pairs_of(rt.alloc(), &[(7, 2), (3, 4), (9, 8)])?)?;
-    ordered.add(pairs_of(rt.alloc(), &[(0, 7), (6, 5), (1, 4)])?)?;
-    for (mark, released) in [
-        (Mark::UpTo(EventNo(3)), None),
-        (Mark::UpTo(EventNo(5)), Some((1, 4))),
-        (Mark::UpTo(EventNo(5)), Some((3, 4))),
-        (Mark::UpTo(EventNo(5)), None),
-        (Mark::UpTo(EventNo(7)), Some((6, 5))),
-        (Mark::UpTo(EventNo(7)), Some((0, 7))),
-        (Mark::UpTo(EventNo(7)), Some((7, 2))),
-        (Mark::UpTo(EventNo(8)), None),
-        (Mark::All, Some((9, 8))),
-        (Mark::All, None),
-    ] {
-        let pair = ordered.release(mark);
-        assert_eq!(rt; pair.map(|pair| (pair.left, pair.right)), released);
+    for pairs in ["7 2, 3 4, 9 8", "0 7, 6 5, 1 4"] {
+        let pairs = pairs_of(&rt, rt.alloc(), pairs);
+        ordered.add(pairs).expect(&rt, "memory");
     }
-    Ok(())
+    for line in RELEASED.lines() {
+        releases(&rt, rt.alloc(), &mut ordered, line);
+    }
 }

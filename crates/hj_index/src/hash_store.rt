@@ -15,7 +15,7 @@ use crate::keys::key_at;
 use crate::links::{Ends, Link, Linked};
 use hj_base::{EventNo, Memory, Share, Side};
 use hj_msg::{Join, Partner, Partners, Store};
-use hj_rows::{Numbered, Rest, is_joined};
+use hj_rows::{Numbered, Rest, is_joined, partners_of};
 use hj_value::SharedRow;
 use std::alloc::Global;
 use std::collections::{BTreeMap, HashMap};
@@ -166,14 +166,7 @@ impl HashStore {
         requires key { key_at self.now.other against.now ≡ Some key }
         ensures { IfOk result (λ partners. partners ≡ settled_matches (J.predicate join.now) side against.now self.now.rows) }
     {
-        let mut found = Partners::new(self.alloc);
-        for (no, row) in self.sorted_rows(key, side, against, join)? {
-            found.push(Partner {
-                no: EventNo(no),
-                row,
-            })?;
-        }
-        Ok(found)
+        partners_of(self.alloc, self.sorted_rows(key, side, against, join)?)
     }
 
     /// The settled rows of a key that join with a row of the other stream, by their numbers.

@@ -13,7 +13,7 @@ ghost use Rattle.hj_query.specs.Parts.{Parts};
 use crate::ordered_index::{Key, OrderedIndex, band, key_of, key_of_held, number_at};
 use hj_base::{EventNo, Memory, Share, Side};
 use hj_msg::{Join, Partner, Partners, Store};
-use hj_rows::{Numbered, is_joined};
+use hj_rows::{Numbered, is_joined, partners_of};
 use hj_value::SharedRow;
 use std::alloc::Global;
 use std::collections::BTreeMap;
@@ -166,14 +166,7 @@ impl OrderedStore {
         requires number { number_at self.now.other against.now ≡ Some number }
         ensures { IfOk result (λ partners. partners ≡ settled_matches (J.predicate join.now) side against.now self.now.rows) }
     {
-        let mut found = Partners::new(self.alloc);
-        for (no, row) in self.sorted_rows(number, side, against, join)? {
-            found.push(Partner {
-                no: EventNo(no),
-                row,
-            })?;
-        }
-        Ok(found)
+        partners_of(self.alloc, self.sorted_rows(number, side, against, join)?)
     }
 
     /// The settled rows near a number that join with a row of the other stream, by their numbers of arrival.

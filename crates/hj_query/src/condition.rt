@@ -1,9 +1,9 @@
-ghost use Rattle.std.specs.Prelude.{◌≡◌, ◌<◌, ◌≤◌, ◌+◌, codes, length, IsTrue, MatchOption, MatchResult, OnOk};
+ghost use Rattle.std.specs.Prelude.{◌≡◌, ◌<◌, ◌≤◌, ◌+◌, List, codes, length, IsTrue, MatchOption, MatchResult, OnOk};
 ghost use Rattle.hj_lex.specs.declared.token.TokenKind.TheVariants as kinds;
 ghost use Rattle.hj_query.specs.declared.fault.QueryFault.TheVariants as faults;
 ghost use Rattle.hj_query.specs.Faults.{EndsPred, FaultsAtom, FaultsCondition, FaultsConj, FaultsPred, FaultsUnary};
-ghost use Rattle.hj_query.specs.Grammar.{most_depth, op_sign, IsAtom, IsCondition, IsConj, IsPred, IsUnary};
-ghost use Rattle.hj_query.specs.Lexemes.{next_is, place, LacksSign, LacksWord};
+ghost use Rattle.hj_query.specs.Grammar.{most_depth, op_sign, EndsSum, IsAtom, IsCondition, IsConj, IsPred, IsSum, IsUnary};
+ghost use Rattle.hj_query.specs.Lexemes.{next_is, place, Lexeme, LacksSign, LacksWord};
 ghost use Rattle.hj_query.specs.Sides.{columns_in};
 ghost use Rattle.hj_query.specs.Texts.{Unless};
 
@@ -11,7 +11,7 @@ use crate::cursor::Cursor;
 use crate::schemas::Schemas;
 use crate::term::sum;
 use crate::types::{can_compare, can_subtract};
-use crate::{Op, Pred, QueryFault, Wanted};
+use crate::{Op, Pred, QueryFault, Sum, Wanted};
 use std::alloc::Global;
 
 /// How many `not` and `(` may stand around one another.
@@ -130,31 +130,66 @@ fn atom(alloc: Global, schemas: &Schemas, cursor: &mut Cursor<'_>) -> Result<Pre
         (λ pred. IsAtom (columns_in schemas.now) cursor.old pred cursor.new)
         (λ fault. Unless fault (FaultsAtom (columns_in schemas.now) cursor.old)) }
 {
-    let place = cursor.place();
+    let begin = cursor.place();
     let left = sum(alloc, schemas, cursor)?;
     if cursor.is_word(b"within") {
-        cursor.skip();
-        let distance = cursor.number()?;
-        cursor.word(b"of", Wanted::OfWord)?;
-        let right = sum(alloc, schemas, cursor)?;
-        if !can_subtract(schemas, &left, &right) {
-            return Err(QueryFault::Types(place));
-        }
-        return Ok(Pred::Within(distance, left, right));
+        distance(alloc, schemas, cursor, left, begin)
+    } else {
+        comparison(alloc, schemas, cursor, left, begin)
     }
-    let Some(op) = comparison(cursor) else {
+}
+
+/// Reads on from `within`, behind the first sum of a distance that begins at this place.
+fn distance(
+    alloc: Global,
+    schemas: &Schemas,
+    cursor: &mut Cursor<'_>,
+    left: Sum,
+    begin: usize,
+) -> Result<Pred, QueryFault>
+    requires { IsTrue (next_is kinds.Name (codes "within") cursor.old) }
+    ensures shorter { OnOk result (length cursor.new < length cursor.old) }
+    ensures read { (here : List Lexeme) → IsSum (columns_in schemas.now) here left cursor.old → place here ≡ begin → MatchResult result
+        (λ pred. IsAtom (columns_in schemas.now) here pred cursor.new)
+        (λ fault. Unless fault (FaultsAtom (columns_in schemas.now) here)) }
+{
+    cursor.skip();
+    let distance = cursor.number()?;
+    cursor.word(b"of", Wanted::OfWord)?;
+    let right = sum(alloc, schemas, cursor)?;
+    if !can_subtract(schemas, &left, &right) {
+        return Err(QueryFault::Types(begin));
+    }
+    Ok(Pred::Within(distance, left, right))
+}
+
+/// Reads on behind the first sum of a comparison that begins at this place.
+fn comparison(
+    alloc: Global,
+    schemas: &Schemas,
+    cursor: &mut Cursor<'_>,
+    left: Sum,
+    begin: usize,
+) -> Result<Pred, QueryFault>
+    requires { LacksWord (codes "within") cursor.old }
+    ensures shorter { OnOk result (length cursor.new < length cursor.old) }
+    ensures read { (here : List Lexeme) → IsSum (columns_in schemas.now) here left cursor.old → EndsSum cursor.old → place here ≡ begin → MatchResult result
+        (λ pred. IsAtom (columns_in schemas.now) here pred cursor.new)
+        (λ fault. Unless fault (FaultsAtom (columns_in schemas.now) here)) }
+{
+    let Some(op) = operator(cursor) else {
         return Err(cursor.expected(Wanted::Comparison));
     };
     cursor.skip();
     let right = sum(alloc, schemas, cursor)?;
     if !can_compare(schemas, &left, &right) {
-        return Err(QueryFault::Types(place));
+        return Err(QueryFault::Types(begin));
     }
     Ok(Pred::Compare(op, left, right))
 }
 
-/// The comparison that is the next token; None where there is none.
-fn comparison(cursor: &Cursor<'_>) -> Option<Op>
+/// The operator of a comparison that is the next token; None where there is none.
+fn operator(cursor: &Cursor<'_>) -> Option<Op>
     ensures { MatchOption result
         ((op : Op) → LacksSign (op_sign op) cursor.now)
         (λ op. IsTrue (next_is kinds.Sign (op_sign op) cursor.now)) }

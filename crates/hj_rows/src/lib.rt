@@ -5,6 +5,6 @@ mod list_store;
 mod numbered;
 mod place;
 
-pub use list_store::{ListStore, is_joined};
+pub use list_store::{ListStore, is_joined, partners_of};
 pub use numbered::Numbered;
 pub use place::Rest;

@@ -1,9 +1,9 @@
-ghost use Rattle.std.specs.Prelude.{◌≡◌, ◌<◌, [], IfOk};
+ghost use Rattle.std.specs.Prelude.{◌≡◌, ◌<◌, [], map, IfOk};
 ghost use Rattle.std.specs.Option.{option_copied};
 ghost use Rattle.hj_msg.specs.Store.{joins, settled_matches};
 ghost use Rattle.hj_rows.specs.ListStore.{resting_rows};
 ghost use Rattle.hj_rows.specs.Numbered.{room_in, rows_in};
-ghost use Rattle.hj_rows.specs.Places.{joining};
+ghost use Rattle.hj_rows.specs.Places.{joining, partner_of};
 
 use crate::numbered::Numbered;
 use crate::place::Rest;
@@ -84,21 +84,40 @@ impl<P: Share + Drop> ListStore<P> {
     ) -> Result<Partners<P>, Memory>
         ensures { IfOk result (λ partners. partners ≡ settled_matches (J.predicate join.now) side against.now (rows_in self.now.rows)) }
     {
+        partners_of(self.alloc, self.sorted_rows(side, against, join)?)
+    }
+
+    /// The settled rows that join with a row of the other side, by their numbers.
+    fn sorted_rows<J: Join<P>>(
+        &self,
+        side: Side,
+        against: &P,
+        join: &J,
+    ) -> Result<BTreeMap<u64, P>, Memory>
+        ensures { IfOk result (λ rows. map partner_of rows.entries ≡ settled_matches (J.predicate join.now) side against.now (rows_in self.now.rows)) }
+    {
         let mut rows = BTreeMap::new(self.alloc);
         for (no, place) in self.rows.places.iter() {
             if let Some(row) = joining_row(place, side, against, join) {
                 rows.insert(*no, row.share()?)?;
             }
         }
-        let mut found = Partners::new(self.alloc);
-        for (no, row) in rows {
-            found.push(Partner {
-                no: EventNo(no),
-                row,
-            })?;
-        }
-        Ok(found)
+        Ok(rows)
     }
+}
+
+/// Rows, each under the number of its arrival, as partners in order of these numbers.
+pub fn partners_of<P: Drop>(alloc: Global, rows: BTreeMap<u64, P>) -> Result<Partners<P>, Memory>
+    ensures { IfOk result (λ partners. partners ≡ map partner_of rows.entries) }
+{
+    let mut partners = Partners::new(alloc);
+    for (no, row) in rows {
+        partners.push(Partner {
+            no: EventNo(no),
+            row,
+        })?;
+    }
+    Ok(partners)
 }
 
 /// The row of a place, where it is settled and joins with a row of the other side.

@@ -1,6 +1,0 @@
-use Rattle.std.proofs.Common.{◌≡◌, map, ◌++◌}
-use Rattle.hj_rows.specs.Places.{partner_of}
-use Rattle.hj_index.proofs.ordered_store.OrderedStore.probe_sorted.Given as goal
-
-abbrev pub invariant-loop-no : goal.invariant-loop-no
-invariant-loop-no g l = l.found ++ map partner_of l.no-iterator ≡ map partner_of l.initial.no-iterator
