@@ -1,7 +1,6 @@
 use Rattle.std.proofs.Common.{Option, Some, sym, ◌∙◌, ap, refl}
 use Rattle.std.proofs.lemmas.List.{length-map}
 use Rattle.hj_msg.specs.declared.feed.Given.{Given}
-use Rattle.hj_msg.specs.declared.feed.Given.TheVariants as given
 use Rattle.hj_chain.specs.Chain.{Contents, FeedAnswer}
 use Rattle.hj_chain.specs.Steps.{asks}
 use Rattle.hj_chain.specs.declared.actor.Actor.TheVariants.{Admit}

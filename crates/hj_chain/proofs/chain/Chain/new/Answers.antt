@@ -1,9 +1,9 @@
-use Rattle.std.proofs.Common.{◌≡◌, ◌≤◌, ℕ, [], length, map, replicate, IfOk, arith, subst, sym}
+use Rattle.std.proofs.Common.{◌≡◌, ℕ, [], length, map, replicate, IfOk, arith, subst, sym}
 use Rattle.hj_msg.specs.declared.feed.Given.{Given}
 use Rattle.hj_msg.specs.Core.{empty_state}
 use Rattle.hj_core.specs.Contents.{state_of}
 use Rattle.hj_collect.specs.Collector.{nothing_taken}
-use Rattle.hj_chain.specs.Chain.{Contents, empty_chain}
+use Rattle.hj_chain.specs.Chain.{empty_chain}
 use Rattle.hj_chain.specs.Placed.{ArePlaced}
 use Rattle.hj_chain.proofs.Making.{all-made}
 use Rattle.hj_chain.proofs.chain.Chain.new.Goals as goal
