@@ -1,11 +1,16 @@
 //! A run of `serve` over a peer of a port and a file.
 use crate::serve::serve;
+use crate::tests::words_of;
 use hj_base::{MemSink, OpenGate};
 use hj_net::{Output, RealOutside};
-use std::io::{ErrorKind, Write};
+use std::alloc::Global;
+use std::fs;
+use std::io::{self, ErrorKind, Write};
 use std::net::{Ipv4Addr, Net, TcpStream};
-use std::test::Fail;
-use std::{fs, io, thread};
+use std::process::Abort;
+use std::rt::Files;
+use std::sync::Wait;
+use std::thread::{self, Threads};
 
 const PORT: u16 = 47_811;
 
@@ -20,34 +25,46 @@ fn send(net: &impl Net, bytes: &[u8]) -> io::Result<()> {
     Err(io::Error::from(ErrorKind::TimedOut))
 }
 
-#[test]
-fn joins_a_peer_with_a_file(rt: HostRuntime) -> Result<(), Fail> {
-    let alloc = rt.alloc();
-    let name = "joins_a_peer_with_a_file.csv";
-    fs::write(&rt, name, "2,7\n")?;
-    let mut words = Vec::new(alloc);
-    for word in ["equi", "10", "listen:47811", name] {
-        words.push(String::from_str(alloc, word)?)?;
-    }
-    let net = rt.clone()?;
-    let peer = thread::spawn(&rt, move || send(&net, b"1,7\n3,7\n").is_ok())?;
-    let output = Output::new(alloc, io::sink())?;
-    let mut outside = RealOutside::new(&rt, alloc, &output);
+/// Serves a join over the real edge, and compares what is written.
+fn joins(
+    rt: &(impl Abort + Threads + Wait + Sync),
+    edge: impl Files + Net + Drop,
+    alloc: Global,
+    words: &[String],
+    text: &[u8],
+) {
+    let output = Output::new(alloc, io::sink()).expect(rt, "memory");
+    let mut outside = RealOutside::new(edge, alloc, &output);
     let mut out = MemSink::new(alloc, 100);
     let mut notes = MemSink::new(alloc, 100);
     let served = serve(
-        &rt,
+        rt,
         alloc,
-        &words,
+        words,
         &mut outside,
         &mut out,
         &mut notes,
         &OpenGate,
     );
-    assert!(rt; peer.join(&rt));
-    fs::remove_file(&rt, name)?;
     assert_eq!(rt; served.status, 0);
-    assert_eq!(rt; out.bytes(), b"1,7,2,7\n3,7,2,7\n".as_slice());
-    assert_eq!(rt; notes.bytes(), b"".as_slice());
-    Ok(())
+    assert!(rt; out.bytes() == text);
+    assert!(rt; notes.bytes().is_empty());
+}
+
+#[test]
+fn joins_a_peer_with_a_file(rt: HostRuntime) {
+    let name = "joins_a_peer_with_a_file.csv";
+    fs::write(&rt, name, "2,7\n").expect(&rt, "a file");
+    let words = words_of(
+        &rt,
+        rt.alloc(),
+        "equi 10 listen:47811 joins_a_peer_with_a_file.csv",
+    );
+    let net = rt.clone().expect(&rt, "memory");
+    let peer = thread::spawn(&rt, move || send(&net, b"1,7\n3,7\n").is_ok()).expect(
+        &rt, "a thread",
+    );
+    joins(&rt, &rt, rt.alloc(), &words, b"1,7,2,7\n3,7,2,7\n");
+    assert!(rt; peer.join(&rt));
+    fs::remove_file(&rt, name).expect(&rt, "a file");
 }

@@ -194,7 +194,8 @@ fn world_of(rt: &impl Abort, alloc: Global, case: Case<'_>, chunks: Chunks) -> W
     world
 }
 
-fn words_of(rt: &impl Abort, alloc: Global, text: &str) -> Vec<String> {
+/// The words of a text.
+pub fn words_of(rt: &impl Abort, alloc: Global, text: &str) -> Vec<String> {
     let mut words = Vec::new(alloc);
     for word in text.split_whitespace() {
         let word = String::from_str(alloc, word).expect(rt, "memory");
