@@ -20,7 +20,7 @@ impl Model for Bytes {
 }
 
 impl Bytes {
-    /// No bytes.
+    /// Makes an empty text.
     pub fn new(alloc: Global) -> Self
         ensures { result ≡ [] }
     {
@@ -29,28 +29,28 @@ impl Bytes {
         }
     }
 
-    /// These bytes.
+    /// Makes the text of these bytes.
     pub fn from_vec(bytes: Vec<u8>) -> Self
         ensures { result ≡ bytes.items }
     {
         Bytes { bytes }
     }
 
-    /// How many there are.
+    /// Returns how many there are.
     pub fn len(&self) -> usize
         ensures { result ≡ length self.now }
     {
         self.bytes.len()
     }
 
-    /// The byte at a place, counted from 0; None exactly at or past the length.
+    /// Returns the byte at a place, counted from 0; None exactly at or past the length.
     pub fn get(&self, at: usize) -> Option<&u8>
         ensures { option_copied result ≡ slice_get self.now at }
     {
         self.bytes.get(at)
     }
 
-    /// Adds a byte at the end. After a refusal nothing changed.
+    /// Appends a byte. An error changes nothing.
     pub fn push(&mut self, byte: u8) -> Result<(), Memory>
         ensures ok { OnOk result (self.new ≡ self.old ++ byte ∷ []) }
         ensures err { OnErr result (self.new ≡ self.old) }
@@ -59,7 +59,7 @@ impl Bytes {
         Ok(())
     }
 
-    /// All of them.
+    /// Returns all the bytes.
     pub fn bytes(&self) -> &[u8]
         ensures { result.now ≡ self.now }
     {

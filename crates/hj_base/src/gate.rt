@@ -2,7 +2,7 @@ use crate::CoreNo;
 
 /// Where a core waits before a step, so that a test can choose the order of steps.
 pub trait Gate {
-    /// Called with the core and the number of calls that it made before. It returns.
+    /// Lets a core make its next step; `call` is the number of calls that it made before. It always returns.
     fn pass(&self, core: CoreNo, call: u64);
 }
 

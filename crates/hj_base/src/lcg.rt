@@ -3,9 +3,9 @@ ghost use Rattle.hj_base.specs.Lcg.{next, drawn};
 
 use std::marker::Model;
 
-/// Numbers that a seed determines: a linear congruential generator of 64 bits, whose upper 31 bits are drawn (the multiplier
-/// and the increment are those of Knuth's MMIX; The Art of Computer Programming, volume 2, section 3.3.4). Seen as the number
-/// that it holds.
+/// Numbers that a seed determines: a linear congruential generator of 64 bits, whose upper 31 bits are given out (the
+/// multiplier and the increment are those of Knuth's MMIX; The Art of Computer Programming, volume 2, section 3.3.4).
+/// Seen as the number that it holds.
 #[derive(Debug, Drop)]
 pub struct Lcg {
     held: u64,
@@ -20,14 +20,14 @@ impl Model for Lcg {
 }
 
 impl Lcg {
-    /// The generator that begins with this seed.
+    /// Makes the generator that begins with this seed.
     pub fn new(seed: u64) -> Self
         ensures { result ≡ seed }
     {
         Lcg { held: seed }
     }
 
-    /// The next number, below 2^31.
+    /// Returns the next number, below 2^31.
     pub fn draw(&mut self) -> u64
         ensures number { result ≡ drawn self.new }
         ensures held { self.new ≡ next self.old }

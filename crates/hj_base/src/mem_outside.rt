@@ -33,8 +33,8 @@ impl Content {
     }
 }
 
-/// Streams whose bytes stand in memory, each under a name. The start of a name that is missing fails, and so do the starts
-/// and reads that were listed; nothing else does.
+/// Streams whose bytes are in memory, each under a name. The start of a missing name fails, and so do the starts and
+/// reads that were listed; nothing else does.
 #[derive(Debug, Drop)]
 pub struct MemOutside {
     alloc: Global,
@@ -57,7 +57,7 @@ impl Model for MemOutside {
 }
 
 impl MemOutside {
-    /// An object with no name, of which one read gives at most `chunk` bytes.
+    /// Makes an outside with no names, of which one read gives at most `chunk` bytes.
     pub fn new(alloc: Global, chunk: usize) -> MemOutside
         requires { 1 ≤ chunk }
         ensures { result ≡ record { chunk = chunk; contents = []; query = new_stream; left = new_stream; right = new_stream } }
@@ -72,7 +72,7 @@ impl MemOutside {
         }
     }
 
-    /// Puts bytes under a name, in place of what stood there. A stream that began keeps the bytes that it began with.
+    /// Puts bytes under a name, in place of what stood there. A stream that has begun keeps the bytes it began with.
     #[tactic(auto, using(crate::proofs::Lookups::lookup_set_same, crate::proofs::Lookups::lookup_set_other, crate::proofs::Lookups::lookup_push_same, crate::proofs::Lookups::lookup_push_other))]
     pub fn add(&mut self, name: &str, bytes: &[u8]) -> Result<(), Memory>
         ensures added { OnOk result (lookup self.new.contents name.now ≡ Some bytes.now) }
@@ -90,7 +90,7 @@ impl MemOutside {
 }
 
 impl MemOutside {
-    /// Has the start of a role fail. After a refusal nothing changed.
+    /// Makes the start of a role fail. An error changes nothing.
     pub fn fail_start(&mut self, role: Role) -> Result<(), Memory>
         ensures listed { OnOk result (self.new ≡ with_stream self.old role (record (stream_at self.old role) { start_fails = true })) }
         ensures refused { OnErr result (self.new ≡ self.old) }
@@ -103,7 +103,7 @@ impl MemOutside {
         Ok(())
     }
 
-    /// Has the `nth` read of a role fail, counted from 1 over all its reads. After a refusal nothing changed.
+    /// Makes the `nth` read of a role fail, counted from 1 over all its reads. An error changes nothing.
     pub fn fail_read(&mut self, role: Role, nth: u64) -> Result<(), Memory>
         requires first { 1 ≤ nth }
         requires last { nth ≤ 2 ^ 64 - 2 }

@@ -6,7 +6,7 @@ use crate::{Memory, Put, Sink};
 use std::alloc::Global;
 use std::marker::Model;
 
-/// A sink that keeps its bytes in memory, takes at most a chunk of them a write, and fails at the writes that were listed.
+/// A sink that keeps its bytes in memory, takes at most a chunk of them per write, and fails at the listed writes.
 #[derive(Debug, Drop)]
 pub struct MemSink {
     bytes: Vec<u8>,
@@ -29,7 +29,7 @@ impl Model for MemSink {
 }
 
 impl MemSink {
-    /// An empty sink that takes at most `chunk` bytes a write.
+    /// Makes an empty sink that takes at most `chunk` bytes per write.
     pub fn new(alloc: Global, chunk: usize) -> MemSink
         requires { 1 ≤ chunk }
         ensures { result ≡ record { bytes = []; chunk = chunk; writes = 0; failing = []; faults = 0; refusals = 0 } }
@@ -44,7 +44,7 @@ impl MemSink {
         }
     }
 
-    /// Has the `nth` write fail, counted from 1 over all writes but those that were refused for memory.
+    /// Makes the `nth` write fail, counted from 1 over all writes except those refused because memory ran out.
     pub fn fail_write(&mut self, nth: u64) -> Result<(), Memory>
         requires first { 1 ≤ nth }
         requires last { nth ≤ 2 ^ 64 - 2 }
@@ -55,7 +55,7 @@ impl MemSink {
         Ok(())
     }
 
-    /// The bytes written so far.
+    /// Returns the bytes written so far.
     pub fn bytes(&self) -> &[u8]
         ensures { result.now ≡ self.now.bytes }
     {

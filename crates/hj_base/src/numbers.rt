@@ -21,7 +21,7 @@ pub enum Side {
 }
 
 impl Side {
-    /// The role of this side's stream.
+    /// Returns the role of this side's stream.
     pub fn role(self) -> Role
         ensures { result ≡ role_of self }
     {

@@ -30,10 +30,10 @@ pub enum Got {
 pub trait Outside {
     ghost use Rattle.hj_base.specs.declared.outside.Role.{Role};
 
-    /// What stands of each role.
+    /// The state of each role.
     ghost state: { Self → Role → RoleState };
 
-    /// The bytes under a name, where the object tells them.
+    /// The bytes under a name, if the object tells them.
     ghost under: { Self → List ℕ → Option (List ℕ) };
 
     /// Opens the stream of a role under a name.
@@ -43,7 +43,7 @@ pub trait Outside {
         ensures others { ChangesOnly role (state self.old) (state self.new) }
         ensures names { (other : List ℕ) → under self.new other ≡ under self.old other };
 
-    /// Reads the next bytes of an open role into the front of a buffer.
+    /// Reads the next bytes of an open role into the start of a buffer.
     fn read(&mut self, role: Role, buf: &mut [u8]) -> Got
         requires open { IsOpen (state self.old role).phase }
         requires room { 0 < length buf.old }

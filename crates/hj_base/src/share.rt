@@ -4,7 +4,7 @@ use crate::Memory;
 
 /// What can be shared: a second value that is equal to the first one.
 pub trait Share: Sized {
-    /// A value equal to this one.
+    /// Makes a value equal to this one.
     fn share(&self) -> Result<Self, Memory>
         ensures { IfOk result (λ shared. shared ≡ self.now) };
 }

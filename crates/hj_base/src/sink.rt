@@ -12,16 +12,16 @@ pub enum Put {
 
 /// Where bytes go. It only appends.
 pub trait Sink {
-    /// The bytes written so far, where the object tells them.
+    /// The bytes written so far, if the object tells them.
     ghost told: { Self → Option (List ℕ) };
 
     /// How often a write failed.
     ghost faults: { Self → ℕ };
 
-    /// How often a write was refused, for a fault or for want of memory.
+    /// How often a write was refused, for a fault or because memory ran out.
     ghost refusals: { Self → ℕ };
 
-    /// Appends a front of the piece, at least one byte, or nothing.
+    /// Appends a prefix of the piece, at least one byte, or nothing.
     fn write(&mut self, piece: &[u8]) -> Put
         requires { 0 < length piece.now }
         ensures writes { Writes result piece.now (told self.old) (told self.new) }

@@ -80,7 +80,7 @@ impl Stage {
     }
 }
 
-/// A stream that is read from a copy of its bytes, and fails where that was listed.
+/// A stream that is read from a copy of its bytes, and fails at the listed start and reads.
 #[derive(Debug, Drop)]
 pub struct Stream {
     stage: Stage,
@@ -106,7 +106,7 @@ impl Model for Stream {
 }
 
 impl Stream {
-    /// A stream that is not begun, and never fails.
+    /// Makes a stream that isn't begun and never fails.
     pub fn new(alloc: Global) -> Stream
         ensures { result ≡ new_stream }
     {
@@ -119,14 +119,14 @@ impl Stream {
         }
     }
 
-    /// Has the start fail.
+    /// Makes the start fail.
     pub fn fail_start(&mut self)
         ensures { self.new ≡ record self.old { start_fails = true } }
     {
         self.start_fails = true;
     }
 
-    /// Has the `nth` read fail, counted from 1.
+    /// Makes the `nth` read fail, counted from 1.
     pub fn fail_read(&mut self, nth: u64) -> Result<(), Memory>
         ensures listed { OnOk result (self.new ≡ record self.old { failing = self.old.failing ++ nth ∷ [] }) }
         ensures refused { OnErr result (self.new ≡ self.old) }
@@ -154,7 +154,7 @@ impl Stream {
         }
     }
 
-    /// Reads at most a chunk of what is left into the front of a buffer, unless this read fails.
+    /// Reads at most a chunk of what is left into the start of a buffer, unless this read fails.
     pub fn read(&mut self, chunk: usize, buf: &mut [u8]) -> Got
         requires open { IsOpen self.old.role.phase }
         requires chunk { 1 ≤ chunk }

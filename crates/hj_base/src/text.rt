@@ -21,7 +21,7 @@ impl Model for TextBytes {
 }
 
 impl TextBytes {
-    /// The text with these bytes; None exactly where they aren't UTF-8.
+    /// Makes the text of these bytes; None exactly if they aren't UTF-8.
     pub fn from_bytes(alloc: Global, bytes: &[u8]) -> Result<Option<Self>, Memory>
         ensures { IfOk result (λ made. SomeIff made (IsUtf8 bytes.now) bytes.now) }
     {
@@ -33,7 +33,7 @@ impl TextBytes {
         }))
     }
 
-    /// A text of the same bytes.
+    /// Makes a text of the same bytes.
     pub fn copy(&self, alloc: Global) -> Result<Self, Memory>
         ensures { IfOk result (λ copy. copy ≡ self.now) }
     {
@@ -42,21 +42,21 @@ impl TextBytes {
         })
     }
 
-    /// How many bytes it has.
+    /// Returns how many bytes it has.
     pub fn len(&self) -> usize
         ensures { result ≡ length self.now }
     {
         self.text.len()
     }
 
-    /// The byte at a place, counted from 0; None exactly at or past the length.
+    /// Returns the byte at a place, counted from 0; None exactly at or past the length.
     pub fn get(&self, at: usize) -> Option<&u8>
         ensures { option_copied result ≡ slice_get self.now at }
     {
         self.text.as_bytes().get(at)
     }
 
-    /// Its bytes.
+    /// Returns its bytes.
     pub fn bytes(&self) -> &[u8]
         ensures value { result.now ≡ self.now }
         ensures utf8 { IsUtf8 result.now }
@@ -64,7 +64,7 @@ impl TextBytes {
         self.text.as_str().as_bytes()
     }
 
-    /// The text.
+    /// Returns the text as a `str`.
     pub fn text(&self) -> &str
         ensures { result.now ≡ self.now }
     {

@@ -9,8 +9,8 @@ use hj_base::Memory;
 use hj_value::{Field, Row};
 use itoa::Buffer;
 
-/// Makes a line that of two joined rows, as `line` gives it, in place of what it held. Memory is taken for its growth
-/// alone; after a refusal it holds a part of the line.
+/// Fills `line` with the line of two joined rows, as the function `line` makes it, in place of what it held. Takes
+/// memory only to grow; after an error it holds a part of the line.
 pub fn fill_line(line: &mut Vec<u8>, left: &Row, right: &Row) -> Result<(), Memory>
     ensures { OnOk result (line.new.items ≡ line_of left.now right.now) }
 {
@@ -20,7 +20,7 @@ pub fn fill_line(line: &mut Vec<u8>, left: &Row, right: &Row) -> Result<(), Memo
     end_line(line)
 }
 
-/// Adds a row's fields, with a comma behind each.
+/// Appends a row's fields, with a comma after each.
 fn push_row(text: &mut Vec<u8>, row: &Row) -> Result<(), Memory>
     ensures { OnOk result (text.new.items ≡ text.old.items ++ cells row.now) }
 {
@@ -34,7 +34,7 @@ fn push_row(text: &mut Vec<u8>, row: &Row) -> Result<(), Memory>
     Ok(())
 }
 
-/// Adds a field.
+/// Appends a field.
 fn push_field(text: &mut Vec<u8>, field: &Field<'_>) -> Result<(), Memory>
     ensures { OnOk result (text.new.items ≡ text.old.items ++ field_text default_writer (field_bytes field.now)) }
 {
@@ -44,7 +44,7 @@ fn push_field(text: &mut Vec<u8>, field: &Field<'_>) -> Result<(), Memory>
     }
 }
 
-/// Adds a number in decimal, which needs no quotes.
+/// Appends a number in decimal, which needs no quotes.
 fn push_number(text: &mut Vec<u8>, number: i64) -> Result<(), Memory>
     ensures { OnOk result (text.new.items ≡ text.old.items ++ field_text default_writer (signed_decimal number)) }
 {
@@ -53,7 +53,7 @@ fn push_number(text: &mut Vec<u8>, number: i64) -> Result<(), Memory>
     Ok(())
 }
 
-/// Adds a text, in quotes where it needs them.
+/// Appends a text, in quotes if it needs them.
 fn push_text(text: &mut Vec<u8>, bytes: &[u8]) -> Result<(), Memory>
     ensures { OnOk result (text.new.items ≡ text.old.items ++ field_text default_writer bytes.now) }
 {
@@ -64,21 +64,21 @@ fn push_text(text: &mut Vec<u8>, bytes: &[u8]) -> Result<(), Memory>
     Ok(())
 }
 
-/// Whether a text needs quotes.
+/// Returns whether a text needs quotes.
 fn needs_quotes(bytes: &[u8]) -> bool
     ensures { result ≡ needs_quotes default_writer bytes.now }
 {
     bytes.iter().any(|byte| is_special(*byte))
 }
 
-/// Whether a text with this byte needs quotes.
+/// Returns whether a text with this byte needs quotes.
 fn is_special(byte: u8) -> bool
     ensures { result ≡ needs_byte default_writer byte }
 {
     matches!(byte, b',' | b'"' | b'\r' | b'\n')
 }
 
-/// Adds a text in quotes, with each quote in it doubled.
+/// Appends a text in quotes, with each quote in it doubled.
 #[cold]
 fn push_quoted(text: &mut Vec<u8>, bytes: &[u8]) -> Result<(), Memory>
     ensures { OnOk result (text.new.items ≡ text.old.items ++ quoted default_writer bytes.now) }
@@ -91,7 +91,7 @@ fn push_quoted(text: &mut Vec<u8>, bytes: &[u8]) -> Result<(), Memory>
     Ok(())
 }
 
-/// Adds a byte of a text in quotes: a quote twice.
+/// Appends a byte of a text in quotes: a quote twice.
 #[tactic(auto, unfolding(csv::specs::Writing::escaped))]
 fn push_escaped(text: &mut Vec<u8>, byte: u8) -> Result<(), Memory>
     ensures { OnOk result (text.new.items ≡ text.old.items ++ escaped default_writer (byte ∷ [])) }
@@ -104,7 +104,7 @@ fn push_escaped(text: &mut Vec<u8>, byte: u8) -> Result<(), Memory>
     Ok(())
 }
 
-/// Ends a line of fields with a comma behind each: a line feed comes in place of the last comma. Where no byte is left, two
+/// Ends a line of fields with a comma after each: a line feed comes in place of the last comma. If no byte is left, two
 /// quotes stand for the one empty field.
 fn end_line(text: &mut Vec<u8>) -> Result<(), Memory>
     ensures { (fields : List Field) → text.old.items ≡ cells fields

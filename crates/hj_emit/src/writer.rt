@@ -10,9 +10,9 @@ use hj_value::{Field, Row};
 use itoa::Buffer;
 use std::alloc::Global;
 
-/// The line of two joined rows: the left row's fields, then the right row's, as csv's writer gives one record of them. A
-/// field with a comma, a double quote, a carriage return or a line feed stands in double quotes, with each double quote in
-/// it doubled; a line feed ends the line.
+/// Makes the line of two joined rows: the left row's fields, then the right row's, as csv's writer gives one record of
+/// them. A field with a comma, a double quote, a carriage return or a line feed stands in double quotes, with each
+/// double quote in it doubled; a line feed ends the line.
 pub fn line(alloc: Global, left: &Row, right: &Row) -> Result<LineBytes, Memory>
     ensures { IfOk result (λ line. line ≡ line_of left.now right.now) }
 {
@@ -22,7 +22,7 @@ pub fn line(alloc: Global, left: &Row, right: &Row) -> Result<LineBytes, Memory>
     Ok(LineBytes::from_vec(record_text(alloc, &fields)?))
 }
 
-/// The text of a record.
+/// Makes the text of a record.
 fn record_text(alloc: Global, fields: &ByteRecord) -> Result<Vec<u8>, Memory>
     ensures { IfOk result (λ text. text.items ≡ row_text default_writer (fields_of fields.now)) }
 {
@@ -36,7 +36,7 @@ fn record_text(alloc: Global, fields: &ByteRecord) -> Result<Vec<u8>, Memory>
     }
 }
 
-/// Adds a row's fields to a record.
+/// Appends a row's fields to a record.
 fn push_row(fields: &mut ByteRecord, row: &Row) -> Result<(), Memory>
     requires { partial_of fields.old ≡ [] }
     ensures added { OnOk result (fields_of fields.new ≡ fields_of fields.old ++ map field_bytes row.now) }
@@ -51,7 +51,7 @@ fn push_row(fields: &mut ByteRecord, row: &Row) -> Result<(), Memory>
     Ok(())
 }
 
-/// Adds a field to a record.
+/// Appends a field to a record.
 fn push_field(fields: &mut ByteRecord, field: &Field<'_>) -> Result<(), Memory>
     requires { partial_of fields.old ≡ [] }
     ensures added { OnOk result (fields_of fields.new ≡ fields_of fields.old ++ field_bytes field.now ∷ []) }

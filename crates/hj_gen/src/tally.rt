@@ -27,7 +27,7 @@ impl Model for Tally {
 }
 
 impl Tally {
-    /// The tally of no bytes.
+    /// Makes the tally of no bytes.
     pub fn new() -> Self
         ensures { result ≡ counts_of [] }
     {
@@ -38,7 +38,7 @@ impl Tally {
         }
     }
 
-    /// Whether so many more bytes can be counted: the count of all bytes fits 64 bits.
+    /// Returns whether `more` bytes can be counted too: the count of all bytes fits 64 bits.
     pub fn has_room(&self, more: usize) -> bool
         ensures { IsTrue result ↔ (self.now.bytes + more < 2 ^ 64) }
     {
@@ -57,7 +57,7 @@ impl Tally {
         });
     }
 
-    /// The line of a join of so many events whose text was taken: `events E pairs P bytes B mix M` and a line feed.
+    /// Makes the line of a join of `events` events whose text was taken: `events E pairs P bytes B mix M`, a line feed.
     pub fn line(&self, alloc: Global, events: u64) -> Result<Bytes, Memory>
         ensures { IfOk result (λ line. line ≡ line_of events self.now) }
     {
@@ -71,7 +71,7 @@ impl Tally {
     }
 }
 
-/// The line of a join of so many events that gave this text, as `Tally::line` gives it.
+/// Makes the line of a join of `events` events that gave this text, as `Tally::line` does.
 pub fn summary(alloc: Global, events: u64, text: &[u8]) -> Result<Bytes, Memory>
     ensures { IfOk result (λ line. line ≡ summary_of events text.now) }
 {
@@ -80,7 +80,7 @@ pub fn summary(alloc: Global, events: u64, text: &[u8]) -> Result<Bytes, Memory>
     tally.line(alloc, events)
 }
 
-/// Adds a name and its count.
+/// Appends a name and its count.
 fn push_count(line: &mut Vec<u8>, name: &[u8], count: u64) -> Result<(), Memory>
     ensures { OnOk result (line.new.items ≡ line.old.items ++ name.now ++ decimal count) }
 {

@@ -12,8 +12,8 @@ pub struct TwoStreams {
     pub right: Bytes,
 }
 
-/// Two streams of `n` rows each, with keys below `keys`, which is at least 1: the left one of the seed, the right one of
-/// the next seed (0 after the last).
+/// Makes two streams of `n` rows each, with keys below `keys`, which is at least 1: the left one of the seed, the right
+/// one of the next seed (0 after the last).
 pub fn streams(alloc: Global, n: u32, keys: u32, seed: u64) -> Result<TwoStreams, Memory>
     requires { 0 < keys }
     ensures left { IfOk result (λ two. two.left ≡ stream_of n keys seed) }
@@ -25,7 +25,7 @@ pub fn streams(alloc: Global, n: u32, keys: u32, seed: u64) -> Result<TwoStreams
     })
 }
 
-/// The stream of a seed.
+/// Makes the stream of a seed.
 fn stream(alloc: Global, n: u32, keys: u32, seed: u64) -> Result<Bytes, Memory>
     requires { 0 < keys }
     ensures { IfOk result (λ text. text ≡ stream_of n keys seed) }
@@ -41,7 +41,7 @@ fn stream(alloc: Global, n: u32, keys: u32, seed: u64) -> Result<Bytes, Memory>
     Ok(Bytes::from_vec(text))
 }
 
-/// Adds the line of a row.
+/// Appends the line of a row.
 fn push_row(text: &mut Vec<u8>, time: u64, key: u64) -> Result<(), Memory>
     ensures { OnOk result (text.new.items ≡ text.old.items ++ row_line (record { time = time; key = key })) }
 {

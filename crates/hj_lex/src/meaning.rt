@@ -5,7 +5,7 @@ use hj_base::Memory;
 use hj_value::{TextBytes, read_int};
 use std::alloc::{AllocError, Global};
 
-/// The number that the bytes of a Number token stand for.
+/// Returns the number that the bytes of a Number token stand for.
 pub fn number_value(word: &[u8]) -> i64
     requires { IsNumber word.now }
     ensures { result ≡ pos (number_value word.now) }
@@ -16,7 +16,7 @@ pub fn number_value(word: &[u8]) -> i64
     }
 }
 
-/// The text that the bytes of a Text token stand for: what stands between its quotes, with each doubled quote once.
+/// Makes the text that the bytes of a Text token stand for: what is between its quotes, with each doubled quote once.
 pub fn text_value(alloc: Global, word: &[u8]) -> Result<TextBytes, Memory>
     requires { IsText word.now }
     ensures { IfOk result (λ value. word.now ≡ quoted value) }
@@ -28,7 +28,7 @@ pub fn text_value(alloc: Global, word: &[u8]) -> Result<TextBytes, Memory>
     }
 }
 
-/// The bytes between the quotes of a text, with each doubled quote once.
+/// Returns the bytes between the quotes of a text, with each doubled quote once.
 fn undoubled(alloc: Global, word: &[u8]) -> Result<Vec<u8>, AllocError>
     requires { IsText word.now }
     ensures { IfOk result (λ value. word.now ≡ quoted value.items) }
@@ -42,7 +42,7 @@ fn undoubled(alloc: Global, word: &[u8]) -> Result<Vec<u8>, AllocError>
     Ok(value)
 }
 
-/// How many bytes inside a text stand for a byte.
+/// Returns how many bytes inside a text stand for a byte.
 fn width(byte: u8) -> usize
     ensures { result ≡ (if is_quote byte then 2 else 1) }
 {

@@ -10,7 +10,7 @@ use crate::{LexFault, Token, TokenKind, Tokens};
 use hj_value::read_int;
 use std::alloc::Global;
 
-/// The tokens of a text, or its first fault in reading order.
+/// Reads the tokens of a text, or its first fault in reading order.
 pub fn lex(alloc: Global, text: &[u8]) -> Result<Tokens, LexFault>
     ensures reads { MatchResult result (AreTokens text.now) (Explains text.now) }
 
@@ -41,21 +41,21 @@ fn cut(alloc: Global, text: &[u8]) -> Result<Tokens, LexFault>
     Ok(tokens)
 }
 
-/// Whether a byte separates tokens.
+/// Returns whether a byte separates tokens.
 fn is_blank(byte: u8) -> bool
     ensures { result ≡ is_blank byte }
 {
     matches!(byte, b' ' | b'\t' | b'\r' | b'\n')
 }
 
-/// Whether a name goes on with a byte.
+/// Returns whether a name can go on with a byte.
 fn is_word(byte: u8) -> bool
     ensures { result ≡ is_word byte }
 {
     byte.is_ascii_alphanumeric() || byte == b'_'
 }
 
-/// The place behind the blanks that stand from a place on.
+/// Returns the place after the blanks that stand from a place on.
 fn blanks_end(text: &[u8], at: usize) -> usize
     requires { at ≤ length text.now }
     ensures blank { IsBlankBetween text.now at result }
@@ -64,14 +64,14 @@ fn blanks_end(text: &[u8], at: usize) -> usize
     at + blank_length(&text[at..])
 }
 
-/// How many blanks begin the bytes.
+/// Returns how many blanks the bytes begin with.
 fn blank_length(rest: &[u8]) -> usize
     ensures { result ≡ prefix_len is_blank rest.now }
 {
     rest.iter().take_while(|byte| is_blank(**byte)).count()
 }
 
-/// The token that begins at a place.
+/// Reads the token that begins at a place.
 fn token_at(text: &[u8], from: usize) -> Result<Token, LexFault>
     requires inside { from < length text.now }
     requires black { begins is_blank (drop from text.now) ≡ false }
@@ -88,7 +88,7 @@ fn token_at(text: &[u8], from: usize) -> Result<Token, LexFault>
     })
 }
 
-/// The kind of the token that a byte begins, where it begins one.
+/// Returns the kind of the token that a byte begins, if it begins one.
 fn kind_of(byte: u8) -> TokenKind
     ensures { result ≡ kind_of byte }
 {
@@ -100,7 +100,7 @@ fn kind_of(byte: u8) -> TokenKind
     }
 }
 
-/// The length of the token of a kind that begins the bytes, which stand from a place on.
+/// Returns the length of the token of a kind that the bytes begin with; they stand at `from` in the text.
 fn token_length(kind: TokenKind, rest: &[u8], from: usize) -> Result<usize, LexFault>
     requires first { IsFirst kind rest.now }
     requires fits { from + length rest.now < 2 ^ 64 }
@@ -114,21 +114,21 @@ fn token_length(kind: TokenKind, rest: &[u8], from: usize) -> Result<usize, LexF
     }
 }
 
-/// How many letters, digits and `_` begin the bytes.
+/// Returns how many letters, digits and `_` the bytes begin with.
 fn word_length(rest: &[u8]) -> usize
     ensures { result ≡ prefix_len is_word rest.now }
 {
     rest.iter().take_while(|byte| is_word(**byte)).count()
 }
 
-/// How many digits begin the bytes.
+/// Returns how many digits the bytes begin with.
 fn digits_length(rest: &[u8]) -> usize
     ensures { result ≡ prefix_len is_ascii_digit rest.now }
 {
     rest.iter().take_while(|byte| byte.is_ascii_digit()).count()
 }
 
-/// The length of the number that begins the bytes, which stand from a place on.
+/// Returns the length of the number that the bytes begin with; they stand at `from` in the text.
 fn number_length(rest: &[u8], from: usize) -> Result<usize, LexFault>
     requires digit { IsTrue (begins is_ascii_digit rest.now) }
     requires fits { from + length rest.now < 2 ^ 64 }
@@ -144,7 +144,7 @@ fn number_length(rest: &[u8], from: usize) -> Result<usize, LexFault>
     Ok(length)
 }
 
-/// The length of the text that begins the bytes, which stand from a place on.
+/// Returns the length of the text that the bytes begin with; they stand at `from` in the query.
 fn text_length(rest: &[u8], from: usize) -> Result<usize, LexFault>
     requires quote { IsTrue (begins is_quote rest.now) }
     requires fits { from + length rest.now < 2 ^ 64 }
@@ -159,7 +159,7 @@ fn text_length(rest: &[u8], from: usize) -> Result<usize, LexFault>
     }
 }
 
-/// The length of the text that begins the bytes; None where it has no end.
+/// Returns the length of the text that the bytes begin with; None if it has no end.
 fn closed_length(rest: &[u8]) -> Option<usize>
     requires { IsTrue (begins is_quote rest.now) }
     ensures { MatchOption result (BeginsOpenText rest.now) (BeginsClosedText rest.now) }
@@ -177,21 +177,21 @@ fn closed_length(rest: &[u8]) -> Option<usize>
     None
 }
 
-/// Whether a letter, a digit or `_` stands at a place.
+/// Returns whether a letter, a digit or `_` stands at a place.
 fn has_word(bytes: &[u8], at: usize) -> bool
     ensures { result ≡ begins is_word (drop at bytes.now) }
 {
     at < bytes.len() && is_word(bytes[at])
 }
 
-/// Whether a quote stands at a place.
+/// Returns whether a quote stands at a place.
 fn has_quote(bytes: &[u8], at: usize) -> bool
     ensures { result ≡ begins is_quote (drop at bytes.now) }
 {
     at < bytes.len() && bytes[at] == b'\''
 }
 
-/// The length of the longest sign that begins the bytes; None where none does.
+/// Returns the length of the longest sign that the bytes begin with; None if there is none.
 fn sign_length(rest: &[u8]) -> Option<usize>
     ensures { MatchOption result (begins_sign rest.now ≡ false) (BeginsToken TokenKind.Sign rest.now) }
 {

@@ -16,7 +16,7 @@ pub enum TokenKind {
 pub struct Token {
     /// The place of its first byte, counted from 0.
     pub from: usize,
-    /// The place behind its last byte.
+    /// The place after its last byte.
     pub to: usize,
     pub kind: TokenKind,
 }

@@ -22,7 +22,7 @@ impl Model for Tokens {
 }
 
 impl Tokens {
-    /// No tokens.
+    /// Makes an empty list of tokens.
     pub fn new(alloc: Global) -> Self
         ensures { result ≡ [] }
     {
@@ -31,21 +31,21 @@ impl Tokens {
         }
     }
 
-    /// How many tokens there are.
+    /// Returns how many tokens there are.
     pub fn len(&self) -> usize
         ensures { result ≡ length self.now }
     {
         self.tokens.len()
     }
 
-    /// The token at a place in the list, counted from 0; None exactly at or past the length.
+    /// Returns the token at a place in the list, counted from 0; None exactly at or past the length.
     pub fn get(&self, at: usize) -> Option<&Token>
         ensures { option_copied result ≡ slice_get self.now at }
     {
         self.tokens.get(at)
     }
 
-    /// Adds a token at the end. After a refusal nothing changed.
+    /// Appends a token. An error changes nothing.
     pub fn push(&mut self, token: Token) -> Result<(), Memory>
         ensures ok { OnOk result (self.new ≡ self.old ++ token ∷ []) }
         ensures err { OnErr result (self.new ≡ self.old) }

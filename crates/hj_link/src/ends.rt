@@ -41,7 +41,7 @@ impl<M: Drop, D: Side> Model for LinkEnd<M, D> {
 }
 
 impl<M: Drop, D: Side> LinkEnd<M, D> {
-    /// Whether the next put finds room. Where it doesn't, this direction was full at a step of this call.
+    /// Returns whether the next put finds room. If it doesn't, this direction was full at a step of this call.
     pub fn room(&mut self) -> bool
         ensures link { (self.new.link ≡ self.old.link) × (self.new.capacity ≡ self.old.capacity) }
         ensures journal { self.new.journal ≡ self.old.journal }
@@ -53,7 +53,7 @@ impl<M: Drop, D: Side> LinkEnd<M, D> {
         self.outgoing.room::<M, D>(&self.table, &mut self.seat)
     }
 
-    /// Puts a message under a turn. Hands it back only where this direction was full at a step of this call.
+    /// Puts a message under a turn. Hands it back only if this direction was full at a step of this call.
     pub fn put(&mut self, turn: u64, message: M) -> Result<(), Full<M>>
         ensures link { (self.new.link ≡ self.old.link) × (self.new.capacity ≡ self.old.capacity) }
         ensures put { OnOk result ((self.new.journal ≡ self.old.journal ++ put turn message ∷ []) × (self.new.full_looks ≡ self.old.full_looks)) }
@@ -67,7 +67,7 @@ impl<M: Drop, D: Side> LinkEnd<M, D> {
             .put::<M, D>(&self.table, &mut self.seat, turn, message)
     }
 
-    /// Takes the oldest message that the other end put, under a turn. None only where there was none at a step of this call.
+    /// Takes the oldest message of the other end, under a turn. None only if there was none at a step of this call.
     pub fn take(&mut self, turn: u64) -> Option<M>
         ensures link { (self.new.link ≡ self.old.link) × (self.new.capacity ≡ self.old.capacity) }
         ensures taken { IfSome result (λ message. (self.new.journal ≡ self.old.journal ++ taken turn message ∷ []) × (self.new.empty_looks ≡ self.old.empty_looks)) }
@@ -81,8 +81,8 @@ impl<M: Drop, D: Side> LinkEnd<M, D> {
     }
 }
 
-/// A new link that goes both ways, with room for 1 to 514 messages in each direction. It takes all the memory that the link
-/// ever takes.
+/// Makes a link that goes both ways, with room for 1 to 514 messages in each direction. It takes all the memory that
+/// the link ever takes.
 pub fn duplex<M: Drop>(alloc: Global, capacity: usize) -> Result<(LeftEnd<M>, RightEnd<M>), Memory>
     requires { (0 < capacity) × (capacity ≤ 514) }
     ensures link { IfOk result (λ ends. ends.0.link ≡ ends.1.link) }

@@ -34,7 +34,7 @@ impl Ring {
         }
     }
 
-    // The place behind this one.
+    // Returns the place after this one.
     fn following(&self) -> Ring
         requires { self.now.next < self.now.capacity }
         ensures ring { (result.first ≡ self.now.first) × (result.capacity ≡ self.now.capacity) }
@@ -62,7 +62,7 @@ pub struct Outgoing {
     // the puts, and the takes that were seen, modulo 2^64
     pub puts: u64,
     pub seen_takes: u64,
-    // so many puts need no look at the takes
+    // how many more puts need no look at the takes
     pub room: u64,
 }
 
@@ -98,7 +98,7 @@ impl Outgoing {
         self.seen_takes = takes;
     }
 
-    // Whether the next put finds room. Where it doesn't, the direction was full at a step of this call.
+    // Returns whether the next put finds room. If it doesn't, the direction was full at a step of this call.
     pub(crate) fn room<M: Drop, D: Side>(
         &mut self,
         table: &LinkTable<M>,
@@ -123,7 +123,7 @@ impl Outgoing {
         self.room > 0
     }
 
-    // Puts a message under a turn. Hands it back only where the direction was full at a step of this call.
+    // Puts a message under a turn. Hands it back only if the direction was full at a step of this call.
     pub(crate) fn put<M: Drop, D: Side>(
         &mut self,
         table: &LinkTable<M>,
@@ -165,7 +165,7 @@ pub struct Incoming {
     pub ring: Ring,
     // the takes, modulo 2^64
     pub takes: u64,
-    // so many takes need no look at the puts
+    // how many more takes need no look at the puts
     pub ready: u64,
 }
 
@@ -198,7 +198,7 @@ impl Incoming {
         self.ready = puts.wrapping_sub(self.takes);
     }
 
-    // Takes the oldest message, under a turn. None only where there was none at a step of this call.
+    // Takes the oldest message, under a turn. None only if there was none at a step of this call.
     pub(crate) fn take<M: Drop, D: Side>(
         &mut self,
         table: &LinkTable<M>,

@@ -15,7 +15,7 @@ pub struct Words {
 pub trait Side {
     ghost is_left: { Bool };
 
-    /// The words that this end reads and writes. They lie 128 bytes from one another, so that no two share a cache line.
+    /// Returns the words that this end reads and writes. They lie 128 bytes apart, so that no two share a cache line.
     fn words() -> Words
         ensures { result ≡ words_of is_left };
 }

@@ -68,7 +68,7 @@ fn publish_put<M: Drop, D: Side>(table: &LinkTable<M>, seat: &mut LinkSeat<M>, p
     table.shared.store::<PublishPut<D>>(seat, words.puts, puts);
 }
 
-// Puts a message into the slot of the next place; with it the puts are so many.
+// Puts a message into the slot of the next place; `puts` counts it too, modulo 2^64.
 pub(crate) fn put<M: Drop, D: Side>(
     table: &LinkTable<M>,
     seat: &mut LinkSeat<M>,
@@ -126,7 +126,7 @@ fn publish_take<M: Drop, D: Side>(table: &LinkTable<M>, seat: &mut LinkSeat<M>, 
         .store::<PublishTake<D>>(seat, words.takes, takes);
 }
 
-// Takes the message out of the slot of the next place; with it the takes are so many.
+// Takes the message out of the slot of the next place; `takes` counts it too, modulo 2^64.
 pub(crate) fn take<M: Drop, D: Side>(
     table: &LinkTable<M>,
     seat: &mut LinkSeat<M>,

@@ -12,7 +12,7 @@ pub enum Slot<M> {
     Full(u64, M),
 }
 
-/// For how many messages each direction has room. A link that goes one way has none in the way back.
+/// For how many messages each direction has room. A link that goes one way has none for the way back.
 #[derive(Clone, Copy)]
 pub struct Capacities {
     pub rightwards: usize,

@@ -34,7 +34,7 @@ impl<M: Drop> Model for Sender<M> {
 }
 
 impl<M: Drop> Sender<M> {
-    /// Whether the next put finds room. Where it doesn't, the link was full at a step of this call.
+    /// Returns whether the next put finds room. If it doesn't, the link was full at a step of this call.
     pub fn room(&mut self) -> bool
         ensures link { (self.new.link ≡ self.old.link) × (self.new.capacity ≡ self.old.capacity) }
         ensures journal { self.new.journal ≡ self.old.journal }
@@ -45,7 +45,7 @@ impl<M: Drop> Sender<M> {
         self.outgoing.room::<M, OnLeft>(&self.table, &mut self.seat)
     }
 
-    /// Puts a message under a turn. Hands it back only where the link was full at a step of this call.
+    /// Puts a message under a turn. Hands it back only if the link was full at a step of this call.
     pub fn put(&mut self, turn: u64, message: M) -> Result<(), Full<M>>
         ensures link { (self.new.link ≡ self.old.link) × (self.new.capacity ≡ self.old.capacity) }
         ensures put { OnOk result ((self.new.journal ≡ self.old.journal ++ put turn message ∷ []) × (self.new.full_looks ≡ self.old.full_looks)) }
@@ -76,7 +76,7 @@ impl<M: Drop> Model for Receiver<M> {
 }
 
 impl<M: Drop> Receiver<M> {
-    /// Takes the oldest message, under a turn. None only where there was none at a step of this call.
+    /// Takes the oldest message, under a turn. None only if there was none at a step of this call.
     pub fn take(&mut self, turn: u64) -> Option<M>
         ensures link { (self.new.link ≡ self.old.link) × (self.new.capacity ≡ self.old.capacity) }
         ensures taken { IfSome result (λ message. (self.new.journal ≡ self.old.journal ++ taken turn message ∷ []) × (self.new.empty_looks ≡ self.old.empty_looks)) }
@@ -89,7 +89,7 @@ impl<M: Drop> Receiver<M> {
     }
 }
 
-/// A new link in one direction, with room for 1 to 514 messages. It takes all the memory that the link ever takes.
+/// Makes a link in one direction, with room for 1 to 514 messages. It takes all the memory that the link ever takes.
 pub fn one_way<M: Drop>(alloc: Global, capacity: usize) -> Result<(Sender<M>, Receiver<M>), Memory>
     requires { (0 < capacity) × (capacity ≤ 514) }
     ensures link { IfOk result (λ ends. ends.0.link ≡ ends.1.link) }

@@ -13,7 +13,7 @@ pub enum Address {
     Port(u16),
 }
 
-/// The address that a name spells. A name that begins with `listen:` spells a port, in digits, or nothing.
+/// Reads the address that a name spells. A name that begins with `listen:` spells a port, in digits, or nothing.
 pub fn address_of(name: &str) -> Option<Address>
     ensures { result ≡ address_of name.now }
 {
@@ -23,7 +23,7 @@ pub fn address_of(name: &str) -> Option<Address>
     }
 }
 
-/// The port from 1 to 65535 that digits spell.
+/// Reads the port from 1 to 65535 that digits spell.
 fn read_port(digits: &str) -> Option<u16>
     ensures { result ≡ port_of digits.now }
 {
@@ -34,7 +34,7 @@ fn read_port(digits: &str) -> Option<u16>
     (port > 0).then_some(port)
 }
 
-/// Whether each byte is a digit 0 to 9.
+/// Returns whether each byte is a digit 0 to 9.
 fn are_digits(word: &str) -> bool
     ensures { result ≡ all_ascii_digits word.now }
 {

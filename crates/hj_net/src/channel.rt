@@ -42,7 +42,7 @@ where
     }
 }
 
-/// The channel of a name, where it can be had. A listener is bound at once, so a peer may connect before the first read.
+/// Opens the channel of a name, if it can. A listener is bound at once, so a peer may connect before the first read.
 pub fn open<R: Files + Net>(rt: &R, name: &str) -> Option<Channel<R::File, R::Listener, R::Stream>>
     ensures { IfSome result (IsOpenedFor (address_of name.now)) }
 {
@@ -55,7 +55,7 @@ pub fn open<R: Files + Net>(rt: &R, name: &str) -> Option<Channel<R::File, R::Li
     }
 }
 
-/// The file of a name, unless it is a folder's.
+/// Opens the file of a name, unless it is a folder's.
 fn open_file<R: Files>(rt: &R, name: &str) -> Option<R::File> {
     let file = fs::open(rt, name).ok()?;
     let is_folder = file.metadata().ok()?.is_dir();

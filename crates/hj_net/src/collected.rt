@@ -7,8 +7,8 @@ use std::alloc::Global;
 use std::io;
 use std::io::{BufWriter, ErrorKind, Write};
 
-/// A writer that collects some kilobytes before it hands them on to the writer behind it, each byte once and in order.
-/// Once that one has refused some, every call fails, and nothing more is handed on.
+/// A writer that collects some kilobytes before it hands them on to another writer, each byte once and in order. Once
+/// that one has refused some, every call fails, and nothing more is handed on.
 pub struct Collected<W: Write + Drop> {
     buffered: BufWriter<W>,
     is_refused: bool,
@@ -17,7 +17,7 @@ pub struct Collected<W: Write + Drop> {
 impl<W: Write + Drop> Collected<W> {
     ghost use Rattle.hj_net.specs.Collected.{handed_on, has_refused, waiting};
 
-    /// A writer with nothing collected. No later call takes memory.
+    /// Makes a writer with nothing collected. No later call takes memory.
     pub fn new(alloc: Global, writer: W) -> Result<Collected<W>, Memory>
         ensures handed_on { IfOk result (λ c. handed_on W.contents c ≡ W.contents writer) }
         ensures waiting { IfOk result (λ c. waiting c ≡ []) }
@@ -45,7 +45,7 @@ impl<W: Write + Drop> Write for Collected<W> {
 
     ghost contents = { taken W.contents };
 
-    /// Takes a front of the piece.
+    /// Takes a prefix of the piece.
     fn write(&mut self, piece: &[u8]) -> io::Result<usize>
         ensures bound { WritesAtMost result piece.now }
         ensures bytes { WriteAppends (taken W.contents self.old) (taken W.contents self.new) result piece.now }
@@ -58,7 +58,7 @@ impl<W: Write + Drop> Write for Collected<W> {
         written
     }
 
-    /// Hands on all that waits. Where nothing does, the writer behind isn't asked to write.
+    /// Hands on all that waits. If nothing does, the other writer isn't asked to write.
     fn flush(&mut self) -> io::Result<()>
         ensures bytes { Keeps (taken W.contents self.old) (taken W.contents self.new) }
         ensures all { OnOk result (waiting self.new ≡ []) }

@@ -14,7 +14,7 @@ pub struct Output<W: Write + Drop> {
 }
 
 impl<W: Write + Drop> Output<W> {
-    /// An output with nothing collected. No later call takes memory.
+    /// Makes an output with nothing collected. No later call takes memory.
     pub fn new(alloc: Global, writer: W) -> Result<Output<W>, Memory> {
         let collected = Collected::new(alloc, writer)?;
         Ok(Output {
@@ -38,7 +38,7 @@ impl<W: Write + Drop> Write for &Output<W> {
     }
 }
 
-/// A writer that stands behind an output: it writes only where all of the output was handed on before.
+/// A writer that comes after an output: it writes only if all of the output was handed on before.
 #[derive(Drop)]
 pub struct BehindOutput<'a, W: Write + Drop, E: Write + Drop> {
     output: &'a Output<W>,
@@ -48,7 +48,7 @@ pub struct BehindOutput<'a, W: Write + Drop, E: Write + Drop> {
 impl<'a, W: Write + Drop, E: Write + Drop> BehindOutput<'a, W, E> {
     ghost use Rattle.hj_net.specs.RealSink.{writer_behind};
 
-    /// A writer behind this output.
+    /// Makes a writer that comes after this output.
     pub fn new(output: &'a Output<W>, writer: E) -> BehindOutput<'a, W, E>
         ensures { writer_behind result ≡ writer }
     {

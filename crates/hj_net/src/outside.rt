@@ -34,7 +34,7 @@ impl<'a, R: Files + Net + Drop, W: Write + Drop> RealOutside<'a, R, W> {
     ghost use Rattle.hj_net.specs.RealOutside.{role_at};
     ghost use Rattle.hj_base.specs.declared.outside.Role.{Role};
 
-    /// No stream is begun.
+    /// Makes one with no stream begun.
     pub fn new(rt: R, alloc: Global, output: &'a Output<W>) -> RealOutside<'a, R, W>
         ensures { (role : Role) → role_at result role ≡ new_role }
     {
@@ -87,7 +87,7 @@ impl<R: Files + Net + Drop, W: Write + Drop> Outside for RealOutside<'_, R, W> {
         ensures bytes { ReadConsumes (remaining_at R.File.remaining R.Stream.remaining self.old role)
             (remaining_at R.File.remaining R.Stream.remaining self.new role) (as_read result) buf.new }
     {
-        // A refusal is kept: the output's next write answers it, and the end of the run sees it.
+        // A refusal is kept: the output's next write returns it, and the end of the run sees it.
         let _ = self.output.hand_on();
         match role {
             Role::Query => self.query.read(buf),

@@ -4,7 +4,7 @@ use crate::{BehindOutput, Output};
 use hj_base::{Put, Sink};
 use std::io::Write;
 
-/// A sink over any writer. It counts a fault where the writer fails or takes nothing, and refuses a write for no other
+/// A sink over any writer. It counts a fault if the writer fails or takes nothing, and refuses a write for no other
 /// cause.
 #[derive(Drop)]
 pub struct RealSink<W: Write + Drop> {
@@ -15,7 +15,7 @@ pub struct RealSink<W: Write + Drop> {
 impl<W: Write + Drop> RealSink<W> {
     ghost use Rattle.hj_net.specs.RealSink.{faults_of, writer_of};
 
-    /// A sink of this writer with no faults.
+    /// Makes a sink of this writer with no faults.
     pub fn new(writer: W) -> RealSink<W>
         ensures writer { writer_of result ≡ writer }
         ensures faults { faults_of result ≡ 0 }
@@ -27,7 +27,7 @@ impl<W: Write + Drop> RealSink<W> {
 impl<'a, W: Write + Drop> RealSink<&'a Output<W>> {
     ghost use Rattle.hj_net.specs.RealSink.{faults_of, writer_of};
 
-    /// The sink of the output.
+    /// Makes the sink of the output.
     pub fn output(output: &'a Output<W>) -> RealSink<&'a Output<W>>
         ensures writer { writer_of result ≡ output.entry }
         ensures faults { faults_of result ≡ 0 }
@@ -39,7 +39,7 @@ impl<'a, W: Write + Drop> RealSink<&'a Output<W>> {
 impl<'a, W: Write + Drop, E: Write + Drop> RealSink<BehindOutput<'a, W, E>> {
     ghost use Rattle.hj_net.specs.RealSink.{faults_of, writer_behind, writer_of};
 
-    /// A sink behind the output: it writes only where all of the output was handed on before, and else counts a fault.
+    /// Makes a sink after the output: it writes only if all of the output was handed on before, else it counts a fault.
     pub fn errors(output: &'a Output<W>, writer: E) -> RealSink<BehindOutput<'a, W, E>>
         ensures writer { writer_behind (writer_of result) ≡ writer }
         ensures faults { faults_of result ≡ 0 }

@@ -30,7 +30,7 @@ impl<S: Read + Drop> Source<S> {
     ghost use Rattle.hj_net.specs.Roles.{new_role};
     ghost use Rattle.hj_net.specs.Source.{remaining, role_of, stream_of};
 
-    /// A role that is not begun.
+    /// Makes a role that isn't begun.
     pub fn new() -> Source<S>
         ensures { role_of result ≡ new_role }
     {
@@ -64,7 +64,7 @@ impl<S: Read + Drop> Source<S> {
         }
     }
 
-    /// Reads the next bytes of the stream into the front of a buffer.
+    /// Reads the next bytes of the stream into the start of a buffer.
     pub fn read(&mut self, buf: &mut [u8]) -> Got
         requires open { IsOpen (role_of self.old).phase }
         requires room { 0 < length buf.old }

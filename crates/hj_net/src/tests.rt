@@ -38,7 +38,7 @@ impl Taken {
     }
 }
 
-/// A writer that takes at most 3,000 bytes a write, and counts them.
+/// A writer that takes at most 3,000 bytes per write, and counts them.
 #[derive(Drop)]
 struct Counting<'a> {
     taken: &'a Taken,
@@ -56,17 +56,17 @@ impl Write for Counting<'_> {
     }
 }
 
-/// Holds the counts to what is wanted.
+/// Asserts what the counts are.
 fn has_taken(rt: &impl Abort, taken: &Taken, writes: usize, bytes: usize) {
     assert_eq!(rt; (taken.writes.get(), taken.bytes.get()), (writes, bytes));
 }
 
-/// An output whose writes are counted.
+/// Makes an output whose writes are counted.
 fn counted<'a>(rt: &impl Abort, alloc: Global, taken: &'a Taken) -> Output<Counting<'a>> {
     Output::new(alloc, Counting { taken }).expect(rt, "memory")
 }
 
-/// Writes a piece once, which answers this.
+/// Writes a piece once, and asserts the answer.
 fn puts<S: Sink>(rt: &impl Abort, sink: &mut S, piece: &[u8], put: Put)
     requires { 0 < length piece.now }
 {
@@ -99,7 +99,7 @@ fn collects_until_handed_on(rt: HostRuntime) {
     has_taken(&rt, &taken, 3, 8_000);
 }
 
-/// Writes lines past the room of the output, which has 5 bytes, and notes behind it.
+/// Writes lines past the room of the output, which has 5 bytes, and notes after it.
 fn puts_past_the_room<W: Write + Drop, E: Write + Drop>(
     rt: &impl Abort,
     output: &Output<W>,
@@ -127,7 +127,7 @@ fn keeps_a_refusal(rt: HostRuntime) {
     holds(&rt, &written, b"note\n\0\0");
 }
 
-/// Starts the left stream, whose one line is read.
+/// Starts the left stream, and asserts that its one line is read.
 fn reads_a_line<O: Outside + Drop>(rt: &impl Abort, mut outside: O, name: &str)
     requires { (O.state outside role.Left).phase ≡ unbegun }
 {
@@ -169,7 +169,7 @@ fn hands_on_before_it_reads(rt: HostRuntime) {
     assert!(rt; fs::remove_file(&rt, name).is_ok());
 }
 
-/// A listener of a port that was free, and the port.
+/// Returns a listener of a port that was free, and the port.
 fn free_port<R: Net + Abort>(rt: &R) -> (R::Listener, u16) {
     let listener = TcpListener::bind(rt, (Ipv4Addr::LOCALHOST, 0)).expect(rt, "a port");
     let port = listener.local_addr().expect(rt, "an address").port();
@@ -195,7 +195,7 @@ listen:1 1
 listen:65535 65535
 listen:080 80";
 
-/// A name a line, the last of which is empty.
+/// One name per line, the last of which is empty.
 const FILES: &str = "\
 ./listen:80
 listen
@@ -208,12 +208,12 @@ listen:
 listen:+80
 listen:80 ";
 
-/// Holds what a name spells to what is wanted.
+/// Asserts what a name spells.
 fn spells(rt: &impl Abort, name: &str, address: Option<Address>) {
     assert!(rt; address_of(name) == address, "at {name}");
 }
 
-/// A line of a name, and the port that it spells.
+/// Asserts that the name on a line spells the port on it.
 fn spells_a_port(rt: &impl Abort, line: &str) {
     let (name, digits) = line.split_once(' ').expect(rt, "a port");
     let port = digits.parse::<u16>().expect(rt, "a number");
@@ -250,7 +250,7 @@ impl Read for Interrupted<'_> {
     }
 }
 
-/// Begins a source, which is ready.
+/// Begins a source, and asserts that it is ready.
 fn begun<S: Read + Drop>(rt: &impl Abort, alloc: Global, stream: S) -> Source<S>
     ensures { IsOpen (role_of result).phase }
 {
@@ -261,7 +261,7 @@ fn begun<S: Read + Drop>(rt: &impl Abort, alloc: Global, stream: S) -> Source<S>
     source
 }
 
-/// Reads a source once, which answers this.
+/// Reads a source once, and asserts the answer.
 fn reads_once<S: Read + Drop>(rt: &impl Abort, source: &mut Source<S>, buf: &mut [u8], got: Got)
     requires open { IsOpen (role_of source.old).phase }
     requires room { 0 < length buf.old }
@@ -285,18 +285,18 @@ fn reads_on_after_a_failed_read(rt: HostRuntime) {
     reads_once(&rt, &mut source, &mut buf, Got::End);
 }
 
-/// The name under which a role listens to a port.
+/// Makes the name under which a role listens to a port.
 fn listening(rt: &impl Abort, alloc: Global, port: u16) -> String {
     format!(in alloc; "listen:{port}").expect(rt, "memory")
 }
 
-/// A peer of a port sends bytes and closes.
+/// Connects to a port, sends bytes and closes.
 fn send(rt: &(impl Net + Abort), port: u16, bytes: &[u8]) {
     let mut peer = TcpStream::connect(rt, (Ipv4Addr::LOCALHOST, port)).expect(rt, "a peer");
     assert!(rt; peer.write_all(bytes).is_ok());
 }
 
-/// Reads once, which gives this many bytes.
+/// Reads once, and asserts that this many bytes come.
 fn reads_bytes<C: Read>(rt: &impl Abort, channel: &mut C, buf: &mut [u8], count: usize) {
     assert_eq!(rt; channel.read(buf).ok(), Some(count));
 }

@@ -33,7 +33,7 @@ impl<M> Model for PlainLink<M> {
 }
 
 impl<M> PlainLink<M> {
-    /// A link on which nothing is under way, with room for `capacity` messages in each direction.
+    /// Makes a link on which nothing is under way, with room for `capacity` messages in each direction.
     pub fn new(alloc: Global, capacity: usize) -> Result<Self, Memory>
     where
         M: Drop,
@@ -45,7 +45,7 @@ impl<M> PlainLink<M> {
         })
     }
 
-    /// Puts a message behind those under way to the right; hands it back exactly where there are as many as the capacity.
+    /// Puts a message after those under way to the right; hands it back exactly if there are as many as the capacity.
     #[inline(always)]
     pub fn put_right(&mut self, m: M) -> Result<(), Full<M>>
         ensures room { IsOk result ↔ (length self.old.rightwards < self.old.capacity) }
@@ -59,7 +59,7 @@ impl<M> PlainLink<M> {
         }
     }
 
-    /// Takes the first message under way to the right; None exactly where there is none.
+    /// Takes the first message under way to the right; None exactly if there is none.
     #[inline(always)]
     pub fn take_right(&mut self) -> Option<M>
         ensures first { result ≡ slice_get self.old.rightwards 0 }
@@ -70,7 +70,7 @@ impl<M> PlainLink<M> {
         self.rightwards.pop_front()
     }
 
-    /// The first message under way to the right, which stays; None exactly where there is none.
+    /// Returns the first message under way to the right, which stays; None exactly if there is none.
     #[inline(always)]
     pub fn look_right(&self) -> Option<&M>
         ensures first { option_copied result ≡ slice_get self.now.rightwards 0 }
@@ -79,7 +79,7 @@ impl<M> PlainLink<M> {
         self.rightwards.front()
     }
 
-    /// Puts a message behind those under way to the left; hands it back exactly where there are as many as the capacity.
+    /// Puts a message after those under way to the left; hands it back exactly if there are as many as the capacity.
     #[inline(always)]
     pub fn put_left(&mut self, m: M) -> Result<(), Full<M>>
         ensures room { IsOk result ↔ (length self.old.leftwards < self.old.capacity) }
@@ -93,7 +93,7 @@ impl<M> PlainLink<M> {
         }
     }
 
-    /// Takes the first message under way to the left; None exactly where there is none.
+    /// Takes the first message under way to the left; None exactly if there is none.
     #[inline(always)]
     pub fn take_left(&mut self) -> Option<M>
         ensures first { result ≡ slice_get self.old.leftwards 0 }
@@ -104,7 +104,7 @@ impl<M> PlainLink<M> {
         self.leftwards.pop_front()
     }
 
-    /// The first message under way to the left, which stays; None exactly where there is none.
+    /// Returns the first message under way to the left, which stays; None exactly if there is none.
     #[inline(always)]
     pub fn look_left(&self) -> Option<&M>
         ensures first { option_copied result ≡ slice_get self.now.leftwards 0 }

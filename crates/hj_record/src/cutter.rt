@@ -15,7 +15,7 @@ const MOST_IN_PIECE: u64 = 65_536;
 pub enum Fed {
     /// All bytes were taken, and the piece goes on. At the end of the stream: nothing is left.
     More,
-    /// The piece has its end; so many bytes of the portion were taken.
+    /// The piece has its end; this many bytes of the portion were taken.
     Piece(usize),
     /// The stream is refused here, and at every later call.
     Bad(PieceFault),
@@ -26,9 +26,9 @@ pub enum Fed {
 pub enum Cut {
     /// All bytes were taken, and the piece goes on.
     More,
-    /// The piece is the first so many bytes of the portion. The cutter is ready for the next one.
+    /// The piece is this many bytes at the start of the portion. The cutter is ready for the next one.
     Lent(usize),
-    /// The piece that an earlier portion began has its end; so many bytes of this portion were taken.
+    /// The piece that an earlier portion began has its end; this many bytes of this portion were taken.
     Piece(usize),
     /// The stream is refused here, and at every later call.
     Bad(PieceFault),
@@ -69,7 +69,7 @@ impl Model for Cutter {
 }
 
 impl Cutter {
-    /// A cutter of a stream that may have `limit` bytes.
+    /// Makes a cutter of a stream that may have `limit` bytes.
     pub fn new(alloc: Global, limit: u64) -> Self
         ensures { result ≡ fresh limit }
     {
@@ -82,7 +82,7 @@ impl Cutter {
         }
     }
 
-    /// The bytes of the current piece so far, all of them after an answer `Piece`.
+    /// Returns the bytes of the current piece so far, all of them after an answer `Piece`.
     pub fn piece(&self) -> &[u8]
         ensures piece { result.now ≡ self.now.piece }
         ensures short { length result.now ≤ most_in_piece }
@@ -90,7 +90,7 @@ impl Cutter {
         &self.piece
     }
 
-    /// Makes ready for the next piece. After an answer `Bad` every later answer stays the same.
+    /// Gets ready for the next piece. After an answer `Bad` every later answer stays the same.
     pub fn clear(&mut self)
         ensures { self.new ≡ cleared self.old }
     {
@@ -114,9 +114,9 @@ impl Cutter {
         self.take(bytes, end)
     }
 
-    /// Takes the next bytes of the stream, up to the end of a piece, and copies none of a piece that lies whole in front
-    /// of them. After an answer `Piece` the bytes of the piece stand in `piece`: call `clear` then. After it and after
-    /// `Lent` go on with the bytes that weren't taken.
+    /// Takes the next bytes of the stream, up to the end of a piece, and copies none of a piece that lies whole at
+    /// their start. After an answer `Piece` the bytes of the piece are in `piece`: then call `clear`. After it and
+    /// after `Lent` go on with the bytes that weren't taken.
     #[inline(always)]
     pub fn cut(&mut self, bytes: &[u8]) -> Cut
         requires { self.old.whole ≡ false }
@@ -140,7 +140,7 @@ impl Cutter {
         }
     }
 
-    /// Whether the piece has its end in these bytes, where they come next.
+    /// Returns whether the piece has its end in these bytes, if they come next.
     #[inline(always)]
     pub fn has_end(&self, bytes: &[u8]) -> bool
         ensures { IsTrue result ↔ HasEnd bytes.now self.now }
@@ -148,7 +148,7 @@ impl Cutter {
         matches!(self.find(bytes), LineEnd::At(_))
     }
 
-    /// Comes to the end of the stream: the rest is a piece, or there is none, or it ends inside quotes.
+    /// Ends the stream: the rest is a piece, or there is none, or it ends inside quotes.
     pub fn end(&mut self) -> Fed
         requires { self.old.whole ≡ false }
         ensures ends { Ends result self.old self.new }
@@ -167,7 +167,7 @@ impl Cutter {
         Fed::Piece(0)
     }
 
-    /// The first line feed outside quotes among the bytes that the piece may still take.
+    /// Finds the first line feed outside quotes among the bytes that the piece may still take.
     #[inline(always)]
     fn find(&self, bytes: &[u8]) -> LineEnd
         ensures { FindsFor result bytes.now self.now }
@@ -176,7 +176,7 @@ impl Cutter {
         find_line_end(within, self.inside)
     }
 
-    /// Takes the next bytes of a stream without a fault, where its first line feed was looked for.
+    /// Takes the next bytes of a stream without a fault, once their first line feed was looked for.
     fn take(&mut self, bytes: &[u8], end: LineEnd) -> Fed
         requires going { self.old.whole ≡ false }
         requires sound { self.old.fault ≡ None }
@@ -203,7 +203,7 @@ impl Cutter {
         }
     }
 
-    /// How many bytes the piece may still take.
+    /// Returns how many bytes the piece may still take.
     #[inline(always)]
     fn spare(&self) -> usize
         ensures { result ≡ min self.now.room most_in_piece - length self.now.piece }
@@ -211,8 +211,8 @@ impl Cutter {
         self.room.min(MOST_IN_PIECE) as usize - self.piece.len()
     }
 
-    /// Adds bytes to the piece, which then ends inside quotes or outside, and may have its end. After a refusal nothing
-    /// changed.
+    /// Appends bytes to the piece, which then ends inside quotes or outside, and may have its end. An error changes
+    /// nothing.
     fn append(&mut self, bytes: &[u8], inside: bool, whole: bool) -> Result<(), AllocError>
         requires fits { Fits (record self.old { piece = self.old.piece ++ bytes.now }) }
         requires parity { inside ≡ (quotes (self.old.piece ++ bytes.now) % 2 == 1) }
@@ -238,7 +238,7 @@ impl Cutter {
     }
 }
 
-/// Looks for the first line feed outside quotes in bytes that begin inside quotes, or outside.
+/// Finds the first line feed outside quotes in bytes that begin inside quotes, or outside.
 fn find_line_end(bytes: &[u8], mut inside: bool) -> LineEnd
     ensures { Finds result inside bytes.now }
 {

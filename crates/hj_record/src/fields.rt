@@ -25,7 +25,7 @@ impl Model for Fields {
 }
 
 impl Fields {
-    /// No fields.
+    /// Makes an empty list of fields.
     pub fn new(alloc: Global) -> Self
         ensures { result ≡ [] }
     {
@@ -35,21 +35,21 @@ impl Fields {
         }
     }
 
-    /// How many fields there are.
+    /// Returns how many fields there are.
     pub fn len(&self) -> usize
         ensures { result ≡ length self.now }
     {
         self.ends.len()
     }
 
-    /// The bytes of the field at a place, counted from 0; None exactly at or past the length.
+    /// Returns the bytes of the field at a place, counted from 0; None exactly at or past the length.
     pub fn get(&self, at: usize) -> Option<&[u8]>
         ensures { option_copied result ≡ slice_get self.now at }
     {
         field_at(&self.bytes, &self.ends, at)
     }
 
-    /// Takes every field out, and keeps the memory.
+    /// Removes all fields, and keeps the memory.
     pub fn clear(&mut self)
         ensures { self.new ≡ [] }
     {
@@ -57,7 +57,7 @@ impl Fields {
         self.ends.clear();
     }
 
-    /// Adds a field at the end. After a refusal nothing changed.
+    /// Appends a field. An error changes nothing.
     #[inline(always)]
     pub fn push(&mut self, field: &[u8]) -> Result<(), Memory>
         ensures ok { OnOk result (self.new ≡ self.old ++ field.now ∷ []) }
@@ -70,7 +70,7 @@ impl Fields {
         Ok(())
     }
 
-    /// Adds bytes at the end of the last field. After a refusal nothing changed.
+    /// Appends bytes to the last field. An error changes nothing.
     pub(crate) fn extend_last(&mut self, more: &[u8]) -> Result<(), Memory>
         requires { 0 < length self.old }
         ensures ok { OnOk result (self.new ≡ extend_last self.old more.now) }
@@ -82,13 +82,13 @@ impl Fields {
         Ok(())
     }
 
-    /// Where the memory comes from.
+    /// Returns the allocator that the memory comes from.
     pub(crate) fn allocator(&self) -> Global {
         *self.bytes.allocator()
     }
 }
 
-/// The field at a place among those in a buffer, by their ends.
+/// Returns the field at a place among those in a buffer, by their ends.
 fn field_at<'a>(bytes: &'a [u8], ends: &[usize], at: usize) -> Option<&'a [u8]>
     requires { AreEnds ends.now (length bytes.now) }
     ensures { option_copied result ≡ slice_get (fields_in bytes.now ends.now) at }
@@ -100,7 +100,7 @@ fn field_at<'a>(bytes: &'a [u8], ends: &[usize], at: usize) -> Option<&'a [u8]>
     Some(&bytes[start..ends[at]])
 }
 
-/// Where the field at a place begins: at the end of the one before it.
+/// Returns where the field at a place begins: at the end of the one before it.
 fn start_of(ends: &[usize], at: usize) -> usize
     requires { at < length ends.now }
     ensures { result ≡ start_at ends.now at }

@@ -10,7 +10,7 @@ use csv::{ByteRecord, ReaderBuilder};
 use hj_base::Memory;
 use std::alloc::Global;
 
-/// Reads the record of a piece of at most 65,536 bytes: its fields, or None where it holds no record.
+/// Reads the record of a piece of at most 65,536 bytes: its fields, or None if it holds no record.
 pub fn read_piece(alloc: Global, piece: &[u8]) -> Result<Option<Fields>, PieceFault>
     requires { length piece.now ≤ 65536 }
     ensures { Answers result piece.now }
@@ -23,10 +23,10 @@ pub fn read_piece(alloc: Global, piece: &[u8]) -> Result<Option<Fields>, PieceFa
     }
 }
 
-/// Reads the record of a piece of at most 65,536 bytes into `fields`, in place of what they held. True where the piece holds
-/// a record, whose fields they then are; in every other case they are empty. A piece whose fields are each in quotes, or
-/// without quote, comma and line end, is read into the memory that `fields` have, and asks for more only where that doesn't
-/// do. Any other has a reader of `csv` made for it.
+/// Reads the record of a piece of at most 65,536 bytes into `fields`, in place of what they held. Returns true if the
+/// piece holds a record, whose fields they then are; in every other case they are empty. A piece whose fields are each
+/// in quotes, or without quote, comma and line end, is read into the memory that `fields` have, and more is asked for
+/// only if that isn't enough. For any other piece a reader of `csv` is made.
 pub fn read_piece_into(piece: &[u8], fields: &mut Fields) -> Result<bool, PieceFault>
     requires { length piece.now ≤ 65536 }
     ensures answer { ReadsInto result fields.new piece.now }
@@ -39,7 +39,7 @@ pub fn read_piece_into(piece: &[u8], fields: &mut Fields) -> Result<bool, PieceF
     answer
 }
 
-/// The piece without the byte order marks in front.
+/// Returns the piece without the byte order marks at its start.
 fn without_marks(mut piece: &[u8]) -> &[u8]
     ensures { result.now ≡ without_marks piece.now }
 {
@@ -90,7 +90,7 @@ fn read_by_csv(text: &[u8], fields: &mut Fields) -> Result<bool, PieceFault>
     }
 }
 
-/// Adds each field of a record, to none before.
+/// Appends each field of a record to `fields`, which are empty before.
 fn push_all(row: &ByteRecord, fields: &mut Fields) -> Result<(), Memory>
     requires { fields.old ≡ [] }
     ensures { OnOk result (fields.new ≡ fields_of row.now) }

@@ -15,10 +15,10 @@ pub(crate) enum Plain {
     NotPlain,
 }
 
-/// A field taken from the front of a text.
+/// A field taken from the start of a text.
 #[derive(Clone, Copy)]
 enum Taken {
-    /// The next field stands behind so many bytes, of which the last is a comma.
+    /// The next field stands after this many bytes, of which the last is a comma.
     Next(usize),
     /// It is the record's last.
     Last,
@@ -26,7 +26,7 @@ enum Taken {
 }
 
 /// Cuts a text in the plain form of RFC 4180 into its fields: each in quotes, or without quote, comma and line end;
-/// behind the last of them LF, CR LF or nothing. It fills `fields`, which are empty before.
+/// after the last of them LF, CR LF or nothing. It fills `fields`, which are empty before.
 pub(crate) fn cut_plain(text: &[u8], fields: &mut Fields) -> Result<Plain, Memory>
     requires { fields.old ≡ [] }
     ensures { IfOk result (λ found. CutsPlain found text.now fields.new) }
@@ -56,7 +56,7 @@ fn cut_line(text: &[u8], fields: &mut Fields) -> Result<Plain, Memory>
     }
 }
 
-/// Takes a field from the front of a text, and adds it to those before.
+/// Takes a field from the start of a text, and appends it to those before.
 fn take_field(text: &[u8], fields: &mut Fields) -> Result<Taken, Memory>
     ensures { IfOk result (λ taken. TakesField taken text.now fields.old fields.new) }
 {
@@ -94,7 +94,7 @@ fn take_quoted(text: &[u8], fields: &mut Fields) -> Result<Taken, Memory>
     Ok(behind(text, quote + 1))
 }
 
-/// How many bytes a field without quotes has.
+/// Returns how many bytes a field without quotes has.
 fn bare_size(text: &[u8]) -> usize
     ensures within { result ≤ length text.now }
     ensures bare { All IsBare (take result text.now) }
@@ -107,14 +107,14 @@ fn bare_size(text: &[u8]) -> usize
     text.len()
 }
 
-/// Whether a byte doesn't stand in a field without quotes.
+/// Returns whether a byte can't stand in a field without quotes.
 fn is_special(byte: u8) -> bool
     ensures { result ≡ is_special byte }
 {
     byte == COMMA || byte == QUOTE || byte == CARRIAGE_RETURN || byte == LINE_FEED
 }
 
-/// The place of the first quote from a place on.
+/// Finds the first quote from a place on.
 fn quote_from(text: &[u8], from: usize) -> Option<usize>
     requires { from ≤ length text.now }
     ensures { IfSome result (λ quote. IsNextQuote quote from text.now) }
@@ -127,7 +127,7 @@ fn quote_from(text: &[u8], from: usize) -> Option<usize>
     None
 }
 
-/// What stands behind a field that takes so many bytes.
+/// Tells what stands after a field that takes `size` bytes.
 fn behind(text: &[u8], size: usize) -> Taken
     requires { size ≤ length text.now }
     ensures { StandsBehind result size text.now }
@@ -139,14 +139,14 @@ fn behind(text: &[u8], size: usize) -> Taken
     }
 }
 
-/// Whether nothing stands there but LF or CR LF, or nothing at all.
+/// Returns whether the bytes are LF or CR LF, or none at all.
 fn is_line_end(bytes: &[u8]) -> bool
     ensures { result ≡ true → IsLineEnd bytes.now }
 {
     matches!(bytes, [] | [LINE_FEED] | [CARRIAGE_RETURN, LINE_FEED])
 }
 
-/// Whether LF or CR stands in front, or nothing.
+/// Returns whether the text begins with LF or CR, or is empty.
 fn begins_with_line_end(text: &[u8]) -> bool
     ensures { result ≡ false → BeginsWithField text.now }
 {

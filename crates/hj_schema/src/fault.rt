@@ -7,7 +7,7 @@ use thiserror::Error;
 /// Why the fields of a record are no row. Columns are counted from 1.
 #[derive(Clone, Copy, Debug, PartialEq, Eq, Error)]
 pub enum RowFault {
-    /// The record has so many fields, and not one for each column.
+    /// The record has this many fields, and not one for each column.
     #[error("{0} fields")]
     FieldCount(usize),
     /// The column's field isn't an optional sign and digits.

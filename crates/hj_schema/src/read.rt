@@ -8,7 +8,7 @@ use hj_value::{ColumnType, Field, IntFault, Row, Schema, Text, read_int};
 use std::alloc::Global;
 
 /// Reads the row of a record's fields: one field for each column of the schema, in the columns' order, a number in an
-/// Int column and UTF-8 in a Text column. Its faults are looked at column by column, once the counts agree.
+/// Int column and UTF-8 in a Text column. Faults are looked for column by column, once the counts agree.
 pub fn read_row(alloc: Global, schema: &Schema, fields: &Fields) -> Result<Row, RowFault>
     ensures { ReadsRow result schema.now.columns fields.now }
 {
@@ -29,7 +29,7 @@ pub fn read_row(alloc: Global, schema: &Schema, fields: &Fields) -> Result<Row, 
     Ok(row)
 }
 
-/// How many bytes the fields of Text columns have together, so that a row's texts take one block of memory.
+/// Returns how many bytes the fields of Text columns have together, so that a row's texts take one block of memory.
 fn text_bytes(schema: &Schema, fields: &Fields) -> usize {
     let mut total = 0usize;
     for at in 0..fields.len() {
@@ -42,7 +42,7 @@ fn text_bytes(schema: &Schema, fields: &Fields) -> usize {
     total
 }
 
-/// Reads the bytes of a field as the value of a column of this kind, which is counted from 1.
+/// Reads the bytes of a field as the value of a column, counted from 1, of this kind.
 fn read_field(column: u16, kind: ColumnType, bytes: &[u8]) -> Result<Field<'_>, RowFault>
     ensures { result ≡ value_of column kind bytes.now }
 {

@@ -22,7 +22,7 @@ impl<'a> Model for Text<'a> {
 }
 
 impl<'a> Text<'a> {
-    /// The text with these bytes; None exactly where they aren't UTF-8.
+    /// Makes the text of these bytes; None exactly if they aren't UTF-8.
     pub fn from_bytes(bytes: &'a [u8]) -> Option<Self>
         ensures { SomeIff result (IsUtf8 bytes.now) bytes.now }
     {
@@ -32,7 +32,7 @@ impl<'a> Text<'a> {
         Some(Text { bytes })
     }
 
-    /// The text with these bytes, of which it is known that they are UTF-8.
+    /// Makes the text of these bytes, which are known to be UTF-8.
     pub(crate) fn new(bytes: &'a [u8]) -> Self
         requires { IsUtf8 bytes.now }
         ensures { result ≡ bytes.now }
@@ -40,7 +40,7 @@ impl<'a> Text<'a> {
         Text { bytes }
     }
 
-    /// Its bytes.
+    /// Returns its bytes.
     pub fn bytes(&self) -> &'a [u8]
         ensures value { result.now ≡ self.now }
         ensures utf8 { IsUtf8 result.now }

@@ -22,7 +22,7 @@ impl Model for Columns {
 }
 
 impl Columns {
-    /// No columns.
+    /// Makes an empty list of columns.
     pub fn new(alloc: Global) -> Self
         ensures { result ≡ [] }
     {
@@ -31,21 +31,21 @@ impl Columns {
         }
     }
 
-    /// How many columns there are.
+    /// Returns how many columns there are.
     pub fn len(&self) -> usize
         ensures { result ≡ length self.now }
     {
         self.columns.len()
     }
 
-    /// The column at a place, counted from 0; None exactly at or past the length.
+    /// Returns the column at a place, counted from 0; None exactly at or past the length.
     pub fn get(&self, at: usize) -> Option<&Column>
         ensures { option_copied result ≡ slice_get self.now at }
     {
         self.columns.get(at)
     }
 
-    /// Adds a column at the end. After a refusal nothing changed.
+    /// Appends a column. An error changes nothing.
     pub fn push(&mut self, column: Column) -> Result<(), Memory>
         ensures ok { OnOk result (self.new ≡ self.old ++ column ∷ []) }
         ensures err { OnErr result (self.new ≡ self.old) }
@@ -54,7 +54,7 @@ impl Columns {
         Ok(())
     }
 
-    /// The same columns, in the same order.
+    /// Copies the columns, in the same order.
     pub fn copy(&self, alloc: Global) -> Result<Self, Memory>
         ensures { IfOk result (λ copy. copy ≡ self.now) }
     {

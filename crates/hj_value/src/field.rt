@@ -4,15 +4,15 @@ ghost use Rattle.hj_value.specs.Field.{compare_of};
 use crate::Text;
 use std::cmp::Ordering;
 
-/// The value of one column; a text stands in the row that it is of.
+/// The value of one column; the bytes of a text stand in its row.
 #[derive(Drop)]
 pub enum Field<'a> {
     Int(i64),
     Text(Text<'a>),
 }
 
-/// The order of two fields: a number before a text, numbers by value, texts by their bytes, the first that differs
-/// deciding.
+/// Compares two fields: a number comes before a text, numbers go by value, texts by their bytes, of which the first
+/// that differs decides.
 pub fn compare(a: &Field<'_>, b: &Field<'_>) -> Ordering
     ensures { result ≡ compare_of a.now b.now }
 {

@@ -17,7 +17,7 @@ pub enum IntFault {
     /// They aren't an optional sign and one or more digits.
     #[error("not a number")]
     NotNumber,
-    /// They are, and the value is outside 64 bits with sign.
+    /// They are, but the value is outside 64 bits with sign.
     #[error("number out of range")]
     NumberRange,
 }
@@ -38,7 +38,7 @@ pub fn read_int(bytes: &[u8]) -> Result<i64, IntFault>
     signed(is_negative, magnitude)
 }
 
-/// Whether the bytes begin with `-`, and what follows a leading `-` or `+`.
+/// Returns whether the bytes begin with `-`, and what follows a leading `-` or `+`.
 fn split_sign(bytes: &[u8]) -> (bool, &[u8])
     ensures minus { result.0 ≡ starts_with_minus bytes.now }
     ensures rest { result.1.now ≡ without_leading_sign bytes.now }
@@ -65,7 +65,7 @@ fn short_magnitude(digits: &[u8]) -> Result<u64, IntFault>
     Ok(value)
 }
 
-/// Reads digits, of any number.
+/// Reads any number of digits.
 #[cold]
 fn long_magnitude(digits: &[u8]) -> Result<u64, IntFault>
     ensures { result ≡ magnitude_of digits.now }
@@ -80,14 +80,14 @@ fn long_magnitude(digits: &[u8]) -> Result<u64, IntFault>
     value.ok_or(IntFault::NumberRange)
 }
 
-/// The number with one more digit; None for a number of 2^64 and more.
+/// Returns the number with one more digit; None for 2^64 and more.
 fn with_digit(value: Option<u64>, digit: u8) -> Option<u64>
     ensures { (n : ℕ) → IsUpTo value n → IsUpTo result (n * 10 + digit) }
 {
     value?.checked_mul(10)?.checked_add(u64::from(digit))
 }
 
-/// The number with this sign.
+/// Returns the number with this sign.
 fn signed(is_negative: bool, magnitude: u64) -> Result<i64, IntFault>
     ensures { result ≡ signed_of is_negative magnitude }
 {
@@ -99,7 +99,7 @@ fn signed(is_negative: bool, magnitude: u64) -> Result<i64, IntFault>
     }
 }
 
-/// The canonical decimal text of a number: no plus, no leading zeros, `0` for zero.
+/// Makes the canonical decimal text of a number: no plus, no leading zeros, `0` for zero.
 pub fn print_int(alloc: Global, value: i64) -> Result<IntText, Memory>
     ensures { IfOk result (λ text. text ≡ signed_decimal value) }
 {

@@ -7,7 +7,7 @@ use hj_base::Memory;
 use std::alloc::Global;
 use std::marker::Model;
 
-/// The value of one column, or where its bytes stand among the texts of the row: `from` on, up to `to`.
+/// The value of one column, or where its bytes stand among the texts of the row: at `from..to`.
 #[derive(Clone, Copy)]
 enum Slot {
     Int(i64),
@@ -18,7 +18,7 @@ enum Slot {
 #[derive(Drop)]
 pub struct Row {
     slots: Vec<Slot>,
-    /// The bytes of all texts, one text behind another, so that they take one block of memory.
+    /// The bytes of all texts, one text after another, so that they take one block of memory.
     texts: Vec<u8>,
 }
 
@@ -35,7 +35,7 @@ impl Model for Row {
 }
 
 impl Row {
-    /// A row with no fields.
+    /// Makes a row with no fields.
     pub fn new(alloc: Global) -> Self
         ensures { result ≡ [] }
     {
@@ -45,7 +45,7 @@ impl Row {
         }
     }
 
-    /// A row with no fields and room for so many, of which the texts have so many bytes together.
+    /// Makes a row with no fields, and room for `fields` of them, whose texts have `text_bytes` bytes together.
     pub fn with_capacity(alloc: Global, fields: usize, text_bytes: usize) -> Result<Self, Memory>
         ensures { IfOk result (λ row. row ≡ []) }
     {
@@ -55,7 +55,7 @@ impl Row {
         })
     }
 
-    /// How many fields it has.
+    /// Returns how many fields it has.
     #[inline(always)]
     pub fn len(&self) -> usize
         ensures { result ≡ length self.now }
@@ -63,7 +63,7 @@ impl Row {
         self.slots.len()
     }
 
-    /// The field at a place, counted from 0; None exactly at or past the length.
+    /// Returns the field at a place, counted from 0; None exactly at or past the length.
     #[inline(always)]
     pub fn get(&self, at: usize) -> Option<Field<'_>>
         ensures { result ≡ slice_get self.now at }
@@ -78,8 +78,8 @@ impl Row {
         }
     }
 
-    /// Adds a field at the end. A row's texts have less than 2^32 bytes together; where there would be more, memory is
-    /// refused. After a refusal nothing changed.
+    /// Appends a field. A row's texts have less than 2^32 bytes together; beyond that it fails as if memory ran out. An
+    /// error changes nothing.
     pub fn push(&mut self, field: Field<'_>) -> Result<(), Memory>
         ensures ok { OnOk result (self.new ≡ self.old ++ field.entry ∷ []) }
         ensures err { OnErr result (self.new ≡ self.old) }
@@ -95,7 +95,7 @@ impl Row {
         Ok(())
     }
 
-    /// The row's time, in the stream's own units: its first field; 0 where that is no number.
+    /// Returns the row's time, in the stream's own units: its first field; 0 if that is no number.
     #[inline(always)]
     pub fn time(&self) -> i64
         ensures { result ≡ time_of self.now }
@@ -107,7 +107,7 @@ impl Row {
     }
 }
 
-/// Adds a text behind the others, and answers where it stands.
+/// Appends a text to the others, and returns where it stands.
 fn add_text(texts: &mut Vec<u8>, text: &[u8]) -> Result<Slot, Memory>
     ensures texts { OnOk result (texts.new.items ≡ texts.old.items ++ text.now) }
     ensures place { IfOk result (λ slot. slot

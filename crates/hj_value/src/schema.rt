@@ -15,7 +15,7 @@ pub struct Schema {
 }
 
 impl Schema {
-    /// A schema of the same columns.
+    /// Makes a schema of the same columns.
     pub fn copy(&self, alloc: Global) -> Result<Self, Memory>
         ensures { IfOk result (λ copy. copy.columns ≡ self.now.columns) }
     {

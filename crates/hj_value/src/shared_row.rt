@@ -23,7 +23,7 @@ impl Model for SharedRow {
 }
 
 impl SharedRow {
-    /// The row, ready to be shared. After a refusal it is gone.
+    /// Makes a row ready to be shared. On an error the row is gone.
     #[inline(always)]
     pub fn new(alloc: Global, row: Row) -> Result<Self, Memory>
         ensures { IfOk result (λ shared. shared ≡ row) }
@@ -33,7 +33,7 @@ impl SharedRow {
         })
     }
 
-    /// The row that is shared.
+    /// Returns the row that is shared.
     #[inline(always)]
     pub fn row(&self) -> &Row
         ensures { result.now ≡ self.now }

@@ -12,10 +12,10 @@ use std::marker::Model;
 /// The rows that expire where a row arrives.
 #[derive(Debug, Drop)]
 pub struct Expired {
-    /// Those that expire before it, by their age, in the order of their arrival. They take the numbers from the arrival's on,
-    /// and the arrival the one behind them.
+    /// Those that expire before it, by their age, in the order of their arrival. They take the numbers from the
+    /// arrival's on, and the arrival takes the one after them.
     pub before: Numbers,
-    /// The row of the arrival's side that expires after it, where the window has one row too many.
+    /// The row of the arrival's side that expires after it, if the window has one row too many.
     pub after: Option<EventNo>,
 }
 
@@ -39,7 +39,7 @@ impl Model for Live {
 }
 
 impl Live {
-    /// No live rows, under the windows of the two sides. It takes no memory.
+    /// Makes one with no live rows, under the windows of the two sides. It takes no memory.
     pub fn new(alloc: Global, left: Window, right: Window) -> Self
         ensures { result ≡ record { left = left; right = right; rows = [] } }
     {
@@ -50,9 +50,9 @@ impl Live {
         }
     }
 
-    /// A row of a side arrives at a time, in the streams' own units; answers which rows expire by that. `no` is the number
-    /// that the row has if none expires before it; each that does takes a number, and the row is kept under the next one.
-    /// Where memory runs out, nothing changed.
+    /// Lets a row of a side arrive at a time, in the streams' own units; returns which rows expire by that. `no` is the
+    /// number that the row has if none expires before it; each that does takes a number, and the row is kept under the
+    /// next one. If memory runs out, nothing changes.
     #[inline(always)]
     pub fn arrive(&mut self, side: Side, time: i64, no: EventNo) -> Result<Expired, Memory>
         requires above { AllBelow no.0 self.old.rows }
@@ -73,7 +73,7 @@ impl Live {
         Ok(Expired { before, after })
     }
 
-    /// The rows that are gone by their age at this time, in the order of their arrival.
+    /// Returns the rows that are gone by their age at this time, in the order of their arrival.
     fn gone_at(&self, now: i64) -> Result<Numbers, Memory>
         ensures { IfOk result (λ gone. gone ≡ numbers_of (filter (is_gone self.now now) self.now.rows)) }
     {
@@ -96,8 +96,8 @@ impl Live {
     }
 }
 
-/// Takes out the rows of both sides that are gone by their age, and puts a row behind the others of its own side; answers the
-/// number of the row that expires by that. Where memory runs out, nothing changed.
+/// Removes the rows of both sides that are gone by their age, and appends a row to those of its own side; returns the
+/// number of the row that expires by that. If memory runs out, nothing changes.
 #[inline(always)]
 fn enter(own: &mut SideRows, other: &mut SideRows, held: HeldRow) -> Result<Option<EventNo>, Memory>
     ensures windows { (own.new.window ≡ own.old.window) × (other.new.window ≡ other.old.window) }
@@ -112,7 +112,7 @@ fn enter(own: &mut SideRows, other: &mut SideRows, held: HeldRow) -> Result<Opti
     Ok(own.enter(held))
 }
 
-/// The one of two rows that arrived first.
+/// Returns the one of two rows that arrived first.
 fn first_of(left: Option<Due>, right: Option<Due>) -> Option<(Side, Due)>
     ensures { result ≡ first_of left right }
 {

@@ -22,7 +22,7 @@ impl Model for Numbers {
 }
 
 impl Numbers {
-    /// No numbers. It takes no memory.
+    /// Makes an empty list. It takes no memory.
     pub fn new(alloc: Global) -> Self
         ensures { result ≡ [] }
     {
@@ -31,21 +31,21 @@ impl Numbers {
         }
     }
 
-    /// How many there are.
+    /// Returns how many there are.
     pub fn len(&self) -> usize
         ensures { result ≡ length self.now }
     {
         self.numbers.len()
     }
 
-    /// The side and the number at a place, counted from 0; None exactly at or past the length.
+    /// Returns the side and the number at a place, counted from 0; None exactly at or past the length.
     pub fn get(&self, at: usize) -> Option<&(Side, EventNo)>
         ensures { option_copied result ≡ slice_get self.now at }
     {
         self.numbers.get(at)
     }
 
-    /// Adds a row's side and number at the end. After a refusal nothing changed.
+    /// Appends a row's side and number. An error changes nothing.
     pub fn push(&mut self, row: (Side, EventNo)) -> Result<(), Memory>
         ensures ok { OnOk result (self.new ≡ self.old ++ row ∷ []) }
         ensures err { OnErr result (self.new ≡ self.old) }

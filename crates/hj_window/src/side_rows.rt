@@ -15,7 +15,7 @@ pub(crate) struct HeldRow {
     pub(crate) time: i64,
 }
 
-/// A row that is gone by its age, and the place behind it.
+/// A row that is gone by its age, and the place after it.
 #[derive(Clone, Copy)]
 pub(crate) struct Due {
     pub(crate) held: HeldRow,
@@ -44,7 +44,7 @@ impl Model for SideRows {
 }
 
 impl SideRows {
-    /// No live row.
+    /// Makes an empty list of live rows.
     pub(crate) fn new(alloc: Global, window: Window) -> Self
         ensures window { result.window ≡ window }
         ensures rows { result.rows ≡ [] }
@@ -56,7 +56,7 @@ impl SideRows {
         }
     }
 
-    /// The first row at or behind a place that is gone by its age at this time.
+    /// Finds the first row from a place on that is gone by its age at this time.
     pub(crate) fn due_from(&self, from: usize, now: i64) -> Option<Due>
         ensures { aged self.now.window now (drop from self.now.rows) ≡ due_rows self.now.window now self.now.rows result }
     {
@@ -87,7 +87,7 @@ impl SideRows {
         Ok(())
     }
 
-    /// Takes out the rows that are gone by their age at this time.
+    /// Removes the rows that are gone by their age at this time.
     pub(crate) fn remove_aged(&mut self, now: i64)
         ensures window { self.new.window ≡ self.old.window }
         ensures rows { self.new.rows ≡ unaged self.old.window now self.old.rows }
@@ -101,7 +101,7 @@ impl SideRows {
         }
     }
 
-    /// Puts a row behind the others. Where the window then has one row too many, takes out the oldest, and answers its number.
+    /// Appends a row. If the window then has one row too many, removes the oldest, and returns its number.
     #[inline(always)]
     pub(crate) fn enter(&mut self, held: HeldRow) -> Option<EventNo>
         requires { 0 < self.old.room }
@@ -114,7 +114,7 @@ impl SideRows {
         pop_overflow(&mut self.rows, self.window)
     }
 
-    /// Whether it is known that the times never fall, also with this row behind the others.
+    /// Returns whether it is known that the times never fall, also with this row after the others.
     #[inline(always)]
     fn stays_in_time(&self, held: HeldRow) -> bool
         ensures { OnceInTime result (self.now.rows ++ held ∷ []) }
@@ -126,7 +126,7 @@ impl SideRows {
     }
 }
 
-/// Takes out the rows that are gone by their age at this time, where the times never fall: they stand in front.
+/// Removes the rows that are gone by their age at this time, where the times never fall: they come first.
 fn pop_aged(rows: &mut VecDeque<HeldRow>, window: Window, now: i64)
     requires { IsInTime rows.old.items }
     ensures items { rows.new.items ≡ unaged window now rows.old.items }
@@ -141,7 +141,7 @@ fn pop_aged(rows: &mut VecDeque<HeldRow>, window: Window, now: i64)
     }
 }
 
-/// Where there is one row too many for the window, takes out the first, and answers its number.
+/// Removes the first row if there is one too many for the window, and returns its number.
 fn pop_overflow(rows: &mut VecDeque<HeldRow>, window: Window) -> Option<EventNo>
     ensures gone { result ≡ (overflow window rows.old.items).gone }
     ensures items { rows.new.items ≡ (overflow window rows.old.items).rows }
@@ -154,7 +154,7 @@ fn pop_overflow(rows: &mut VecDeque<HeldRow>, window: Window) -> Option<EventNo>
     }
 }
 
-/// Whether a row of this time is gone by its age. An age may pass 64 bits.
+/// Returns whether a row of this time is gone by its age. An age may need more than 64 bits.
 #[inline(always)]
 fn is_aged(window: Window, now: i64, time: i64) -> bool
     ensures { result ≡ is_gone_at window (now -ℤ time) }

@@ -1,4 +1,4 @@
-//! What `clap` makes of the words behind each command.
+//! What `clap` makes of the words after each command.
 ghost use Rattle.std.specs.Prelude.{◌≡◌, IfOk, IfErr, None, false, map, string_bytes};
 ghost use Rattle.std.specs.List.{fold};
 ghost use Rattle.clap.specs.Simple.{with_rule};
@@ -13,7 +13,7 @@ use std::alloc::{AllocError, Global};
 
 const JOIN_OPTIONS: [&str; 5] = ["cores", "threads", "flight", "max-events", "schedule"];
 
-/// The values of the words behind `equi`.
+/// Reads the values of the words after `equi`.
 pub fn equi_matches<'a>(alloc: Global, words: &'a [String]) -> Result<ArgMatches<'a>, Usage>
     ensures ok { IfOk result (Carries no_options equi_names (map string_bytes words.entry.now)) }
     ensures err { IfErr result (λ fault. fault ≡ Usage.Words
@@ -22,7 +22,7 @@ pub fn equi_matches<'a>(alloc: Global, words: &'a [String]) -> Result<ArgMatches
     matches(alloc, "equi", &[], &["w", "left", "right"], words)
 }
 
-/// The values of the words behind `join`.
+/// Reads the values of the words after `join`.
 pub fn join_matches<'a>(alloc: Global, words: &'a [String]) -> Result<ArgMatches<'a>, Usage>
     ensures ok { IfOk result (Carries join_options join_names (map string_bytes words.entry.now)) }
     ensures err { IfErr result (λ fault. fault ≡ Usage.Words
@@ -37,7 +37,7 @@ pub fn join_matches<'a>(alloc: Global, words: &'a [String]) -> Result<ArgMatches
     )
 }
 
-/// The values of the words behind `check`.
+/// Reads the values of the words after `check`.
 pub fn check_matches<'a>(alloc: Global, words: &'a [String]) -> Result<ArgMatches<'a>, Usage>
     ensures ok { IfOk result (Carries no_options check_names (map string_bytes words.entry.now)) }
     ensures err { IfErr result (λ fault. fault ≡ Usage.Words
@@ -46,7 +46,7 @@ pub fn check_matches<'a>(alloc: Global, words: &'a [String]) -> Result<ArgMatche
     matches(alloc, "check", &[], &["query"], words)
 }
 
-/// The values of the words behind `gen`.
+/// Reads the values of the words after `gen`.
 pub fn gen_matches<'a>(alloc: Global, words: &'a [String]) -> Result<ArgMatches<'a>, Usage>
     ensures ok { IfOk result (Carries no_options gen_names (map string_bytes words.entry.now)) }
     ensures err { IfErr result (λ fault. fault ≡ Usage.Words
@@ -55,7 +55,7 @@ pub fn gen_matches<'a>(alloc: Global, words: &'a [String]) -> Result<ArgMatches<
     matches(alloc, "gen", &[], &["n", "keys", "seed", "w"], words)
 }
 
-/// The values of the words behind a command with these options, and these names for words by their place.
+/// Reads the values of the words after a command with these options, and these names for words by their place.
 fn matches<'a>(
     alloc: Global,
     name: &'a str,
@@ -74,7 +74,7 @@ fn matches<'a>(
     Ok(command.try_get_matches_from(words)?)
 }
 
-/// The command with these options behind its arguments.
+/// Adds these options to a command, after its arguments.
 fn with_options<'a>(
     alloc: Global,
     mut command: Command<'a>,
@@ -89,7 +89,7 @@ fn with_options<'a>(
     Ok(command)
 }
 
-/// The command with these words by their place behind its arguments.
+/// Adds these words by their place to a command, after its arguments.
 fn with_positionals<'a>(
     alloc: Global,
     mut command: Command<'a>,
@@ -104,7 +104,7 @@ fn with_positionals<'a>(
     Ok(command)
 }
 
-/// A command that reads every word, and has no word of its own.
+/// Makes a command that reads every word, and has no word of its own.
 fn bare<'a>(alloc: Global, name: &'a str) -> Command<'a>
     ensures { app_of result ≡ bare_app name.entry.now }
 {
@@ -113,7 +113,7 @@ fn bare<'a>(alloc: Global, name: &'a str) -> Command<'a>
         .disable_help_flag(true)
 }
 
-/// `--name VALUE` or `--name=VALUE`.
+/// Makes an option, `--name VALUE` or `--name=VALUE`.
 fn option<'a>(alloc: Global, name: &'a str) -> Arg<'a>
     ensures rule { rule_of result ≡ option_rule name.entry.now }
     ensures local { result.global ≡ false }
@@ -121,7 +121,7 @@ fn option<'a>(alloc: Global, name: &'a str) -> Arg<'a>
     Arg::new(alloc, name).long(name).action(ArgAction::Set)
 }
 
-/// A word by its place.
+/// Makes a word by its place.
 fn positional<'a>(alloc: Global, name: &'a str) -> Arg<'a>
     ensures rule { rule_of result ≡ positional_rule name.entry.now }
     ensures local { result.global ≡ false }

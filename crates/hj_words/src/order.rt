@@ -2,7 +2,7 @@ use hj_base::{Memory, Name, Setup};
 use std::alloc::AllocError;
 use thiserror::Error;
 
-/// What the words of a command line order.
+/// What the words of a command line ask for.
 #[derive(Debug, Drop)]
 pub enum Order {
     /// `equi W LEFT RIGHT`: the join of two streams by equal keys.

@@ -20,7 +20,7 @@ struct JoinNumbers {
     schedule: Option<u64>,
 }
 
-/// The order that the words after the program's name spell. Words exactly where they spell none.
+/// Reads the order that the words after the program's name spell. `Words` only if they spell none.
 pub fn read_words(alloc: Global, words: &[String]) -> Result<Order, Usage>
     ensures ok { IfOk result (λ order. order_of (map string_bytes words.now) ≡ Some order) }
     ensures ranges { IfOk result IsInRange }
@@ -38,7 +38,7 @@ pub fn read_words(alloc: Global, words: &[String]) -> Result<Order, Usage>
     }
 }
 
-/// The order of the words behind `equi`.
+/// Reads the order of the words after `equi`.
 fn read_equi(alloc: Global, words: &[String]) -> Result<Order, Usage>
     ensures ok { IfOk result (λ order. equi_spelled (map string_bytes words.now) ≡ Some order) }
     ensures ranges { IfOk result IsInRange }
@@ -55,7 +55,7 @@ fn read_equi(alloc: Global, words: &[String]) -> Result<Order, Usage>
     })
 }
 
-/// The order of the words behind `join`.
+/// Reads the order of the words after `join`.
 fn read_join(alloc: Global, words: &[String]) -> Result<Order, Usage>
     ensures ok { IfOk result (λ order. join_spelled (map string_bytes words.now) ≡ Some order) }
     ensures ranges { IfOk result IsInRange }
@@ -79,7 +79,7 @@ fn read_join(alloc: Global, words: &[String]) -> Result<Order, Usage>
     )
 }
 
-/// The order of `join` with these numbers, and the names of these words.
+/// Makes the order of `join` with these numbers, and the names of these words.
 #[tactic(auto, unfolding(crate::specs::Orders::join_order))]
 fn join_order(
     alloc: Global,
@@ -108,7 +108,7 @@ fn join_order(
     })
 }
 
-/// The numbers of the words of `join`'s options.
+/// Reads the numbers of the words of `join`'s options.
 #[tactic(auto, unfolding(crate::specs::Orders::join_numbers))]
 fn join_numbers(
     cores: Option<&str>,
@@ -139,7 +139,7 @@ fn join_numbers(
     })
 }
 
-/// The order of the words behind `check`.
+/// Reads the order of the words after `check`.
 fn read_check(alloc: Global, words: &[String]) -> Result<Order, Usage>
     ensures ok { IfOk result (λ order. check_spelled (map string_bytes words.now) ≡ Some order) }
     ensures ranges { IfOk result IsInRange }
@@ -150,7 +150,7 @@ fn read_check(alloc: Global, words: &[String]) -> Result<Order, Usage>
     Ok(Order::Check { query })
 }
 
-/// The order of the words behind `gen`.
+/// Reads the order of the words after `gen`.
 fn read_gen(alloc: Global, words: &[String]) -> Result<Order, Usage>
     ensures ok { IfOk result (λ order. gen_spelled (map string_bytes words.now) ≡ Some order) }
     ensures ranges { IfOk result IsInRange }
@@ -166,7 +166,7 @@ fn read_gen(alloc: Global, words: &[String]) -> Result<Order, Usage>
     .ok_or(Usage::Words)
 }
 
-/// The order of the words of `gen`.
+/// Makes the order of the words of `gen`.
 #[tactic(auto, unfolding(crate::specs::Orders::gen_order))]
 fn gen_order(
     n: Option<&str>,
@@ -190,7 +190,7 @@ fn gen_order(
     })
 }
 
-/// The name of a word.
+/// Reads the name of a word.
 fn named(alloc: Global, word: Option<&str>) -> Result<Name, Usage>
     ensures ok { IfOk result (λ name. name_in (option_map (λ w. w.now) word.entry) ≡ Some name) }
     ensures err { IfErr result (λ fault. fault ≡ Usage.Words

@@ -9,7 +9,7 @@ use std::alloc::Global;
 
 const MOST_DIGITS: usize = 20;
 
-/// The number of a word, from `low` to `high`; None where there is no word, or it is no such number.
+/// Reads the number of a word, from `low` to `high`; None if there is no word, or it is no such number.
 pub fn number(word: Option<&str>, low: u64, high: u64) -> Option<u64>
     ensures value { result ≡ number_in low high (option_map (λ w. w.now) word.entry) }
     ensures range { IfSome result (IsFrom low high) }
@@ -17,8 +17,7 @@ pub fn number(word: Option<&str>, low: u64, high: u64) -> Option<u64>
     number_of(word?, low, high)
 }
 
-/// The number of a word, from `low` to `high`, or `default` where there is no word; None where it is no
-/// such number.
+/// Reads the number of a word, from `low` to `high`, or `default` if there is no word; None if it is no such number.
 pub fn number_or(word: Option<&str>, default: u64, low: u64, high: u64) -> Option<u64>
     requires { IsFrom low high default }
     ensures value { result ≡ number_or default low high (option_map (λ w. w.now) word.entry) }
@@ -30,7 +29,7 @@ pub fn number_or(word: Option<&str>, default: u64, low: u64, high: u64) -> Optio
     }
 }
 
-/// The seed of a schedule, if it has one; None where its word is no seed, or there are threads.
+/// Reads the seed of a schedule, if it has one; None if its word is no seed, or there are threads.
 pub fn schedule(word: Option<&str>, threads: u64) -> Option<Option<u64>>
     ensures { result ≡ schedule_of threads (option_map (λ w. w.now) word.entry) }
 {
@@ -43,7 +42,7 @@ pub fn schedule(word: Option<&str>, threads: u64) -> Option<Option<u64>>
     Some(Some(number_of(word, 0, u64::MAX)?))
 }
 
-/// The name of a stream or a query; None where there is no word, or it is empty or `-`.
+/// Reads the name of a stream or a query; None if there is no word, or it is empty or `-`.
 pub fn name(alloc: Global, word: Option<&str>) -> Result<Option<Name>, Memory>
     ensures { IfOk result (λ name. name ≡ name_in (option_map (λ w. w.now) word.entry)) }
 {
@@ -56,7 +55,7 @@ pub fn name(alloc: Global, word: Option<&str>) -> Result<Option<Name>, Memory>
     Name::from_bytes(alloc, word.as_bytes())
 }
 
-/// The number of 1 to 20 digits from `low` to `high`.
+/// Reads a number of 1 to 20 digits, from `low` to `high`.
 fn number_of(word: &str, low: u64, high: u64) -> Option<u64>
     ensures value { result ≡ number_of low high word.now }
     ensures range { IfSome result (IsFrom low high) }
@@ -71,7 +70,7 @@ fn number_of(word: &str, low: u64, high: u64) -> Option<u64>
     Some(number)
 }
 
-/// Whether each byte is a digit 0 to 9.
+/// Returns whether each byte is a digit 0 to 9.
 fn are_digits(word: &str) -> bool
     ensures { result ≡ all_ascii_digits word.now }
 {
