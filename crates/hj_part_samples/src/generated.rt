@@ -5,14 +5,14 @@ use hj_gen::{Tally, TwoStreams, streams, summary};
 use std::alloc::Global;
 use std::process::Abort;
 
-/// How many rows a stream has, how many keys, the seed, and behind a bar both streams.
+/// How many rows a stream has, how many keys, the seed, and after a bar both streams.
 const STREAMS: &str = "\
 1 1 1 | 2,0⏎ => 1,0⏎
 0 1 1 | ε => ε
 3 100 1 | 2,53⏎2,70⏎2,95⏎ => 1,82⏎1,4⏎3,99⏎
 2 1000000000 18446744073709551615 | 1,490332343⏎2,901017602⏎ => 2,218396424⏎3,861605236⏎";
 
-/// The streams of these three numbers.
+/// Makes the streams of these three numbers.
 fn made(rt: &impl Abort, alloc: Global, numbers: &str) -> TwoStreams {
     let (n, behind) = numbers.split_once(' ').expect(rt, "keys");
     let (keys, seed) = behind.split_once(' ').expect(rt, "a seed");
@@ -23,7 +23,7 @@ fn made(rt: &impl Abort, alloc: Global, numbers: &str) -> TwoStreams {
     streams(alloc, n, keys, seed).expect(rt, "memory")
 }
 
-/// Makes the streams of a line.
+/// Asserts that the numbers on a line make the streams on it.
 fn makes(rt: &impl Abort, alloc: Global, line: &str) {
     let (numbers, behind) = line.split_once(" | ").expect(rt, "a case");
     let (left, right) = case(rt, alloc, behind);

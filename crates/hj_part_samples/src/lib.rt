@@ -1,5 +1,5 @@
-//! Worked rows of the parts that a join is made of, from bytes to rows, windows and lines, and of the words of the command line,
-//! over the public calls of crates below. A crate that has tests of its own is proved twice.
+//! Worked examples of the parts that a join is made of, from bytes to rows, windows and lines, and of the words of the
+//! command line, over the public calls of crates below. A crate that has tests of its own is proved twice.
 #![tactic(auto)]
 
 #[cfg(test)]

@@ -7,7 +7,7 @@ use hj_value::Row;
 use std::alloc::Global;
 use std::process::Abort;
 
-/// A row of a number, and the text behind it if there is one.
+/// Makes a row of a number, and of the text after it if there is one.
 fn row(rt: &impl Abort, alloc: Global, text: &str) -> Row {
     let mut row = Row::new(alloc);
     match text.split_once(' ') {
@@ -30,7 +30,7 @@ const LINES: &str = "\
 0 \r | -1 a⏎b | 0,\"\r\",-1,\"a⏎b\"⏎
 10 ε | 0  a\u{fc};' | 10,,0, a\u{fc};'⏎";
 
-/// Writes the line of these rows, which is also what `filled` holds in the end.
+/// Asserts what the line of these rows is, and that `filled` ends up holding it too.
 fn writes(
     rt: &impl Abort,
     alloc: Global,

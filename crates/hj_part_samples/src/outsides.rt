@@ -19,7 +19,7 @@ abc Wrote(2)
 c Failed
 c Wrote(1)";
 
-/// Writes the piece of a line.
+/// Writes the piece on a line, and asserts the answer.
 fn writes(rt: &impl Abort, alloc: Global, sink: &mut MemSink, line: &str) {
     let (piece, want) = line.split_once(' ').expect(rt, "an answer");
     assert!(rt; !piece.is_empty());
@@ -38,7 +38,7 @@ fn writes_until_a_listed_call(rt: HostRuntime) {
     same(&rt, "all pieces", sink.bytes(), b"abc");
 }
 
-/// Starts a role, which is ready.
+/// Starts a role, and asserts that it is ready.
 fn starts<O: Outside>(rt: &impl Abort, outside: &mut O, role: Role, name: &str)
     requires { (O.state outside.old role).phase ≡ unbegun }
     ensures open { IsOpen (O.state outside.new role).phase }
@@ -48,7 +48,7 @@ fn starts<O: Outside>(rt: &impl Abort, outside: &mut O, role: Role, name: &str)
     assert!(rt; matches!(opened, Opened::Ready));
 }
 
-/// Starts a role, which fails.
+/// Starts a role, and asserts that it fails.
 fn fails_to_start<O: Outside>(rt: &impl Abort, outside: &mut O, role: Role, name: &str)
     requires { (O.state outside.old role).phase ≡ unbegun }
     ensures { ChangesOnly role (O.state outside.old) (O.state outside.new) }
@@ -57,7 +57,7 @@ fn fails_to_start<O: Outside>(rt: &impl Abort, outside: &mut O, role: Role, name
     assert!(rt; matches!(opened, Opened::Failed));
 }
 
-/// Reads a role once, which gives this word: the bytes that came, `end` or `failed`.
+/// Reads a role once, and asserts that this word comes: the bytes, `end` or `failed`.
 fn reads_once<O: Outside>(rt: &impl Abort, outside: &mut O, role: Role, buf: &mut [u8], word: &str)
     requires open { IsOpen (O.state outside.old role).phase }
     requires room { 0 < length buf.old }
@@ -72,7 +72,7 @@ fn reads_once<O: Outside>(rt: &impl Abort, outside: &mut O, role: Role, buf: &mu
     same(rt, "a read", found, word.as_bytes());
 }
 
-/// Reads a role again and again, which gives these words.
+/// Reads a role again and again, and asserts that these words come.
 fn reads<O: Outside>(rt: &impl Abort, outside: &mut O, role: Role, buf: &mut [u8], words: &str)
     requires open { IsOpen (O.state outside.old role).phase }
     requires room { 0 < length buf.old }
@@ -82,7 +82,7 @@ fn reads<O: Outside>(rt: &impl Abort, outside: &mut O, role: Role, buf: &mut [u8
     }
 }
 
-/// Contents of one name, of which a read gives one byte.
+/// Makes an outside of one name, of which a read gives one byte.
 fn one_name(rt: &impl Abort, alloc: Global) -> MemOutside
     ensures left { (role_at result role.Left).phase ≡ unbegun }
     ensures right { (role_at result role.Right).phase ≡ unbegun }
@@ -101,7 +101,7 @@ fn reads_each_byte_to_the_end(rt: HostRuntime) {
     reads(&rt, &mut outside, Role::Left, &mut buf, "a b end end");
 }
 
-/// No contents, of which a read gives nine bytes.
+/// Makes an outside with no contents, of which a read gives nine bytes.
 fn nothing_begun(alloc: Global) -> MemOutside
     ensures left { (role_at result role.Left).phase ≡ unbegun }
     ensures right { (role_at result role.Right).phase ≡ unbegun }
@@ -109,7 +109,7 @@ fn nothing_begun(alloc: Global) -> MemOutside
     MemOutside::new(alloc, 9)
 }
 
-/// Puts bytes under a name, in place of those that stood there.
+/// Puts bytes under a name, in place of those that were there.
 fn puts(rt: &impl Abort, outside: &mut MemOutside, bytes: &[u8])
     ensures left { role_at outside.new role.Left ≡ role_at outside.old role.Left }
     ensures right { role_at outside.new role.Right ≡ role_at outside.old role.Right }
@@ -146,7 +146,7 @@ fn names_the_role_of_a_side(rt: HostRuntime) {
     assert_eq!(rt; Side::Right.role(), Role::Right);
 }
 
-/// Contents of one name, of which two reads and a start fail.
+/// Makes an outside of one name, of which two reads and a start fail.
 fn failing(rt: &impl Abort, alloc: Global) -> MemOutside
     ensures left { (role_at result role.Left).phase ≡ unbegun }
     ensures right { (role_at result role.Right).phase ≡ unbegun }
@@ -168,7 +168,7 @@ fn fails_where_that_was_listed(rt: HostRuntime) {
     reads(&rt, &mut outside, Role::Left, &mut buf, words);
 }
 
-/// The first draw of a seed is this one.
+/// Asserts what the first draw of a seed is.
 fn draws(rt: &impl Abort, seed: u64, first: u64) {
     assert_eq!(rt; Lcg::new(seed).draw(), first);
 }

@@ -7,7 +7,7 @@ use hj_record::{Cut, Cutter, Fed, Fields, PieceFault, read_piece, read_piece_int
 use std::alloc::{AllocError, Global};
 use std::process::Abort;
 
-/// What a piece reads as: each field with a bar in front, or why there is none.
+/// Reads a piece: tells each field with a bar before it, or why there is none.
 fn read(rt: &impl Abort, alloc: Global, piece: &[u8]) -> Vec<u8>
     requires { length piece.now ≤ 65536 }
 {
@@ -18,7 +18,7 @@ fn read(rt: &impl Abort, alloc: Global, piece: &[u8]) -> Vec<u8>
     }
 }
 
-/// These fields, each with a bar in front.
+/// Lists these fields, each with a bar before it.
 fn barred(rt: &impl Abort, alloc: Global, fields: &Fields) -> Vec<u8> {
     let mut bytes = Vec::new(alloc);
     for at in 0..fields.len() {
@@ -112,7 +112,7 @@ fn reads_into_the_same_fields(rt: HostRuntime) {
     }
 }
 
-/// The pieces of a stream that comes in portions of so many bytes, a bar behind each, and the fault that ends them.
+/// Lists the pieces of a stream that comes in portions of this size, a bar after each, and the fault that ends them.
 fn cut(alloc: Global, limit: u64, stream: &[u8], portion: usize) -> Result<Vec<u8>, AllocError>
     requires { 0 < portion }
 {
@@ -158,7 +158,7 @@ const STREAMS: &str = "\
 100: 1,7⏎2,\"7 => 1,7⏎|open quote
 100: 1,\"⏎2,7⏎ => open quote";
 
-/// Cuts the stream of a line in portions of so many bytes.
+/// Cuts the stream on a line in portions of `portion` bytes, and asserts what its pieces are.
 fn cuts(rt: &impl Abort, alloc: Global, line: &str, portion: usize)
     requires { 0 < portion }
 {
@@ -178,7 +178,7 @@ fn cuts_alike_in_any_portions(rt: HostRuntime) {
     }
 }
 
-/// The only piece of a stream of so many bytes has them all, or there is this fault.
+/// Asserts that the only piece of a stream of `size` bytes has them all, or that there is this fault.
 fn holds_to(rt: &impl Abort, alloc: Global, size: usize, limit: u64, fault: Option<&str>) {
     let stream = vec![in alloc; b'x'; size].expect(rt, "memory");
     for portion in [1, 4096, 100_000] {
@@ -201,7 +201,7 @@ fn holds_to_both_limits(rt: HostRuntime) {
     holds_to(&rt, rt.alloc(), 70_000, 1_000, stream_long);
 }
 
-/// Portions, and what comes of each: a piece, behind how many bytes of the portion were taken, or the fault.
+/// Portions, and what comes of each: how many bytes of the portion were taken and then a piece, or the fault.
 const PORTIONS: &str = "\
 1,7⏎2,7⏎3,7 => 4 1,7⏎
 2,7⏎3,7 => 4 2,7⏎
@@ -209,7 +209,7 @@ const PORTIONS: &str = "\
 7 => stream too long
 ε => stream too long";
 
-/// What comes of a portion. A piece is taken out.
+/// Feeds a portion, and tells what comes of it. A piece is taken out.
 fn fed(rt: &impl Abort, alloc: Global, cutter: &mut Cutter, portion: &[u8]) -> Vec<u8>
     requires { cutter.old.whole ≡ false }
     ensures { cutter.new.whole ≡ false }
@@ -227,7 +227,7 @@ fn fed(rt: &impl Abort, alloc: Global, cutter: &mut Cutter, portion: &[u8]) -> V
     }
 }
 
-/// Feeds the portion of a line.
+/// Feeds the portion on a line, and asserts what comes of it.
 fn takes(rt: &impl Abort, alloc: Global, cutter: &mut Cutter, line: &str)
     requires { cutter.old.whole ≡ false }
     ensures { cutter.new.whole ≡ false }
@@ -248,7 +248,7 @@ fn takes_up_to_the_end_of_a_piece(rt: HostRuntime) {
     takes(&rt, rt.alloc(), &mut cutter, "⏎ => stream too long");
 }
 
-/// What comes of a portion of which a whole piece is lent. A piece that was copied is taken out.
+/// Cuts a portion, of which a whole piece is lent, and tells what comes of it. A piece that was copied is taken out.
 fn lent(rt: &impl Abort, alloc: Global, cutter: &mut Cutter, portion: &[u8]) -> Vec<u8>
     requires { cutter.old.whole ≡ false }
     ensures { cutter.new.whole ≡ false }
@@ -270,7 +270,7 @@ fn lent(rt: &impl Abort, alloc: Global, cutter: &mut Cutter, portion: &[u8]) -> 
     }
 }
 
-/// Cuts the portion of a line.
+/// Cuts the portion on a line, and asserts what comes of it.
 fn lends(rt: &impl Abort, alloc: Global, cutter: &mut Cutter, line: &str)
     requires { cutter.old.whole ≡ false }
     ensures { cutter.new.whole ≡ false }
@@ -292,7 +292,7 @@ fn lends_whole_pieces(rt: HostRuntime) {
     lends(&rt, rt.alloc(), &mut cutter, "⏎ => stream too long");
 }
 
-/// Adds these fields, which commas separate.
+/// Appends these fields, which commas separate.
 fn push_all(rt: &impl Abort, fields: &mut Fields, text: &str) {
     for field in text.split(',') {
         fields.push(field.as_bytes()).expect(rt, "memory");

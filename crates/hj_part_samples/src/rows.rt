@@ -10,7 +10,7 @@ use hj_value::{Column, ColumnType, Columns, Field, Row, Schema, TextBytes};
 use std::alloc::Global;
 use std::process::Abort;
 
-/// `ts int, sym text, px int`.
+/// Makes the schema `ts int, sym text, px int`.
 fn schema(alloc: Global) -> Result<Schema, Memory> {
     let mut columns = Columns::new(alloc);
     columns.push(column(alloc, "ts", ColumnType::Int)?)?;
@@ -28,7 +28,7 @@ fn column(alloc: Global, name: &str, kind: ColumnType) -> Result<Column, Memory>
     Ok(Column { name, kind })
 }
 
-/// What the record of a text reads as. Bars stand between its fields.
+/// Reads the record of a text. Bars stand between its fields.
 fn read(rt: &impl Abort, alloc: Global, schema: &Schema, text: &str) -> Result<Row, RowFault> {
     let mut fields = Fields::new(alloc);
     for field in text.split('|') {

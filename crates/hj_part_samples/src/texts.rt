@@ -5,13 +5,13 @@ ghost use Rattle.std.specs.Prelude.{◌<◌};
 use std::alloc::Global;
 use std::process::Abort;
 
-/// The bytes of a case and those that are wanted for it, on the two sides of an arrow.
+/// Splits a case into its bytes and those that are expected for it, on the two sides of an arrow.
 pub(crate) fn case(rt: &impl Abort, alloc: Global, line: &str) -> (Vec<u8>, Vec<u8>) {
     let (text, want) = line.split_once(" => ").expect(rt, "a case");
     (spelled(rt, alloc, text), spelled(rt, alloc, want))
 }
 
-/// Holds what was found for a line of a table to what is wanted.
+/// Asserts that what was found for a line of a table is what is expected.
 pub(crate) fn same(rt: &impl Abort, line: &str, found: &[u8], want: &[u8]) {
     assert_eq!(rt; found, want, "{line}");
 }
@@ -20,7 +20,7 @@ pub(crate) fn number(rt: &impl Abort, text: &str) -> i64 {
     text.parse::<i64>().expect(rt, "a number")
 }
 
-/// The bytes that a text spells: `⏎` is a line feed, `ε` no byte, and `«ff»` the byte of these two digits.
+/// Returns the bytes that a text spells: `⏎` is a line feed, `ε` no byte, and `«ff»` the byte of these two digits.
 pub(crate) fn spelled(rt: &impl Abort, alloc: Global, text: &str) -> Vec<u8> {
     let text = text.replace(alloc, '⏎', "\n").expect(rt, "memory");
     let text = text.replace(alloc, 'ε', "").expect(rt, "memory");
@@ -31,7 +31,7 @@ pub(crate) fn spelled(rt: &impl Abort, alloc: Global, text: &str) -> Vec<u8> {
     bytes
 }
 
-/// Adds a byte, if there is one in front, and what stands behind it.
+/// Appends the byte that the part begins with, if it does, and the rest of the part.
 fn push_part(rt: &impl Abort, bytes: &mut Vec<u8>, part: &str) {
     let behind = match part.split_once('»') {
         Some((digits, behind)) => {

@@ -7,7 +7,7 @@ use std::alloc::Global;
 use std::fmt::Write;
 use std::process::Abort;
 
-/// These tokens as words.
+/// Writes these tokens as words.
 fn described(rt: &impl Abort, alloc: Global, tokens: &Tokens) -> String {
     let mut words = String::new(alloc);
     for at in 0..tokens.len() {
@@ -18,7 +18,7 @@ fn described(rt: &impl Abort, alloc: Global, tokens: &Tokens) -> String {
     words
 }
 
-/// The tokens of a text, or its fault.
+/// Tells the tokens of a text, or its fault.
 fn judgement(rt: &impl Abort, alloc: Global, text: &[u8]) -> String {
     match lex(alloc, text) {
         Ok(tokens) => described(rt, alloc, &tokens),
@@ -26,7 +26,7 @@ fn judgement(rt: &impl Abort, alloc: Global, text: &[u8]) -> String {
     }
 }
 
-/// Cuts the text of a line into tokens.
+/// Cuts the text on a line into tokens, and asserts what they are.
 fn cuts(rt: &impl Abort, alloc: Global, line: &str) {
     let (text, want) = case(rt, alloc, line);
     let found = judgement(rt, alloc, &text);
@@ -98,7 +98,7 @@ fn finds_ill_formed_texts(rt: HostRuntime) {
     }
 }
 
-/// Cuts a text of one byte, again and again.
+/// Cuts a text of one byte, again and again, and asserts how many tokens it has.
 fn cuts_long(rt: &impl Abort, alloc: Global, byte: u8, count: usize) {
     let text = vec![in alloc; byte; 65_536].expect(rt, "memory");
     let tokens = lex(alloc, &text).expect(rt, "tokens");
@@ -113,7 +113,7 @@ fn cuts_long_texts(rt: HostRuntime) {
     cuts_long(&rt, rt.alloc(), b' ', 0);
 }
 
-/// The value of a text that begins with a number.
+/// Returns the value of a text that begins with a number.
 fn number_in(rt: &impl Abort, alloc: Global, text: &[u8]) -> i64 {
     let tokens = lex(alloc, text).expect(rt, "tokens");
     match tokens.get(0) {
@@ -124,7 +124,7 @@ fn number_in(rt: &impl Abort, alloc: Global, text: &[u8]) -> i64 {
     }
 }
 
-/// The value of a text that begins with a text in quotes.
+/// Returns the value of a text that begins with a text in quotes.
 fn text_in(rt: &impl Abort, alloc: Global, text: &[u8]) -> TextBytes {
     let tokens = lex(alloc, text).expect(rt, "tokens");
     match tokens.get(0) {
@@ -141,7 +141,7 @@ const NUMBERS: &str = "\
 1) => 1
 9223372036854775807 => 9223372036854775807";
 
-/// Reads the number of a line.
+/// Asserts that the text on a line begins with the number on it.
 fn reads_number(rt: &impl Abort, alloc: Global, line: &str) {
     let (text, want) = line.split_once(" => ").expect(rt, "a case");
     let found = number_in(rt, alloc, text.as_bytes());

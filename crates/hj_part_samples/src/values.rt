@@ -19,7 +19,7 @@ pub(crate) fn text_field<'a>(rt: &impl Abort, text: &'a [u8]) -> Field<'a> {
     Field::Text(Text::from_bytes(text).expect(rt, "a text"))
 }
 
-/// A text in quotes, or a number.
+/// Reads a field: a text in quotes, or a number.
 pub(crate) fn field<'a>(rt: &impl Abort, word: &'a str) -> Field<'a> {
     match word.strip_prefix('\'') {
         Some(quoted) => {
@@ -37,7 +37,7 @@ const FIELDS: &str = "\
 ''
 -3";
 
-/// The row of these fields.
+/// Makes the row of these fields.
 fn row_of(rt: &impl Abort, alloc: Global, fields: &str) -> Row {
     let mut row = Row::with_capacity(alloc, 4, 3).expect(rt, "memory");
     for word in fields.lines() {
@@ -46,7 +46,7 @@ fn row_of(rt: &impl Abort, alloc: Global, fields: &str) -> Row {
     row
 }
 
-/// Whether a row has this field here.
+/// Returns whether a row has this field here.
 fn has(rt: &impl Abort, row: &Row, at: usize, word: &str) -> bool {
     match row.get(at) {
         Some(found) => compare(&found, &field(rt, word)) == Ordering::Equal,
@@ -54,7 +54,7 @@ fn has(rt: &impl Abort, row: &Row, at: usize, word: &str) -> bool {
     }
 }
 
-/// A row has these fields.
+/// Asserts that a row has these fields.
 fn has_all(rt: &impl Abort, row: &Row, fields: &str) {
     for (at, word) in fields.lines().enumerate() {
         assert!(rt; has(rt, row, at, word), "at {at}");
@@ -100,7 +100,7 @@ const ASCENDING: &str = "\
 'a'
 '\u{fc}'";
 
-/// Compares the field at a place of that table with each.
+/// Compares the field at a place of that table with each, and asserts their order.
 fn compares(rt: &impl Abort, at: usize, word: &str) {
     let lower = field(rt, word);
     for (other, word) in ASCENDING.lines().enumerate() {
@@ -175,7 +175,7 @@ fn timed(alloc: Global, name: TextBytes) -> Result<Schema, Memory>
     Ok(Schema { columns })
 }
 
-/// A schema of the time alone.
+/// Makes a schema of the time alone.
 fn only_time(rt: &impl Abort, alloc: Global) -> Schema {
     let name = TextBytes::from_bytes(alloc, b"ts").expect(rt, "memory");
     let name = name.expect(rt, "a text");

@@ -17,7 +17,7 @@ fn letter(side: Side) -> char {
     }
 }
 
-/// Adds the expiries of these rows, a blank behind each.
+/// Appends the expiries of these rows, a blank after each.
 fn push_expiries(rt: &impl Abort, text: &mut String, numbers: &Numbers) {
     for at in 0..numbers.len() {
         let (side, no) = numbers.get(at).expect(rt, "a row");
@@ -25,7 +25,7 @@ fn push_expiries(rt: &impl Abort, text: &mut String, numbers: &Numbers) {
     }
 }
 
-/// The numbers of rows, each in front of the letter of its side.
+/// Reads the numbers of rows, each before the letter of its side.
 fn numbers_of(rt: &impl Abort, alloc: Global, text: &str) -> Numbers {
     let mut numbers = Numbers::new(alloc);
     for word in text.split(' ') {
@@ -49,8 +49,8 @@ fn numbers_in_their_order(rt: HostRuntime) {
     assert!(rt; numbers.get(3).is_none());
 }
 
-/// Adds the events of the arrival of this number: `+` and `-` for an arrival and an expiry, then the row's number and the letter
-/// of its side, a blank behind each. Answers the next number.
+/// Appends the events of the arrival of this number: `+` and `-` for an arrival and an expiry, then the row's number
+/// and the letter of its side, a blank after each. Returns the next number.
 fn push_events(rt: &impl Abort, text: &mut String, expired: &Expired, side: Side, no: u64) -> u64
     requires { no + 2 < 2 ^ 64 }
     ensures { no + 1 ≤ result }
@@ -67,7 +67,7 @@ fn push_events(rt: &impl Abort, text: &mut String, expired: &Expired, side: Side
     }
 }
 
-/// The events of these arrivals.
+/// Tells the events of these arrivals.
 fn events(
     rt: &impl Abort,
     alloc: Global,
@@ -87,7 +87,7 @@ fn events(
     text
 }
 
-/// A window of so many rows, or of so long a time.
+/// Reads a window: a number of rows, or a length of time.
 fn window(rt: &impl Abort, text: &str) -> Window {
     let (kind, count) = text.split_once(' ').expect(rt, "a window");
     match kind {
@@ -97,7 +97,7 @@ fn window(rt: &impl Abort, text: &str) -> Window {
     }
 }
 
-/// A time, and the letter of a side behind it.
+/// Reads a time or a number, and the letter of a side after it.
 fn arrival(rt: &impl Abort, word: &str) -> (Side, i64) {
     let (side, time) = match word.strip_suffix('L') {
         Some(time) => (Left, time),
@@ -114,7 +114,7 @@ fn arrivals(rt: &impl Abort, alloc: Global, text: &str) -> Vec<(Side, i64)> {
     arrivals
 }
 
-/// Lets the rows of a line arrive.
+/// Lets the rows on a line arrive, and asserts what the events are.
 fn expires(rt: &impl Abort, alloc: Global, line: &str) {
     let (both, behind) = line.split_once(" | ").expect(rt, "a case");
     let (rows, want) = behind.split_once(" | ").expect(rt, "events");

@@ -6,7 +6,7 @@ use hj_words::{Order, read_words};
 use std::alloc::{AllocError, Global};
 use std::process::Abort;
 
-/// The words of a line, which blanks separate; `.` stands for an empty word.
+/// Splits a line into its words, which blanks separate; `.` stands for an empty word.
 fn split(rt: &impl Abort, alloc: Global, line: &str) -> Vec<String> {
     let mut words = Vec::new(alloc);
     for word in line.split(' ') {
@@ -67,7 +67,7 @@ gen 1 1000000001 0 1
 gen 1 1 18446744073709551616 1
 gen 1 1 1";
 
-/// An order as a line that spells it, with each number that may be left out.
+/// Writes an order as a line that spells it, with each number that may be left out.
 fn told(alloc: Global, order: &Order) -> Result<String, AllocError> {
     match order {
         Order::Equi { w, left, right } => {
@@ -100,7 +100,7 @@ fn told_setup(alloc: Global, setup: &Setup) -> Result<String, AllocError> {
     format!(in alloc; "{cores} {threads} {flight}")
 }
 
-/// What words spell: an order, or why there is none.
+/// Tells what words spell: an order, or why there is none.
 fn judgement(rt: &impl Abort, alloc: Global, words: &[String]) -> String {
     match read_words(alloc, words) {
         Ok(order) => told(alloc, &order).expect(rt, "memory"),
@@ -108,7 +108,7 @@ fn judgement(rt: &impl Abort, alloc: Global, words: &[String]) -> String {
     }
 }
 
-/// Holds what the words of a line spell to what is wanted.
+/// Asserts what the words of a line spell.
 fn spells(rt: &impl Abort, alloc: Global, words: &str, want: &str) {
     let found = judgement(rt, alloc, &split(rt, alloc, words));
     same(rt, words, found.as_bytes(), want.as_bytes());
@@ -123,7 +123,7 @@ fn refuses_what_spells_no_order(rt: HostRuntime) {
     assert_eq!(rt; none.as_str(), "usage");
 }
 
-/// Lines of words, and what each spells: of a join the cores, the threads, the flight, the most events and the seed first.
+/// Lines of words, and what each spells: for a join first cores, threads, flight, most events and seed.
 const ORDERS: &str = "\
 join q a b | join 4 4 32 4294967295 0 q a b
 join --cores=2 -- q -a b | join 2 4 32 4294967295 0 q -a b
