@@ -9,7 +9,7 @@ use Rattle.hj_base.specs.declared.numbers.Side.TheVariants.{Left, Right}
 use Rattle.hj_base.specs.Journals.{puts, takes}
 use Rattle.hj_msg.specs.declared.event.Event.{Event}
 use Rattle.hj_msg.specs.declared.message.Msg.{Msg}
-use Rattle.hj_msg.specs.declared.message.Msg.TheVariants.{R, AckS, EndS, ExpS, CloseL, S, EndR, ExpR, CloseR}
+use Rattle.hj_msg.specs.declared.message.Msg.TheVariants.{R, AckS, EndS, ExpS, QuietL, CloseL, S, EndR, ExpR, QuietR, CloseR}
 use Rattle.hj_msg.specs.Core.{sends, only_if}
 use Rattle.hj_chain.specs.declared.actor.Actor.{Actor}
 use Rattle.hj_chain.specs.Chain.{ChainState, Action, drives, handles, collects, action_of, asks}
@@ -81,6 +81,8 @@ sound-sends {P} place n (S at row) = sound-if {P = P} (nat_lt (place + 1) n) (pl
 sound-sends place n (AckS at) = short _ (omega arith)
 sound-sends place n (EndS at) = short _ (omega arith)
 sound-sends place n (ExpS at) = short _ (omega arith)
+sound-sends place n (QuietL at) = short _ (omega arith)
+sound-sends place n (QuietR at) = short _ (omega arith)
 sound-sends place n CloseL = short _ (omega arith)
 sound-sends place n (EndR at) = short _ (omega arith)
 sound-sends place n (ExpR at) = short _ (omega arith)
@@ -162,7 +164,7 @@ module _ {P : Type 0} (matches : P → P → Bool) (m most : ℕ) where
     -- on link 0 and on the last link there is none
     at_first : way_r matches m most reached an_AckS 0 ≡ 0
     at_first =
-        omega (arith, each_r matches m most reached an_AckS 0 (omega arith), puts_none an_AckS (history_of reached).log Left (port-left an_AckS (λ at row. refl) (λ at. refl) refl))
+        omega (arith, each_r matches m most reached an_AckS 0 (omega arith), puts_none an_AckS (history_of reached).log Left (port-left an_AckS (λ at row. refl) (λ at. refl) (λ at. refl) refl))
 
     at_last : way_r matches m most reached an_AckS cores ≡ 0
     at_last =

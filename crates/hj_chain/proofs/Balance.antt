@@ -9,9 +9,9 @@ use Rattle.hj_base.specs.declared.numbers.Side.{Side}
 use Rattle.hj_base.specs.declared.numbers.Side.TheVariants.{Left, Right}
 use Rattle.hj_base.specs.Journals.{puts, takes}
 use Rattle.hj_msg.specs.declared.event.Event.{Event}
-use Rattle.hj_msg.specs.declared.event.Event.TheVariants.{Arrive, Expire}
+use Rattle.hj_msg.specs.declared.event.Event.TheVariants.{Arrive, Expire, Quiet}
 use Rattle.hj_msg.specs.declared.message.Msg.{Msg}
-use Rattle.hj_msg.specs.declared.message.Msg.TheVariants.{R, EndS, ExpS, S, EndR, ExpR}
+use Rattle.hj_msg.specs.declared.message.Msg.TheVariants.{R, EndS, ExpS, QuietL, S, EndR, ExpR, QuietR}
 use Rattle.hj_msg.specs.Turns.{only_at}
 use Rattle.hj_msg.specs.Driver.{DriverTurn, admission, receipt, closing}
 use Rattle.hj_msg.specs.Run.{LogEntry, port_journal}
@@ -20,11 +20,11 @@ use Rattle.hj_driver.specs.declared.lane.Part.{Part}
 use Rattle.hj_driver.specs.declared.lane.Part.TheVariants.{Row, End}
 use Rattle.hj_driver.specs.declared.lane.Arrival.{Arrival}
 use Rattle.hj_driver.specs.Lane.{after_part, is_other, is_taken, with_part, IsRising, AreDistinct}
-use Rattle.hj_driver.specs.Driver.{DriverState, after_put, after_take, after_message, arrival_of, stays, closed, is_sent, IsNew, new_driver}
+use Rattle.hj_driver.specs.Driver.{DriverState, after_put, after_take, after_message, arrival_of, stays, quiet_stays, closed, is_sent, IsNew, new_driver}
 use Rattle.hj_driver.proofs.Arrivals.{filter_map-same, none_changes, rising_after, rising_push, distinct_after, distinct_push}
 use Rattle.hj_chain.proofs.Journals.{puts-append, takes-append, entries, puts-entries, takes-entries, took_at, sent_at, port_journal-push}
 use Rattle.hj_chain.proofs.Counts.{count, count-append}
-use Rattle.hj_chain.proofs.MessageKinds.{a_R, an_S, an_EndR, an_EndS, an_ExpR, an_ExpS, a_CloseL, a_CloseR}
+use Rattle.hj_chain.proofs.MessageKinds.{a_R, an_S, an_EndR, an_EndS, an_ExpR, an_ExpS, a_QuietL, a_QuietR, a_CloseL, a_CloseR}
 use Rattle.hj_chain.proofs.Driving.{sent-take}
 
 -- one of the two messages of an arrival is still to be taken
@@ -170,6 +170,23 @@ module _ {P : Type 0} (expiries : List EventNo) (distinct : AreDistinct expiries
   right_distinct Right (ExpS of) = distinct_after expiries of.0 distinct
   right_distinct port m = subst AreDistinct (none_go expiries) distinct
 
+module _ {P : Type 0} (quiets : List EventNo) (distinct : AreDistinct quiets) where
+  left_quiets : (port : Side) (m : Msg P) → length quiets ≤ length (filter (quiet_stays Left port m) quiets) + count a_QuietL (only_at port Right m)
+  left_quiets Right (QuietL at) = omega (arith, one_leaves at.0 quiets distinct)
+  left_quiets port m = omega (arith, ap length (none_go quiets))
+
+  left_quiets-distinct : (port : Side) (m : Msg P) → AreDistinct (filter (quiet_stays Left port m) quiets)
+  left_quiets-distinct Right (QuietL at) = distinct_after quiets at.0 distinct
+  left_quiets-distinct port m = subst AreDistinct (none_go quiets) distinct
+
+  right_quiets : (port : Side) (m : Msg P) → length quiets ≤ length (filter (quiet_stays Right port m) quiets) + count a_QuietR (only_at port Left m)
+  right_quiets Left (QuietR at) = omega (arith, one_leaves at.0 quiets distinct)
+  right_quiets port m = omega (arith, ap length (none_go quiets))
+
+  right_quiets-distinct : (port : Side) (m : Msg P) → AreDistinct (filter (quiet_stays Right port m) quiets)
+  right_quiets-distinct Left (QuietR at) = distinct_after quiets at.0 distinct
+  right_quiets-distinct port m = subst AreDistinct (none_go quiets) distinct
+
 -- how many messages of a kind were put in at a port, and were taken there
 abbrev pub put_in : {P : Type 0} → Side → (Msg P → Bool) → List (LogEntry P) → ℕ
 put_in port p log = count p (puts (port_journal port log))
@@ -185,12 +202,16 @@ pub record Balanced {P : Type 0} (driver : DriverState) (log : List (LogEntry P)
   pub ends_right : put_in Right an_S log ≤ waiting End driver.right_arrivals + came_out Right an_EndS log
   pub expiries_left : put_in Right an_ExpR log ≤ length driver.left_expiries + came_out Left an_ExpR log
   pub expiries_right : put_in Left an_ExpS log ≤ length driver.right_expiries + came_out Right an_ExpS log
+  pub quiets_left : put_in Left a_QuietL log ≤ length driver.left_quiets + came_out Right a_QuietL log
+  pub quiets_right : put_in Right a_QuietR log ≤ length driver.right_quiets + came_out Left a_QuietR log
   pub close_left : put_in Left a_CloseL log ≤ cond (is_sent driver.closes) 1 0
   pub close_right : put_in Right a_CloseR log ≤ cond (is_sent driver.closes) 1 0
   pub rising_left : IsRising driver.left_arrivals
   pub rising_right : IsRising driver.right_arrivals
   pub distinct_left : AreDistinct driver.left_expiries
   pub distinct_right : AreDistinct driver.right_expiries
+  pub distinct_left_quiets : AreDistinct driver.left_quiets
+  pub distinct_right_quiets : AreDistinct driver.right_quiets
 
 module _ {P : Type 0} (log : List (LogEntry P)) (number : ℕ) (turn : DriverTurn P) where
   abbrev more : List (LogEntry P)
@@ -224,8 +245,12 @@ module _ {P : Type 0} (driver : DriverState) (log : List (LogEntry P)) (number :
         ends_right = omega (arith, old.ends_right, put Right an_S, came Right an_EndS, right_ends driver.right_arrivals old.rising_right port m);
         expiries_left = omega (arith, old.expiries_left, put Right an_ExpR, came Left an_ExpR, left_expiries driver.left_expiries old.distinct_left port m);
         expiries_right = omega (arith, old.expiries_right, put Left an_ExpS, came Right an_ExpS, right_expiries driver.right_expiries old.distinct_right port m);
+        quiets_left = omega (arith, old.quiets_left, put Left a_QuietL, came Right a_QuietL, left_quiets driver.left_quiets old.distinct_left_quiets port m);
+        quiets_right = omega (arith, old.quiets_right, put Right a_QuietR, came Left a_QuietR, right_quiets driver.right_quiets old.distinct_right_quiets port m);
         close_left = omega (arith, old.close_left, put Left a_CloseL, sent);
         close_right = omega (arith, old.close_right, put Right a_CloseR, sent);
+        distinct_left_quiets = left_quiets-distinct driver.left_quiets old.distinct_left_quiets port m;
+        distinct_right_quiets = right_quiets-distinct driver.right_quiets old.distinct_right_quiets port m;
         rising_left = left_rising driver.left_arrivals old.rising_left port m;
         rising_right = right_rising driver.right_arrivals old.rising_right port m;
         distinct_left = left_distinct driver.left_expiries old.distinct_left port m;
@@ -244,6 +269,10 @@ module _ {P : Type 0} (driver : DriverState) (log : List (LogEntry P)) (number :
         ends_right = omega (arith, old.ends_right, put Right an_S, came Right an_EndS);
         expiries_left = omega (arith, old.expiries_left, put Right an_ExpR, came Left an_ExpR);
         expiries_right = omega (arith, old.expiries_right, put Left an_ExpS, came Right an_ExpS);
+        quiets_left = omega (arith, old.quiets_left, put Left a_QuietL, came Right a_QuietL);
+        quiets_right = omega (arith, old.quiets_right, put Right a_QuietR, came Left a_QuietR);
+        distinct_left_quiets = old.distinct_left_quiets;
+        distinct_right_quiets = old.distinct_right_quiets;
         close_left = omega (arith, old.close_left, put Left a_CloseL, sent);
         close_right = omega (arith, old.close_right, put Right a_CloseR, sent);
         rising_left = old.rising_left;
@@ -263,6 +292,10 @@ module _ {P : Type 0} (driver : DriverState) (log : List (LogEntry P)) (number :
         ends_right = omega (arith, old.ends_right, put Right an_S, came Right an_EndS);
         expiries_left = omega (arith, old.expiries_left, put Right an_ExpR, came Left an_ExpR);
         expiries_right = omega (arith, old.expiries_right, put Left an_ExpS, came Right an_ExpS);
+        quiets_left = omega (arith, old.quiets_left, put Left a_QuietL, came Right a_QuietL);
+        quiets_right = omega (arith, old.quiets_right, put Right a_QuietR, came Left a_QuietR);
+        distinct_left_quiets = old.distinct_left_quiets;
+        distinct_right_quiets = old.distinct_right_quiets;
         close_left = omega (arith, old.close_left, put Left a_CloseL);
         close_right = omega (arith, old.close_right, put Right a_CloseR);
         rising_left = rising_push driver.left_arrivals (arrival_of at) old.rising_left new;
@@ -280,6 +313,10 @@ module _ {P : Type 0} (driver : DriverState) (log : List (LogEntry P)) (number :
         ends_right = omega (arith, old.ends_right, put Right an_S, came Right an_EndS, waiting-put End driver.right_arrivals at);
         expiries_left = omega (arith, old.expiries_left, put Right an_ExpR, came Left an_ExpR);
         expiries_right = omega (arith, old.expiries_right, put Left an_ExpS, came Right an_ExpS);
+        quiets_left = omega (arith, old.quiets_left, put Left a_QuietL, came Right a_QuietL);
+        quiets_right = omega (arith, old.quiets_right, put Right a_QuietR, came Left a_QuietR);
+        distinct_left_quiets = old.distinct_left_quiets;
+        distinct_right_quiets = old.distinct_right_quiets;
         close_left = omega (arith, old.close_left, put Left a_CloseL);
         close_right = omega (arith, old.close_right, put Right a_CloseR);
         rising_left = old.rising_left;
@@ -297,6 +334,10 @@ module _ {P : Type 0} (driver : DriverState) (log : List (LogEntry P)) (number :
         ends_right = omega (arith, old.ends_right, put Right an_S, came Right an_EndS);
         expiries_left = omega (arith, old.expiries_left, put Right an_ExpR, came Left an_ExpR, length-append driver.left_expiries (of ∷ []));
         expiries_right = omega (arith, old.expiries_right, put Left an_ExpS, came Right an_ExpS);
+        quiets_left = omega (arith, old.quiets_left, put Left a_QuietL, came Right a_QuietL);
+        quiets_right = omega (arith, old.quiets_right, put Right a_QuietR, came Left a_QuietR);
+        distinct_left_quiets = old.distinct_left_quiets;
+        distinct_right_quiets = old.distinct_right_quiets;
         close_left = omega (arith, old.close_left, put Left a_CloseL);
         close_right = omega (arith, old.close_right, put Right a_CloseR);
         rising_left = old.rising_left;
@@ -314,12 +355,58 @@ module _ {P : Type 0} (driver : DriverState) (log : List (LogEntry P)) (number :
         ends_right = omega (arith, old.ends_right, put Right an_S, came Right an_EndS);
         expiries_left = omega (arith, old.expiries_left, put Right an_ExpR, came Left an_ExpR);
         expiries_right = omega (arith, old.expiries_right, put Left an_ExpS, came Right an_ExpS, length-append driver.right_expiries (of ∷ []));
+        quiets_left = omega (arith, old.quiets_left, put Left a_QuietL, came Right a_QuietL);
+        quiets_right = omega (arith, old.quiets_right, put Right a_QuietR, came Left a_QuietR);
+        distinct_left_quiets = old.distinct_left_quiets;
+        distinct_right_quiets = old.distinct_right_quiets;
         close_left = omega (arith, old.close_left, put Left a_CloseL);
         close_right = omega (arith, old.close_right, put Right a_CloseR);
         rising_left = old.rising_left;
         rising_right = old.rising_right;
         distinct_left = old.distinct_left;
         distinct_right = distinct_push driver.right_expiries of old.distinct_right new;
+      }
+  balanced-admission (Quiet at Left) new =
+      let put = put_in-more log number (admission (Quiet at Left)) in
+      let came = came_out-more log number (admission (Quiet at Left)) in
+      record {
+        rows_left = omega (arith, old.rows_left, put Left a_R, came Right a_R);
+        ends_left = omega (arith, old.ends_left, put Left a_R, came Left an_EndR);
+        rows_right = omega (arith, old.rows_right, put Right an_S, came Left an_S);
+        ends_right = omega (arith, old.ends_right, put Right an_S, came Right an_EndS);
+        expiries_left = omega (arith, old.expiries_left, put Right an_ExpR, came Left an_ExpR);
+        expiries_right = omega (arith, old.expiries_right, put Left an_ExpS, came Right an_ExpS);
+        quiets_left = omega (arith, old.quiets_left, put Left a_QuietL, came Right a_QuietL, length-append driver.left_quiets (at ∷ []));
+        quiets_right = omega (arith, old.quiets_right, put Right a_QuietR, came Left a_QuietR);
+        close_left = omega (arith, old.close_left, put Left a_CloseL);
+        close_right = omega (arith, old.close_right, put Right a_CloseR);
+        rising_left = old.rising_left;
+        rising_right = old.rising_right;
+        distinct_left = old.distinct_left;
+        distinct_right = old.distinct_right;
+        distinct_left_quiets = distinct_push driver.left_quiets at old.distinct_left_quiets new;
+        distinct_right_quiets = old.distinct_right_quiets;
+      }
+  balanced-admission (Quiet at Right) new =
+      let put = put_in-more log number (admission (Quiet at Right)) in
+      let came = came_out-more log number (admission (Quiet at Right)) in
+      record {
+        rows_left = omega (arith, old.rows_left, put Left a_R, came Right a_R);
+        ends_left = omega (arith, old.ends_left, put Left a_R, came Left an_EndR);
+        rows_right = omega (arith, old.rows_right, put Right an_S, came Left an_S);
+        ends_right = omega (arith, old.ends_right, put Right an_S, came Right an_EndS);
+        expiries_left = omega (arith, old.expiries_left, put Right an_ExpR, came Left an_ExpR);
+        expiries_right = omega (arith, old.expiries_right, put Left an_ExpS, came Right an_ExpS);
+        quiets_left = omega (arith, old.quiets_left, put Left a_QuietL, came Right a_QuietL);
+        quiets_right = omega (arith, old.quiets_right, put Right a_QuietR, came Left a_QuietR, length-append driver.right_quiets (at ∷ []));
+        close_left = omega (arith, old.close_left, put Left a_CloseL);
+        close_right = omega (arith, old.close_right, put Right a_CloseR);
+        rising_left = old.rising_left;
+        rising_right = old.rising_right;
+        distinct_left = old.distinct_left;
+        distinct_right = old.distinct_right;
+        distinct_left_quiets = old.distinct_left_quiets;
+        distinct_right_quiets = distinct_push driver.right_quiets at old.distinct_right_quiets new;
       }
 
 pub balanced-begin : (P : Type 0) (flight : ℕ) → Balanced {P = P} (new_driver flight) []
@@ -330,6 +417,10 @@ balanced-begin P flight = record {
   ends_right = omega arith;
   expiries_left = omega arith;
   expiries_right = omega arith;
+  quiets_left = omega arith;
+  quiets_right = omega arith;
+  distinct_left_quiets = tt;
+  distinct_right_quiets = tt;
   close_left = omega arith;
   close_right = omega arith;
   rising_left = tt;

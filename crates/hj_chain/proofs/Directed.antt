@@ -39,13 +39,13 @@ count-when p false xs none = refl
 
 nothing_sent_right : {P : Type 0} (n : ℕ) (action : Action P) (k : ℕ) → count goes_left (left_sent n action k) ≡ 0
 nothing_sent_right n asks k = refl
-nothing_sent_right n (drives turn) k = count-when goes_left (k == 0) _ (port-left goes_left (λ at row. refl) (λ at. refl) refl turn)
+nothing_sent_right n (drives turn) k = count-when goes_left (k == 0) _ (port-left goes_left (λ at row. refl) (λ at. refl) (λ at. refl) refl turn)
 nothing_sent_right n (handles place end message) k = count-when goes_left (k == place + 1) _ (nothing_left_right place n message)
 nothing_sent_right n (collects place report) k = refl
 
 nothing_sent_left : {P : Type 0} (n : ℕ) (action : Action P) (k : ℕ) → count goes_right (right_sent n action k) ≡ 0
 nothing_sent_left n asks k = refl
-nothing_sent_left n (drives turn) k = count-when goes_right (k == n) _ (port-right goes_right (λ at row. refl) (λ at. refl) refl turn)
+nothing_sent_left n (drives turn) k = count-when goes_right (k == n) _ (port-right goes_right (λ at row. refl) (λ at. refl) (λ at. refl) refl turn)
 nothing_sent_left n (handles place end message) k = count-when goes_right (k == place) _ (nothing_right_left place n message)
 nothing_sent_left n (collects place report) k = refl
 

@@ -22,8 +22,10 @@ unique one other log a b same =
     ap (λ (f : ℕ). record one { flight = f }) same
     ∙ ap (λ (l : List Arrival). record one { flight = other.flight; left_arrivals = l }) (a.left_arrivals ∙ sym b.left_arrivals)
     ∙ ap (λ (l : List EventNo). record one { flight = other.flight; left_arrivals = other.left_arrivals; left_expiries = l }) (a.left_expiries ∙ sym b.left_expiries)
-    ∙ ap (λ (l : List Arrival). record other { right_arrivals = l; right_expiries = one.right_expiries; closes = one.closes }) (a.right_arrivals ∙ sym b.right_arrivals)
-    ∙ ap (λ (l : List EventNo). record other { right_expiries = l; closes = one.closes }) (a.right_expiries ∙ sym b.right_expiries)
+    ∙ ap (λ (l : List Arrival). record other { right_arrivals = l; right_expiries = one.right_expiries; left_quiets = one.left_quiets; right_quiets = one.right_quiets; closes = one.closes }) (a.right_arrivals ∙ sym b.right_arrivals)
+    ∙ ap (λ (l : List EventNo). record other { right_expiries = l; left_quiets = one.left_quiets; right_quiets = one.right_quiets; closes = one.closes }) (a.right_expiries ∙ sym b.right_expiries)
+    ∙ ap (λ (l : List EventNo). record other { left_quiets = l; right_quiets = one.right_quiets; closes = one.closes }) (a.left_quiets ∙ sym b.left_quiets)
+    ∙ ap (λ (l : List EventNo). record other { right_quiets = l; closes = one.closes }) (a.right_quiets ∙ sym b.right_quiets)
     ∙ ap (λ (c : Closes). record other { closes = c }) (a.closes ∙ sym b.closes)
 
 pub took-state : {P : Type 0} (old new : DriverState) (log : List (DriverTurn P)) (port : Side) (message : Msg P) → StandsFor old log

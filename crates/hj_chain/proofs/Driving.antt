@@ -4,18 +4,18 @@ use Rattle.std.proofs.lemmas.List.{map-append}
 use Rattle.hj_base.specs.declared.numbers.Side.{Side}
 use Rattle.hj_base.specs.declared.numbers.Side.TheVariants.{Left, Right}
 use Rattle.hj_msg.specs.declared.event.Event.{Event}
-use Rattle.hj_msg.specs.declared.event.Event.TheVariants.{Arrive, Expire}
+use Rattle.hj_msg.specs.declared.event.Event.TheVariants.{Arrive, Expire, Quiet}
 use Rattle.hj_msg.specs.declared.feed.Given.{Given}
 use Rattle.hj_msg.specs.declared.feed.Given.TheVariants as given
 use Rattle.hj_msg.specs.declared.message.Msg.{Msg}
-use Rattle.hj_msg.specs.declared.message.Msg.TheVariants.{R, AckS, EndS, ExpS, CloseL, S, EndR, ExpR, CloseR}
+use Rattle.hj_msg.specs.declared.message.Msg.TheVariants.{R, AckS, EndS, ExpS, QuietL, CloseL, S, EndR, ExpR, QuietR, CloseR}
 use Rattle.hj_msg.specs.Event.{IsWellFormed}
 use Rattle.hj_msg.specs.Driver.{DriverTurn, admission, receipt, closing, admitted}
 use Rattle.hj_msg.specs.Run.{LogEntry}
 use Rattle.hj_msg.proofs.Numbered.{front_is_well_formed}
 use Rattle.hj_driver.specs.declared.closes.Closes.{Closes}
 use Rattle.hj_driver.specs.declared.closes.Closes.TheVariants.{Unsent, Sent}
-use Rattle.hj_driver.specs.Driver.{DriverState, after_put, after_take, after_message, stays, after_close, count_of, is_sent}
+use Rattle.hj_driver.specs.Driver.{DriverState, after_put, after_take, after_message, stays, quiet_stays, after_close, count_of, is_sent}
 use Rattle.hj_driver.specs.StandsFor.{StandsFor}
 use Rattle.hj_driver.proofs.ComingOut.{no_cause, has_come_out, row_cause-not_out}
 use Rattle.hj_driver.proofs.Logs.{admitted-push}
@@ -49,18 +49,24 @@ count-put (Arrive at Left row) driver = omega (arith, length-append driver.left_
 count-put (Arrive at Right row) driver = omega (arith, length-append driver.right_arrivals (record { no = at; taken = None } ∷ []))
 count-put (Expire at Left of) driver = omega (arith, length-append driver.left_expiries (of ∷ []))
 count-put (Expire at Right of) driver = omega (arith, length-append driver.right_expiries (of ∷ []))
+count-put (Quiet at Left) driver = omega (arith, length-append driver.left_quiets (at ∷ []))
+count-put (Quiet at Right) driver = omega (arith, length-append driver.right_quiets (at ∷ []))
 
 pub flight-put : {P : Type 0} (event : Event P) (driver : DriverState) → (after_put event driver).flight ≡ driver.flight
 flight-put (Arrive at Left row) driver = refl
 flight-put (Arrive at Right row) driver = refl
 flight-put (Expire at Left of) driver = refl
 flight-put (Expire at Right of) driver = refl
+flight-put (Quiet at Left) driver = refl
+flight-put (Quiet at Right) driver = refl
 
 pub closes-put : {P : Type 0} (event : Event P) (driver : DriverState) → (after_put event driver).closes ≡ driver.closes
 closes-put (Arrive at Left row) driver = refl
 closes-put (Arrive at Right row) driver = refl
 closes-put (Expire at Left of) driver = refl
 closes-put (Expire at Right of) driver = refl
+closes-put (Quiet at Left) driver = refl
+closes-put (Quiet at Right) driver = refl
 
 pub count-take : {P : Type 0} (port : Side) (message : Msg P) (driver : DriverState) → count_of (after_take port message driver) ≤ count_of driver
 count-take port message driver =
@@ -70,6 +76,8 @@ count-take port message driver =
       length-filter (stays Left port message) driver.left_expiries,
       length-filter_map (after_message Right port message) driver.right_arrivals,
       length-filter (stays Right port message) driver.right_expiries,
+      length-filter (quiet_stays Left port message) driver.left_quiets,
+      length-filter (quiet_stays Right port message) driver.right_quiets,
     )
 
 sent-left : (P : Type 0) (state : Closes) → is_sent (after_close {P = P} Right CloseL state) ≡ is_sent state
@@ -91,6 +99,8 @@ sent-take Left (ExpS at) state = refl
 sent-take Left (S at row) state = refl
 sent-take Left (EndR at) state = refl
 sent-take Left (ExpR at) state = refl
+sent-take Left (QuietL at) state = refl
+sent-take Left (QuietR at) state = refl
 sent-take Right CloseR state = refl
 sent-take Right (R at row) state = refl
 sent-take Right (AckS at) state = refl
@@ -99,6 +109,8 @@ sent-take Right (ExpS at) state = refl
 sent-take Right (S at row) state = refl
 sent-take Right (EndR at) state = refl
 sent-take Right (ExpR at) state = refl
+sent-take Right (QuietL at) state = refl
+sent-take Right (QuietR at) state = refl
 
 module _ {P : Type 0} (matches : P → P → Bool) (n most : ℕ) where
   driven-begin : (first : Given P) → DrivenIfWell 0 (event_in (Some first)) (empty_chain n most first) no_history

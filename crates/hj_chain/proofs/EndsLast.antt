@@ -11,7 +11,7 @@ use Rattle.hj_msg.specs.declared.event.Event.{Event}
 use Rattle.hj_msg.specs.declared.message.Msg.{Msg}
 use Rattle.hj_msg.specs.declared.message.Msg.TheVariants.{CloseL, CloseR}
 use Rattle.hj_msg.specs.declared.message.Report.{Report}
-use Rattle.hj_msg.specs.declared.message.Report.TheVariants.{Handled, Ended, NoMemory}
+use Rattle.hj_msg.specs.declared.message.Report.TheVariants.{Handled, Quiet, Ended, NoMemory}
 use Rattle.hj_msg.specs.Core as core
 use Rattle.hj_msg.specs.Core.{State, empty_state}
 use Rattle.hj_msg.specs.Event.{IsWellFormed}
@@ -36,6 +36,7 @@ use Rattle.hj_chain.proofs.Turning.{messages, state_at}
 abbrev pub is_end : {P : Type 0} → Report P → Bool
 is_end Ended = true
 is_end (Handled at side row partners) = false
+is_end (Quiet at side) = false
 is_end NoMemory = false
 
 -- a core reports its end once, and has then handled both closes

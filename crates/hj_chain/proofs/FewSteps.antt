@@ -9,10 +9,10 @@ use Rattle.std.proofs.lemmas.List.{get_or-replicate, length-replicate}
 use Rattle.hj_base.specs.declared.numbers.Side.{Side}
 use Rattle.hj_base.specs.declared.numbers.Side.TheVariants.{Left, Right}
 use Rattle.hj_msg.specs.declared.event.Event.{Event}
-use Rattle.hj_msg.specs.declared.event.Event.TheVariants.{Arrive, Expire}
+use Rattle.hj_msg.specs.declared.event.Event.TheVariants.{Arrive, Expire, Quiet}
 use Rattle.hj_msg.specs.declared.feed.Given.{Given}
 use Rattle.hj_msg.specs.declared.message.Msg.{Msg}
-use Rattle.hj_msg.specs.declared.message.Msg.TheVariants.{R, AckS, EndS, ExpS, CloseL, S, EndR, ExpR, CloseR}
+use Rattle.hj_msg.specs.declared.message.Msg.TheVariants.{R, AckS, EndS, ExpS, QuietL, CloseL, S, EndR, ExpR, QuietR, CloseR}
 use Rattle.hj_msg.specs.declared.message.Report.{Report}
 use Rattle.hj_msg.specs.Core as core
 use Rattle.hj_msg.specs.Core.{State, empty_state, sends}
@@ -38,16 +38,20 @@ work n place (R at row) = 3 * n - 2 * place + 1
 work n place (AckS at) = 1
 work n place (EndS at) = n - place + 1
 work n place (ExpS at) = n - place + 1
+work n place (QuietL at) = 2 * (n - place) + 1
+work n place (QuietR at) = 2 * place + 3
 work n place CloseL = 2 * (n - place) + 1
 work n place (S at row) = n + 3 * place + 3 + cond (nat_lt (place + 1) n) 1 0
 work n place (EndR at) = place + 2
 work n place (ExpR at) = place + 2
 work n place CloseR = 2 * place + 3
 
--- a core reports rows and closes alone
+-- a core reports rows, quiet events and closes alone
 abbrev reports_of : {P : Type 0} → Msg P → ℕ
 reports_of (R at row) = 1
 reports_of (S at row) = 1
+reports_of (QuietL at) = 1
+reports_of (QuietR at) = 1
 reports_of CloseL = 1
 reports_of CloseR = 1
 reports_of other = 0
@@ -70,6 +74,9 @@ less_work n place (R at row) low reports few = grind (arith, nat_tests, few, low
 less_work n place (AckS at) low reports few = grind (arith, nat_tests, few, low)
 less_work n place (EndS at) low reports few = grind (arith, nat_tests, few, low)
 less_work n place (ExpS at) low reports few = grind (arith, nat_tests, few, low)
+less_work n place (QuietL at) low reports few = grind (arith, nat_tests, few, low)
+less_work n zero (QuietR at) low reports few = omega (arith, few, low)
+less_work n (suc place) (QuietR at) low reports few = omega (arith, few, low)
 less_work n place CloseL low reports few = grind (arith, nat_tests, few, low)
 less_work n zero (S at row) low reports few = grind (arith, nat_tests, few, low)
 less_work n (suc place) (S at row) low reports few = grind (arith, nat_tests, few, low)
@@ -85,6 +92,8 @@ few_reports matches state (R at row) = omega arith
 few_reports matches state (S at row) = omega arith
 few_reports matches state CloseL = at_most_one (core.report matches state CloseL)
 few_reports matches state CloseR = at_most_one (core.report matches state CloseR)
+few_reports matches state (QuietL at) = omega arith
+few_reports matches state (QuietR at) = omega arith
 few_reports matches state (AckS at) = omega arith
 few_reports matches state (EndS at) = omega arith
 few_reports matches state (ExpS at) = omega arith
@@ -94,6 +103,8 @@ few_reports matches state (ExpR at) = omega arith
 some_work : {P : Type 0} (n place : ℕ) (message : Msg P) → 1 ≤ work n place message
 some_work n place (R at row) = omega arith
 some_work n place (AckS at) = omega arith
+some_work n place (QuietL at) = omega arith
+some_work n place (QuietR at) = omega arith
 some_work n place (EndS at) = omega arith
 some_work n place (ExpS at) = omega arith
 some_work n place CloseL = omega arith
@@ -119,6 +130,9 @@ from_left n message = grind (arith, nat_tests, some_work n 0 message)
 entry : {P : Type 0} (n : ℕ) (event : Event P) → at_entry (works_of n) (port_of event) n (message_of event) + 2 ≤ 4 * n + 4
 entry {P} n (Arrive at Left row) = omega (arith, from_left {P = P} n (R at row))
 entry {P} n (Expire at Right of) = omega (arith, from_left {P = P} n (ExpS of))
+entry {P} n (Quiet at Left) = omega (arith, from_left {P = P} n (QuietL at))
+entry zero (Quiet at Right) = omega arith
+entry (suc m) (Quiet at Right) = omega arith
 entry zero (Arrive at Right row) = omega arith
 entry (suc m) (Arrive at Right row) = grind (arith, nat_tests)
 entry zero (Expire at Left of) = omega arith

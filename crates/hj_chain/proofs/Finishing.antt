@@ -5,7 +5,7 @@ use Rattle.std.specs.List.{list_any, list_all}
 use Rattle.hj_msg.specs.declared.event.Event.{Event}
 use Rattle.hj_msg.specs.declared.event.Pair.{Pair}
 use Rattle.hj_msg.specs.declared.message.Report.{Report}
-use Rattle.hj_msg.specs.declared.message.Report.TheVariants.{Handled, Ended, NoMemory}
+use Rattle.hj_msg.specs.declared.message.Report.TheVariants.{Handled, Quiet, Ended, NoMemory}
 use Rattle.hj_msg.specs.Event.{IsWellFormed}
 use Rattle.hj_msg.specs.Feed.{FeedState}
 use Rattle.hj_msg.specs.Kang.{kang}
@@ -33,6 +33,7 @@ end_is_there : {P : Type 0} (reports : List (Report P)) → list_any is_end repo
 end_is_there [] is = absurd (true≢false (sym is))
 end_is_there (Ended ∷ reports) is = Contains-head Ended reports
 end_is_there (Handled at side row partners ∷ reports) is = Contains-cons (Handled at side row partners) Ended reports (end_is_there reports is)
+end_is_there (Quiet at side ∷ reports) is = Contains-cons (Quiet at side) Ended reports (end_is_there reports is)
 end_is_there (NoMemory ∷ reports) is = Contains-cons NoMemory Ended reports (end_is_there reports is)
 
 both-true : (a b : Bool) → (a && b) ≡ true → (a ≡ true) × (b ≡ true)

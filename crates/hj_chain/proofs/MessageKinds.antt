@@ -1,9 +1,9 @@
 -- The kinds of messages, to which side they go, and what of each kind a core sends.
 use Rattle.std.proofs.Common.{◌≡◌, ℕ, ◌+◌, ◌==◌, nat_lt, Bool, true, false, cond, List, [], ◌∷◌, ◌++◌, length, refl, ap, ◌∙◌, arith}
 use Rattle.hj_base.specs.declared.numbers.Side.TheVariants.{Left, Right}
-use Rattle.hj_msg.specs.declared.event.Event.TheVariants.{Arrive, Expire}
+use Rattle.hj_msg.specs.declared.event.Event.TheVariants.{Arrive, Expire, Quiet}
 use Rattle.hj_msg.specs.declared.message.Msg.{Msg}
-use Rattle.hj_msg.specs.declared.message.Msg.TheVariants.{R, AckS, EndS, ExpS, CloseL, S, EndR, ExpR, CloseR}
+use Rattle.hj_msg.specs.declared.message.Msg.TheVariants.{R, AckS, EndS, ExpS, QuietL, CloseL, S, EndR, ExpR, QuietR, CloseR}
 use Rattle.hj_msg.specs.Core.{sends, only_if, is_last}
 use Rattle.hj_msg.specs.Driver.{DriverTurn, admission, receipt, closing}
 use Rattle.hj_chain.proofs.Counts.{count}
@@ -25,6 +25,10 @@ abbrev pub an_ExpS : {P : Type 0} → Msg P → Bool
 an_ExpS (ExpS at) = true
 an_ExpS other = false
 
+abbrev pub a_QuietL : {P : Type 0} → Msg P → Bool
+a_QuietL (QuietL at) = true
+a_QuietL other = false
+
 abbrev pub a_CloseL : {P : Type 0} → Msg P → Bool
 a_CloseL CloseL = true
 a_CloseL other = false
@@ -41,6 +45,10 @@ abbrev pub an_ExpR : {P : Type 0} → Msg P → Bool
 an_ExpR (ExpR at) = true
 an_ExpR other = false
 
+abbrev pub a_QuietR : {P : Type 0} → Msg P → Bool
+a_QuietR (QuietR at) = true
+a_QuietR other = false
+
 abbrev pub a_CloseR : {P : Type 0} → Msg P → Bool
 a_CloseR CloseR = true
 a_CloseR other = false
@@ -51,6 +59,7 @@ goes_right (R at row) = true
 goes_right (AckS at) = true
 goes_right (EndS at) = true
 goes_right (ExpS at) = true
+goes_right (QuietL at) = true
 goes_right CloseL = true
 goes_right other = false
 
@@ -58,23 +67,24 @@ abbrev pub goes_left : {P : Type 0} → Msg P → Bool
 goes_left (S at row) = true
 goes_left (EndR at) = true
 goes_left (ExpR at) = true
+goes_left (QuietR at) = true
 goes_left CloseR = true
 goes_left other = false
 
 -- each message is of one kind
-right_kinds-one : {P : Type 0} (m : Msg P) → cond {A = ℕ} (a_R m) 1 0 + cond (an_AckS m) 1 0 + cond (an_EndS m) 1 0 + cond (an_ExpS m) 1 0 + cond (a_CloseL m) 1 0 + cond (goes_left m) 1 0 ≡ 1
+right_kinds-one : {P : Type 0} (m : Msg P) → cond {A = ℕ} (a_R m) 1 0 + cond (an_AckS m) 1 0 + cond (an_EndS m) 1 0 + cond (an_ExpS m) 1 0 + cond (a_QuietL m) 1 0 + cond (a_CloseL m) 1 0 + cond (goes_left m) 1 0 ≡ 1
 right_kinds-one (R at row) = refl
 right_kinds-one other = refl
 
-pub right_kinds : {P : Type 0} (ms : List (Msg P)) → length ms ≡ count a_R ms + count an_AckS ms + count an_EndS ms + count an_ExpS ms + count a_CloseL ms + count goes_left ms
+pub right_kinds : {P : Type 0} (ms : List (Msg P)) → length ms ≡ count a_R ms + count an_AckS ms + count an_EndS ms + count an_ExpS ms + count a_QuietL ms + count a_CloseL ms + count goes_left ms
 right_kinds [] = refl
 right_kinds (m ∷ ms) = omega (arith, right_kinds-one m, right_kinds ms)
 
-left_kinds-one : {P : Type 0} (m : Msg P) → cond {A = ℕ} (an_S m) 1 0 + cond (an_EndR m) 1 0 + cond (an_ExpR m) 1 0 + cond (a_CloseR m) 1 0 + cond (goes_right m) 1 0 ≡ 1
+left_kinds-one : {P : Type 0} (m : Msg P) → cond {A = ℕ} (an_S m) 1 0 + cond (an_EndR m) 1 0 + cond (an_ExpR m) 1 0 + cond (a_QuietR m) 1 0 + cond (a_CloseR m) 1 0 + cond (goes_right m) 1 0 ≡ 1
 left_kinds-one (S at row) = refl
 left_kinds-one other = refl
 
-pub left_kinds : {P : Type 0} (ms : List (Msg P)) → length ms ≡ count an_S ms + count an_EndR ms + count an_ExpR ms + count a_CloseR ms + count goes_right ms
+pub left_kinds : {P : Type 0} (ms : List (Msg P)) → length ms ≡ count an_S ms + count an_EndR ms + count an_ExpR ms + count a_QuietR ms + count a_CloseR ms + count goes_right ms
 left_kinds [] = refl
 left_kinds (m ∷ ms) = omega (arith, left_kinds-one m, left_kinds ms)
 
@@ -102,6 +112,10 @@ R_right place n other = refl
 pub ExpS_right : {P : Type 0} (place n : ℕ) → SendsRight {P = P} an_ExpS an_ExpS place n
 ExpS_right place n (S at row) = none_of an_ExpS (nat_lt (place + 1) n) (place == 0) (AckS at) (EndS at) refl refl
 ExpS_right place n other = refl
+
+pub QuietL_right : {P : Type 0} (place n : ℕ) → SendsRight {P = P} a_QuietL a_QuietL place n
+QuietL_right place n (S at row) = none_of a_QuietL (nat_lt (place + 1) n) (place == 0) (AckS at) (EndS at) refl refl
+QuietL_right place n other = refl
 
 pub CloseL_right : {P : Type 0} (place n : ℕ) → SendsRight {P = P} a_CloseL a_CloseL place n
 CloseL_right place n (S at row) = none_of a_CloseL (nat_lt (place + 1) n) (place == 0) (AckS at) (EndS at) refl refl
@@ -158,6 +172,10 @@ pub ExpR_left : {P : Type 0} (place n : ℕ) → SendsLeft {P = P} an_ExpR an_Ex
 ExpR_left place n (R at row) = none_if an_ExpR (is_last place n) (EndR at) refl
 ExpR_left place n other = refl
 
+pub QuietR_left : {P : Type 0} (place n : ℕ) → SendsLeft {P = P} a_QuietR a_QuietR place n
+QuietR_left place n (R at row) = none_if a_QuietR (is_last place n) (EndR at) refl
+QuietR_left place n other = refl
+
 pub CloseR_left : {P : Type 0} (place n : ℕ) → SendsLeft {P = P} a_CloseR a_CloseR place n
 CloseR_left place n (R at row) = none_if a_CloseR (is_last place n) (EndR at) refl
 CloseR_left place n other = refl
@@ -185,18 +203,22 @@ nothing_right_left place n (R at row) = none_if goes_right (is_last place n) (En
 nothing_right_left place n other = refl
 
 -- at the driver's ports
-pub port-left : {P : Type 0} (p : Msg P → Bool) → ((at : _) (row : P) → p (R at row) ≡ false) → ((at : _) → p (ExpS at) ≡ false) → p CloseL ≡ false → (turn : DriverTurn P) → count p (sent_at Left turn) ≡ 0
-port-left p no_R no_ExpS no_CloseL (admission (Arrive at Left row)) = ap (λ b. cond {A = ℕ} b 1 0 + 0) (no_R at row)
-port-left p no_R no_ExpS no_CloseL (admission (Arrive at Right row)) = refl
-port-left p no_R no_ExpS no_CloseL (admission (Expire at Left of)) = refl
-port-left p no_R no_ExpS no_CloseL (admission (Expire at Right of)) = ap (λ b. cond {A = ℕ} b 1 0 + 0) (no_ExpS of)
-port-left p no_R no_ExpS no_CloseL (receipt port message) = refl
-port-left p no_R no_ExpS no_CloseL closing = ap (λ b. cond {A = ℕ} b 1 0 + 0) no_CloseL
+pub port-left : {P : Type 0} (p : Msg P → Bool) → ((at : _) (row : P) → p (R at row) ≡ false) → ((at : _) → p (ExpS at) ≡ false) → ((at : _) → p (QuietL at) ≡ false) → p CloseL ≡ false → (turn : DriverTurn P) → count p (sent_at Left turn) ≡ 0
+port-left p no_R no_ExpS no_QuietL no_CloseL (admission (Arrive at Left row)) = ap (λ b. cond {A = ℕ} b 1 0 + 0) (no_R at row)
+port-left p no_R no_ExpS no_QuietL no_CloseL (admission (Arrive at Right row)) = refl
+port-left p no_R no_ExpS no_QuietL no_CloseL (admission (Expire at Left of)) = refl
+port-left p no_R no_ExpS no_QuietL no_CloseL (admission (Expire at Right of)) = ap (λ b. cond {A = ℕ} b 1 0 + 0) (no_ExpS of)
+port-left p no_R no_ExpS no_QuietL no_CloseL (admission (Quiet at Left)) = ap (λ b. cond {A = ℕ} b 1 0 + 0) (no_QuietL at)
+port-left p no_R no_ExpS no_QuietL no_CloseL (admission (Quiet at Right)) = refl
+port-left p no_R no_ExpS no_QuietL no_CloseL (receipt port message) = refl
+port-left p no_R no_ExpS no_QuietL no_CloseL closing = ap (λ b. cond {A = ℕ} b 1 0 + 0) no_CloseL
 
-pub port-right : {P : Type 0} (p : Msg P → Bool) → ((at : _) (row : P) → p (S at row) ≡ false) → ((at : _) → p (ExpR at) ≡ false) → p CloseR ≡ false → (turn : DriverTurn P) → count p (sent_at Right turn) ≡ 0
-port-right p no_S no_ExpR no_CloseR (admission (Arrive at Left row)) = refl
-port-right p no_S no_ExpR no_CloseR (admission (Arrive at Right row)) = ap (λ b. cond {A = ℕ} b 1 0 + 0) (no_S at row)
-port-right p no_S no_ExpR no_CloseR (admission (Expire at Left of)) = ap (λ b. cond {A = ℕ} b 1 0 + 0) (no_ExpR of)
-port-right p no_S no_ExpR no_CloseR (admission (Expire at Right of)) = refl
-port-right p no_S no_ExpR no_CloseR (receipt port message) = refl
-port-right p no_S no_ExpR no_CloseR closing = ap (λ b. cond {A = ℕ} b 1 0 + 0) no_CloseR
+pub port-right : {P : Type 0} (p : Msg P → Bool) → ((at : _) (row : P) → p (S at row) ≡ false) → ((at : _) → p (ExpR at) ≡ false) → ((at : _) → p (QuietR at) ≡ false) → p CloseR ≡ false → (turn : DriverTurn P) → count p (sent_at Right turn) ≡ 0
+port-right p no_S no_ExpR no_QuietR no_CloseR (admission (Arrive at Left row)) = refl
+port-right p no_S no_ExpR no_QuietR no_CloseR (admission (Arrive at Right row)) = ap (λ b. cond {A = ℕ} b 1 0 + 0) (no_S at row)
+port-right p no_S no_ExpR no_QuietR no_CloseR (admission (Expire at Left of)) = ap (λ b. cond {A = ℕ} b 1 0 + 0) (no_ExpR of)
+port-right p no_S no_ExpR no_QuietR no_CloseR (admission (Expire at Right of)) = refl
+port-right p no_S no_ExpR no_QuietR no_CloseR (admission (Quiet at Right)) = ap (λ b. cond {A = ℕ} b 1 0 + 0) (no_QuietR at)
+port-right p no_S no_ExpR no_QuietR no_CloseR (admission (Quiet at Left)) = refl
+port-right p no_S no_ExpR no_QuietR no_CloseR (receipt port message) = refl
+port-right p no_S no_ExpR no_QuietR no_CloseR closing = ap (λ b. cond {A = ℕ} b 1 0 + 0) no_CloseR

@@ -30,7 +30,7 @@ use Rattle.hj_chain.proofs.Passing.{few_under_way, few_under_way_back, fewer_sen
 use Rattle.hj_chain.proofs.Room.{acks, count-length}
 use Rattle.hj_chain.proofs.Shape.{Shape}
 use Rattle.hj_chain.proofs.Turning.{messages, state_at, turned}
-use Rattle.hj_chain.proofs.UnderWay.{way_r, way_l, came_r, came_l, sent_r, sent_l, each_r, comes_right, passes_on, passes_back, CloseL_goes, CloseR_goes, rows_right, expiries_right, ends_right, rows_left, expiries_left, ends_left, sent_last}
+use Rattle.hj_chain.proofs.UnderWay.{way_r, way_l, came_r, came_l, sent_r, sent_l, each_r, comes_right, passes_on, passes_back, CloseL_goes, CloseR_goes, rows_right, expiries_right, quiets_right, ends_right, rows_left, expiries_left, quiets_left, ends_left, sent_last}
 
 -- no event is outstanding once the closes were put
 abbrev AreGone : DriverState → Type 0
@@ -111,11 +111,13 @@ module _ {P : Type 0} (matches : P → P → Bool) (m most : ℕ) {schedule : Li
         (directed matches (suc m) most reached).rightwards k within,
         rows_right matches m most reached k within,
         expiries_right matches m most reached k within,
+        quiets_right matches m most reached k within,
         ends_right matches m most reached k within,
         acks matches m most reached well k within,
         b.rows_left,
         b.ends_right,
         b.expiries_right,
+        b.quiets_left,
         count-length (is_waiting Row) chain.driver.left_arrivals,
         count-length (is_waiting End) chain.driver.right_arrivals,
       )
@@ -130,10 +132,12 @@ module _ {P : Type 0} (matches : P → P → Bool) (m most : ℕ) {schedule : Li
         (directed matches (suc m) most reached).leftwards k within,
         rows_left matches m most reached k within,
         expiries_left matches m most reached k within,
+        quiets_left matches m most reached k within,
         ends_left matches m most reached k within,
         b.rows_right,
         b.ends_left,
         b.expiries_left,
+        b.quiets_right,
         count-length (is_waiting Row) chain.driver.right_arrivals,
         count-length (is_waiting End) chain.driver.left_arrivals,
       )

@@ -6,7 +6,7 @@ use Rattle.hj_base.specs.declared.numbers.EventNo.{EventNo}
 use Rattle.hj_base.specs.declared.numbers.Side.{Side}
 use Rattle.hj_base.specs.declared.numbers.Side.TheVariants.{Left, Right}
 use Rattle.hj_msg.specs.declared.event.Event.{Event}
-use Rattle.hj_msg.specs.declared.event.Event.TheVariants.{Arrive, Expire}
+use Rattle.hj_msg.specs.declared.event.Event.TheVariants.{Arrive, Expire, Quiet}
 use Rattle.hj_msg.specs.declared.message.Msg.{Msg}
 use Rattle.hj_msg.specs.declared.message.Msg.TheVariants.{R, AckS, EndS, S, EndR}
 use Rattle.hj_msg.specs.Core.{sends, only_if, is_last}
@@ -36,6 +36,8 @@ module _ (P : Type 0) (n number : ℕ) (some : 1 ≤ n) where
   end_left-putting (Arrive at Right row) driver = omega arith
   end_left-putting (Expire at Left of) driver = omega arith
   end_left-putting (Expire at Right of) driver = omega arith
+  end_left-putting (Quiet at Left) driver = omega arith
+  end_left-putting (Quiet at Right) driver = omega arith
 
   none_out : (message : Msg P) → at_exit end_left Right n message ≡ 0
   none_out message = ap (λ b. cond b 0 (one (is_R number message))) (eq-eqb n n refl)
@@ -75,6 +77,8 @@ module _ (P : Type 0) (n number : ℕ) (some : 1 ≤ n) where
   end_right-putting (Arrive at Left row) driver = omega arith
   end_right-putting (Expire at Left of) driver = omega arith
   end_right-putting (Expire at Right of) driver = omega arith
+  end_right-putting (Quiet at Left) driver = omega arith
+  end_right-putting (Quiet at Right) driver = omega arith
 
   end_right-taking : (port : Side) (message : Msg P) (arrivals : List Arrival)
       → Fewer (count (waits_for number End) (filter_map (after_message Right port message) arrivals)) (at_exit end_right port n message) (count (waits_for number End) arrivals)

@@ -5,16 +5,16 @@ use Rattle.hj_base.specs.declared.numbers.EventNo.{EventNo}
 use Rattle.hj_base.specs.declared.numbers.Side.{Side}
 use Rattle.hj_base.specs.declared.numbers.Side.TheVariants.{Left, Right}
 use Rattle.hj_msg.specs.declared.event.Event.{Event}
-use Rattle.hj_msg.specs.declared.event.Event.TheVariants.{Arrive, Expire}
+use Rattle.hj_msg.specs.declared.event.Event.TheVariants.{Arrive, Expire, Quiet}
 use Rattle.hj_msg.specs.declared.message.Msg.{Msg}
-use Rattle.hj_msg.specs.declared.message.Msg.TheVariants.{R, EndS, ExpS, S, EndR, ExpR}
+use Rattle.hj_msg.specs.declared.message.Msg.TheVariants.{R, EndS, ExpS, QuietL, S, EndR, ExpR, QuietR}
 use Rattle.hj_msg.specs.Core.{sends}
 use Rattle.hj_msg.specs.Driver.{message_of, port_of}
-use Rattle.hj_msg.specs.Messages.{is_R, is_S, is_ExpR, is_ExpS}
+use Rattle.hj_msg.specs.Messages.{is_R, is_S, is_ExpR, is_ExpS, is_QuietL, is_QuietR}
 use Rattle.hj_driver.specs.declared.lane.Part.TheVariants.{Row, End}
 use Rattle.hj_driver.specs.declared.lane.Arrival.{Arrival}
 use Rattle.hj_driver.specs.Lane.{waits_for}
-use Rattle.hj_driver.specs.Driver.{DriverState, after_put, after_message, stays}
+use Rattle.hj_driver.specs.Driver.{DriverState, after_put, after_message, stays, quiet_stays}
 use Rattle.hj_chain.proofs.Counts.{count, count-append}
 use Rattle.hj_chain.proofs.Owing.{Owes, Fewer}
 use Rattle.hj_chain.proofs.Totals.{sum_of}
@@ -31,6 +31,8 @@ module _ (P : Type 0) (n number : ℕ) where
   row_left-putting (Arrive at Right row) driver = omega arith
   row_left-putting (Expire at Left of) driver = omega arith
   row_left-putting (Expire at Right of) driver = omega arith
+  row_left-putting (Quiet at Left) driver = omega arith
+  row_left-putting (Quiet at Right) driver = omega arith
 
   row_left-taking : (port : Side) (message : Msg P) (arrivals : List Arrival)
       → Fewer (count (waits_for number Row) (filter_map (after_message Left port message) arrivals)) (at_exit row_left port n message) (count (waits_for number Row) arrivals)
@@ -61,6 +63,8 @@ module _ (P : Type 0) (n number : ℕ) where
   row_right-putting (Arrive at Right row) driver = omega (arith, waits-put number Row driver.right_arrivals at)
   row_right-putting (Expire at Left of) driver = omega arith
   row_right-putting (Expire at Right of) driver = omega arith
+  row_right-putting (Quiet at Left) driver = omega arith
+  row_right-putting (Quiet at Right) driver = omega arith
 
   row_right-taking : (port : Side) (message : Msg P) (arrivals : List Arrival)
       → Fewer (count (waits_for number Row) (filter_map (after_message Right port message) arrivals)) (at_exit row_right port n message) (count (waits_for number Row) arrivals)
@@ -91,6 +95,8 @@ module _ (P : Type 0) (n number : ℕ) where
   expiry_left-putting (Arrive at Right row) driver = omega arith
   expiry_left-putting (Expire at Left of) driver = omega (arith, count-append (λ (o : EventNo). o.0 == number) driver.left_expiries (of ∷ []))
   expiry_left-putting (Expire at Right of) driver = omega arith
+  expiry_left-putting (Quiet at Left) driver = omega arith
+  expiry_left-putting (Quiet at Right) driver = omega arith
 
   expiry_left-taking : (port : Side) (message : Msg P) (expiries : List EventNo)
       → Fewer (expiries_of number (filter (stays Left port message) expiries)) (at_exit expiry_left port n message) (expiries_of number expiries)
@@ -119,6 +125,8 @@ module _ (P : Type 0) (n number : ℕ) where
   expiry_right-putting (Arrive at Right row) driver = omega arith
   expiry_right-putting (Expire at Left of) driver = omega arith
   expiry_right-putting (Expire at Right of) driver = omega (arith, count-append (λ (o : EventNo). o.0 == number) driver.right_expiries (of ∷ []))
+  expiry_right-putting (Quiet at Left) driver = omega arith
+  expiry_right-putting (Quiet at Right) driver = omega arith
 
   expiry_right-taking : (port : Side) (message : Msg P) (expiries : List EventNo)
       → Fewer (expiries_of number (filter (stays Right port message) expiries)) (at_exit expiry_right port n message) (expiries_of number expiries)
@@ -137,4 +145,66 @@ module _ (P : Type 0) (n number : ℕ) where
     closing = λ driver cores. omega arith;
     taking = λ port message driver cores. expiry_right-taking port message driver.right_expiries;
     handling = λ end place message driver cores low all. inr (omega (arith, expiry_right-handling end place message));
+  }
+
+  -- the message of a quiet event
+  abbrev pub quiet_left : Weights (Msg P)
+  quiet_left = record { rightwards = λ k message. one (is_QuietL number message); leftwards = λ k message. 0 }
+
+  quiet_left-putting : (event : Event P) (driver : DriverState) → expiries_of number (after_put event driver).left_quiets ≤ expiries_of number driver.left_quiets + at_entry quiet_left (port_of event) n (message_of event)
+  quiet_left-putting (Arrive at Left row) driver = omega arith
+  quiet_left-putting (Arrive at Right row) driver = omega arith
+  quiet_left-putting (Expire at Left of) driver = omega arith
+  quiet_left-putting (Expire at Right of) driver = omega arith
+  quiet_left-putting (Quiet at Left) driver = omega (arith, count-append (λ (o : EventNo). o.0 == number) driver.left_quiets (at ∷ []))
+  quiet_left-putting (Quiet at Right) driver = omega arith
+
+  quiet_left-taking : (port : Side) (message : Msg P) (quiets : List EventNo)
+      → Fewer (expiries_of number (filter (quiet_stays Left port message) quiets)) (at_exit quiet_left port n message) (expiries_of number quiets)
+  quiet_left-taking Right (QuietL at) quiets = expiry-taken number at.0 quiets
+  quiet_left-taking port message quiets = expiry-still number quiets 0 refl
+
+  quiet_left-handling : (end : Side) (place : ℕ) (message : Msg P) → at_end quiet_left end place message ≤ sum_of (quiet_left.leftwards place) (sends place n message).left + sum_of (quiet_left.rightwards (place + 1)) (sends place n message).right
+  quiet_left-handling Right place message = omega arith
+  quiet_left-handling Left place (QuietL at) = omega arith
+  quiet_left-handling Left place message = omega arith
+
+  pub owes-quiet_left : Owes n quiet_left (λ driver cores. expiries_of number driver.left_quiets)
+  owes-quiet_left = record {
+    beginning = λ most. refl;
+    putting = λ event driver cores. quiet_left-putting event driver;
+    closing = λ driver cores. omega arith;
+    taking = λ port message driver cores. quiet_left-taking port message driver.left_quiets;
+    handling = λ end place message driver cores low all. inr (omega (arith, quiet_left-handling end place message));
+  }
+
+  -- the message of a quiet event
+  abbrev pub quiet_right : Weights (Msg P)
+  quiet_right = record { rightwards = λ k message. 0; leftwards = λ k message. one (is_QuietR number message) }
+
+  quiet_right-putting : (event : Event P) (driver : DriverState) → expiries_of number (after_put event driver).right_quiets ≤ expiries_of number driver.right_quiets + at_entry quiet_right (port_of event) n (message_of event)
+  quiet_right-putting (Arrive at Left row) driver = omega arith
+  quiet_right-putting (Arrive at Right row) driver = omega arith
+  quiet_right-putting (Expire at Left of) driver = omega arith
+  quiet_right-putting (Expire at Right of) driver = omega arith
+  quiet_right-putting (Quiet at Left) driver = omega arith
+  quiet_right-putting (Quiet at Right) driver = omega (arith, count-append (λ (o : EventNo). o.0 == number) driver.right_quiets (at ∷ []))
+
+  quiet_right-taking : (port : Side) (message : Msg P) (quiets : List EventNo)
+      → Fewer (expiries_of number (filter (quiet_stays Right port message) quiets)) (at_exit quiet_right port n message) (expiries_of number quiets)
+  quiet_right-taking Left (QuietR at) quiets = expiry-taken number at.0 quiets
+  quiet_right-taking port message quiets = expiry-still number quiets 0 refl
+
+  quiet_right-handling : (end : Side) (place : ℕ) (message : Msg P) → at_end quiet_right end place message ≤ sum_of (quiet_right.leftwards place) (sends place n message).left + sum_of (quiet_right.rightwards (place + 1)) (sends place n message).right
+  quiet_right-handling Left place message = omega arith
+  quiet_right-handling Right place (QuietR at) = omega arith
+  quiet_right-handling Right place message = omega arith
+
+  pub owes-quiet_right : Owes n quiet_right (λ driver cores. expiries_of number driver.right_quiets)
+  owes-quiet_right = record {
+    beginning = λ most. refl;
+    putting = λ event driver cores. quiet_right-putting event driver;
+    closing = λ driver cores. omega arith;
+    taking = λ port message driver cores. quiet_right-taking port message driver.right_quiets;
+    handling = λ end place message driver cores low all. inr (omega (arith, quiet_right-handling end place message));
   }

@@ -16,7 +16,7 @@ use Rattle.hj_chain.proofs.Counts.{count}
 use Rattle.hj_chain.proofs.MessageKinds.{an_AckS, right_kinds, left_kinds}
 use Rattle.hj_chain.proofs.Balance.{is_waiting}
 use Rattle.hj_chain.proofs.Outstanding.{balanced}
-use Rattle.hj_chain.proofs.UnderWay.{rows_right, expiries_right, closes_right, ends_right, rows_left, expiries_left, closes_left, ends_left, way_r}
+use Rattle.hj_chain.proofs.UnderWay.{rows_right, expiries_right, quiets_right, closes_right, ends_right, rows_left, expiries_left, quiets_left, closes_left, ends_left, way_r}
 use Rattle.hj_chain.proofs.Acknowledged.{acks_under_way}
 
 pub count-length : {X : Type 0} (p : X → Bool) (xs : List X) → count p xs ≤ length xs
@@ -47,12 +47,14 @@ module _ {P : Type 0} (matches : P → P → Bool) (m most : ℕ) {schedule : Li
         (directed matches (suc m) most reached).rightwards k within,
         rows_right matches m most reached k within,
         expiries_right matches m most reached k within,
+        quiets_right matches m most reached k within,
         closes_right matches m most reached k within,
         ends_right matches m most reached k within,
         acks k within,
         b.rows_left,
         b.ends_right,
         b.expiries_right,
+        b.quiets_left,
         b.close_left,
         one_close (is_sent chain.driver.closes),
         count-length (is_waiting Row) chain.driver.left_arrivals,
@@ -69,11 +71,13 @@ module _ {P : Type 0} (matches : P → P → Bool) (m most : ℕ) {schedule : Li
         (directed matches (suc m) most reached).leftwards k within,
         rows_left matches m most reached k within,
         expiries_left matches m most reached k within,
+        quiets_left matches m most reached k within,
         closes_left matches m most reached k within,
         ends_left matches m most reached k within,
         b.rows_right,
         b.ends_left,
         b.expiries_left,
+        b.quiets_right,
         b.close_right,
         one_close (is_sent chain.driver.closes),
         count-length (is_waiting Row) chain.driver.right_arrivals,

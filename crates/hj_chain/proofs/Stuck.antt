@@ -10,7 +10,7 @@ use Rattle.hj_base.specs.declared.numbers.EventNo.{EventNo}
 use Rattle.hj_base.specs.declared.numbers.Side.{Side}
 use Rattle.hj_base.specs.declared.numbers.Side.TheVariants.{Left, Right}
 use Rattle.hj_msg.specs.declared.event.Event.{Event}
-use Rattle.hj_msg.specs.declared.event.Event.TheVariants.{Arrive, Expire}
+use Rattle.hj_msg.specs.declared.event.Event.TheVariants.{Arrive, Expire, Quiet}
 use Rattle.hj_msg.specs.declared.feed.Given.{Given}
 use Rattle.hj_msg.specs.declared.feed.Given.TheVariants as given
 use Rattle.hj_msg.specs.declared.message.Msg.{Msg}
@@ -41,7 +41,7 @@ use Rattle.hj_chain.proofs.Counts.{count}
 use Rattle.hj_chain.proofs.Doing.{Doing, inquires, admits, shuts, receives, works, gathers, deed}
 use Rattle.hj_chain.proofs.OwedCloses.{unhandled, owes-close_left, owes-close_right, owes-to_core_left, owes-to_core_right}
 use Rattle.hj_chain.proofs.OwedEnds.{owes-end_left, owes-end_right}
-use Rattle.hj_chain.proofs.OwedRows.{owes-row_left, owes-row_right, owes-expiry_left, owes-expiry_right}
+use Rattle.hj_chain.proofs.OwedRows.{owes-row_left, owes-row_right, owes-expiry_left, owes-expiry_right, owes-quiet_left, owes-quiet_right}
 use Rattle.hj_chain.proofs.Owing.{Owes, under_way}
 use Rattle.hj_chain.proofs.Shape.{shape, some_core, links-length}
 use Rattle.hj_chain.proofs.Weighing.{Weights, load-nothing}
@@ -114,13 +114,16 @@ record Free (driver : DriverState) : Type 0 where
   left_expiries : driver.left_expiries ≡ []
   right_arrivals : driver.right_arrivals ≡ []
   right_expiries : driver.right_expiries ≡ []
+  left_quiets : driver.left_quiets ≡ []
+  right_quiets : driver.right_quiets ≡ []
 
 none_outstanding : (driver : DriverState) → Free driver → count_of driver ≡ 0
-none_outstanding driver free = omega (arith, ap length free.left_arrivals, ap length free.left_expiries, ap length free.right_arrivals, ap length free.right_expiries)
+none_outstanding driver free = omega (arith, ap length free.left_arrivals, ap length free.left_expiries, ap length free.right_arrivals, ap length free.right_expiries, ap length free.left_quiets, ap length free.right_quiets)
 
 module _ {P : Type 0} (driver : DriverState) (free : Free driver) (unsent : is_sent driver.closes ≡ false) (some : 1 ≤ driver.flight) where
   no_row : (event : Event P) → row_cause event driver ≡ None
   no_row (Arrive at side row) = refl
+  no_row (Quiet at side) = refl
   no_row (Expire at Left of) = ap (λ arrivals. cond (list_any (waits_for of.0 Row) arrivals) (Some (NotMarked of)) None) free.left_arrivals
   no_row (Expire at Right of) = ap (λ arrivals. cond (list_any (waits_for of.0 Row) arrivals) (Some (NotMarked of)) None) free.right_arrivals
 
@@ -210,6 +213,8 @@ module _ {P : Type 0} (matches : P → P → Bool) (n most : ℕ) {schedule : Li
       left_expiries = no_expiries chain.driver.left_expiries (λ i. none_owed _ _ (owes-expiry_left P n i));
       right_arrivals = no_arrivals chain.driver.right_arrivals (λ i. none_owed _ _ (owes-row_right P n i)) (λ i. none_owed _ _ (owes-end_right P n i (some_core reached)));
       right_expiries = no_expiries chain.driver.right_expiries (λ i. none_owed _ _ (owes-expiry_right P n i));
+      left_quiets = no_expiries chain.driver.left_quiets (λ i. none_owed _ _ (owes-quiet_left P n i));
+      right_quiets = no_expiries chain.driver.right_quiets (λ i. none_owed _ _ (owes-quiet_right P n i));
     }
 
     -- once the closes were put, they were handled everywhere

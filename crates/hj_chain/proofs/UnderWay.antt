@@ -8,7 +8,7 @@ use Rattle.hj_base.specs.declared.numbers.Side.TheVariants.{Left, Right}
 use Rattle.hj_base.specs.Journals.{puts, takes}
 use Rattle.hj_msg.specs.declared.event.Event.{Event}
 use Rattle.hj_msg.specs.declared.message.Msg.{Msg}
-use Rattle.hj_msg.specs.declared.message.Msg.TheVariants.{R, EndS, ExpS, CloseL, S, EndR, ExpR, CloseR}
+use Rattle.hj_msg.specs.declared.message.Msg.TheVariants.{R, EndS, ExpS, QuietL, CloseL, S, EndR, ExpR, QuietR, CloseR}
 use Rattle.hj_msg.specs.Core.{empty_state, is_last}
 use Rattle.hj_msg.specs.Turns.{at_left}
 use Rattle.hj_msg.specs.Driver.{DriverTurn}
@@ -23,7 +23,7 @@ use Rattle.hj_chain.proofs.Directed.{directed}
 use Rattle.hj_chain.proofs.Handled.{sent_right, sent_left, came_right, came_left}
 use Rattle.hj_chain.proofs.Passing.{PassesOn, PassesBack, few_under_way, fewer_sent, few_under_way_back, fewer_sent_back}
 use Rattle.hj_chain.proofs.Counts.{count, count-append}
-use Rattle.hj_chain.proofs.MessageKinds.{a_R, an_EndS, an_ExpS, a_CloseL, an_S, an_EndR, an_ExpR, a_CloseR, goes_right, goes_left, SendsRight, SendsLeft, R_right, ExpS_right, CloseL_right, EndS_right, EndS_first, an_S_or_EndS, S_left, ExpR_left, CloseR_left, an_R_or_EndR, EndR_left, EndR_last, never, port-left, port-right}
+use Rattle.hj_chain.proofs.MessageKinds.{a_R, an_EndS, an_ExpS, a_QuietL, a_CloseL, an_S, an_EndR, an_ExpR, a_QuietR, a_CloseR, goes_right, goes_left, SendsRight, SendsLeft, R_right, ExpS_right, QuietL_right, CloseL_right, EndS_right, EndS_first, an_S_or_EndS, S_left, ExpR_left, QuietR_left, CloseR_left, an_R_or_EndR, EndR_left, EndR_last, never, port-left, port-right}
 use Rattle.hj_chain.proofs.Balance.{put_in, came_out}
 
 -- the driver puts none of these at its ports
@@ -71,6 +71,10 @@ ExpS_goes : {P : Type 0} (m : Msg P) → an_ExpS m ≡ true → goes_right m ≡
 ExpS_goes (ExpS at) is = refl
 ExpS_goes other is = absurd (cc)
 
+QuietL_goes : {P : Type 0} (m : Msg P) → a_QuietL m ≡ true → goes_right m ≡ true
+QuietL_goes (QuietL at) is = refl
+QuietL_goes other is = absurd (cc)
+
 pub CloseL_goes : {P : Type 0} (m : Msg P) → a_CloseL m ≡ true → goes_right m ≡ true
 CloseL_goes CloseL is = refl
 CloseL_goes other is = absurd (cc)
@@ -86,6 +90,10 @@ S_goes other is = absurd (cc)
 ExpR_goes : {P : Type 0} (m : Msg P) → an_ExpR m ≡ true → goes_left m ≡ true
 ExpR_goes (ExpR at) is = refl
 ExpR_goes other is = absurd (cc)
+
+QuietR_goes : {P : Type 0} (m : Msg P) → a_QuietR m ≡ true → goes_left m ≡ true
+QuietR_goes (QuietR at) is = refl
+QuietR_goes other is = absurd (cc)
 
 pub CloseR_goes : {P : Type 0} (m : Msg P) → a_CloseR m ≡ true → goes_left m ≡ true
 CloseR_goes CloseR is = refl
@@ -169,6 +177,9 @@ module _ {P : Type 0} (matches : P → P → Bool) (m most : ℕ) {schedule : Li
   pub expiries_right : (k : ℕ) → k ≤ n → way_r an_ExpS k + came_out Right an_ExpS history.log ≤ put_in Left an_ExpS history.log
   expiries_right k within = omega (arith, few_under_way (sent_r an_ExpS) (came_r an_ExpS) (way_r an_ExpS) n (passes_on an_ExpS (λ j. ExpS_right j n) ExpS_goes) k within, came_last an_ExpS)
 
+  pub quiets_right : (k : ℕ) → k ≤ n → way_r a_QuietL k + came_out Right a_QuietL history.log ≤ put_in Left a_QuietL history.log
+  quiets_right k within = omega (arith, few_under_way (sent_r a_QuietL) (came_r a_QuietL) (way_r a_QuietL) n (passes_on a_QuietL (λ j. QuietL_right j n) QuietL_goes) k within, came_last a_QuietL)
+
   pub closes_right : (k : ℕ) → k ≤ n → way_r a_CloseL k ≤ put_in Left a_CloseL history.log
   closes_right k within = omega (arith, few_under_way (sent_r a_CloseL) (came_r a_CloseL) (way_r a_CloseL) n (passes_on a_CloseL (λ j. CloseL_right j n) CloseL_goes) k within)
 
@@ -181,12 +192,15 @@ module _ {P : Type 0} (matches : P → P → Bool) (m most : ℕ) {schedule : Li
   pub expiries_left : (k : ℕ) → k ≤ n → way_l an_ExpR k + came_out Left an_ExpR history.log ≤ put_in Right an_ExpR history.log
   expiries_left k within = omega (arith, few_under_way_back (sent_l an_ExpR) (came_l an_ExpR) (way_l an_ExpR) n (passes_back an_ExpR (λ j. ExpR_left j n) ExpR_goes) k within, sent_last an_ExpR)
 
+  pub quiets_left : (k : ℕ) → k ≤ n → way_l a_QuietR k + came_out Left a_QuietR history.log ≤ put_in Right a_QuietR history.log
+  quiets_left k within = omega (arith, few_under_way_back (sent_l a_QuietR) (came_l a_QuietR) (way_l a_QuietR) n (passes_back a_QuietR (λ j. QuietR_left j n) QuietR_goes) k within, sent_last a_QuietR)
+
   pub closes_left : (k : ℕ) → k ≤ n → way_l a_CloseR k ≤ put_in Right a_CloseR history.log
   closes_left k within = omega (arith, few_under_way_back (sent_l a_CloseR) (came_l a_CloseR) (way_l a_CloseR) n (passes_back a_CloseR (λ j. CloseR_left j n) CloseR_goes) k within, sent_last a_CloseR)
 
   -- the marks that rows have been everywhere: those of right rows begin at core 0
   no_EndS_first : sent_r an_EndS 0 ≡ 0
-  no_EndS_first = puts_none an_EndS history.log Left (port-left an_EndS (λ at row. refl) (λ at. refl) refl)
+  no_EndS_first = puts_none an_EndS history.log Left (port-left an_EndS (λ at row. refl) (λ at. refl) (λ at. refl) refl)
 
   pub EndS_from_first : sent_r an_EndS 1 ≡ came_l an_S 1
   EndS_from_first =
@@ -220,7 +234,7 @@ module _ {P : Type 0} (matches : P → P → Bool) (m most : ℕ) {schedule : Li
 
   -- and those of left rows at the last core
   no_EndR_last : sent_l an_EndR n ≡ 0
-  no_EndR_last = sent_last an_EndR ∙ puts_none an_EndR history.log Right (port-right an_EndR (λ at row. refl) (λ at. refl) refl)
+  no_EndR_last = sent_last an_EndR ∙ puts_none an_EndR history.log Right (port-right an_EndR (λ at row. refl) (λ at. refl) (λ at. refl) refl)
 
   last_core : is_last m n ≡ true
   last_core = eq-eqb (m + 1) n (omega arith)

@@ -9,7 +9,7 @@ use Rattle.hj_base.specs.declared.numbers.CoreNo.{CoreNo}
 use Rattle.hj_base.specs.declared.numbers.Side.{Side}
 use Rattle.hj_base.specs.declared.numbers.Side.TheVariants.{Left, Right}
 use Rattle.hj_msg.specs.declared.message.Report.{Report}
-use Rattle.hj_msg.specs.declared.message.Report.TheVariants.{Handled, Ended, NoMemory}
+use Rattle.hj_msg.specs.declared.message.Report.TheVariants.{Handled, Quiet, Ended, NoMemory}
 use Rattle.hj_msg.specs.Punctuation.{Mark, up_to, all, arrival_of, is_end, lesser, mark_of, punctuation}
 use Rattle.hj_collect.specs.Marks.{after_arrival, is_same, least_of, with_arrival, with_end}
 use Rattle.hj_collect.specs.Collector.{CollectorState, after_report, has_ended, least_mark, nothing_taken}
@@ -100,6 +100,12 @@ follows {P} core r collector lists low is = go r
         record { left = ap (with_arrival core.0 at.0) is.left ∙ marks-arrival Left lists core.0 r below at.0 refl refl; right = is.right ∙ marks-other Right lists core.0 r below refl refl }
     go (Handled at Right row partners) =
         let r : Report P = Handled at Right row partners in
+        record { left = is.left ∙ marks-other Left lists core.0 r below refl refl; right = ap (with_arrival core.0 at.0) is.right ∙ marks-arrival Right lists core.0 r below at.0 refl refl }
+    go (Quiet at Left) =
+        let r : Report P = Quiet at Left in
+        record { left = ap (with_arrival core.0 at.0) is.left ∙ marks-arrival Left lists core.0 r below at.0 refl refl; right = is.right ∙ marks-other Right lists core.0 r below refl refl }
+    go (Quiet at Right) =
+        let r : Report P = Quiet at Right in
         record { left = is.left ∙ marks-other Left lists core.0 r below refl refl; right = ap (with_arrival core.0 at.0) is.right ∙ marks-arrival Right lists core.0 r below at.0 refl refl }
     go Ended = record { left = ap (with_end core.0) is.left ∙ marks-end Left lists core.0 Ended below refl; right = ap (with_end core.0) is.right ∙ marks-end Right lists core.0 Ended below refl }
     go NoMemory = record { left = is.left ∙ marks-other Left lists core.0 NoMemory below refl refl; right = is.right ∙ marks-other Right lists core.0 NoMemory below refl refl }

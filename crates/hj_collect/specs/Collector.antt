@@ -5,7 +5,7 @@ use Rattle.std.specs.Option.{option_or}
 use Rattle.hj_base.specs.declared.numbers.CoreNo.{CoreNo}
 use Rattle.hj_base.specs.declared.numbers.Side.TheVariants.{Left, Right}
 use Rattle.hj_msg.specs.declared.message.Report.{Report}
-use Rattle.hj_msg.specs.declared.message.Report.TheVariants.{Handled, Ended, NoMemory}
+use Rattle.hj_msg.specs.declared.message.Report.TheVariants.{Handled, Quiet, Ended, NoMemory}
 use Rattle.hj_msg.specs.Punctuation.{Mark, all, lesser}
 use Rattle.hj_collect.specs.Marks.{is_same, least_of, with_arrival, with_end}
 
@@ -30,6 +30,7 @@ has_ended collector = is_same (least_mark collector) (Some all)
 abbrev pub first_stopped : {P : Type 0} → Option CoreNo → CoreNo → Report P → Option CoreNo
 first_stopped (Some first) core report = Some first
 first_stopped None core NoMemory = Some core
+first_stopped None core (Quiet at side) = None
 first_stopped None core Ended = None
 first_stopped None core (Handled at side row partners) = None
 
@@ -37,5 +38,7 @@ first_stopped None core (Handled at side row partners) = None
 abbrev pub after_report : {P : Type 0} → CoreNo → Report P → CollectorState → CollectorState
 after_report core (Handled at Left row partners) collector = record collector { left = with_arrival core.0 at.0 collector.left }
 after_report core (Handled at Right row partners) collector = record collector { right = with_arrival core.0 at.0 collector.right }
+after_report core (Quiet at Left) collector = record collector { left = with_arrival core.0 at.0 collector.left }
+after_report core (Quiet at Right) collector = record collector { right = with_arrival core.0 at.0 collector.right }
 after_report core Ended collector = record collector { left = with_end core.0 collector.left; right = with_end core.0 collector.right }
 after_report core NoMemory collector = record collector { stopped = option_or collector.stopped (Some core) }

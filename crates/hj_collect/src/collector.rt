@@ -85,11 +85,19 @@ impl Collector {
                 no,
                 side: Side::Left,
                 ..
+            }
+            | Report::Quiet {
+                no,
+                side: Side::Left,
             } => self.left.arrive(at, *no),
             Report::Handled {
                 no,
                 side: Side::Right,
                 ..
+            }
+            | Report::Quiet {
+                no,
+                side: Side::Right,
             } => self.right.arrive(at, *no),
             Report::Ended => {
                 self.left.end(at);

@@ -127,6 +127,18 @@ impl<P: Share + Drop, J: Join<P> + Drop, L: Store<P, J> + Drop, R: Store<P, J> +
                 self.flight.acknowledge(no);
                 Sends::nothing()
             }
+            Msg::QuietL(no) => {
+                Sends::right(Msg::QuietL(no)).with_report(Report::Quiet {
+                    no,
+                    side: Side::Left,
+                })
+            }
+            Msg::QuietR(no) => {
+                Sends::left(Msg::QuietR(no)).with_report(Report::Quiet {
+                    no,
+                    side: Side::Right,
+                })
+            }
             Msg::CloseL => {
                 let is_second = self.closed_right && !self.closed_left;
                 self.closed_left = true;

@@ -59,6 +59,20 @@ impl<P> Sends<P> {
 }
 
 impl<P: Drop> Sends<P> {
+    /// This with a report. There is none yet.
+    #[inline(always)]
+    pub(crate) fn with_report(self, report: Report<P>) -> Self
+        requires { self.entry ≡ None }
+        ensures { result ≡ record self { entry = Some report } }
+    {
+        Sends {
+            to_left: self.to_left,
+            to_right: self.to_right,
+            to_right_then: self.to_right_then,
+            entry: Some(report),
+        }
+    }
+
     /// This with the core's end, where that is to be reported. There is no report yet.
     #[inline(always)]
     pub(crate) fn with_end(self, ends: bool) -> Self

@@ -8,7 +8,7 @@ use Rattle.hj_base.specs.Journals.{IsPrefix, takes}
 use Rattle.hj_msg.specs.declared.event.Pair.{Pair}
 use Rattle.hj_msg.specs.declared.message.Msg.TheVariants.{CloseL, CloseR}
 use Rattle.hj_msg.specs.declared.message.Report.{Report}
-use Rattle.hj_msg.specs.declared.message.Report.TheVariants.{Handled, Ended, NoMemory}
+use Rattle.hj_msg.specs.declared.message.Report.TheVariants.{Handled, Quiet, Ended, NoMemory}
 use Rattle.hj_msg.specs.Driver.{DriverTurn, admission, receipt, closing, is_take, took}
 use Rattle.hj_msg.specs.Emission.{is_within, emitted}
 use Rattle.hj_msg.specs.Feed.{FeedState}
@@ -83,6 +83,7 @@ module _ {P : Type 0} where
   is_ended : (report : Report P) → is_end report ≡ true → report ≡ Ended
   is_ended Ended is = refl
   is_ended (Handled at side row partners) is = absurd (true≢false (sym is))
+  is_ended (Quiet at side) is = absurd (true≢false (sym is))
   is_ended NoMemory is = absurd (true≢false (sym is))
 
   told_end : (reports : List (Report P)) → list_any is_end reports ≡ true → Contains reports Ended

@@ -144,9 +144,10 @@ module _ {P : Type 0} where
       if desk.over || is_some desk.collector.stopped then Some fin.Memory
       else (if is_finished desk.driver.closes && has_ended desk.collector then Some fin.Done else None)
 
-  -- how many reports come of what is known next: each core reports a row that arrives
+  -- how many reports come of what is known next: each core reports a row that arrives, and a quiet event
   abbrev pub reports_of : Option (Given P) → ℕ → ℕ
   reports_of (Some (Event (happens.Arrive at side row))) cores = cores
+  reports_of (Some (Event (happens.Quiet at side))) cores = cores
   reports_of other cores = 0
 
   -- How pairs were answered: each one was kept, and no further one is due; or the last one was refused, and each other one kept.

@@ -209,13 +209,16 @@ impl<P: Share + Drop> Desk<P> {
         self.driver.outstanding()
     }
 
-    /// How many reports come of what is known next: each core reports a row that arrives.
+    /// How many reports come of what is known next: each core reports a row that arrives, and a quiet
+    /// event.
     #[inline(always)]
     pub fn reports_of_next(&self) -> u64
         ensures { result ≡ reports_of self.now.next (length self.now.reports.items) }
     {
         match &self.next {
-            Some(Given::Event(Event::Arrive { .. })) => self.reports.len() as u64,
+            Some(Given::Event(Event::Arrive { .. } | Event::Quiet { .. })) => {
+                self.reports.len() as u64
+            }
             _ => 0,
         }
     }
@@ -279,7 +282,7 @@ fn port_of<P>(event: &Event<P>) -> Side
     ensures { result ≡ port_of event.now }
 {
     match event {
-        Event::Arrive { side, .. } => *side,
+        Event::Arrive { side, .. } | Event::Quiet { side, .. } => *side,
         Event::Expire {
             side: Side::Left,
             ..

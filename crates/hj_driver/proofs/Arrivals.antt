@@ -17,6 +17,7 @@ use Rattle.hj_driver.specs.declared.lane.Part.TheVariants.{Row, End}
 use Rattle.std.proofs.lemmas.List.Folds.{list_any_none}
 use Rattle.std.proofs.lemmas.List.Quantifiers.{position-Some}
 use Rattle.hj_msg.proofs.Members.{Contains-from_filter}
+use Rattle.hj_driver.specs.Leaving.{LeavingState}
 use Rattle.hj_driver.specs.Lane.{LaneState, IsRising, AreDistinct, IsAt, IsAbsent, after_part, is_other, with_part, is_taken, waits_for}
 
 abbrev any_arrival : Arrival
@@ -166,6 +167,12 @@ lane_with s before after expiries room f is e = ap (λ l. lane l expiries room) 
 pub lane_with_expiries : (s : LaneState) (arrivals : List Arrival) (before after : List EventNo) (room : ℕ) (f : List EventNo → List EventNo) → lane arrivals before room ≡ s → after ≡ f before
     → lane arrivals after room ≡ lane s.arrivals (f s.expiries) s.room
 lane_with_expiries s arrivals before after room f is e = ap (λ l. lane arrivals l room) e ∙ ap (λ (t : LaneState). lane t.arrivals (f t.expiries) t.room) is
+
+abbrev leaving : List EventNo → ℕ → LeavingState
+leaving numbers room = record { numbers = numbers; room = room }
+
+pub leaving_with : (s : LeavingState) (before after : List EventNo) (room : ℕ) (f : List EventNo → List EventNo) → leaving before room ≡ s → after ≡ f before → leaving after room ≡ leaving (f s.numbers) s.room
+leaving_with s before after room f is e = ap (λ l. leaving l room) e ∙ ap (λ (t : LeavingState). leaving (f t.numbers) t.room) is
 
 some≢none : {X : Type 0} {x : X} → Some x ≡ None → ⊥
 some≢none same = cc

@@ -10,8 +10,8 @@ use Rattle.hj_base.specs.declared.numbers.EventNo.{EventNo}
 use Rattle.hj_base.specs.declared.numbers.Side.{Side}
 use Rattle.hj_base.specs.declared.numbers.Side.TheVariants.{Left, Right}
 use Rattle.hj_msg.specs.declared.event.Event.{Event}
-use Rattle.hj_msg.specs.declared.event.Event.TheVariants.{Arrive, Expire}
-use Rattle.hj_msg.specs.Messages.{is_R, is_S, is_EndR, is_EndS, is_ExpR, is_ExpS}
+use Rattle.hj_msg.specs.declared.event.Event.TheVariants.{Arrive, Expire, Quiet}
+use Rattle.hj_msg.specs.Messages.{is_R, is_S, is_EndR, is_EndS, is_ExpR, is_ExpS, is_QuietL, is_QuietR}
 use Rattle.hj_msg.specs.Event.{number, NumbersFrom, Arrives, Expires, NamesLive, IsWellFormed}
 use Rattle.hj_msg.specs.Driver.{DriverTurn, admission, receipt, closing, admitted, took, outstanding, is_arrival, row_taken, came_out, HasComeOut, message_of, port_of}
 use Rattle.hj_msg.proofs.Members.{Contains-head, Contains-cons, Contains-cons_cases}
@@ -23,7 +23,7 @@ use Rattle.hj_driver.specs.declared.lane.Part.TheVariants.{Row, End}
 use Rattle.hj_driver.specs.declared.lane.Arrival.{Arrival}
 use Rattle.hj_driver.specs.Lane.{waits_for}
 use Rattle.hj_driver.specs.Driver.{DriverState, answer_to, cause_of, row_cause, IsNew, is_sent, count_of}
-use Rattle.hj_driver.specs.StandsFor.{StandsFor, arrival_with, arrival_after, arrivals_of, expiries_of, is_closing, not_out, cause_after}
+use Rattle.hj_driver.specs.StandsFor.{StandsFor, arrival_with, arrival_after, arrivals_of, expiries_of, quiets_of, quiet_after, is_closing, not_out, cause_after}
 use Rattle.hj_driver.proofs.Logs.{is_sent-closes_of}
 use Rattle.hj_driver.proofs.Standing.{stands-count}
 
@@ -40,9 +40,13 @@ with_event P Right (Arrive at Right row) log rest here all = with_number P at (t
 with_event P Left (Arrive at Right row) log rest here all = all
 with_event P Left (Expire at Left of) log rest here all = all
 with_event P Left (Expire at Right of) log rest here all = all
+with_event P Left (Quiet at Left) log rest here all = all
+with_event P Left (Quiet at Right) log rest here all = all
 with_event P Right (Arrive at Left row) log rest here all = all
 with_event P Right (Expire at Left of) log rest here all = all
 with_event P Right (Expire at Right of) log rest here all = all
+with_event P Right (Quiet at Left) log rest here all = all
+with_event P Right (Quiet at Right) log rest here all = all
 
 -- numbers are at least the first one, and below the first one behind them
 pub numbers_between : {P : Type 0} (side : Side) (low high : ℕ) (log : List (DriverTurn P)) → NumbersFrom low (admitted log) → low + length (admitted log) ≡ high → All (λ (a : Arrival). (low ≤ a.no.0) × (a.no.0 < high)) (arrivals_of side log)
@@ -64,9 +68,13 @@ not_arrival Right n (Arrive at Right row) other = ne_eqb at.0 n other
 not_arrival Left n (Arrive at Right row) other = refl
 not_arrival Left n (Expire at Left of) other = refl
 not_arrival Left n (Expire at Right of) other = refl
+not_arrival Left n (Quiet at Left) other = refl
+not_arrival Left n (Quiet at Right) other = refl
 not_arrival Right n (Arrive at Left row) other = refl
 not_arrival Right n (Expire at Left of) other = refl
 not_arrival Right n (Expire at Right of) other = refl
+not_arrival Right n (Quiet at Left) other = refl
+not_arrival Right n (Quiet at Right) other = refl
 
 in_below : {P : Type 0} (side : Side) (n low : ℕ) (log : List (DriverTurn P)) → NumbersFrom low (admitted log) → n < low → came_out side n log ≡ false
 in_below side n low [] numbers below = refl
@@ -112,9 +120,13 @@ waits-came_out Right n low (admission (Arrive at Right row) ∷ later) numbers a
 waits-came_out Left n low (admission (Arrive at Right row) ∷ later) numbers arrives = waits-came_out Left n (low + 1) later numbers.1 arrives
 waits-came_out Left n low (admission (Expire at Left of) ∷ later) numbers arrives = waits-came_out Left n (low + 1) later numbers.1 arrives
 waits-came_out Left n low (admission (Expire at Right of) ∷ later) numbers arrives = waits-came_out Left n (low + 1) later numbers.1 arrives
+waits-came_out Left n low (admission (Quiet at Left) ∷ later) numbers arrives = waits-came_out Left n (low + 1) later numbers.1 arrives
+waits-came_out Left n low (admission (Quiet at Right) ∷ later) numbers arrives = waits-came_out Left n (low + 1) later numbers.1 arrives
 waits-came_out Right n low (admission (Arrive at Left row) ∷ later) numbers arrives = waits-came_out Right n (low + 1) later numbers.1 arrives
 waits-came_out Right n low (admission (Expire at Left of) ∷ later) numbers arrives = waits-came_out Right n (low + 1) later numbers.1 arrives
 waits-came_out Right n low (admission (Expire at Right of) ∷ later) numbers arrives = waits-came_out Right n (low + 1) later numbers.1 arrives
+waits-came_out Right n low (admission (Quiet at Left) ∷ later) numbers arrives = waits-came_out Right n (low + 1) later numbers.1 arrives
+waits-came_out Right n low (admission (Quiet at Right) ∷ later) numbers arrives = waits-came_out Right n (low + 1) later numbers.1 arrives
 
 -- an event behind a log is new to the driver
 last_number : {P : Type 0} (n : ℕ) (xs : List (Event P)) (event : Event P) → NumbersFrom n (xs ++ event ∷ []) → number event ≡ n + length xs
@@ -134,6 +146,7 @@ turned false x y = refl
 
 pub row_cause-not_out : {P : Type 0} (event : Event P) (d : DriverState) (log : List (DriverTurn P)) → StandsFor d log → IsWellFormed (admitted log ++ event ∷ []) → row_cause event d ≡ not_out event log
 row_cause-not_out (Arrive at side row) d log stands well = refl
+row_cause-not_out (Quiet at side) d log stands well = refl
 row_cause-not_out {P} (Expire at Left of) d log stands well =
     let event : Event P = Expire at Left of in
     let live = live_row log event well in
@@ -182,6 +195,7 @@ came_out-if false of none = absurd (some≢none none)
 
 pub has_come_out : {P : Type 0} (event : Event P) (log : List (DriverTurn P)) → not_out event log ≡ None → HasComeOut event log
 has_come_out (Arrive at side row) log none = tt
+has_come_out (Quiet at side) log none = tt
 has_come_out (Expire at side of) log none = came_out-if (came_out side of.0 log) of none
 
 expiry_cases : (t : Bool) (x y : EventNo) (rest : List EventNo) → Contains (cons_option (cond t None (Some x)) rest) y → (x ≡ y) ⊎ Contains rest y
@@ -207,14 +221,45 @@ expired Right (admission (Expire at Right x) ∷ later) of has = expired-here Ri
 expired Left (admission (Expire at Right x) ∷ later) of has = expired-later (Expire at Right x) (admitted later) of.0 (expired Left later of has)
 expired Left (admission (Arrive at Left row) ∷ later) of has = expired-later (Arrive at Left row) (admitted later) of.0 (expired Left later of has)
 expired Left (admission (Arrive at Right row) ∷ later) of has = expired-later (Arrive at Right row) (admitted later) of.0 (expired Left later of has)
+expired Left (admission (Quiet at Left) ∷ later) of has = expired-later (Quiet at Left) (admitted later) of.0 (expired Left later of has)
+expired Left (admission (Quiet at Right) ∷ later) of has = expired-later (Quiet at Right) (admitted later) of.0 (expired Left later of has)
 expired Right (admission (Expire at Left x) ∷ later) of has = expired-later (Expire at Left x) (admitted later) of.0 (expired Right later of has)
 expired Right (admission (Arrive at Left row) ∷ later) of has = expired-later (Arrive at Left row) (admitted later) of.0 (expired Right later of has)
 expired Right (admission (Arrive at Right row) ∷ later) of has = expired-later (Arrive at Right row) (admitted later) of.0 (expired Right later of has)
+expired Right (admission (Quiet at Left) ∷ later) of has = expired-later (Quiet at Left) (admitted later) of.0 (expired Right later of has)
+expired Right (admission (Quiet at Right) ∷ later) of has = expired-later (Quiet at Right) (admitted later) of.0 (expired Right later of has)
 
 above_all : {P : Type 0} (side : Side) (log : List (DriverTurn P)) (event : Event P) → NumbersFrom 0 (admitted log) → NumbersFrom 0 (admitted log ++ event ∷ []) → All (λ (a : Arrival). a.no.0 < number event) (arrivals_of side log)
 above_all side log event before numbers =
     All-weaker (λ (a : Arrival). (0 ≤ a.no.0) × (a.no.0 < length (admitted log))) (λ (a : Arrival). a.no.0 < number event) (λ a w. omega (arith, w.1, last_number 0 (admitted log) event numbers))
     (arrivals_of side log) (numbers_between side 0 (length (admitted log)) log before (omega arith))
+
+-- the outstanding quiet events have numbers below the next one
+quiet_is : {P : Type 0} (side : Side) (event : Event P) (log : List (DriverTurn P)) (rest : List EventNo) (at : EventNo) → Contains (cons_option (quiet_after side event log) rest) at → (number event ≡ at.0) ⊎ Contains rest at
+quiet_is Left (Quiet num Left) log rest at has = elim (expiry_cases (took Right (is_QuietL num.0) log) num at rest has) [ inl same ↦ inl (ap (λ (x : EventNo). x.0) same) | inr old ↦ inr old ]
+quiet_is Right (Quiet num Right) log rest at has = elim (expiry_cases (took Left (is_QuietR num.0) log) num at rest has) [ inl same ↦ inl (ap (λ (x : EventNo). x.0) same) | inr old ↦ inr old ]
+quiet_is Left (Quiet num Right) log rest at has = inr has
+quiet_is Left (Arrive num Left row) log rest at has = inr has
+quiet_is Left (Arrive num Right row) log rest at has = inr has
+quiet_is Left (Expire num Left of) log rest at has = inr has
+quiet_is Left (Expire num Right of) log rest at has = inr has
+quiet_is Right (Quiet num Left) log rest at has = inr has
+quiet_is Right (Arrive num Left row) log rest at has = inr has
+quiet_is Right (Arrive num Right row) log rest at has = inr has
+quiet_is Right (Expire num Left of) log rest at has = inr has
+quiet_is Right (Expire num Right of) log rest at has = inr has
+
+quiet_below : {P : Type 0} (side : Side) (low : ℕ) (log : List (DriverTurn P)) (at : EventNo) → NumbersFrom low (admitted log) → Contains (quiets_of side log) at → at.0 < low + length (admitted log)
+quiet_below side low [] at numbers has = absurd (omega (arith, has.1))
+quiet_below side low (receipt port message ∷ later) at numbers has = quiet_below side low later at numbers has
+quiet_below side low (closing ∷ later) at numbers has = quiet_below side low later at numbers has
+quiet_below side low (admission event ∷ later) at numbers has = elim (quiet_is side event later (quiets_of side later) at has) [
+  | inl same ↦ omega (arith, same, numbers.0)
+  | inr old ↦ omega (arith, quiet_below side (low + 1) later at numbers.1 old)
+]
+
+new_quiet : {P : Type 0} (side : Side) (event : Event P) (at : EventNo) (log : List (DriverTurn P)) → number event ≡ at.0 → IsWellFormed (admitted log) → IsWellFormed (admitted log ++ event ∷ []) → Contains (quiets_of side log) at → ⊥
+new_quiet side event at log is before well has = omega (arith, quiet_below side 0 log at before.numbered has, last_number 0 (admitted log) event well.numbered, is)
 
 pub is_new : {P : Type 0} (event : Event P) (d : DriverState) (log : List (DriverTurn P)) → StandsFor d log → IsWellFormed (admitted log ++ event ∷ []) → IsNew event d
 is_new {P} (Arrive at Left row) d log stands well = subst (All (λ (a : Arrival). a.no.0 < at.0)) (sym stands.left_arrivals) (above_all Left log (Arrive at Left row) stands.well_formed.numbered well.numbered)
@@ -227,6 +272,8 @@ is_new {P} (Expire at Right of) d log stands well = λ has.
     let event : Event P = Expire at Right of in
     let old = expired Right log of (subst (λ (l : List EventNo). Contains l of) stands.right_expiries has) in
     (live_row log event well).1 old.0 old.1
+is_new {P} (Quiet at Left) d log stands well = λ has. new_quiet Left (Quiet at Left) at log refl stands.well_formed well (subst (λ (l : List EventNo). Contains l at) stands.left_quiets has)
+is_new {P} (Quiet at Right) d log stands well = λ has. new_quiet Right (Quiet at Right) at log refl stands.well_formed well (subst (λ (l : List EventNo). Contains l at) stands.right_quiets has)
 
 -- what is answered where no cause is
 pub sent_answer : {P : Type 0} (event : Event P) (cause : Option Why) (port : Side) (m : Msg P) → port ≡ port_of event → m ≡ message_of event → cause ≡ None → Send port m ≡ answer_to event cause

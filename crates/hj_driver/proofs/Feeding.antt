@@ -5,7 +5,7 @@ use Rattle.std.proofs.lemmas.List.Sums.{fold_push}
 use Rattle.hj_base.specs.declared.numbers.Side.{Side}
 use Rattle.hj_base.specs.declared.numbers.Side.TheVariants.{Left, Right}
 use Rattle.hj_msg.specs.declared.event.Event.{Event}
-use Rattle.hj_msg.specs.declared.event.Event.TheVariants.{Arrive, Expire}
+use Rattle.hj_msg.specs.declared.event.Event.TheVariants.{Arrive, Expire, Quiet}
 use Rattle.hj_msg.specs.Event.{number, NumbersFrom, Arrives, Expires, NamesLive, IsWellFormed}
 use Rattle.hj_msg.specs.Feed.{Numbering, first_numbering, numbering_after, numbering_of, NamesLiveNumber, FeedState, GivesEvent}
 use Rattle.hj_msg.proofs.Members.{Contains-nil, Contains-from_filter}
@@ -79,6 +79,11 @@ module _ {P : Type 0} (numbering : Numbering) (front : List (Event P)) (tells : 
       | inr w ↦ arrives_live Right front at row of well w
     ];
   }
+  tells-push (Quiet at side) well = record {
+    next = next-push (Quiet at side);
+    left = λ of has. still_live Left front (Quiet at side) of (λ w. let e = w.2 in cc) (tells.left of has);
+    right = λ of has. still_live Right front (Quiet at side) of (λ w. let e = w.2 in cc) (tells.right of has);
+  }
   tells-push (Expire at Left gone) well =
       let event : Event P = Expire at Left gone in
       let named = (NamesLive-last front event well).0 in
@@ -138,6 +143,7 @@ numbers-push first (e ∷ events) event numbers is = (numbers.0, numbers-push (f
 
 names-live : {P : Type 0} (numbering : Numbering) (events : List (Event P)) (event : Event P) → Tells numbering events → NamesLiveNumber numbering event → NamesLive events event
 names-live numbering events (Arrive at side row) tells named = tt
+names-live numbering events (Quiet at side) tells named = tt
 names-live numbering events (Expire at Left of) tells named = let live = tells.left of.0 named in ((live.row, live.arrives), live.stays)
 names-live numbering events (Expire at Right of) tells named = let live = tells.right of.0 named in ((live.row, live.arrives), live.stays)
 

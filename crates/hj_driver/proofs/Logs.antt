@@ -9,17 +9,17 @@ use Rattle.hj_base.specs.declared.numbers.EventNo.{EventNo}
 use Rattle.hj_base.specs.declared.numbers.Side.{Side}
 use Rattle.hj_base.specs.declared.numbers.Side.TheVariants.{Left, Right}
 use Rattle.hj_msg.specs.declared.event.Event.{Event}
-use Rattle.hj_msg.specs.declared.event.Event.TheVariants.{Arrive, Expire}
+use Rattle.hj_msg.specs.declared.event.Event.TheVariants.{Arrive, Expire, Quiet}
 use Rattle.hj_msg.specs.declared.message.Msg.{Msg}
-use Rattle.hj_msg.specs.declared.message.Msg.TheVariants.{R, AckS, EndS, ExpS, CloseL, S, EndR, ExpR, CloseR}
-use Rattle.hj_msg.specs.Messages.{is_R, is_S, is_EndR, is_EndS, is_ExpR, is_ExpS}
+use Rattle.hj_msg.specs.declared.message.Msg.TheVariants.{R, AckS, EndS, ExpS, QuietL, CloseL, S, EndR, ExpR, QuietR, CloseR}
+use Rattle.hj_msg.specs.Messages.{is_R, is_S, is_EndR, is_EndS, is_ExpR, is_ExpS, is_QuietL, is_QuietR}
 use Rattle.hj_msg.specs.Driver.{DriverTurn, admission, receipt, closing, admitted, is_take, took, outstanding}
 use Rattle.hj_driver.specs.declared.closes.Closes.TheVariants.{Unsent, Sent}
 use Rattle.hj_driver.specs.declared.lane.Part.TheVariants.{Row, End}
 use Rattle.hj_driver.specs.declared.lane.Arrival.{Arrival}
 use Rattle.hj_driver.specs.Lane.{after_part, is_other, with_part}
-use Rattle.hj_driver.specs.Driver.{after_message, stays, after_close, is_sent}
-use Rattle.hj_driver.specs.StandsFor.{arrival_with, arrival_after, expiry_after, arrivals_of, expiries_of, closes_of, is_CloseL, is_CloseR, is_closing}
+use Rattle.hj_driver.specs.Driver.{after_message, stays, quiet_stays, after_close, is_sent}
+use Rattle.hj_driver.specs.StandsFor.{arrival_with, arrival_after, expiry_after, quiet_after, arrivals_of, expiries_of, quiets_of, closes_of, is_CloseL, is_CloseR, is_closing}
 
 -- one more turn
 pub took-push : {P : Type 0} (port : Side) (test : Msg P → Bool) (log : List (DriverTurn P)) (turn : DriverTurn P) → took port test (log ++ turn ∷ []) ≡ took port test log || is_take port test turn
@@ -94,6 +94,8 @@ left_more at Left (S its row2) r e = no_more at r e
 left_more at Left (EndR its) r e = end_more at its r e
 left_more at Left (ExpR its) r e = no_more at r e
 left_more at Left CloseR r e = no_more at r e
+left_more at Left (QuietL its) r e = no_more at r e
+left_more at Left (QuietR its) r e = no_more at r e
 left_more at Right (R its row2) r e = row_more at its r e
 left_more at Right (AckS its) r e = no_more at r e
 left_more at Right (EndS its) r e = no_more at r e
@@ -103,6 +105,8 @@ left_more at Right (S its row2) r e = no_more at r e
 left_more at Right (EndR its) r e = no_more at r e
 left_more at Right (ExpR its) r e = no_more at r e
 left_more at Right CloseR r e = no_more at r e
+left_more at Right (QuietL its) r e = no_more at r e
+left_more at Right (QuietR its) r e = no_more at r e
 
 right_more : {P : Type 0} (at : EventNo) (port : Side) (m : Msg P) (r e : Bool) → arrival_with at (r || is_take Left (is_S at.0) (receipt port m)) (e || is_take Right (is_EndS at.0) (receipt port m)) ≡ option_and_then (after_message Right port m) (arrival_with at r e)
 right_more at Left (R its row2) r e = no_more at r e
@@ -114,6 +118,8 @@ right_more at Left (S its row2) r e = row_more at its r e
 right_more at Left (EndR its) r e = no_more at r e
 right_more at Left (ExpR its) r e = no_more at r e
 right_more at Left CloseR r e = no_more at r e
+right_more at Left (QuietL its) r e = no_more at r e
+right_more at Left (QuietR its) r e = no_more at r e
 right_more at Right (R its row2) r e = no_more at r e
 right_more at Right (AckS its) r e = no_more at r e
 right_more at Right (EndS its) r e = end_more at its r e
@@ -123,6 +129,8 @@ right_more at Right (S its row2) r e = no_more at r e
 right_more at Right (EndR its) r e = no_more at r e
 right_more at Right (ExpR its) r e = no_more at r e
 right_more at Right CloseR r e = no_more at r e
+right_more at Right (QuietL its) r e = no_more at r e
+right_more at Right (QuietR its) r e = no_more at r e
 
 arrival_after-receipt : {P : Type 0} (side : Side) (event : Event P) (log : List (DriverTurn P)) (port : Side) (m : Msg P)
     → arrival_after side event (log ++ receipt port m ∷ []) ≡ option_and_then (after_message side port m) (arrival_after side event log)
@@ -137,9 +145,13 @@ arrival_after-receipt {P} Right (Arrive at Right row) log port m =
 arrival_after-receipt Left (Arrive at Right row) log port m = refl
 arrival_after-receipt Left (Expire at Left of) log port m = refl
 arrival_after-receipt Left (Expire at Right of) log port m = refl
+arrival_after-receipt Left (Quiet at Left) log port m = refl
+arrival_after-receipt Left (Quiet at Right) log port m = refl
 arrival_after-receipt Right (Arrive at Left row) log port m = refl
 arrival_after-receipt Right (Expire at Left of) log port m = refl
 arrival_after-receipt Right (Expire at Right of) log port m = refl
+arrival_after-receipt Right (Quiet at Left) log port m = refl
+arrival_after-receipt Right (Quiet at Right) log port m = refl
 
 cons-filter_map : {X : Type 0} (f : X → Option X) (o : Option X) (xs : List X) → cons_option (option_and_then f o) (filter_map f xs) ≡ filter_map f (cons_option o xs)
 cons-filter_map f None xs = refl
@@ -179,6 +191,8 @@ left_lasts of Left (S its row2) t = lasts of t
 left_lasts of Left (EndR its) t = lasts of t
 left_lasts of Left (ExpR its) t = leaves of its t
 left_lasts of Left CloseR t = lasts of t
+left_lasts of Left (QuietL its) t = lasts of t
+left_lasts of Left (QuietR its) t = lasts of t
 left_lasts of Right (R its row2) t = lasts of t
 left_lasts of Right (AckS its) t = lasts of t
 left_lasts of Right (EndS its) t = lasts of t
@@ -188,6 +202,8 @@ left_lasts of Right (S its row2) t = lasts of t
 left_lasts of Right (EndR its) t = lasts of t
 left_lasts of Right (ExpR its) t = lasts of t
 left_lasts of Right CloseR t = lasts of t
+left_lasts of Right (QuietL its) t = lasts of t
+left_lasts of Right (QuietR its) t = lasts of t
 
 right_lasts : {P : Type 0} (of : EventNo) (port : Side) (m : Msg P) (t : Bool) → cond (t || is_take Right (is_ExpS of.0) (receipt port m)) None (Some of) ≡ option_and_then (λ (x : EventNo). cond (stays Right port m x) (Some x) None) (cond t None (Some of))
 right_lasts of Left (R its row2) t = lasts of t
@@ -199,6 +215,8 @@ right_lasts of Left (S its row2) t = lasts of t
 right_lasts of Left (EndR its) t = lasts of t
 right_lasts of Left (ExpR its) t = lasts of t
 right_lasts of Left CloseR t = lasts of t
+right_lasts of Left (QuietL its) t = lasts of t
+right_lasts of Left (QuietR its) t = lasts of t
 right_lasts of Right (R its row2) t = lasts of t
 right_lasts of Right (AckS its) t = lasts of t
 right_lasts of Right (EndS its) t = lasts of t
@@ -208,6 +226,8 @@ right_lasts of Right (S its row2) t = lasts of t
 right_lasts of Right (EndR its) t = lasts of t
 right_lasts of Right (ExpR its) t = lasts of t
 right_lasts of Right CloseR t = lasts of t
+right_lasts of Right (QuietL its) t = lasts of t
+right_lasts of Right (QuietR its) t = lasts of t
 
 expiry_after-receipt : {P : Type 0} (side : Side) (event : Event P) (log : List (DriverTurn P)) (port : Side) (m : Msg P)
     → expiry_after side event (log ++ receipt port m ∷ []) ≡ option_and_then (λ (x : EventNo). cond (stays side port m x) (Some x) None) (expiry_after side event log)
@@ -218,9 +238,13 @@ expiry_after-receipt Right (Expire at Right of) log port m =
 expiry_after-receipt Left (Expire at Right of) log port m = refl
 expiry_after-receipt Left (Arrive at Left row) log port m = refl
 expiry_after-receipt Left (Arrive at Right row) log port m = refl
+expiry_after-receipt Left (Quiet at Left) log port m = refl
+expiry_after-receipt Left (Quiet at Right) log port m = refl
 expiry_after-receipt Right (Expire at Left of) log port m = refl
 expiry_after-receipt Right (Arrive at Left row) log port m = refl
 expiry_after-receipt Right (Arrive at Right row) log port m = refl
+expiry_after-receipt Right (Quiet at Left) log port m = refl
+expiry_after-receipt Right (Quiet at Right) log port m = refl
 
 cons-if : {X : Type 0} (b : Bool) (x : X) (xs : List X) → cons_option (cond b (Some x) None) xs ≡ cond b (x ∷ xs) xs
 cons-if true x xs = refl
@@ -239,6 +263,81 @@ expiries_of-receipt side (admission event ∷ later) port m =
 expiries_of-receipt side (receipt other message ∷ later) port m = expiries_of-receipt side later port m
 expiries_of-receipt side (closing ∷ later) port m = expiries_of-receipt side later port m
 
+-- the same of quiet events
+left_quiet_lasts : {P : Type 0} (of : EventNo) (port : Side) (m : Msg P) (t : Bool) → cond (t || is_take Right (is_QuietL of.0) (receipt port m)) None (Some of) ≡ option_and_then (λ (x : EventNo). cond (quiet_stays Left port m x) (Some x) None) (cond t None (Some of))
+left_quiet_lasts of Left (R its row2) t = lasts of t
+left_quiet_lasts of Left (AckS its) t = lasts of t
+left_quiet_lasts of Left (EndS its) t = lasts of t
+left_quiet_lasts of Left (ExpS its) t = lasts of t
+left_quiet_lasts of Left (QuietL its) t = lasts of t
+left_quiet_lasts of Left CloseL t = lasts of t
+left_quiet_lasts of Left (S its row2) t = lasts of t
+left_quiet_lasts of Left (EndR its) t = lasts of t
+left_quiet_lasts of Left (ExpR its) t = lasts of t
+left_quiet_lasts of Left (QuietR its) t = lasts of t
+left_quiet_lasts of Left CloseR t = lasts of t
+left_quiet_lasts of Right (R its row2) t = lasts of t
+left_quiet_lasts of Right (AckS its) t = lasts of t
+left_quiet_lasts of Right (EndS its) t = lasts of t
+left_quiet_lasts of Right (ExpS its) t = lasts of t
+left_quiet_lasts of Right (QuietL its) t = leaves of its t
+left_quiet_lasts of Right CloseL t = lasts of t
+left_quiet_lasts of Right (S its row2) t = lasts of t
+left_quiet_lasts of Right (EndR its) t = lasts of t
+left_quiet_lasts of Right (ExpR its) t = lasts of t
+left_quiet_lasts of Right (QuietR its) t = lasts of t
+left_quiet_lasts of Right CloseR t = lasts of t
+
+right_quiet_lasts : {P : Type 0} (of : EventNo) (port : Side) (m : Msg P) (t : Bool) → cond (t || is_take Left (is_QuietR of.0) (receipt port m)) None (Some of) ≡ option_and_then (λ (x : EventNo). cond (quiet_stays Right port m x) (Some x) None) (cond t None (Some of))
+right_quiet_lasts of Left (R its row2) t = lasts of t
+right_quiet_lasts of Left (AckS its) t = lasts of t
+right_quiet_lasts of Left (EndS its) t = lasts of t
+right_quiet_lasts of Left (ExpS its) t = lasts of t
+right_quiet_lasts of Left (QuietL its) t = lasts of t
+right_quiet_lasts of Left CloseL t = lasts of t
+right_quiet_lasts of Left (S its row2) t = lasts of t
+right_quiet_lasts of Left (EndR its) t = lasts of t
+right_quiet_lasts of Left (ExpR its) t = lasts of t
+right_quiet_lasts of Left (QuietR its) t = leaves of its t
+right_quiet_lasts of Left CloseR t = lasts of t
+right_quiet_lasts of Right (R its row2) t = lasts of t
+right_quiet_lasts of Right (AckS its) t = lasts of t
+right_quiet_lasts of Right (EndS its) t = lasts of t
+right_quiet_lasts of Right (ExpS its) t = lasts of t
+right_quiet_lasts of Right (QuietL its) t = lasts of t
+right_quiet_lasts of Right CloseL t = lasts of t
+right_quiet_lasts of Right (S its row2) t = lasts of t
+right_quiet_lasts of Right (EndR its) t = lasts of t
+right_quiet_lasts of Right (ExpR its) t = lasts of t
+right_quiet_lasts of Right (QuietR its) t = lasts of t
+right_quiet_lasts of Right CloseR t = lasts of t
+
+quiet_after-receipt : {P : Type 0} (side : Side) (event : Event P) (log : List (DriverTurn P)) (port : Side) (m : Msg P)
+    → quiet_after side event (log ++ receipt port m ∷ []) ≡ option_and_then (λ (x : EventNo). cond (quiet_stays side port m x) (Some x) None) (quiet_after side event log)
+quiet_after-receipt Left (Quiet at Left) log port m =
+    ap (λ b. cond b None (Some at)) (took-push Right (is_QuietL at.0) log (receipt port m)) ∙ left_quiet_lasts at port m (took Right (is_QuietL at.0) log)
+quiet_after-receipt Right (Quiet at Right) log port m =
+    ap (λ b. cond b None (Some at)) (took-push Left (is_QuietR at.0) log (receipt port m)) ∙ right_quiet_lasts at port m (took Left (is_QuietR at.0) log)
+quiet_after-receipt Left (Quiet at Right) log port m = refl
+quiet_after-receipt Left (Arrive at Left row) log port m = refl
+quiet_after-receipt Left (Arrive at Right row) log port m = refl
+quiet_after-receipt Left (Expire at Left of) log port m = refl
+quiet_after-receipt Left (Expire at Right of) log port m = refl
+quiet_after-receipt Right (Quiet at Left) log port m = refl
+quiet_after-receipt Right (Arrive at Left row) log port m = refl
+quiet_after-receipt Right (Arrive at Right row) log port m = refl
+quiet_after-receipt Right (Expire at Left of) log port m = refl
+quiet_after-receipt Right (Expire at Right of) log port m = refl
+
+pub quiets_of-receipt : {P : Type 0} (side : Side) (log : List (DriverTurn P)) (port : Side) (m : Msg P) → quiets_of side (log ++ receipt port m ∷ []) ≡ filter (quiet_stays side port m) (quiets_of side log)
+quiets_of-receipt side [] port m = refl
+quiets_of-receipt side (admission event ∷ later) port m =
+    ap (λ o. cons_option o (quiets_of side (later ++ receipt port m ∷ []))) (quiet_after-receipt side event later port m)
+    ∙ ap (cons_option (option_and_then (λ (x : EventNo). cond (quiet_stays side port m x) (Some x) None) (quiet_after side event later))) (quiets_of-receipt side later port m)
+    ∙ cons-filter (quiet_stays side port m) (quiet_after side event later) (quiets_of side later)
+quiets_of-receipt side (receipt other message ∷ later) port m = quiets_of-receipt side later port m
+quiets_of-receipt side (closing ∷ later) port m = quiets_of-receipt side later port m
+
 -- the closes
 unsent_stays : {P : Type 0} (port : Side) (m : Msg P) → Unsent ≡ after_close port m Unsent
 unsent_stays Left (R its row2) = refl
@@ -250,6 +349,8 @@ unsent_stays Left (S its row2) = refl
 unsent_stays Left (EndR its) = refl
 unsent_stays Left (ExpR its) = refl
 unsent_stays Left CloseR = refl
+unsent_stays Left (QuietL its) = refl
+unsent_stays Left (QuietR its) = refl
 unsent_stays Right (R its row2) = refl
 unsent_stays Right (AckS its) = refl
 unsent_stays Right (EndS its) = refl
@@ -259,6 +360,8 @@ unsent_stays Right (S its row2) = refl
 unsent_stays Right (EndR its) = refl
 unsent_stays Right (ExpR its) = refl
 unsent_stays Right CloseR = refl
+unsent_stays Right (QuietL its) = refl
+unsent_stays Right (QuietR its) = refl
 
 sent_more : {P : Type 0} (port : Side) (m : Msg P) (l r : Bool) → Sent (l || is_take Right is_CloseL (receipt port m)) (r || is_take Left is_CloseR (receipt port m)) ≡ after_close port m (Sent l r)
 sent_more Left (R its row2) l r = simp or-false refl
@@ -270,6 +373,8 @@ sent_more Left (S its row2) l r = simp or-false refl
 sent_more Left (EndR its) l r = simp or-false refl
 sent_more Left (ExpR its) l r = simp or-false refl
 sent_more Left CloseR l r = simp (or-false, or-true) refl
+sent_more Left (QuietL its) l r = simp or-false refl
+sent_more Left (QuietR its) l r = simp or-false refl
 sent_more Right (R its row2) l r = simp or-false refl
 sent_more Right (AckS its) l r = simp or-false refl
 sent_more Right (EndS its) l r = simp or-false refl
@@ -279,6 +384,8 @@ sent_more Right (S its row2) l r = simp or-false refl
 sent_more Right (EndR its) l r = simp or-false refl
 sent_more Right (ExpR its) l r = simp or-false refl
 sent_more Right CloseR l r = simp or-false refl
+sent_more Right (QuietL its) l r = simp or-false refl
+sent_more Right (QuietR its) l r = simp or-false refl
 
 pub closes_of-receipt : {P : Type 0} (log : List (DriverTurn P)) (port : Side) (m : Msg P) → closes_of (log ++ receipt port m ∷ []) ≡ after_close port m (closes_of log)
 closes_of-receipt [] port m = unsent_stays port m
@@ -296,9 +403,13 @@ arrival_after-admission {P} Right (Arrive at Right row) log put = ap (λ b. arri
 arrival_after-admission Left (Arrive at Right row) log put = refl
 arrival_after-admission Left (Expire at Left of) log put = refl
 arrival_after-admission Left (Expire at Right of) log put = refl
+arrival_after-admission Left (Quiet at Left) log put = refl
+arrival_after-admission Left (Quiet at Right) log put = refl
 arrival_after-admission Right (Arrive at Left row) log put = refl
 arrival_after-admission Right (Expire at Left of) log put = refl
 arrival_after-admission Right (Expire at Right of) log put = refl
+arrival_after-admission Right (Quiet at Left) log put = refl
+arrival_after-admission Right (Quiet at Right) log put = refl
 
 arrival_after-closing : {P : Type 0} (side : Side) (event : Event P) (log : List (DriverTurn P)) → arrival_after side event (log ++ closing ∷ []) ≡ arrival_after side event log
 arrival_after-closing {P} Left (Arrive at Left row) log = ap (λ b. arrival_with at b (took Left (is_EndR at.0) (log ++ closing ∷ []))) (took-closing Right (is_R at.0) log) ∙ ap (λ b. arrival_with at (took Right (is_R at.0) log) b) (took-closing Left (is_EndR at.0) log)
@@ -306,9 +417,13 @@ arrival_after-closing {P} Right (Arrive at Right row) log = ap (λ b. arrival_wi
 arrival_after-closing Left (Arrive at Right row) log = refl
 arrival_after-closing Left (Expire at Left of) log = refl
 arrival_after-closing Left (Expire at Right of) log = refl
+arrival_after-closing Left (Quiet at Left) log = refl
+arrival_after-closing Left (Quiet at Right) log = refl
 arrival_after-closing Right (Arrive at Left row) log = refl
 arrival_after-closing Right (Expire at Left of) log = refl
 arrival_after-closing Right (Expire at Right of) log = refl
+arrival_after-closing Right (Quiet at Left) log = refl
+arrival_after-closing Right (Quiet at Right) log = refl
 
 expiry_after-admission : {P : Type 0} (side : Side) (event : Event P) (log : List (DriverTurn P)) (put : Event P) → expiry_after side event (log ++ admission put ∷ []) ≡ expiry_after side event log
 expiry_after-admission Left (Expire at Left of) log put = ap (λ b. cond b None (Some of)) (took-admission Left (is_ExpR of.0) log put)
@@ -316,9 +431,13 @@ expiry_after-admission Right (Expire at Right of) log put = ap (λ b. cond b Non
 expiry_after-admission Left (Expire at Right of) log put = refl
 expiry_after-admission Left (Arrive at Left row) log put = refl
 expiry_after-admission Left (Arrive at Right row) log put = refl
+expiry_after-admission Left (Quiet at Left) log put = refl
+expiry_after-admission Left (Quiet at Right) log put = refl
 expiry_after-admission Right (Expire at Left of) log put = refl
 expiry_after-admission Right (Arrive at Left row) log put = refl
 expiry_after-admission Right (Arrive at Right row) log put = refl
+expiry_after-admission Right (Quiet at Left) log put = refl
+expiry_after-admission Right (Quiet at Right) log put = refl
 
 expiry_after-closing : {P : Type 0} (side : Side) (event : Event P) (log : List (DriverTurn P)) → expiry_after side event (log ++ closing ∷ []) ≡ expiry_after side event log
 expiry_after-closing Left (Expire at Left of) log = ap (λ b. cond b None (Some of)) (took-closing Left (is_ExpR of.0) log)
@@ -326,9 +445,41 @@ expiry_after-closing Right (Expire at Right of) log = ap (λ b. cond b None (Som
 expiry_after-closing Left (Expire at Right of) log = refl
 expiry_after-closing Left (Arrive at Left row) log = refl
 expiry_after-closing Left (Arrive at Right row) log = refl
+expiry_after-closing Left (Quiet at Left) log = refl
+expiry_after-closing Left (Quiet at Right) log = refl
 expiry_after-closing Right (Expire at Left of) log = refl
 expiry_after-closing Right (Arrive at Left row) log = refl
 expiry_after-closing Right (Arrive at Right row) log = refl
+expiry_after-closing Right (Quiet at Left) log = refl
+expiry_after-closing Right (Quiet at Right) log = refl
+
+quiet_after-admission : {P : Type 0} (side : Side) (event : Event P) (log : List (DriverTurn P)) (put : Event P) → quiet_after side event (log ++ admission put ∷ []) ≡ quiet_after side event log
+quiet_after-admission Left (Quiet at Left) log put = ap (λ b. cond b None (Some at)) (took-admission Right (is_QuietL at.0) log put)
+quiet_after-admission Right (Quiet at Right) log put = ap (λ b. cond b None (Some at)) (took-admission Left (is_QuietR at.0) log put)
+quiet_after-admission Left (Quiet at Right) log put = refl
+quiet_after-admission Left (Arrive at Left row) log put = refl
+quiet_after-admission Left (Arrive at Right row) log put = refl
+quiet_after-admission Left (Expire at Left of) log put = refl
+quiet_after-admission Left (Expire at Right of) log put = refl
+quiet_after-admission Right (Quiet at Left) log put = refl
+quiet_after-admission Right (Arrive at Left row) log put = refl
+quiet_after-admission Right (Arrive at Right row) log put = refl
+quiet_after-admission Right (Expire at Left of) log put = refl
+quiet_after-admission Right (Expire at Right of) log put = refl
+
+quiet_after-closing : {P : Type 0} (side : Side) (event : Event P) (log : List (DriverTurn P)) → quiet_after side event (log ++ closing ∷ []) ≡ quiet_after side event log
+quiet_after-closing Left (Quiet at Left) log = ap (λ b. cond b None (Some at)) (took-closing Right (is_QuietL at.0) log)
+quiet_after-closing Right (Quiet at Right) log = ap (λ b. cond b None (Some at)) (took-closing Left (is_QuietR at.0) log)
+quiet_after-closing Left (Quiet at Right) log = refl
+quiet_after-closing Left (Arrive at Left row) log = refl
+quiet_after-closing Left (Arrive at Right row) log = refl
+quiet_after-closing Left (Expire at Left of) log = refl
+quiet_after-closing Left (Expire at Right of) log = refl
+quiet_after-closing Right (Quiet at Left) log = refl
+quiet_after-closing Right (Arrive at Left row) log = refl
+quiet_after-closing Right (Arrive at Right row) log = refl
+quiet_after-closing Right (Expire at Left of) log = refl
+quiet_after-closing Right (Expire at Right of) log = refl
 
 cons-append : {X : Type 0} (o : Option X) (xs ys : List X) → cons_option o (xs ++ ys) ≡ cons_option o xs ++ ys
 cons-append None xs ys = refl
@@ -352,6 +503,15 @@ expiries_of-admission side (admission event ∷ later) put =
 expiries_of-admission side (receipt port message ∷ later) put = expiries_of-admission side later put
 expiries_of-admission side (closing ∷ later) put = expiries_of-admission side later put
 
+pub quiets_of-admission : {P : Type 0} (side : Side) (log : List (DriverTurn P)) (put : Event P) → quiets_of side (log ++ admission put ∷ []) ≡ quiets_of side log ++ cons_option (quiet_after side put []) []
+quiets_of-admission side [] put = refl
+quiets_of-admission side (admission event ∷ later) put =
+    ap (λ o. cons_option o (quiets_of side (later ++ admission put ∷ []))) (quiet_after-admission side event later put)
+    ∙ ap (cons_option (quiet_after side event later)) (quiets_of-admission side later put)
+    ∙ cons-append (quiet_after side event later) (quiets_of side later) (cons_option (quiet_after side put []) [])
+quiets_of-admission side (receipt port message ∷ later) put = quiets_of-admission side later put
+quiets_of-admission side (closing ∷ later) put = quiets_of-admission side later put
+
 pub closes_of-admission : {P : Type 0} (log : List (DriverTurn P)) (put : Event P) → closes_of (log ++ admission put ∷ []) ≡ closes_of log
 closes_of-admission [] put = refl
 closes_of-admission (admission event ∷ later) put = closes_of-admission later put
@@ -374,6 +534,13 @@ expiries_of-closing side (admission event ∷ later) =
 expiries_of-closing side (receipt port message ∷ later) = expiries_of-closing side later
 expiries_of-closing side (closing ∷ later) = expiries_of-closing side later
 
+pub quiets_of-closing : {P : Type 0} (side : Side) (log : List (DriverTurn P)) → quiets_of side (log ++ closing ∷ []) ≡ quiets_of side log
+quiets_of-closing side [] = refl
+quiets_of-closing side (admission event ∷ later) =
+    ap (λ o. cons_option o (quiets_of side (later ++ closing ∷ []))) (quiet_after-closing side event later) ∙ ap (cons_option (quiet_after side event later)) (quiets_of-closing side later)
+quiets_of-closing side (receipt port message ∷ later) = quiets_of-closing side later
+quiets_of-closing side (closing ∷ later) = quiets_of-closing side later
+
 pub closes_of-closing : {P : Type 0} (log : List (DriverTurn P)) → list_any is_closing log ≡ false → closes_of (log ++ closing ∷ []) ≡ Sent false false
 closes_of-closing [] unclosed = refl
 closes_of-closing (admission event ∷ later) unclosed = closes_of-closing later unclosed
@@ -387,9 +554,9 @@ is_sent-closes_of (admission event ∷ later) = is_sent-closes_of later
 is_sent-closes_of (receipt port message ∷ later) = is_sent-closes_of later
 is_sent-closes_of (closing ∷ later) = refl
 
--- the outstanding events are those of the four lists
+-- the outstanding events are those of the six lists
 abbrev count_in : {P : Type 0} → List (DriverTurn P) → ℕ
-count_in log = (length (arrivals_of Left log) + length (expiries_of Left log)) + (length (arrivals_of Right log) + length (expiries_of Right log))
+count_in log = ((length (arrivals_of Left log) + length (expiries_of Left log)) + (length (arrivals_of Right log) + length (expiries_of Right log))) + (length (quiets_of Left log) + length (quiets_of Right log))
 
 arrival_counts : {P : Type 0} (event : Event P) (at : EventNo) (r e : Bool) (out : List (Event P)) (here : List Arrival) (others : ℕ) → length out ≡ length here + others
     → length (cond (r && e) out (event ∷ out)) ≡ length (cons_option (arrival_with at r e) here) + others
@@ -410,16 +577,24 @@ length-outstanding (closing ∷ later) = length-outstanding later
 length-outstanding {P} (admission (Arrive at Left row) ∷ later) =
     let event : Event P = Arrive at Left row in
     let all = length-outstanding later in
-    omega (arith, arrival_counts event at (took Right (is_R at.0) later) (took Left (is_EndR at.0) later) (outstanding later) (arrivals_of Left later) (length (expiries_of Left later) + (length (arrivals_of Right later) + length (expiries_of Right later))) (omega arith))
+    omega (arith, arrival_counts event at (took Right (is_R at.0) later) (took Left (is_EndR at.0) later) (outstanding later) (arrivals_of Left later) (length (expiries_of Left later) + (length (arrivals_of Right later) + length (expiries_of Right later)) + (length (quiets_of Left later) + length (quiets_of Right later))) (omega arith))
 length-outstanding {P} (admission (Arrive at Right row) ∷ later) =
     let event : Event P = Arrive at Right row in
     let all = length-outstanding later in
-    omega (arith, arrival_counts event at (took Left (is_S at.0) later) (took Right (is_EndS at.0) later) (outstanding later) (arrivals_of Right later) ((length (arrivals_of Left later) + length (expiries_of Left later)) + length (expiries_of Right later)) (omega arith))
+    omega (arith, arrival_counts event at (took Left (is_S at.0) later) (took Right (is_EndS at.0) later) (outstanding later) (arrivals_of Right later) ((length (arrivals_of Left later) + length (expiries_of Left later)) + length (expiries_of Right later) + (length (quiets_of Left later) + length (quiets_of Right later))) (omega arith))
 length-outstanding {P} (admission (Expire at Left of) ∷ later) =
     let event : Event P = Expire at Left of in
     let all = length-outstanding later in
-    omega (arith, expiry_counts event of (took Left (is_ExpR of.0) later) (outstanding later) (expiries_of Left later) (length (arrivals_of Left later) + (length (arrivals_of Right later) + length (expiries_of Right later))) (omega arith))
+    omega (arith, expiry_counts event of (took Left (is_ExpR of.0) later) (outstanding later) (expiries_of Left later) (length (arrivals_of Left later) + (length (arrivals_of Right later) + length (expiries_of Right later)) + (length (quiets_of Left later) + length (quiets_of Right later))) (omega arith))
 length-outstanding {P} (admission (Expire at Right of) ∷ later) =
     let event : Event P = Expire at Right of in
     let all = length-outstanding later in
-    omega (arith, expiry_counts event of (took Right (is_ExpS of.0) later) (outstanding later) (expiries_of Right later) ((length (arrivals_of Left later) + length (expiries_of Left later)) + length (arrivals_of Right later)) (omega arith))
+    omega (arith, expiry_counts event of (took Right (is_ExpS of.0) later) (outstanding later) (expiries_of Right later) ((length (arrivals_of Left later) + length (expiries_of Left later)) + length (arrivals_of Right later) + (length (quiets_of Left later) + length (quiets_of Right later))) (omega arith))
+length-outstanding {P} (admission (Quiet at Left) ∷ later) =
+    let event : Event P = Quiet at Left in
+    let all = length-outstanding later in
+    omega (arith, expiry_counts event at (took Right (is_QuietL at.0) later) (outstanding later) (quiets_of Left later) (((length (arrivals_of Left later) + length (expiries_of Left later)) + (length (arrivals_of Right later) + length (expiries_of Right later))) + length (quiets_of Right later)) (omega arith))
+length-outstanding {P} (admission (Quiet at Right) ∷ later) =
+    let event : Event P = Quiet at Right in
+    let all = length-outstanding later in
+    omega (arith, expiry_counts event at (took Left (is_QuietR at.0) later) (outstanding later) (quiets_of Right later) (((length (arrivals_of Left later) + length (expiries_of Left later)) + (length (arrivals_of Right later) + length (expiries_of Right later))) + length (quiets_of Left later)) (omega arith))

@@ -7,13 +7,13 @@ use Rattle.hj_base.specs.declared.numbers.EventNo.{EventNo}
 use Rattle.hj_base.specs.declared.numbers.Side.{Side}
 use Rattle.hj_base.specs.declared.numbers.Side.TheVariants.{Left, Right}
 use Rattle.hj_msg.specs.declared.event.Event.{Event}
-use Rattle.hj_msg.specs.declared.event.Event.TheVariants.{Arrive, Expire}
+use Rattle.hj_msg.specs.declared.event.Event.TheVariants.{Arrive, Expire, Quiet}
 use Rattle.hj_msg.specs.declared.message.Msg.{Msg}
 use Rattle.hj_msg.specs.Event.{IsWellFormed}
 use Rattle.hj_msg.specs.Driver.{DriverTurn, admission, receipt, closing, admitted, outstanding, HasComeOut, IsLawful}
-use Rattle.hj_driver.specs.Driver.{DriverState, after_take, after_put, arrival_of, after_message, stays, after_close, closed, new_driver, is_sent, count_of}
+use Rattle.hj_driver.specs.Driver.{DriverState, after_take, after_put, arrival_of, after_message, stays, quiet_stays, after_close, closed, new_driver, is_sent, count_of}
 use Rattle.hj_driver.specs.StandsFor.{StandsFor, is_closing}
-use Rattle.hj_driver.proofs.Logs.{admitted-push, arrivals_of-receipt, expiries_of-receipt, closes_of-receipt, arrivals_of-admission, expiries_of-admission, closes_of-admission, arrivals_of-closing, expiries_of-closing, closes_of-closing, length-outstanding, is_sent-closes_of}
+use Rattle.hj_driver.proofs.Logs.{admitted-push, arrivals_of-receipt, expiries_of-receipt, quiets_of-receipt, closes_of-receipt, arrivals_of-admission, expiries_of-admission, quiets_of-admission, closes_of-admission, arrivals_of-closing, expiries_of-closing, quiets_of-closing, closes_of-closing, length-outstanding, is_sent-closes_of}
 
 -- where a list with one element more is cut
 pub split-push : {X : Type 0} (xs : List X) (x : X) (ys : List X) (y : X) (zs : List X) → xs ++ x ∷ [] ≡ ys ++ y ∷ zs → ((rest : List X) × (xs ≡ ys ++ y ∷ rest)) ⊎ ((xs ≡ ys) × (x ≡ y))
@@ -91,7 +91,7 @@ empty (x ∷ xs) is = absurd (omega arith)
 
 pub stands-count : {P : Type 0} (driver : DriverState) (log : List (DriverTurn P)) → StandsFor driver log → length (outstanding log) ≡ count_of driver
 stands-count driver log stands =
-    omega (arith, length-outstanding log, ap length stands.left_arrivals, ap length stands.left_expiries, ap length stands.right_arrivals, ap length stands.right_expiries)
+    omega (arith, length-outstanding log, ap length stands.left_arrivals, ap length stands.left_expiries, ap length stands.right_arrivals, ap length stands.right_expiries, ap length stands.left_quiets, ap length stands.right_quiets)
 
 -- the steps of a driver that stands for a log
 pub stands-receipt : {P : Type 0} (driver : DriverState) (log : List (DriverTurn P)) (port : Side) (m : Msg P) → StandsFor driver log → StandsFor (after_take port m driver) (log ++ receipt port m ∷ [])
@@ -102,6 +102,8 @@ stands-receipt driver log port m stands = record {
   left_expiries = ap (filter (stays Left port m)) stands.left_expiries ∙ sym (expiries_of-receipt Left log port m);
   right_arrivals = ap (filter_map (after_message Right port m)) stands.right_arrivals ∙ sym (arrivals_of-receipt Right log port m);
   right_expiries = ap (filter (stays Right port m)) stands.right_expiries ∙ sym (expiries_of-receipt Right log port m);
+  left_quiets = ap (filter (quiet_stays Left port m)) stands.left_quiets ∙ sym (quiets_of-receipt Left log port m);
+  right_quiets = ap (filter (quiet_stays Right port m)) stands.right_quiets ∙ sym (quiets_of-receipt Right log port m);
   closes = ap (after_close port m) stands.closes ∙ sym (closes_of-receipt log port m);
 }
 
@@ -115,6 +117,8 @@ stands-closing driver log stands unsent none =
       left_expiries = stands.left_expiries ∙ sym (expiries_of-closing Left log);
       right_arrivals = stands.right_arrivals ∙ sym (arrivals_of-closing Right log);
       right_expiries = stands.right_expiries ∙ sym (expiries_of-closing Right log);
+      left_quiets = stands.left_quiets ∙ sym (quiets_of-closing Left log);
+      right_quiets = stands.right_quiets ∙ sym (quiets_of-closing Right log);
       closes = sym (closes_of-closing log unclosed);
     }
 
@@ -127,6 +131,8 @@ stands-put {P} driver log (Arrive at Left row) stands well lawful = record {
   left_expiries = stands.left_expiries ∙ sym (append-nil _) ∙ sym (expiries_of-admission Left log (Arrive at Left row));
   right_arrivals = stands.right_arrivals ∙ sym (append-nil _) ∙ sym (arrivals_of-admission Right log (Arrive at Left row));
   right_expiries = stands.right_expiries ∙ sym (append-nil _) ∙ sym (expiries_of-admission Right log (Arrive at Left row));
+  left_quiets = stands.left_quiets ∙ sym (append-nil _) ∙ sym (quiets_of-admission Left log (Arrive at Left row));
+  right_quiets = stands.right_quiets ∙ sym (append-nil _) ∙ sym (quiets_of-admission Right log (Arrive at Left row));
   closes = stands.closes ∙ sym (closes_of-admission log (Arrive at Left row));
 }
 stands-put {P} driver log (Arrive at Right row) stands well lawful = record {
@@ -136,6 +142,8 @@ stands-put {P} driver log (Arrive at Right row) stands well lawful = record {
   left_expiries = stands.left_expiries ∙ sym (append-nil _) ∙ sym (expiries_of-admission Left log (Arrive at Right row));
   right_arrivals = ap (λ l. l ++ arrival_of at ∷ []) stands.right_arrivals ∙ sym (arrivals_of-admission Right log (Arrive at Right row));
   right_expiries = stands.right_expiries ∙ sym (append-nil _) ∙ sym (expiries_of-admission Right log (Arrive at Right row));
+  left_quiets = stands.left_quiets ∙ sym (append-nil _) ∙ sym (quiets_of-admission Left log (Arrive at Right row));
+  right_quiets = stands.right_quiets ∙ sym (append-nil _) ∙ sym (quiets_of-admission Right log (Arrive at Right row));
   closes = stands.closes ∙ sym (closes_of-admission log (Arrive at Right row));
 }
 stands-put {P} driver log (Expire at Left of) stands well lawful = record {
@@ -145,6 +153,8 @@ stands-put {P} driver log (Expire at Left of) stands well lawful = record {
   left_expiries = ap (λ (l : List EventNo). l ++ of ∷ []) stands.left_expiries ∙ sym (expiries_of-admission Left log (Expire at Left of));
   right_arrivals = stands.right_arrivals ∙ sym (append-nil _) ∙ sym (arrivals_of-admission Right log (Expire at Left of));
   right_expiries = stands.right_expiries ∙ sym (append-nil _) ∙ sym (expiries_of-admission Right log (Expire at Left of));
+  left_quiets = stands.left_quiets ∙ sym (append-nil _) ∙ sym (quiets_of-admission Left log (Expire at Left of));
+  right_quiets = stands.right_quiets ∙ sym (append-nil _) ∙ sym (quiets_of-admission Right log (Expire at Left of));
   closes = stands.closes ∙ sym (closes_of-admission log (Expire at Left of));
 }
 stands-put {P} driver log (Expire at Right of) stands well lawful = record {
@@ -154,7 +164,31 @@ stands-put {P} driver log (Expire at Right of) stands well lawful = record {
   left_expiries = stands.left_expiries ∙ sym (append-nil _) ∙ sym (expiries_of-admission Left log (Expire at Right of));
   right_arrivals = stands.right_arrivals ∙ sym (append-nil _) ∙ sym (arrivals_of-admission Right log (Expire at Right of));
   right_expiries = ap (λ (l : List EventNo). l ++ of ∷ []) stands.right_expiries ∙ sym (expiries_of-admission Right log (Expire at Right of));
+  left_quiets = stands.left_quiets ∙ sym (append-nil _) ∙ sym (quiets_of-admission Left log (Expire at Right of));
+  right_quiets = stands.right_quiets ∙ sym (append-nil _) ∙ sym (quiets_of-admission Right log (Expire at Right of));
   closes = stands.closes ∙ sym (closes_of-admission log (Expire at Right of));
+}
+stands-put {P} driver log (Quiet at Left) stands well lawful = record {
+  well_formed = well;
+  lawful = lawful;
+  left_arrivals = stands.left_arrivals ∙ sym (append-nil _) ∙ sym (arrivals_of-admission Left log (Quiet at Left));
+  left_expiries = stands.left_expiries ∙ sym (append-nil _) ∙ sym (expiries_of-admission Left log (Quiet at Left));
+  left_quiets = ap (λ (l : List EventNo). l ++ at ∷ []) stands.left_quiets ∙ sym (quiets_of-admission Left log (Quiet at Left));
+  right_arrivals = stands.right_arrivals ∙ sym (append-nil _) ∙ sym (arrivals_of-admission Right log (Quiet at Left));
+  right_expiries = stands.right_expiries ∙ sym (append-nil _) ∙ sym (expiries_of-admission Right log (Quiet at Left));
+  right_quiets = stands.right_quiets ∙ sym (append-nil _) ∙ sym (quiets_of-admission Right log (Quiet at Left));
+  closes = stands.closes ∙ sym (closes_of-admission log (Quiet at Left));
+}
+stands-put {P} driver log (Quiet at Right) stands well lawful = record {
+  well_formed = well;
+  lawful = lawful;
+  left_arrivals = stands.left_arrivals ∙ sym (append-nil _) ∙ sym (arrivals_of-admission Left log (Quiet at Right));
+  left_expiries = stands.left_expiries ∙ sym (append-nil _) ∙ sym (expiries_of-admission Left log (Quiet at Right));
+  left_quiets = stands.left_quiets ∙ sym (append-nil _) ∙ sym (quiets_of-admission Left log (Quiet at Right));
+  right_arrivals = stands.right_arrivals ∙ sym (append-nil _) ∙ sym (arrivals_of-admission Right log (Quiet at Right));
+  right_expiries = stands.right_expiries ∙ sym (append-nil _) ∙ sym (expiries_of-admission Right log (Quiet at Right));
+  right_quiets = ap (λ (l : List EventNo). l ++ at ∷ []) stands.right_quiets ∙ sym (quiets_of-admission Right log (Quiet at Right));
+  closes = stands.closes ∙ sym (closes_of-admission log (Quiet at Right));
 }
 
 -- what is put doesn't change how many may be outstanding
@@ -163,6 +197,8 @@ flight-put (Arrive at Left row) driver = refl
 flight-put (Arrive at Right row) driver = refl
 flight-put (Expire at Left of) driver = refl
 flight-put (Expire at Right of) driver = refl
+flight-put (Quiet at Left) driver = refl
+flight-put (Quiet at Right) driver = refl
 
 pub stands-admission : {P : Type 0} (driver : DriverState) (log : List (DriverTurn P)) (put : Event P) → StandsFor driver log → IsWellFormed (admitted log ++ put ∷ []) → is_sent driver.closes ≡ false → count_of driver < driver.flight → HasComeOut put log
     → StandsFor (after_put put driver) (log ++ admission put ∷ [])
@@ -184,6 +220,8 @@ stands-new P flight = record {
   left_expiries = refl;
   right_arrivals = refl;
   right_expiries = refl;
+  left_quiets = refl;
+  right_quiets = refl;
   closes = refl;
 }
 

@@ -6,9 +6,9 @@ use Rattle.hj_base.specs.declared.numbers.EventNo.{EventNo}
 use Rattle.hj_base.specs.declared.numbers.Side.{Side}
 use Rattle.hj_base.specs.declared.numbers.Side.TheVariants.{Left, Right}
 use Rattle.hj_msg.specs.declared.event.Event.{Event}
-use Rattle.hj_msg.specs.declared.event.Event.TheVariants.{Arrive, Expire}
+use Rattle.hj_msg.specs.declared.event.Event.TheVariants.{Arrive, Expire, Quiet}
 use Rattle.hj_msg.specs.declared.message.Msg.{Msg}
-use Rattle.hj_msg.specs.declared.message.Msg.TheVariants.{R, EndS, ExpS, CloseL, S, EndR, ExpR, CloseR}
+use Rattle.hj_msg.specs.declared.message.Msg.TheVariants.{R, EndS, ExpS, QuietL, CloseL, S, EndR, ExpR, QuietR, CloseR}
 use Rattle.hj_msg.specs.Driver.{message_of, port_of}
 use Rattle.hj_driver.specs.declared.answers.Why.{Why}
 use Rattle.hj_driver.specs.declared.answers.Why.TheVariants.{Flight, NotMarked, Closed}
@@ -22,7 +22,7 @@ use Rattle.hj_driver.specs.declared.lane.Part.TheVariants.{Row, End}
 use Rattle.hj_driver.specs.declared.lane.Arrival.{Arrival}
 use Rattle.hj_driver.specs.Lane.{after_part, is_other, waits_for}
 
--- The outstanding arrivals and expiries of each side, the closes, and how many events may be outstanding. An expiry is kept by
+-- The outstanding arrivals, expiries and quiet events of each side, the closes, and how many events may be outstanding. An expiry is kept by
 -- the number of its row.
 pub record DriverState : Type 0 where
   pub flight : ℕ
@@ -30,14 +30,16 @@ pub record DriverState : Type 0 where
   pub left_expiries : List EventNo
   pub right_arrivals : List Arrival
   pub right_expiries : List EventNo
+  pub left_quiets : List EventNo
+  pub right_quiets : List EventNo
   pub closes : Closes
 
 abbrev pub new_driver : ℕ → DriverState
-new_driver flight = record { flight = flight; left_arrivals = []; left_expiries = []; right_arrivals = []; right_expiries = []; closes = Unsent }
+new_driver flight = record { flight = flight; left_arrivals = []; left_expiries = []; right_arrivals = []; right_expiries = []; left_quiets = []; right_quiets = []; closes = Unsent }
 
 -- how many events are outstanding
 abbrev pub count_of : DriverState → ℕ
-count_of driver = (length driver.left_arrivals + length driver.left_expiries) + (length driver.right_arrivals + length driver.right_expiries)
+count_of driver = ((length driver.left_arrivals + length driver.left_expiries) + (length driver.right_arrivals + length driver.right_expiries)) + (length driver.left_quiets + length driver.right_quiets)
 
 abbrev pub is_sent : Closes → Bool
 is_sent Unsent = false
@@ -76,6 +78,12 @@ stays Left Left (ExpR of) expiry = is_other of.0 expiry
 stays Right Right (ExpS of) expiry = is_other of.0 expiry
 stays side port message expiry = true
 
+-- and of an outstanding quiet event
+abbrev pub quiet_stays : {P : Type 0} → Side → Side → Msg P → EventNo → Bool
+quiet_stays Left Right (QuietL at) quiet = is_other at.0 quiet
+quiet_stays Right Left (QuietR at) quiet = is_other at.0 quiet
+quiet_stays side port message quiet = true
+
 abbrev pub after_close : {P : Type 0} → Side → Msg P → Closes → Closes
 after_close Right CloseL closes = after_close_taken Left closes
 after_close Left CloseR closes = after_close_taken Right closes
@@ -89,6 +97,8 @@ after_take port message driver = record {
   left_expiries = filter (stays Left port message) driver.left_expiries;
   right_arrivals = filter_map (after_message Right port message) driver.right_arrivals;
   right_expiries = filter (stays Right port message) driver.right_expiries;
+  left_quiets = filter (quiet_stays Left port message) driver.left_quiets;
+  right_quiets = filter (quiet_stays Right port message) driver.right_quiets;
   closes = after_close port message driver.closes;
 }
 
@@ -101,6 +111,8 @@ after_put (Arrive at Left row) driver = record driver { left_arrivals = driver.l
 after_put (Arrive at Right row) driver = record driver { right_arrivals = driver.right_arrivals ++ arrival_of at ∷ [] }
 after_put (Expire at Left of) driver = record driver { left_expiries = driver.left_expiries ++ of ∷ [] }
 after_put (Expire at Right of) driver = record driver { right_expiries = driver.right_expiries ++ of ∷ [] }
+after_put (Quiet at Left) driver = record driver { left_quiets = driver.left_quiets ++ at ∷ [] }
+after_put (Quiet at Right) driver = record driver { right_quiets = driver.right_quiets ++ at ∷ [] }
 
 -- A new arrival's number is above those of its side, and a row's expiry isn't outstanding already.
 abbrev pub IsNew : {P : Type 0} → Event P → DriverState → Type 0
@@ -108,19 +120,22 @@ IsNew (Arrive at Left row) driver = All (λ arrival. arrival.no.0 < at.0) driver
 IsNew (Arrive at Right row) driver = All (λ arrival. arrival.no.0 < at.0) driver.right_arrivals
 IsNew (Expire at Left of) driver = ¬ (Contains driver.left_expiries of)
 IsNew (Expire at Right of) driver = ¬ (Contains driver.right_expiries of)
+IsNew (Quiet at Left) driver = ¬ (Contains driver.left_quiets at)
+IsNew (Quiet at Right) driver = ¬ (Contains driver.right_quiets at)
 
 -- why a driver lets an event wait, if it does
 abbrev pub row_cause : {P : Type 0} → Event P → DriverState → Option Why
 row_cause (Arrive at side row) driver = None
 row_cause (Expire at Left of) driver = if list_any (waits_for of.0 Row) driver.left_arrivals then Some (NotMarked of) else None
 row_cause (Expire at Right of) driver = if list_any (waits_for of.0 Row) driver.right_arrivals then Some (NotMarked of) else None
+row_cause (Quiet at side) driver = None
 
 abbrev pub cause_of : {P : Type 0} → Event P → DriverState → Option Why
 cause_of event driver =
     if is_sent driver.closes then Some Closed
     else (if count_of driver == driver.flight then Some (Flight (count_of driver)) else row_cause event driver)
 
--- an expiry's message, by the number of its row, is still to come
+-- the message of an expiry, by the number of its row, or of a quiet event is still to come
 abbrev pub is_awaited : ℕ → List EventNo → Bool
 is_awaited number expiries = list_any (λ of. number == of.0) expiries
 
@@ -139,6 +154,8 @@ awaits Left (ExpR of) driver = is_awaited of.0 driver.left_expiries
 awaits Left (S at row) driver = list_any (waits_for at.0 Row) driver.right_arrivals
 awaits Right (EndS at) driver = list_any (waits_for at.0 End) driver.right_arrivals
 awaits Right (ExpS of) driver = is_awaited of.0 driver.right_expiries
+awaits Right (QuietL at) driver = is_awaited at.0 driver.left_quiets
+awaits Left (QuietR at) driver = is_awaited at.0 driver.right_quiets
 awaits Right CloseL driver = awaits_close Left driver.closes
 awaits Left CloseR driver = awaits_close Right driver.closes
 awaits port message driver = false

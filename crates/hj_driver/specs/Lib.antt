@@ -1,3 +1,4 @@
 pub mod Driver
 pub mod Lane
+pub mod Leaving
 pub mod StandsFor

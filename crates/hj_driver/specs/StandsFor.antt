@@ -6,10 +6,10 @@ use Rattle.hj_base.specs.declared.numbers.EventNo.{EventNo}
 use Rattle.hj_base.specs.declared.numbers.Side.{Side}
 use Rattle.hj_base.specs.declared.numbers.Side.TheVariants.{Left, Right}
 use Rattle.hj_msg.specs.declared.event.Event.{Event}
-use Rattle.hj_msg.specs.declared.event.Event.TheVariants.{Arrive, Expire}
+use Rattle.hj_msg.specs.declared.event.Event.TheVariants.{Arrive, Expire, Quiet}
 use Rattle.hj_msg.specs.declared.message.Msg.{Msg}
 use Rattle.hj_msg.specs.declared.message.Msg.TheVariants.{CloseL, CloseR}
-use Rattle.hj_msg.specs.Messages.{is_R, is_S, is_EndR, is_EndS, is_ExpR, is_ExpS}
+use Rattle.hj_msg.specs.Messages.{is_R, is_S, is_EndR, is_EndS, is_ExpR, is_ExpS, is_QuietL, is_QuietR}
 use Rattle.hj_msg.specs.Event.{IsWellFormed}
 use Rattle.hj_msg.specs.Driver.{DriverTurn, admission, receipt, closing, admitted, took, outstanding, came_out, IsLawful}
 use Rattle.hj_driver.specs.declared.answers.Why.{Why}
@@ -41,7 +41,13 @@ expiry_after Left (Expire at Left of) log = if took Left (is_ExpR of.0) log then
 expiry_after Right (Expire at Right of) log = if took Right (is_ExpS of.0) log then None else Some of
 expiry_after side event log = None
 
--- The outstanding arrivals and expiries of a side, each with what was taken of it since it was put.
+-- the quiet event of a side that an event is, if it is outstanding after this log
+abbrev pub quiet_after : {P : Type 0} → Side → Event P → List (DriverTurn P) → Option EventNo
+quiet_after Left (Quiet at Left) log = if took Right (is_QuietL at.0) log then None else Some at
+quiet_after Right (Quiet at Right) log = if took Left (is_QuietR at.0) log then None else Some at
+quiet_after side event log = None
+
+-- The outstanding arrivals, expiries and quiet events of a side, each with what was taken of it since it was put.
 abbrev pub arrivals_of : {P : Type 0} → Side → List (DriverTurn P) → List Arrival
 arrivals_of side [] = []
 arrivals_of side (admission event ∷ later) = cons_option (arrival_after side event later) (arrivals_of side later)
@@ -53,6 +59,12 @@ expiries_of side [] = []
 expiries_of side (admission event ∷ later) = cons_option (expiry_after side event later) (expiries_of side later)
 expiries_of side (receipt port message ∷ later) = expiries_of side later
 expiries_of side (closing ∷ later) = expiries_of side later
+
+abbrev pub quiets_of : {P : Type 0} → Side → List (DriverTurn P) → List EventNo
+quiets_of side [] = []
+quiets_of side (admission event ∷ later) = cons_option (quiet_after side event later) (quiets_of side later)
+quiets_of side (receipt port message ∷ later) = quiets_of side later
+quiets_of side (closing ∷ later) = quiets_of side later
 
 abbrev pub is_CloseL : {P : Type 0} → Msg P → Bool
 is_CloseL CloseL = true
@@ -77,6 +89,8 @@ pub record StandsFor {P : Type 0} (driver : DriverState) (log : List (DriverTurn
   pub left_expiries : driver.left_expiries ≡ expiries_of Left log
   pub right_arrivals : driver.right_arrivals ≡ arrivals_of Right log
   pub right_expiries : driver.right_expiries ≡ expiries_of Right log
+  pub left_quiets : driver.left_quiets ≡ quiets_of Left log
+  pub right_quiets : driver.right_quiets ≡ quiets_of Right log
   pub closes : driver.closes ≡ closes_of log
 
 abbrev pub is_closing : {P : Type 0} → DriverTurn P → Bool
@@ -88,6 +102,7 @@ is_closing closing = true
 abbrev pub not_out : {P : Type 0} → Event P → List (DriverTurn P) → Option Why
 not_out (Arrive at side row) log = None
 not_out (Expire at side of) log = if came_out side of.0 log then None else Some (NotMarked of)
+not_out (Quiet at side) log = None
 
 -- Why an event may not be put behind a log, if so: the closes were put; or as many events are outstanding as may be; or it is
 -- an expiry whose row hasn't come out.

@@ -7,6 +7,7 @@ ghost use Rattle.hj_driver.specs.StandsFor.{StandsFor, cause_after};
 
 use crate::closes::Closes;
 use crate::lane::{Lane, Part};
+use crate::leaving::Leaving;
 use crate::{Admitted, Closing, Why};
 use hj_base::{Memory, Side};
 use hj_msg::{Event, Msg};
@@ -18,6 +19,8 @@ use std::marker::Model;
 pub struct Driver {
     left: Lane,
     right: Lane,
+    left_quiets: Leaving,
+    right_quiets: Leaving,
     flight: u16,
     closes: Closes,
 }
@@ -34,13 +37,17 @@ impl Model for Driver {
       left_expiries = d.left.expiries;
       right_arrivals = d.right.arrivals;
       right_expiries = d.right.expiries;
+      left_quiets = d.left_quiets.numbers;
+      right_quiets = d.right_quiets.numbers;
       closes = d.closes;
     } };
 
     ghost invariant = { λ d. record {
       left_room : d.left.room ≡ d.flight;
       right_room : d.right.room ≡ d.flight;
-      few : (length d.left.arrivals + length d.left.expiries) + (length d.right.arrivals + length d.right.expiries) ≤ d.flight;
+      left_quiets_room : d.left_quiets.room ≡ d.flight;
+      right_quiets_room : d.right_quiets.room ≡ d.flight;
+      few : ((length d.left.arrivals + length d.left.expiries) + (length d.right.arrivals + length d.right.expiries)) + (length d.left_quiets.numbers + length d.right_quiets.numbers) ≤ d.flight;
       small : d.flight < 2 ^ 16;
     } };
 }
@@ -55,6 +62,8 @@ impl Driver {
         Ok(Driver {
             left: Lane::new(alloc, room)?,
             right: Lane::new(alloc, room)?,
+            left_quiets: Leaving::new(alloc, room)?,
+            right_quiets: Leaving::new(alloc, room)?,
             flight,
             closes: Closes::Unsent,
         })
@@ -65,7 +74,10 @@ impl Driver {
     pub fn outstanding(&self) -> u32
         ensures { result ≡ count_of self.now }
     {
-        (self.left.len() + self.right.len()) as u32
+        (self.left.len()
+            + self.right.len()
+            + self.left_quiets.len()
+            + self.right_quiets.len()) as u32
     }
 
     /// Whether both closes were taken.
@@ -159,7 +171,7 @@ impl Driver {
             return Some(Why::Flight(count));
         }
         match event {
-            Event::Arrive { .. } => None,
+            Event::Arrive { .. } | Event::Quiet { .. } => None,
             Event::Expire { side, of, .. } => {
                 let waits = match side {
                     Side::Left => self.left.waits_for_row(*of),
@@ -212,6 +224,20 @@ impl Driver {
                 self.right.expire(of);
                 (Side::Left, Msg::ExpS(of))
             }
+            Event::Quiet {
+                no,
+                side: Side::Left,
+            } => {
+                self.left_quiets.put(no);
+                (Side::Left, Msg::QuietL(no))
+            }
+            Event::Quiet {
+                no,
+                side: Side::Right,
+            } => {
+                self.right_quiets.put(no);
+                (Side::Right, Msg::QuietR(no))
+            }
         }
     }
 
@@ -224,6 +250,7 @@ impl Driver {
             Msg::S { no, .. } => self.right.take(*no, Part::Row),
             Msg::EndR(no) => self.left.take(*no, Part::End),
             Msg::ExpR(of) => self.left.take_expiry(*of),
+            Msg::QuietR(no) => self.right_quiets.take(*no),
             Msg::CloseR => self.closes = self.closes.take(Side::Right),
             _ => {}
         }
@@ -238,6 +265,7 @@ impl Driver {
             Msg::R { no, .. } => self.left.take(*no, Part::Row),
             Msg::EndS(no) => self.right.take(*no, Part::End),
             Msg::ExpS(of) => self.right.take_expiry(*of),
+            Msg::QuietL(no) => self.left_quiets.take(*no),
             Msg::CloseL => self.closes = self.closes.take(Side::Left),
             _ => {}
         }

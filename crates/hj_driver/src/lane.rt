@@ -185,7 +185,7 @@ impl Lane {
 
 /// Takes out the element at a place, which is mostly the first.
 #[inline(always)]
-fn take_out<T: Drop>(items: &mut VecDeque<T>, at: usize)
+pub(crate) fn take_out<T: Drop>(items: &mut VecDeque<T>, at: usize)
     requires { at < length items.old.items }
     ensures items { items.new.items ≡ remove items.old.items at }
     ensures capacity { deque_capacity items.new ≡ deque_capacity items.old }

@@ -6,6 +6,7 @@ mod closes;
 mod driver;
 mod lane;
 mod laws;
+mod leaving;
 
 pub use answers::{Admitted, Closing, Why};
 pub use driver::Driver;

@@ -1,24 +1,110 @@
--- The rows of a side come to each core in the order of their numbers, and before the close of their side.
-use Rattle.std.proofs.Common.{◌≡◌, ℕ, ◌<◌, Bool, true, false, ◌||◌, List, [], ◌∷◌, ◌++◌, map, Contains, refl, ap, sym, ◌∙◌, subst, arith, true≢false}
+-- The rows and the quiet events of a side come to each core in the order of their numbers, and before the close of their side.
+use Rattle.std.proofs.Common.{◌≡◌, ℕ, ◌+◌, ◌<◌, ◌==◌, nat_lt, cond, Bool, true, false, ◌||◌, List, [], ◌∷◌, ◌++◌, map, Contains, refl, ap, sym, ◌∙◌, subst, arith, true≢false}
 use Rattle.std.specs.List.{list_any}
+use Rattle.std.proofs.lemmas.Bool.Decides.{nat_tests}
 use Rattle.hj_base.specs.declared.numbers.Side.{Side}
 use Rattle.hj_base.specs.declared.numbers.Side.TheVariants.{Left, Right}
 use Rattle.hj_base.specs.Journals.{puts}
 use Rattle.hj_msg.specs.declared.event.Event.{Event}
-use Rattle.hj_msg.specs.declared.event.Event.TheVariants.{Arrive, Expire}
+use Rattle.hj_msg.specs.declared.event.Event.TheVariants.{Arrive, Expire, Quiet}
 use Rattle.hj_msg.specs.declared.message.Msg.{Msg}
-use Rattle.hj_msg.specs.declared.message.Msg.TheVariants.{R, CloseL, S, CloseR}
-use Rattle.hj_msg.specs.Core.{only_if}
+use Rattle.hj_msg.specs.declared.message.Msg.TheVariants.{R, AckS, EndS, QuietL, CloseL, S, EndR, QuietR, CloseR}
+use Rattle.hj_msg.specs.Event.{number}
+use Rattle.hj_msg.specs.Core.{only_if, is_last}
 use Rattle.hj_msg.specs.Turns.{handled}
 use Rattle.hj_msg.specs.Driver.{DriverTurn, admission, receipt, closing, admitted}
-use Rattle.hj_msg.specs.Run.{Run, IsRun, port_journal}
+use Rattle.hj_msg.specs.Run.{Run, IsRun, close_of, port_journal}
 use Rattle.hj_msg.proofs.Members.{Contains-cut, find, any_of}
-use Rattle.hj_msg.proofs.Orders.{before, before-open, before-prefix}
-use Rattle.hj_msg.proofs.Sides.{is_row, is_close, goes_with, sends_on}
-use Rattle.hj_msg.proofs.Ports.{event_puts, turn_puts, in_turns, in_order, close_no_row, puts_row, row_of_event}
+use Rattle.hj_msg.proofs.Counts.{count}
+use Rattle.hj_msg.proofs.CrossingLemmas.{count-only_if, count-both}
+use Rattle.hj_msg.proofs.Orders.{before, before-open, before-prefix, any-prefix, before-not_self}
+use Rattle.hj_msg.proofs.Sides.{is_quiet, is_mark, is_close, goes_with, sends_on}
+use Rattle.hj_msg.proofs.Ports.{event_puts, turn_puts, in_turns, in_order}
 use Rattle.hj_msg.proofs.Directions.{port_end, port_is, reached, along}
-use Rattle.hj_msg.proofs.Settling.{row_sent, row_goes, lifts_row, of_way, any_one}
+use Rattle.hj_msg.proofs.Settling.{of_way, any_one}
 use Rattle.hj_msg.proofs.Expiries.{shown}
+
+-- what is marked is sent on once, and alone
+pub mark_sent : {P : Type 0} (side : Side) (number place n : ℕ) (m : Msg P) → count (is_mark side number) (sends_on side place n m) ≡ cond (is_mark side number m) 1 0
+mark_sent Left number place n (R other row) = omega arith
+mark_sent Left number place n (QuietL other) = omega arith
+mark_sent Left number place n (S other row) = count-both (is_mark Left number) (nat_lt (place + 1) n) (place == 0) (AckS other) (EndS other) refl refl
+mark_sent Left number place n other = refl
+mark_sent Right number place n (S other row) = omega arith
+mark_sent Right number place n (QuietR other) = omega arith
+mark_sent Right number place n (R other row) = count-only_if (is_mark Right number) (is_last place n) (EndR other) refl
+mark_sent Right number place n other = refl
+
+quiet_sent : {P : Type 0} (side : Side) (number place n : ℕ) (m : Msg P) → count (is_quiet side number) (sends_on side place n m) ≡ cond (is_quiet side number m) 1 0
+quiet_sent Left number place n (QuietL other) = omega arith
+quiet_sent Left number place n (S other row) = count-both (is_quiet Left number) (nat_lt (place + 1) n) (place == 0) (AckS other) (EndS other) refl refl
+quiet_sent Left number place n other = refl
+quiet_sent Right number place n (QuietR other) = omega arith
+quiet_sent Right number place n (R other row) = count-only_if (is_quiet Right number) (is_last place n) (EndR other) refl
+quiet_sent Right number place n other = refl
+
+mark_apart : {P : Type 0} (side : Side) (p : Msg P → Bool) (number place n : ℕ) (m : Msg P) → is_mark side number m ≡ true → before p (is_mark side number) (sends_on side place n m) ≡ false
+mark_apart Left p number place n (R at row) e = rw e refl
+mark_apart Left p number place n (QuietL at) e = rw e refl
+mark_apart Left p number place n other e = absurd (true≢false (sym e))
+mark_apart Right p number place n (S at row) e = rw e refl
+mark_apart Right p number place n (QuietR at) e = rw e refl
+mark_apart Right p number place n other e = absurd (true≢false (sym e))
+
+pub mark_goes : {P : Type 0} (side : Side) (number : ℕ) (m : Msg P) → is_mark side number m ≡ true → goes_with side m ≡ true
+mark_goes Left number (R at row) e = refl
+mark_goes Left number (QuietL at) e = refl
+mark_goes Left number other e = absurd (true≢false (sym e))
+mark_goes Right number (S at row) e = refl
+mark_goes Right number (QuietR at) e = refl
+mark_goes Right number other e = absurd (true≢false (sym e))
+
+quiet_goes : {P : Type 0} (side : Side) (number : ℕ) (m : Msg P) → is_quiet side number m ≡ true → goes_with side m ≡ true
+quiet_goes Left number (QuietL at) e = refl
+quiet_goes Left number other e = absurd (true≢false (sym e))
+quiet_goes Right number (QuietR at) e = refl
+quiet_goes Right number other e = absurd (true≢false (sym e))
+
+close_no_mark : (P : Type 0) (side : Side) (number : ℕ) → is_mark {P = P} side number (close_of side) ≡ false
+close_no_mark P Left number = refl
+close_no_mark P Right number = refl
+
+close_no_quiet : (P : Type 0) (side : Side) (number : ℕ) → is_quiet {P = P} side number (close_of side) ≡ false
+close_no_quiet P Left number = refl
+close_no_quiet P Right number = refl
+
+-- the events that put what is marked, and a quiet event
+pub puts_mark : {P : Type 0} (side : Side) (at : ℕ) (row : P) → event_puts side (is_mark side at) (Arrive (record { 0 = at }) side row) ≡ true
+puts_mark Left at row = grind (arith, nat_tests)
+puts_mark Right at row = grind (arith, nat_tests)
+
+pub mark_of_event : {P : Type 0} (side : Side) (at : ℕ) (event : Event P) → event_puts side (is_mark side at) event ≡ true → number event ≡ at
+mark_of_event Left at (Arrive other Left row) e = grind (arith, nat_tests, e)
+mark_of_event Left at (Quiet other Left) e = grind (arith, nat_tests, e)
+mark_of_event Left at (Arrive other Right row) e = absurd (true≢false (sym e))
+mark_of_event Left at (Quiet other Right) e = absurd (true≢false (sym e))
+mark_of_event Left at (Expire other Left of) e = absurd (true≢false (sym e))
+mark_of_event Left at (Expire other Right of) e = absurd (true≢false (sym e))
+mark_of_event Right at (Arrive other Right row) e = grind (arith, nat_tests, e)
+mark_of_event Right at (Quiet other Right) e = grind (arith, nat_tests, e)
+mark_of_event Right at (Arrive other Left row) e = absurd (true≢false (sym e))
+mark_of_event Right at (Quiet other Left) e = absurd (true≢false (sym e))
+mark_of_event Right at (Expire other Left of) e = absurd (true≢false (sym e))
+mark_of_event Right at (Expire other Right of) e = absurd (true≢false (sym e))
+
+pub quiet_of_event : {P : Type 0} (side : Side) (at : ℕ) (event : Event P) → event_puts side (is_quiet side at) event ≡ true → event ≡ Quiet (record { 0 = at }) side
+quiet_of_event Left at (Quiet other Left) e = let same : other.0 ≡ at = grind (arith, nat_tests, e) in ap (λ k. Quiet (record { 0 = k }) Left) same
+quiet_of_event Left at (Quiet other Right) e = absurd (true≢false (sym e))
+quiet_of_event Left at (Arrive other Left row) e = absurd (true≢false (sym e))
+quiet_of_event Left at (Arrive other Right row) e = absurd (true≢false (sym e))
+quiet_of_event Left at (Expire other Left of) e = absurd (true≢false (sym e))
+quiet_of_event Left at (Expire other Right of) e = absurd (true≢false (sym e))
+quiet_of_event Right at (Quiet other Right) e = let same : other.0 ≡ at = grind (arith, nat_tests, e) in ap (λ k. Quiet (record { 0 = k }) Right) same
+quiet_of_event Right at (Quiet other Left) e = absurd (true≢false (sym e))
+quiet_of_event Right at (Arrive other Left row) e = absurd (true≢false (sym e))
+quiet_of_event Right at (Arrive other Right row) e = absurd (true≢false (sym e))
+quiet_of_event Right at (Expire other Left of) e = absurd (true≢false (sym e))
+quiet_of_event Right at (Expire other Right of) e = absurd (true≢false (sym e))
 
 only_none : {P : Type 0} (p : Msg P → Bool) (holds : Bool) (m : Msg P) → p m ≡ false → list_any p (only_if holds m) ≡ false
 only_none p true m e = rw e refl
@@ -52,10 +138,14 @@ event_no_close Left (Arrive at Left row) = refl
 event_no_close Left (Arrive at Right row) = refl
 event_no_close Left (Expire at Left of) = refl
 event_no_close Left (Expire at Right of) = refl
+event_no_close Left (Quiet at Left) = refl
+event_no_close Left (Quiet at Right) = refl
 event_no_close Right (Arrive at Left row) = refl
 event_no_close Right (Arrive at Right row) = refl
 event_no_close Right (Expire at Left of) = refl
 event_no_close Right (Expire at Right of) = refl
+event_no_close Right (Quiet at Left) = refl
+event_no_close Right (Quiet at Right) = refl
 
 puts_close : {P : Type 0} (side : Side) (turn : DriverTurn P) → turn_puts side (is_close side) turn ≡ true → turn ≡ closing
 puts_close side (admission event) e = absurd (true≢false (sym e ∙ event_no_close side event))
@@ -74,18 +164,39 @@ admits_any side test (closing ∷ turns) h = rw (admits_any side test turns h) (
     or_true false = refl
 
 module _ {P : Type 0} (run : Run P) (is : IsRun run) where
-  -- the rows of a side are handled in the order of their numbers
-  pub rows_in_order : (side : Side) (k a m : ℕ) (row : P) → k < run.cores → Contains run.events (Arrive (record { 0 = a }) side row) → a < m → list_any (is_row side m) (handled (is.turns k)) ≡ true
-      → before (is_row side a) (is_row side m) (handled (is.turns k)) ≡ true
-  rows_in_order side k a m row low arrival below h =
+  -- what a core handled, and all before it sent on, some event put
+  on_way : (side : Side) (k : ℕ) (p : Msg P → Bool) → k < run.cores → ((m : Msg P) → p m ≡ true → goes_with side m ≡ true) → ((k : ℕ) (m : Msg P) → count p (sends_on side k run.cores m) ≡ cond (p m) 1 0)
+      → p (close_of side) ≡ false → list_any p (handled (is.turns k)) ≡ true → list_any (event_puts side p) run.events ≡ true
+  on_way side k p low goes sent no_close h =
       let there = reached run is side k low in
-      let sent = along run is side (is_row side a) (is_row side m) (of_way (goes_with side) (is_row side a) (row_goes side a)) (of_way (goes_with side) (is_row side m) (row_goes side m))
-      (λ k. lifts_row side (is_row side a) (is_row side a) m k run.cores (row_sent side a k run.cores)) there.0 k there.1 h in
-      let port = in_order side (is_row side a) (is_row side m) (close_no_row P side a) (close_no_row P side m) is.log in
+      let came = along run is side p p (of_way (goes_with side) p goes) (of_way (goes_with side) p goes)
+      (λ k m. record { first = any_one p (sends_on side k run.cores m) (p m) (sent k m); second = any_one p (sends_on side k run.cores m) (p m) (sent k m); apart = λ e. before-not_self p (sends_on side k run.cores m) }) there.0 k there.1 h in
+      let port = in_order side p p no_close no_close is.log in
       let puts_are : puts (port_end run is side) ≡ puts (port_journal side is.log) = ap puts (port_is run is side) in
-      let has : list_any (event_puts side (is_row side m)) (admitted (map (λ entry. entry.turn) is.log)) ≡ true = sym port.has ∙ sym (ap (list_any (is_row side m)) puts_are) ∙ sent.has in
-      sent.order ∙ ap (before (is_row side a) (is_row side m)) puts_are ∙ port.order ∙ sym (before-prefix (event_puts side (is_row side a)) (event_puts side (is_row side m)) is.lawful.in_order has)
-      ∙ shown (Arrive (record { 0 = a }) side row) m (event_puts side (is_row side a)) (event_puts side (is_row side m)) (puts_row side a row) (row_of_event side m) below 0 run.events is.well_formed.numbered arrival
+      any-prefix (event_puts side p) is.lawful.in_order (sym port.has ∙ sym (ap (list_any p) puts_are) ∙ came.has)
+
+  pub mark_event : (side : Side) (k a : ℕ) → k < run.cores → list_any (is_mark side a) (handled (is.turns k)) ≡ true → list_any (event_puts side (is_mark side a)) run.events ≡ true
+  mark_event side k a low h = on_way side k (is_mark side a) low (mark_goes side a) (λ k. mark_sent side a k run.cores) (close_no_mark P side a) h
+
+  pub quiet_event : (side : Side) (k a : ℕ) → k < run.cores → list_any (is_quiet side a) (handled (is.turns k)) ≡ true → list_any (event_puts side (is_quiet side a)) run.events ≡ true
+  quiet_event side k a low h = on_way side k (is_quiet side a) low (quiet_goes side a) (λ k. quiet_sent side a k run.cores) (close_no_quiet P side a) h
+
+  -- what is marked is handled in the order of the numbers
+  pub marks_in_order : (side : Side) (k a m : ℕ) (event : Event P) → k < run.cores → Contains run.events event → event_puts side (is_mark side a) event ≡ true → a < m → list_any (is_mark side m) (handled (is.turns k)) ≡ true
+      → before (is_mark side a) (is_mark side m) (handled (is.turns k)) ≡ true
+  marks_in_order side k a m event low is_there passes below h =
+      let there = reached run is side k low in
+      let sent = along run is side (is_mark side a) (is_mark side m) (of_way (goes_with side) (is_mark side a) (mark_goes side a)) (of_way (goes_with side) (is_mark side m) (mark_goes side m))
+      (λ k message. record {
+        first = any_one (is_mark side a) (sends_on side k run.cores message) (is_mark side a message) (mark_sent side a k run.cores message);
+        second = any_one (is_mark side m) (sends_on side k run.cores message) (is_mark side m message) (mark_sent side m k run.cores message);
+        apart = mark_apart side (is_mark side a) m k run.cores message;
+      }) there.0 k there.1 h in
+      let port = in_order side (is_mark side a) (is_mark side m) (close_no_mark P side a) (close_no_mark P side m) is.log in
+      let puts_are : puts (port_end run is side) ≡ puts (port_journal side is.log) = ap puts (port_is run is side) in
+      let has : list_any (event_puts side (is_mark side m)) (admitted (map (λ entry. entry.turn) is.log)) ≡ true = sym port.has ∙ sym (ap (list_any (is_mark side m)) puts_are) ∙ sent.has in
+      sent.order ∙ ap (before (is_mark side a) (is_mark side m)) puts_are ∙ port.order ∙ sym (before-prefix (event_puts side (is_mark side a)) (event_puts side (is_mark side m)) is.lawful.in_order has)
+      ∙ shown event m (event_puts side (is_mark side a)) (event_puts side (is_mark side m)) passes (mark_of_event side m) (omega (arith, below, mark_of_event side a event passes)) 0 run.events is.well_formed.numbered is_there
 
   -- the closes are put behind all arrivals
   closes_behind : (side : Side) (test : Msg P → Bool) (event : Event P) → Contains run.events event → event_puts side test event ≡ true → list_any (turn_puts side (is_close side)) (map (λ entry. entry.turn) is.log) ≡ true
@@ -105,14 +216,14 @@ module _ {P : Type 0} (run : Run P) (is : IsRun run) where
           go false e = e
           go true e = let found = find (turn_puts side (is_close side)) turns e in absurd (once (subst (λ turn. Contains turns turn) (puts_close side found.one found.passes) found.is))
 
-  -- the rows of a side are handled before its close
-  pub rows_before_close : (side : Side) (k a : ℕ) (row : P) → k < run.cores → Contains run.events (Arrive (record { 0 = a }) side row) → list_any (is_close side) (handled (is.turns k)) ≡ true
-      → before (is_row side a) (is_close side) (handled (is.turns k)) ≡ true
-  rows_before_close side k a row low arrival h =
+  -- what is marked on a side is handled before its close
+  pub marks_before_close : (side : Side) (k a : ℕ) (event : Event P) → k < run.cores → Contains run.events event → event_puts side (is_mark side a) event ≡ true → list_any (is_close side) (handled (is.turns k)) ≡ true
+      → before (is_mark side a) (is_close side) (handled (is.turns k)) ≡ true
+  marks_before_close side k a event low is_there passes h =
       let there = reached run is side k low in
-      let sent = along run is side (is_row side a) (is_close side) (of_way (goes_with side) (is_row side a) (row_goes side a)) (of_way (goes_with side) (is_close side) (close_goes side))
-      (λ k m. record { first = any_one (is_row side a) (sends_on side k run.cores m) (is_row side a m) (row_sent side a k run.cores m); second = close_sent side k run.cores m; apart = close_apart side (is_row side a) k run.cores m }) there.0 k there.1 h in
-      let port = in_turns side (is_row side a) (is_close side) is.log in
+      let sent = along run is side (is_mark side a) (is_close side) (of_way (goes_with side) (is_mark side a) (mark_goes side a)) (of_way (goes_with side) (is_close side) (close_goes side))
+      (λ k m. record { first = any_one (is_mark side a) (sends_on side k run.cores m) (is_mark side a m) (mark_sent side a k run.cores m); second = close_sent side k run.cores m; apart = close_apart side (is_mark side a) k run.cores m }) there.0 k there.1 h in
+      let port = in_turns side (is_mark side a) (is_close side) is.log in
       let puts_are : puts (port_end run is side) ≡ puts (port_journal side is.log) = ap puts (port_is run is side) in
       let has : list_any (turn_puts side (is_close side)) (map (λ entry. entry.turn) is.log) ≡ true = sym port.has ∙ sym (ap (list_any (is_close side)) puts_are) ∙ sent.has in
-      sent.order ∙ ap (before (is_row side a) (is_close side)) puts_are ∙ port.order ∙ closes_behind side (is_row side a) (Arrive (record { 0 = a }) side row) arrival (puts_row side a row) has
+      sent.order ∙ ap (before (is_mark side a) (is_close side)) puts_are ∙ port.order ∙ closes_behind side (is_mark side a) event is_there passes has

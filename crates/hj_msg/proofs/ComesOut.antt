@@ -2,7 +2,7 @@
 use Rattle.std.proofs.Common.{◌≡◌, ℕ, ◌==◌, Bool, true, false, ◌&&◌, ◌||◌, List, [], ◌∷◌, refl, ap, sym, ◌∙◌, eqb-true}
 use Rattle.std.proofs.lemmas.Bool.{false≢true}
 use Rattle.hj_base.specs.declared.numbers.Side.TheVariants.{Left, Right}
-use Rattle.hj_msg.specs.declared.event.Event.TheVariants.{Arrive, Expire}
+use Rattle.hj_msg.specs.declared.event.Event.TheVariants.{Arrive, Expire, Quiet}
 use Rattle.hj_msg.specs.Messages.{is_R, is_S}
 use Rattle.hj_msg.specs.Driver.{DriverTurn, admission, receipt, closing, is_take, took, came_out}
 
@@ -30,6 +30,7 @@ took-from_came_out_left {P} number (admission (Arrive at Left row) ∷ later) ou
 took-from_came_out_left number (admission (Arrive at Right row) ∷ later) out = took-from_came_out_left number later out
 took-from_came_out_left number (admission (Expire at Left of) ∷ later) out = took-from_came_out_left number later out
 took-from_came_out_left number (admission (Expire at Right of) ∷ later) out = took-from_came_out_left number later out
+took-from_came_out_left number (admission (Quiet at side) ∷ later) out = took-from_came_out_left number later out
 took-from_came_out_left number (receipt port message ∷ later) out = later_too (is_take Right (is_R number) (receipt port message)) _ (took-from_came_out_left number later out)
 took-from_came_out_left number (closing ∷ later) out = took-from_came_out_left number later out
 
@@ -43,5 +44,6 @@ took-from_came_out_right {P} number (admission (Arrive at Right row) ∷ later) 
 took-from_came_out_right number (admission (Arrive at Left row) ∷ later) out = took-from_came_out_right number later out
 took-from_came_out_right number (admission (Expire at Left of) ∷ later) out = took-from_came_out_right number later out
 took-from_came_out_right number (admission (Expire at Right of) ∷ later) out = took-from_came_out_right number later out
+took-from_came_out_right number (admission (Quiet at side) ∷ later) out = took-from_came_out_right number later out
 took-from_came_out_right number (receipt port message ∷ later) out = later_too (is_take Left (is_S number) (receipt port message)) _ (took-from_came_out_right number later out)
 took-from_came_out_right number (closing ∷ later) out = took-from_came_out_right number later out

@@ -10,9 +10,9 @@ use Rattle.hj_base.specs.declared.numbers.Side.TheVariants.{Left, Right}
 use Rattle.hj_base.specs.Journals.{Entry, IsPrefix, puts, takes}
 use Rattle.hj_base.specs.Link.{Link, Agrees}
 use Rattle.hj_msg.specs.declared.event.Event.{Event}
-use Rattle.hj_msg.specs.declared.event.Event.TheVariants.{Arrive, Expire}
+use Rattle.hj_msg.specs.declared.event.Event.TheVariants.{Arrive, Expire, Quiet}
 use Rattle.hj_msg.specs.declared.message.Msg.{Msg}
-use Rattle.hj_msg.specs.declared.message.Msg.TheVariants.{R, AckS, EndS, ExpS, CloseL, S, EndR, ExpR, CloseR}
+use Rattle.hj_msg.specs.declared.message.Msg.TheVariants.{R, AckS, EndS, ExpS, QuietL, CloseL, S, EndR, ExpR, QuietR, CloseR}
 use Rattle.hj_msg.specs.declared.message.Report.{Report}
 use Rattle.hj_msg.specs.Event.{number, NumbersFrom}
 use Rattle.hj_msg.specs.Messages.{is_R, is_S}
@@ -43,6 +43,8 @@ sends-right-R at place n CloseL = refl
 sends-right-R at place n (EndR other) = refl
 sends-right-R at place n (ExpR other) = refl
 sends-right-R at place n CloseR = refl
+sends-right-R at place n (QuietL other) = refl
+sends-right-R at place n (QuietR other) = refl
 
 sends-right-S : {P : Type 0} (at place n : ℕ) (message : Msg P) → count (is_S at) (sends place n message).right ≡ 0
 sends-right-S at place n (R other row) = refl
@@ -55,6 +57,8 @@ sends-right-S at place n CloseL = refl
 sends-right-S at place n (EndR other) = refl
 sends-right-S at place n (ExpR other) = refl
 sends-right-S at place n CloseR = refl
+sends-right-S at place n (QuietL other) = refl
+sends-right-S at place n (QuietR other) = refl
 
 pub sends-left-S : {P : Type 0} (at place n : ℕ) (message : Msg P) → count (is_S at) (sends place n message).left ≡ cond (is_S at message) 1 0
 sends-left-S at place n (R other row) = count-only_if (is_S at) (is_last place n) (EndR other) refl
@@ -66,6 +70,8 @@ sends-left-S at place n CloseL = refl
 sends-left-S at place n (EndR other) = refl
 sends-left-S at place n (ExpR other) = refl
 sends-left-S at place n CloseR = refl
+sends-left-S at place n (QuietL other) = refl
+sends-left-S at place n (QuietR other) = refl
 
 sends-left-R : {P : Type 0} (at place n : ℕ) (message : Msg P) → count (is_R at) (sends place n message).left ≡ 0
 sends-left-R at place n (R other row) = count-only_if (is_R at) (is_last place n) (EndR other) refl
@@ -77,6 +83,8 @@ sends-left-R at place n CloseL = refl
 sends-left-R at place n (EndR other) = refl
 sends-left-R at place n (ExpR other) = refl
 sends-left-R at place n CloseR = refl
+sends-left-R at place n (QuietL other) = refl
+sends-left-R at place n (QuietR other) = refl
 
 -- Every turn, a cut one too, puts a prefix of what the core sends.
 pub record PutsOnly {P : Type 0} (place n : ℕ) (turn : Turn P) : Type 0 where
@@ -148,6 +156,8 @@ port-R at n (admission (Arrive other Left row)) = omega arith
 port-R at n (admission (Arrive other Right row)) = omega arith
 port-R at n (admission (Expire other Left of)) = omega arith
 port-R at n (admission (Expire other Right of)) = omega arith
+port-R at n (admission (Quiet other Left)) = omega arith
+port-R at n (admission (Quiet other Right)) = omega arith
 port-R at n (receipt Left message) = omega arith
 port-R at n (receipt Right message) = omega arith
 port-R at n closing = omega arith
@@ -157,6 +167,8 @@ port-S at n (admission (Arrive other Left row)) = omega arith
 port-S at n (admission (Arrive other Right row)) = omega arith
 port-S at n (admission (Expire other Left of)) = omega arith
 port-S at n (admission (Expire other Right of)) = omega arith
+port-S at n (admission (Quiet other Left)) = omega arith
+port-S at n (admission (Quiet other Right)) = omega arith
 port-S at n (receipt Left message) = omega arith
 port-S at n (receipt Right message) = omega arith
 port-S at n closing = omega arith
@@ -166,6 +178,8 @@ port-no_R at n (admission (Arrive other Left row)) = refl
 port-no_R at n (admission (Arrive other Right row)) = refl
 port-no_R at n (admission (Expire other Left of)) = refl
 port-no_R at n (admission (Expire other Right of)) = refl
+port-no_R at n (admission (Quiet other Left)) = refl
+port-no_R at n (admission (Quiet other Right)) = refl
 port-no_R at n (receipt Left message) = refl
 port-no_R at n (receipt Right message) = refl
 port-no_R at n closing = refl
@@ -175,6 +189,8 @@ port-no_S at n (admission (Arrive other Left row)) = refl
 port-no_S at n (admission (Arrive other Right row)) = refl
 port-no_S at n (admission (Expire other Left of)) = refl
 port-no_S at n (admission (Expire other Right of)) = refl
+port-no_S at n (admission (Quiet other Left)) = refl
+port-no_S at n (admission (Quiet other Right)) = refl
 port-no_S at n (receipt Left message) = refl
 port-no_S at n (receipt Right message) = refl
 port-no_S at n closing = refl
@@ -185,7 +201,7 @@ admitted-cons (receipt port message) log = refl
 admitted-cons closing log = refl
 
 -- the count of what a whole log put on a port, against the events that it admitted
-count-port : {P : Type 0} (p : Msg P → Bool) (at : ℕ) (port : Side) → ((n : ℕ) (turn : DriverTurn P) → count p (puts (at_port port n turn)) ≤ count (λ event. number event == at) (admitted (turn ∷ [])))
+pub count-port : {P : Type 0} (p : Msg P → Bool) (at : ℕ) (port : Side) → ((n : ℕ) (turn : DriverTurn P) → count p (puts (at_port port n turn)) ≤ count (λ event. number event == at) (admitted (turn ∷ [])))
     → (log : List (LogEntry P)) → count p (puts (port_journal port log)) ≤ count (λ event. number event == at) (admitted (map (λ entry. entry.turn) log))
 count-port p at port each [] = omega arith
 count-port p at port each (entry ∷ log) =
@@ -334,9 +350,11 @@ apart_S_R i j CloseL e = refl
 apart_S_R i j (EndR at) e = refl
 apart_S_R i j (ExpR at) e = refl
 apart_S_R i j CloseR e = refl
+apart_S_R i j (QuietL at) e = refl
+apart_S_R i j (QuietR at) e = refl
 
 module _ {P : Type 0} (run : Run P) (is : IsRun run) where
-  events_once : (at : ℕ) → count (λ event. number event == at) (admitted (map (λ entry. entry.turn) is.log)) ≤ 1
+  pub events_once : (at : ℕ) → count (λ event. number event == at) (admitted (map (λ entry. entry.turn) is.log)) ≤ 1
   events_once at = omega (arith, count-prefix (λ event. number event == at) is.lawful.in_order, once at 0 run.events is.well_formed.numbered)
 
   -- no left row goes left, and no right row goes right
@@ -353,7 +371,7 @@ module _ {P : Type 0} (run : Run P) (is : IsRun run) where
       rw (← add-one k, (is.steps k within).right) (puts-right-S at k run.cores (all_of (is.turns k)) (all_put (is.steps k within)))
 
   -- what a core handled came from its two links
-  handled_is : (p : Msg P → Bool) (k : ℕ) → k < run.cores → count p (takes (run.link k).right) + count p (takes (run.link (k + 1)).left) ≡ count p (handled (is.turns k))
+  pub handled_is : (p : Msg P → Bool) (k : ℕ) → k < run.cores → count p (takes (run.link k).right) + count p (takes (run.link (k + 1)).left) ≡ count p (handled (is.turns k))
   handled_is p k low = rw ((is.steps k low).left, (is.steps k low).right) (count-takes p (all_of (is.turns k)))
 
   handled_R : (at k : ℕ) → k < run.cores → count (is_R at) (handled (is.turns k)) ≤ count (is_R at) (puts (run.link k).left)

@@ -10,7 +10,7 @@ use Rattle.hj_base.specs.declared.numbers.Side.TheVariants.{Left, Right}
 use Rattle.hj_base.specs.Journals.{Entry, IsPrefix, puts, takes, put, taken}
 use Rattle.hj_msg.specs.declared.message.Msg.{Msg}
 use Rattle.hj_msg.specs.declared.message.Msg.TheVariants.{R, AckS, EndS, S, EndR}
-use Rattle.hj_msg.specs.declared.event.Event.TheVariants.{Arrive, Expire}
+use Rattle.hj_msg.specs.declared.event.Event.TheVariants.{Arrive, Expire, Quiet}
 use Rattle.hj_msg.specs.Core.{State, empty_state, after, sends, is_last}
 use Rattle.hj_msg.specs.Turns.{Turn, IsCut, AreWhole, all_of, handled, at_left, at_right, only_at}
 use Rattle.hj_msg.specs.Driver.{DriverTurn, admission, receipt, closing}
@@ -39,6 +39,8 @@ port-left n (admission (Arrive other Left row)) = refl
 port-left n (admission (Arrive other Right row)) = refl
 port-left n (admission (Expire other Left of)) = refl
 port-left n (admission (Expire other Right of)) = refl
+port-left n (admission (Quiet other Left)) = refl
+port-left n (admission (Quiet other Right)) = refl
 port-left n (receipt Left message) = refl
 port-left n (receipt Right message) = refl
 port-left n closing = refl
@@ -147,6 +149,8 @@ port-right n (admission (Arrive other Left row)) = refl
 port-right n (admission (Arrive other Right row)) = refl
 port-right n (admission (Expire other Left of)) = refl
 port-right n (admission (Expire other Right of)) = refl
+port-right n (admission (Quiet other Left)) = refl
+port-right n (admission (Quiet other Right)) = refl
 port-right n (receipt Left message) = refl
 port-right n (receipt Right message) = refl
 port-right n closing = refl

@@ -10,27 +10,30 @@ use native.Mathlib.Decide.{dec_lt}
 use Rattle.hj_base.specs.declared.numbers.Side.{Side}
 use Rattle.hj_base.specs.declared.numbers.Side.TheVariants.{Left, Right}
 use Rattle.hj_base.specs.Journals.{IsPrefix, puts}
-use Rattle.hj_msg.specs.declared.event.Event.TheVariants.{Arrive}
+use Rattle.hj_msg.specs.declared.event.Event.{Event}
 use Rattle.hj_msg.specs.declared.event.Pair.{Pair}
 use Rattle.hj_msg.specs.declared.message.Report.{Report}
-use Rattle.hj_msg.specs.declared.message.Report.TheVariants.{Handled, Ended, NoMemory}
+use Rattle.hj_msg.specs.declared.message.Report.TheVariants.{Handled, Quiet, Ended, NoMemory}
 use Rattle.hj_msg.specs.Kang.{kang}
 use Rattle.hj_msg.specs.Valid.{later}
-use Rattle.hj_msg.specs.Punctuation.{up_to, all, arrival_of, is_end, mark_of, punctuation}
+use Rattle.hj_msg.specs.Punctuation.{up_to, all, arrival_of, tells, is_end, mark_of, punctuation}
 use Rattle.hj_msg.specs.Emission.{is_within, emitted}
-use Rattle.hj_msg.specs.Core.{State, empty_state, after, report}
+use Rattle.hj_msg.specs.Core.{State, empty_state, after, report, state_after}
 use Rattle.hj_msg.specs.Turns.{Turn, IsCut, AreWhole, all_of, handled}
 use Rattle.hj_msg.specs.Run.{Run, IsRun}
 use Rattle.hj_msg.specs.Overtaking.{AreLater}
 use Rattle.hj_msg.proofs.Counts.{count, count-append, count-list_any}
-use Rattle.hj_msg.proofs.Members.{Ranked-filter}
-use Rattle.hj_msg.proofs.MeetingPlaces.{row_once, at_row}
+use Rattle.hj_msg.proofs.Members.{Ranked-filter, find}
+use Rattle.hj_msg.proofs.MarksOnce.{mark_once}
 use Rattle.hj_msg.proofs.Orders.{before, any-append, any-prefix, before-any, before-prefix}
 use Rattle.hj_msg.proofs.Reports.{puts-reports}
-use Rattle.hj_msg.proofs.Marks.{marks_from, tells, last_told, reached, told_option, within_marks, end_mark}
-use Rattle.hj_msg.proofs.Sides.{is_row}
+use Rattle.hj_msg.proofs.Marks.{marks_from, last_told, reached, told_option, within_marks, end_mark}
+use Rattle.hj_msg.proofs.Sides.{is_mark}
 use Rattle.hj_msg.proofs.RankedLists.{filter_prefix, filter_twice}
-use Rattle.hj_msg.proofs.WithinPunctuation.{told_before, tells_of}
+use Rattle.hj_msg.proofs.WithinPunctuation.{told_before, or_left, has_here}
+use Rattle.hj_msg.proofs.Ports.{event_puts}
+use Rattle.hj_msg.proofs.ArrivalOrder.{mark_event}
+use Rattle.hj_msg.proofs.Fronts.{first_of}
 use Rattle.hj_msg.proofs.Emitting.{First, within_before, joined_ranked, emitted_is}
 
 -- one report behind another
@@ -83,6 +86,10 @@ last_of {P} side m (r ∷ rs) o h = go side r h (last_of side m rs)
     go Right (Handled at Right row partners) h deeper = own Right (Handled at Right row partners) at.0 refl refl (list_any (tells Right m) rs) refl h deeper
     go Left (Handled at Right row partners) h deeper = skip Left (Handled at Right row partners) refl (deeper o h)
     go Right (Handled at Left row partners) h deeper = skip Right (Handled at Left row partners) refl (deeper o h)
+    go Left (Quiet at Left) h deeper = own Left (Quiet at Left) at.0 refl refl (list_any (tells Left m) rs) refl h deeper
+    go Right (Quiet at Right) h deeper = own Right (Quiet at Right) at.0 refl refl (list_any (tells Right m) rs) refl h deeper
+    go Left (Quiet at Right) h deeper = skip Left (Quiet at Right) refl (deeper o h)
+    go Right (Quiet at Left) h deeper = skip Right (Quiet at Left) refl (deeper o h)
     go Left Ended h deeper = skip Left Ended refl (deeper o h)
     go Right Ended h deeper = skip Right Ended refl (deeper o h)
     go Left NoMemory h deeper = skip Left NoMemory refl (deeper o h)
@@ -98,10 +105,10 @@ one_at_most p (Some x) = go (p x)
 
 -- an arrival is told as often as it is handled
 told_often : {P : Type 0} (matches : P → P → Bool) (place n : ℕ) (side : Side) (a : ℕ) (state : State P) (turns : List (Turn P)) → AreWhole matches place n state turns
-    → count (tells side a) (flat_map (λ turn. turn.reports) turns) ≡ count (is_row side a) (map (λ turn. turn.message) turns)
+    → count (tells side a) (flat_map (λ turn. turn.reports) turns) ≡ count (is_mark side a) (map (λ turn. turn.message) turns)
 told_often matches place n side a state [] whole = refl
 told_often {P} matches place n side a state (turn ∷ turns) whole =
-    let here : count (tells side a) turn.reports ≡ cond (is_row side a turn.message) 1 0
+    let here : count (tells side a) turn.reports ≡ cond (is_mark side a turn.message) 1 0
     = ap (count (tells side a)) whole.0.reports ∙ one_at_most (tells side a) (report matches state turn.message) ∙ ap (λ b. cond {A = ℕ} b 1 0) (told_option matches side a state turn.message) in
     omega (arith, here, count-append (tells side a) turn.reports (flat_map (λ (turn : Turn P). turn.reports) turns), told_often matches place n side a (after place n state turn.message) turns whole.1)
 
@@ -120,9 +127,9 @@ module _ {P : Type 0} (run : Run P) (is : IsRun run) where
         count-append (tells side a) whole cut,
         no_cut (is.turns k).cut core.cut,
         told_often run.matches k run.cores side a empty_state turns.whole core.whole,
-        ap (count (is_row side a)) messages,
-        count-append (is_row side a) (map (λ turn. turn.message) turns.whole) (map (λ turn. turn.message) (option_to_list turns.cut)),
-        row_once run is side a k low,
+        ap (count (is_mark side a)) messages,
+        count-append (is_mark side a) (map (λ turn. turn.message) turns.whole) (map (λ turn. turn.message) (option_to_list turns.cut)),
+        mark_once run is side a k low,
       )
     where
       no_memory : (side : Side) → count (tells {P = P} side a) (NoMemory ∷ []) ≡ 0
@@ -136,20 +143,28 @@ module _ {P : Type 0} (run : Run P) (is : IsRun run) where
         | inr e ↦ omega (arith, count-append (tells side a) turn.reports [], ap (count (tells side a)) e, no_memory side)
       ]
 
-  -- what was told has arrived
-  arrived : (k : ℕ) → k < run.cores → (side : Side) (a : ℕ) → list_any (tells side a) (puts (run.queue k).sender) ≡ true → (row : P) × Contains run.events (Arrive (record { 0 = a }) side row)
-  arrived k low side a h =
-      let told = tells_of run is side a (puts (run.queue k).sender) h in
-      (told.row, (at_row run is side k low (record { 0 = a }) told.row told.partners told.is).arrival)
+  -- what was told is an event
+  record Marked (side : Side) (a : ℕ) : Type 0 where
+    event : Event P
+    there : Contains run.events event
+    passes : event_puts side (is_mark side a) event ≡ true
 
-  -- the mark of a core doesn't fall
-  mark_stays : (k : ℕ) → k < run.cores → (side : Side) (n : ℕ) (rs more : List (Report P)) → IsPrefix rs more → IsPrefix more (puts (run.queue k).sender) → is_within (mark_of side rs) n ≡ true → is_within (mark_of side more) n ≡ true
-  mark_stays k low side n rs more longer prefix h = elim (reached side n rs h) [
-    | inl end ↦ end_mark side more n (any-prefix is_end longer end)
-    | inr at ↦
-        let told : list_any (tells side at.number) more ≡ true = any-prefix (tells side at.number) longer at.told in
-        go (list_any is_end more) refl at.number at.above told (last_of side at.number more None told)
-  ]
+  arrived : (k : ℕ) → k < run.cores → (side : Side) (a : ℕ) → list_any (tells side a) (puts (run.queue k).sender) ≡ true → Marked side a
+  arrived k low side a h =
+      let first = first_of (is.steps k low) (tells side a) (tells side a) (is_mark side a) (told_option run.matches side a) (no_memory side) h in
+      let passes : is_mark side a first.message ≡ true = sym (told_option run.matches side a (state_after k run.cores first.front) first.message) ∙ first.passes in
+      let here = or_left (is_mark side a first.message) (list_any (is_mark side a) first.front) passes in
+      let has : list_any (is_mark side a) (handled (is.turns k)) ≡ true = ap (list_any (is_mark side a)) first.is ∙ has_here (is_mark side a) first.front first.back first.message here in
+      let found = find (event_puts side (is_mark side a)) run.events (mark_event run is side k a low has) in
+      record { event = found.one; there = found.is; passes = found.passes }
+    where
+      no_memory : (side : Side) → tells {P = P} side a NoMemory ≡ false
+      no_memory Left = refl
+      no_memory Right = refl
+
+  -- where a core told of a number, its mark is no less
+  pub within_told : (k : ℕ) → k < run.cores → (side : Side) (n m : ℕ) (more : List (Report P)) → IsPrefix more (puts (run.queue k).sender) → list_any (tells side m) more ≡ true → n ≤ m → is_within (mark_of side more) n ≡ true
+  within_told k low side n m more prefix told at_least = go (list_any is_end more) refl m at_least told (last_of side m more None told)
     where
       above : (m : ℕ) → list_any (tells side m) more ≡ true → (number : ℕ) → (m ≡ number) ⊎ Behind side m number more → m ≤ number
       above m told number (inl e) = omega (arith, e)
@@ -162,7 +177,7 @@ module _ {P : Type 0} (run : Run P) (is : IsRun run) where
               let front : IsPrefix b.front (puts (run.queue k).sender) = record { rest = b.back ++ prefix.rest; is = all_parts } in
               let number_told : list_any (tells side number) more ≡ true = ap (list_any (tells side number)) b.parts ∙ any-append (tells side number) b.front b.back ∙ grind (arith, b.second) in
               let arrival = arrived k low side number (any-prefix (tells side number) prefix number_told) in
-              let order : before (tells side number) (tells side m) (puts (run.queue k).sender) ≡ true = told_before run is k low side number m arrival.0 arrival.1 below (any-prefix (tells side m) prefix told) in
+              let order : before (tells side number) (tells side m) (puts (run.queue k).sender) ≡ true = told_before run is k low side number m arrival.event arrival.there arrival.passes below (any-prefix (tells side m) prefix told) in
               let again : list_any (tells side number) b.front ≡ true = before-any (tells side number) (tells side m) b.front (sym (before-prefix (tells side number) (tells side m) front b.first) ∙ order) in
               absurd (omega (
                 arith,
@@ -180,6 +195,13 @@ module _ {P : Type 0} (run : Run P) (is : IsRun run) where
           let marked : mark_of side more ≡ Some (up_to last.number) = rw (e, last.is) refl in
           let high : n ≤ last.number = omega (arith, at_least, above m told last.number last.order) in
           ap (λ mark. is_within mark n) marked ∙ grind (arith, nat_tests, high)
+
+  -- the mark of a core doesn't fall
+  mark_stays : (k : ℕ) → k < run.cores → (side : Side) (n : ℕ) (rs more : List (Report P)) → IsPrefix rs more → IsPrefix more (puts (run.queue k).sender) → is_within (mark_of side rs) n ≡ true → is_within (mark_of side more) n ≡ true
+  mark_stays k low side n rs more longer prefix h = elim (reached side n rs h) [
+    | inl end ↦ end_mark side more n (any-prefix is_end longer end)
+    | inr at ↦ within_told k low side n at.number more prefix (any-prefix (tells side at.number) longer at.told) at.above
+  ]
 
   pub punctuation_stays : (lists longer : List (List (Report P))) → AreLater run lists longer → (n : ℕ) → is_within (punctuation lists) n ≡ true → is_within (punctuation longer) n ≡ true
   punctuation_stays lists longer are n h =

@@ -4,7 +4,7 @@ use Rattle.std.proofs.lemmas.List.Elements.{Contains-append_left, Contains-appen
 use Rattle.hj_base.specs.declared.numbers.EventNo.{EventNo}
 use Rattle.hj_base.specs.declared.numbers.Side.TheVariants.{Left, Right}
 use Rattle.hj_msg.specs.declared.event.Event.{Event}
-use Rattle.hj_msg.specs.declared.event.Event.TheVariants.{Arrive, Expire}
+use Rattle.hj_msg.specs.declared.event.Event.TheVariants.{Arrive, Expire, Quiet}
 use Rattle.hj_msg.specs.declared.event.Pair.{Pair}
 use Rattle.hj_msg.specs.Event.{Expires, IsWellFormed}
 use Rattle.hj_msg.specs.Kang.{Held, Windows, no_rows, pair, windows_after, listed, kang}
@@ -92,6 +92,7 @@ listed_match {P} matches front windows (Arrive at Right row) found h w k =
     let kept = Contains-from_filter (λ (held : Held P). matches held.row row) windows.left drawn.0 drawn.1 in
     subst (λ p. IsMatch matches (front ++ Arrive at Right row ∷ []) p × (later p ≡ length front)) drawn.2 (right_joins matches front at row drawn.0 h ((w.left.exact drawn.0).0 kept.0) kept.1)
 listed_match matches front windows (Expire at side of) found h w k = absurd (Contains-nil found k)
+listed_match matches front windows (Quiet at side) found h w k = absurd (Contains-nil found k)
 
 -- the earlier row of a match is live before the later one comes
 earlier_live : {P : Type 0} (matches : P → P → Bool) (front : List (Event P)) (event : Event P) (found : Pair P) → IsWellFormed (front ++ event ∷ []) → IsMatch matches (front ++ event ∷ []) found → later found ≡ length front → (of at : ℕ) → earlier found ≡ of → ¬ (Expires front of at)
@@ -151,6 +152,7 @@ listed_ranked {P} matches front windows (Arrive at Right row) h w =
     (λ x y k n less. let first = below x k in let second = below y n in inr (omega arith, omega arith))
     (Ranked-filter (λ x y. x.no < y.no) (λ held. matches held.row row) windows.left w.left.rising)
 listed_ranked matches front windows (Expire at side of) h w = tt
+listed_ranked matches front windows (Quiet at side) h w = tt
 
 last_or_before : {P : Type 0} (matches : P → P → Bool) (front : List (Event P)) (event : Event P) (found : Pair P) → IsWellFormed (front ++ event ∷ []) → IsMatch matches (front ++ event ∷ []) found → later found ≤ length front
 last_or_before matches front event found h m = omega (arith, later_below matches (front ++ event ∷ []) found h m, length-append front (event ∷ []))

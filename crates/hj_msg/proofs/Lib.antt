@@ -17,6 +17,7 @@ pub mod Joined
 mod Latches
 mod ListedOnce
 pub mod Marks
+pub mod MarksOnce
 mod MeetingExampleLemmas
 mod MeetingPlaces
 pub mod Members
@@ -29,6 +30,7 @@ pub mod OnlyMatches
 mod Orders
 mod Origins
 mod Ports
+pub mod Prompt
 pub mod RankedLists
 mod Reports
 mod RowBeforeExpiry

@@ -3,7 +3,7 @@ use Rattle.std.proofs.Common.{◌≡◌, ℕ, zero, suc, ◌+◌, ◌-◌, ◌<�
 use Rattle.std.specs.List.{list_any}
 use Rattle.std.proofs.lemmas.Bool.Decides.{nat_tests}
 use Rattle.hj_msg.specs.declared.message.Msg.{Msg}
-use Rattle.hj_msg.specs.declared.message.Msg.TheVariants.{R, AckS, EndS, ExpS, CloseL, S, EndR, ExpR, CloseR}
+use Rattle.hj_msg.specs.declared.message.Msg.TheVariants.{R, AckS, EndS, ExpS, QuietL, CloseL, S, EndR, ExpR, QuietR, CloseR}
 use Rattle.hj_msg.specs.declared.partner.Partner.{Partner}
 use Rattle.hj_msg.specs.Messages.{is_R, is_S, is_EndR, is_EndS}
 use Rattle.hj_msg.specs.Store.{Resting, with_element, with_settled, settled_partners}
@@ -100,6 +100,8 @@ distinct_step j place n state (ExpS at) is = record { left = is.left; right = om
 distinct_step j place n state (ExpR at) is = record { left = omega (arith, is.left, count-filter (λ entry. entry.no == j) (λ entry. not (entry.no == at.0)) state.left); right = is.right; in_flight = is.in_flight }
 distinct_step j place n state CloseL is = record { left = is.left; right = is.right; in_flight = is.in_flight }
 distinct_step j place n state CloseR is = record { left = is.left; right = is.right; in_flight = is.in_flight }
+distinct_step j place n state (QuietL at) is = record { left = is.left; right = is.right; in_flight = is.in_flight }
+distinct_step j place n state (QuietR at) is = record { left = is.left; right = is.right; in_flight = is.in_flight }
 
 distinct_from : {P : Type 0} (j place n : ℕ) (state : State P) (ms : List (Msg P)) → Distinct j state → Distinct j (fold (after place n) state ms)
 distinct_from j place n state [] is = is

@@ -7,13 +7,13 @@ use Rattle.std.proofs.lemmas.Bool.Decides.{nat_tests}
 use Rattle.hj_base.specs.declared.numbers.Side.{Side}
 use Rattle.hj_base.specs.declared.numbers.Side.TheVariants.{Left, Right}
 use Rattle.hj_msg.specs.declared.message.Msg.{Msg}
-use Rattle.hj_msg.specs.declared.message.Msg.TheVariants.{R, CloseL, S, CloseR}
+use Rattle.hj_msg.specs.declared.message.Msg.TheVariants.{R, QuietL, CloseL, S, QuietR, CloseR}
 use Rattle.hj_msg.specs.declared.message.Report.{Report}
-use Rattle.hj_msg.specs.declared.message.Report.TheVariants.{Handled, Ended, NoMemory}
-use Rattle.hj_msg.specs.Punctuation.{Mark, up_to, all, arrival_of, is_end, mark_of, lesser}
+use Rattle.hj_msg.specs.declared.message.Report.TheVariants.{Handled, Quiet, Ended, NoMemory}
+use Rattle.hj_msg.specs.Punctuation.{Mark, up_to, all, arrival_of, tells, is_end, mark_of, lesser}
 use Rattle.hj_msg.specs.Emission.{is_within}
 use Rattle.hj_msg.specs.Core.{State, report}
-use Rattle.hj_msg.proofs.Sides.{is_row}
+use Rattle.hj_msg.proofs.Sides.{is_quiet, is_mark}
 
 lesser_within : (a b : Option Mark) (n : ℕ) → is_within (lesser a b) n ≡ true → (is_within a n ≡ true) × (is_within b n ≡ true)
 lesser_within (Some (up_to a)) (Some (up_to b)) n h = (grind (arith, nat_tests, h), grind (arith, nat_tests, h))
@@ -62,11 +62,11 @@ within_marks n mark (rs ∷ lists) h each =
 pub end_mark : {P : Type 0} (side : Side) (rs : List (Report P)) (n : ℕ) → list_any is_end rs ≡ true → is_within (mark_of side rs) n ≡ true
 end_mark side rs n e = rw e refl
 
--- a report of an arrival of this side
-abbrev pub tells : {P : Type 0} → Side → ℕ → Report P → Bool
-tells Left n (Handled at Left row partners) = at.0 == n
-tells Right n (Handled at Right row partners) = at.0 == n
-tells side n report = false
+-- a report of a quiet event
+abbrev pub tells_quiet : {P : Type 0} → Side → ℕ → Report P → Bool
+tells_quiet Left n (Quiet at Left) = at.0 == n
+tells_quiet Right n (Quiet at Right) = at.0 == n
+tells_quiet side n report = false
 
 pub last_told : {P : Type 0} (side : Side) (rs : List (Report P)) (o : Option ℕ) (number : ℕ) → last_or o (filter_map (arrival_of side) rs) ≡ Some number → (o ≡ Some number) ⊎ (list_any (tells side number) rs ≡ true)
 last_told side [] o number e = inl e
@@ -90,6 +90,10 @@ last_told {P} side (r ∷ rs) o number e = go side r e (last_told side rs)
     go Right (Handled at Right row partners) e deeper = elim (deeper (Some at.0) number e) [ inl k ↦ inr (front at.0 k (list_any (tells Right number) rs)) | inr k ↦ inr (behind (at.0 == number) (list_any (tells Right number) rs) k) ]
     go Left (Handled at Right row partners) e deeper = deeper o number e
     go Right (Handled at Left row partners) e deeper = deeper o number e
+    go Left (Quiet at Left) e deeper = elim (deeper (Some at.0) number e) [ inl k ↦ inr (front at.0 k (list_any (tells Left number) rs)) | inr k ↦ inr (behind (at.0 == number) (list_any (tells Left number) rs) k) ]
+    go Right (Quiet at Right) e deeper = elim (deeper (Some at.0) number e) [ inl k ↦ inr (front at.0 k (list_any (tells Right number) rs)) | inr k ↦ inr (behind (at.0 == number) (list_any (tells Right number) rs) k) ]
+    go Left (Quiet at Right) e deeper = deeper o number e
+    go Right (Quiet at Left) e deeper = deeper o number e
     go Left Ended e deeper = deeper o number e
     go Right Ended e deeper = deeper o number e
     go Left NoMemory e deeper = deeper o number e
@@ -118,13 +122,25 @@ end_tells : {P : Type 0} (p : Report P → Bool) (b : Bool) → p Ended ≡ fals
 end_tells p true e = rw e refl
 end_tells p false e = refl
 
--- the report of a whole turn tells of an arrival where the turn handled it
-pub told_option : {P : Type 0} (matches : P → P → Bool) (side : Side) (a : ℕ) (state : State P) (m : Msg P) → list_any (tells side a) (option_to_list (report matches state m)) ≡ is_row side a m
+-- the report of a whole turn tells of an arrival or a quiet event where the turn handled it
+pub told_option : {P : Type 0} (matches : P → P → Bool) (side : Side) (a : ℕ) (state : State P) (m : Msg P) → list_any (tells side a) (option_to_list (report matches state m)) ≡ is_mark side a m
 told_option matches Left a state (R at row) = grind arith
+told_option matches Left a state (QuietL at) = grind arith
 told_option matches Left a state CloseL = end_tells (tells Left a) (not state.closed_left && state.closed_right) refl
 told_option matches Left a state CloseR = end_tells (tells Left a) (not state.closed_right && state.closed_left) refl
 told_option matches Left a state other = refl
 told_option matches Right a state (S at row) = grind arith
+told_option matches Right a state (QuietR at) = grind arith
 told_option matches Right a state CloseL = end_tells (tells Right a) (not state.closed_left && state.closed_right) refl
 told_option matches Right a state CloseR = end_tells (tells Right a) (not state.closed_right && state.closed_left) refl
 told_option matches Right a state other = refl
+
+pub quiet_option : {P : Type 0} (matches : P → P → Bool) (side : Side) (a : ℕ) (state : State P) (m : Msg P) → list_any (tells_quiet side a) (option_to_list (report matches state m)) ≡ is_quiet side a m
+quiet_option matches Left a state (QuietL at) = grind arith
+quiet_option matches Left a state CloseL = end_tells (tells_quiet Left a) (not state.closed_left && state.closed_right) refl
+quiet_option matches Left a state CloseR = end_tells (tells_quiet Left a) (not state.closed_right && state.closed_left) refl
+quiet_option matches Left a state other = refl
+quiet_option matches Right a state (QuietR at) = grind arith
+quiet_option matches Right a state CloseL = end_tells (tells_quiet Right a) (not state.closed_left && state.closed_right) refl
+quiet_option matches Right a state CloseR = end_tells (tells_quiet Right a) (not state.closed_right && state.closed_left) refl
+quiet_option matches Right a state other = refl

@@ -7,7 +7,7 @@ use Rattle.hj_base.specs.declared.numbers.Side.TheVariants.{Left, Right}
 use Rattle.hj_base.specs.Journals.{IsInTurn, IsPrefix, puts}
 use Rattle.hj_base.specs.Link.{Agrees, AgreesOneWay}
 use Rattle.hj_msg.specs.declared.event.Event.{Event}
-use Rattle.hj_msg.specs.declared.event.Event.TheVariants.{Arrive, Expire}
+use Rattle.hj_msg.specs.declared.event.Event.TheVariants.{Arrive, Expire, Quiet}
 use Rattle.hj_msg.specs.declared.message.Msg.{Msg}
 use Rattle.hj_msg.specs.declared.message.Msg.TheVariants.{R, AckS, EndS, CloseL, S, EndR, CloseR}
 use Rattle.hj_msg.specs.Event.{Expires, IsWellFormed, NamesLive}
@@ -38,6 +38,7 @@ e number turn = record { number = number; turn = turn }
 is_expiry : Event ℕ → Bool
 is_expiry (Arrive at side row) = false
 is_expiry (Expire at side of) = true
+is_expiry (Quiet at side) = false
 
 no_expiry : (events : List (Event ℕ)) → list_any is_expiry events ≡ false → (of at : ℕ) → ¬ (Expires events of at)
 unfolding is_expiry

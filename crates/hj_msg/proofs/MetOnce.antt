@@ -15,7 +15,7 @@ use Rattle.hj_msg.specs.declared.event.Pair.{Pair}
 use Rattle.hj_msg.specs.declared.message.Msg.{Msg}
 use Rattle.hj_msg.specs.declared.message.Msg.TheVariants.{R, CloseL, S, CloseR}
 use Rattle.hj_msg.specs.declared.message.Report.{Report}
-use Rattle.hj_msg.specs.declared.message.Report.TheVariants.{Handled, Ended, NoMemory}
+use Rattle.hj_msg.specs.declared.message.Report.TheVariants.{Handled, Quiet, Ended, NoMemory}
 use Rattle.hj_msg.specs.declared.partner.Partner.{Partner}
 use Rattle.hj_msg.specs.Core.{State, empty_state, after, is_home, report, state_after, partners_of_left, partners_of_right}
 use Rattle.hj_msg.specs.Turns.{Turn, AreWhole, IsCut, all_of, handled}
@@ -46,6 +46,7 @@ pairs_right i j at row (partner ∷ partners) = grind (arith, pairs_right i j at
 pairs_are : {P : Type 0} (i j : ℕ) (r : Report P) → count (is_pair i j) (pairs_of r) ≡ lists_by Left i j r + lists_by Right i j r
 pairs_are i j (Handled at Left row partners) = omega (arith, pairs_left i j at row partners)
 pairs_are i j (Handled at Right row partners) = omega (arith, pairs_right i j at row partners)
+pairs_are i j (Quiet at side) = refl
 pairs_are i j Ended = refl
 pairs_are i j NoMemory = refl
 

@@ -13,7 +13,7 @@ use Rattle.hj_msg.specs.declared.event.Event.TheVariants.{Arrive, Expire}
 use Rattle.hj_msg.specs.declared.event.Pair.{Pair}
 use Rattle.hj_msg.specs.declared.message.Msg.{Msg}
 use Rattle.hj_msg.specs.declared.message.Report.{Report}
-use Rattle.hj_msg.specs.declared.message.Report.TheVariants.{Handled, Ended, NoMemory}
+use Rattle.hj_msg.specs.declared.message.Report.TheVariants.{Handled, Quiet, Ended, NoMemory}
 use Rattle.hj_msg.specs.declared.partner.Partner.{Partner}
 use Rattle.hj_msg.specs.Messages.{is_R, is_S, is_ExpS}
 use Rattle.hj_msg.specs.Event.{Expires}
@@ -216,6 +216,7 @@ module _ {P : Type 0} (run : Run P) (is : IsRun run) where
   only_report k low (Handled at Right row partners) h pair p =
       let found = Contains-from_map (λ partner. record { left_no = partner.no; right_no = at; left = partner.row; right = row }) partners pair p in
       subst (IsMatch run.matches run.events) found.2 (only_right k low at row partners h found.0 found.1)
+  only_report k low (Quiet at side) h pair p = absurd (Contains-nil pair p)
   only_report k low Ended h pair p = absurd (Contains-nil pair p)
   only_report k low NoMemory h pair p = absurd (Contains-nil pair p)
 

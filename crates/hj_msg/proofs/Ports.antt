@@ -6,9 +6,9 @@ use Rattle.hj_base.specs.declared.numbers.Side.{Side}
 use Rattle.hj_base.specs.declared.numbers.Side.TheVariants.{Left, Right}
 use Rattle.hj_base.specs.Journals.{puts}
 use Rattle.hj_msg.specs.declared.event.Event.{Event}
-use Rattle.hj_msg.specs.declared.event.Event.TheVariants.{Arrive, Expire}
+use Rattle.hj_msg.specs.declared.event.Event.TheVariants.{Arrive, Expire, Quiet}
 use Rattle.hj_msg.specs.declared.message.Msg.{Msg}
-use Rattle.hj_msg.specs.declared.message.Msg.TheVariants.{R, ExpS, S, ExpR}
+use Rattle.hj_msg.specs.declared.message.Msg.TheVariants.{R, ExpS, QuietL, S, ExpR, QuietR}
 use Rattle.hj_msg.specs.Event.{number}
 use Rattle.hj_msg.specs.Driver.{DriverTurn, admission, receipt, closing, admitted}
 use Rattle.hj_msg.specs.Run.{LogEntry, close_of, at_port, port_journal}
@@ -21,8 +21,10 @@ use Rattle.hj_msg.proofs.Sides.{opposite, is_row, is_expiry}
 abbrev pub of_event : {P : Type 0} → Side → Event P → List (Msg P)
 of_event Left (Arrive at Left row) = R at row ∷ []
 of_event Left (Expire at Right of) = ExpS of ∷ []
+of_event Left (Quiet at Left) = QuietL at ∷ []
 of_event Right (Arrive at Right row) = S at row ∷ []
 of_event Right (Expire at Left of) = ExpR of ∷ []
+of_event Right (Quiet at Right) = QuietR at ∷ []
 of_event side other = []
 
 abbrev pub of_turn : {P : Type 0} → Side → DriverTurn P → List (Msg P)
@@ -42,6 +44,8 @@ puts-at_port Left number (admission (Arrive at Left row)) = refl
 puts-at_port Left number (admission (Arrive at Right row)) = refl
 puts-at_port Left number (admission (Expire at Left of)) = refl
 puts-at_port Left number (admission (Expire at Right of)) = refl
+puts-at_port Left number (admission (Quiet at Left)) = refl
+puts-at_port Left number (admission (Quiet at Right)) = refl
 puts-at_port Left number (receipt Left message) = refl
 puts-at_port Left number (receipt Right message) = refl
 puts-at_port Left number closing = refl
@@ -49,6 +53,8 @@ puts-at_port Right number (admission (Arrive at Left row)) = refl
 puts-at_port Right number (admission (Arrive at Right row)) = refl
 puts-at_port Right number (admission (Expire at Left of)) = refl
 puts-at_port Right number (admission (Expire at Right of)) = refl
+puts-at_port Right number (admission (Quiet at Left)) = refl
+puts-at_port Right number (admission (Quiet at Right)) = refl
 puts-at_port Right number (receipt Left message) = refl
 puts-at_port Right number (receipt Right message) = refl
 puts-at_port Right number closing = refl
@@ -62,10 +68,14 @@ event_once Left (Arrive at Left row) = record { is = inr (R at row, refl) }
 event_once Left (Arrive at Right row) = record { is = inl refl }
 event_once Left (Expire at Left of) = record { is = inl refl }
 event_once Left (Expire at Right of) = record { is = inr (ExpS of, refl) }
+event_once Left (Quiet at Left) = record { is = inr (QuietL at, refl) }
+event_once Left (Quiet at Right) = record { is = inl refl }
 event_once Right (Arrive at Left row) = record { is = inl refl }
 event_once Right (Arrive at Right row) = record { is = inr (S at row, refl) }
 event_once Right (Expire at Left of) = record { is = inr (ExpR of, refl) }
 event_once Right (Expire at Right of) = record { is = inl refl }
+event_once Right (Quiet at Left) = record { is = inl refl }
+event_once Right (Quiet at Right) = record { is = inr (QuietR at, refl) }
 
 turn_once : {P : Type 0} (side : Side) (turn : DriverTurn P) → IsOneAtMost (of_turn side turn)
 turn_once side (admission event) = event_once side event
@@ -152,10 +162,14 @@ row_of_event Left at (Arrive other Left row) e = grind (arith, nat_tests, e)
 row_of_event Left at (Arrive other Right row) e = absurd (true≢false (sym e))
 row_of_event Left at (Expire other Left of) e = absurd (true≢false (sym e))
 row_of_event Left at (Expire other Right of) e = absurd (true≢false (sym e))
+row_of_event Left at (Quiet other Left) e = absurd (true≢false (sym e))
+row_of_event Left at (Quiet other Right) e = absurd (true≢false (sym e))
 row_of_event Right at (Arrive other Right row) e = grind (arith, nat_tests, e)
 row_of_event Right at (Arrive other Left row) e = absurd (true≢false (sym e))
 row_of_event Right at (Expire other Left of) e = absurd (true≢false (sym e))
 row_of_event Right at (Expire other Right of) e = absurd (true≢false (sym e))
+row_of_event Right at (Quiet other Left) e = absurd (true≢false (sym e))
+row_of_event Right at (Quiet other Right) e = absurd (true≢false (sym e))
 
 pub expiry_of_event : {P : Type 0} (side : Side) (of : ℕ) (event : Event P) → event_puts side (is_expiry (opposite side) of) event ≡ true
     → (at : ℕ) × (event ≡ Expire (record { 0 = at }) (opposite side) (record { 0 = of }))
@@ -163,7 +177,11 @@ expiry_of_event Left of (Expire at Right other) e = let same : other.0 ≡ of = 
 expiry_of_event Left of (Expire at Left other) e = absurd (true≢false (sym e))
 expiry_of_event Left of (Arrive at Left row) e = absurd (true≢false (sym e))
 expiry_of_event Left of (Arrive at Right row) e = absurd (true≢false (sym e))
+expiry_of_event Left of (Quiet at Left) e = absurd (true≢false (sym e))
+expiry_of_event Left of (Quiet at Right) e = absurd (true≢false (sym e))
 expiry_of_event Right of (Expire at Left other) e = let same : other.0 ≡ of = grind (arith, nat_tests, e) in (at.0, ap (λ k. Expire at Left (record { 0 = k })) same)
 expiry_of_event Right of (Expire at Right other) e = absurd (true≢false (sym e))
 expiry_of_event Right of (Arrive at Left row) e = absurd (true≢false (sym e))
 expiry_of_event Right of (Arrive at Right row) e = absurd (true≢false (sym e))
+expiry_of_event Right of (Quiet at Left) e = absurd (true≢false (sym e))
+expiry_of_event Right of (Quiet at Right) e = absurd (true≢false (sym e))

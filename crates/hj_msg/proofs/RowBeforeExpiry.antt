@@ -7,7 +7,7 @@ use Rattle.hj_base.specs.declared.numbers.Side.{Side}
 use Rattle.hj_base.specs.declared.numbers.Side.TheVariants.{Left, Right}
 use Rattle.hj_base.specs.Journals.{Entry, puts, takes}
 use Rattle.hj_msg.specs.declared.event.Event.{Event}
-use Rattle.hj_msg.specs.declared.event.Event.TheVariants.{Arrive, Expire}
+use Rattle.hj_msg.specs.declared.event.Event.TheVariants.{Arrive, Expire, Quiet}
 use Rattle.hj_msg.specs.declared.message.Msg.{Msg}
 use Rattle.hj_msg.specs.Turns.{handled}
 use Rattle.hj_msg.specs.Driver.{DriverTurn, admission, receipt, closing, is_take, took, HasComeOut}
@@ -52,6 +52,8 @@ took_there {P} port test (entry ∷ log) h = go port entry.turn h (took_there po
     go Left (admission (Arrive at Right row)) h deeper = deeper h
     go Left (admission (Expire at Left of)) h deeper = deeper h
     go Left (admission (Expire at Right of)) h deeper = deeper h
+    go Left (admission (Quiet at Left)) h deeper = deeper h
+    go Left (admission (Quiet at Right)) h deeper = deeper h
     go Left (receipt Left message) h deeper = grind (arith, h, deeper)
     go Left (receipt Right message) h deeper = deeper h
     go Left closing h deeper = deeper h
@@ -59,6 +61,8 @@ took_there {P} port test (entry ∷ log) h = go port entry.turn h (took_there po
     go Right (admission (Arrive at Right row)) h deeper = deeper h
     go Right (admission (Expire at Left of)) h deeper = deeper h
     go Right (admission (Expire at Right of)) h deeper = deeper h
+    go Right (admission (Quiet at Left)) h deeper = deeper h
+    go Right (admission (Quiet at Right)) h deeper = deeper h
     go Right (receipt Left message) h deeper = deeper h
     go Right (receipt Right message) h deeper = grind (arith, h, deeper)
     go Right closing h deeper = deeper h

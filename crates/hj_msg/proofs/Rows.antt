@@ -6,9 +6,9 @@ use Rattle.hj_base.specs.declared.numbers.EventNo.{EventNo}
 use Rattle.hj_base.specs.declared.numbers.Side.{Side}
 use Rattle.hj_base.specs.declared.numbers.Side.TheVariants.{Left, Right}
 use Rattle.hj_base.specs.Journals.{IsPrefix, puts, takes}
-use Rattle.hj_msg.specs.declared.event.Event.TheVariants.{Arrive, Expire}
+use Rattle.hj_msg.specs.declared.event.Event.TheVariants.{Arrive, Expire, Quiet}
 use Rattle.hj_msg.specs.declared.message.Msg.{Msg}
-use Rattle.hj_msg.specs.declared.message.Msg.TheVariants.{R, AckS, EndS, ExpS, CloseL, S, EndR, ExpR, CloseR}
+use Rattle.hj_msg.specs.declared.message.Msg.TheVariants.{R, AckS, EndS, ExpS, QuietL, CloseL, S, EndR, ExpR, QuietR, CloseR}
 use Rattle.hj_msg.specs.Core.{sends, is_last, only_if}
 use Rattle.hj_msg.specs.Turns.{Turn, all_of, handled, at_left, at_right}
 use Rattle.hj_msg.specs.Driver.{DriverTurn, admission, receipt, closing, admitted}
@@ -69,6 +69,7 @@ sends-left_row place n (R num other) at row h = absurd (let e = Contains-only_if
 sends-left_row place n (S num other) at row h = Contains-one (S num other) (S at row) h
 sends-left_row place n (EndR num) at row h = absurd (let e = Contains-one (EndR num) (S at row) h in cc)
 sends-left_row place n (ExpR num) at row h = absurd (let e = Contains-one (ExpR num) (S at row) h in cc)
+sends-left_row place n (QuietR num) at row h = absurd (let e = Contains-one (QuietR num) (S at row) h in cc)
 sends-left_row place n CloseR at row h = absurd (let e = Contains-one CloseR (S at row) h in cc)
 sends-left_row place n other at row h = absurd (Contains-nil (S at row) h)
 
@@ -80,6 +81,7 @@ sends-right_row place n (S num other) at row h = absurd (elim (Contains-append_c
 sends-right_row place n (R num other) at row h = Contains-one (R num other) (R at row) h
 sends-right_row place n (EndS num) at row h = absurd (let e = Contains-one (EndS num) (R at row) h in cc)
 sends-right_row place n (ExpS num) at row h = absurd (let e = Contains-one (ExpS num) (R at row) h in cc)
+sends-right_row place n (QuietL num) at row h = absurd (let e = Contains-one (QuietL num) (R at row) h in cc)
 sends-right_row place n CloseL at row h = absurd (let e = Contains-one CloseL (R at row) h in cc)
 sends-right_row place n other at row h = absurd (Contains-nil (R at row) h)
 
@@ -117,6 +119,11 @@ from_port-right {P} (entry ∷ log) at row h = go entry.turn h (from_port-right 
       | inr k ↦ Contains-cons (Expire num Left of) (Arrive at Right row) (admitted (map (λ entry. entry.turn) log)) (deeper k)
     ]
     go (admission (Expire num Right of)) h deeper = Contains-cons (Expire num Right of) (Arrive at Right row) (admitted (map (λ entry. entry.turn) log)) (deeper h)
+    go (admission (Quiet num Left)) h deeper = Contains-cons (Quiet num Left) (Arrive at Right row) (admitted (map (λ entry. entry.turn) log)) (deeper h)
+    go (admission (Quiet num Right)) h deeper = elim (Contains-cons_cases (QuietR num) (S at row) (puts (port_journal Right log)) h) [
+      | inl e ↦ absurd (cc)
+      | inr k ↦ Contains-cons (Quiet num Right) (Arrive at Right row) (admitted (map (λ entry. entry.turn) log)) (deeper k)
+    ]
     go (receipt Left message) h deeper = deeper h
     go (receipt Right message) h deeper = deeper h
     go closing h deeper = elim (Contains-cons_cases CloseR (S at row) (puts (port_journal Right log)) h) [ inl e ↦ absurd (cc) | inr k ↦ deeper k ]
@@ -138,6 +145,11 @@ from_port-left {P} (entry ∷ log) at row h = go entry.turn h (from_port-left lo
       | inr k ↦ Contains-cons (Expire num Right of) (Arrive at Left row) (admitted (map (λ entry. entry.turn) log)) (deeper k)
     ]
     go (admission (Expire num Left of)) h deeper = Contains-cons (Expire num Left of) (Arrive at Left row) (admitted (map (λ entry. entry.turn) log)) (deeper h)
+    go (admission (Quiet num Right)) h deeper = Contains-cons (Quiet num Right) (Arrive at Left row) (admitted (map (λ entry. entry.turn) log)) (deeper h)
+    go (admission (Quiet num Left)) h deeper = elim (Contains-cons_cases (QuietL num) (R at row) (puts (port_journal Left log)) h) [
+      | inl e ↦ absurd (cc)
+      | inr k ↦ Contains-cons (Quiet num Left) (Arrive at Left row) (admitted (map (λ entry. entry.turn) log)) (deeper k)
+    ]
     go (receipt Left message) h deeper = deeper h
     go (receipt Right message) h deeper = deeper h
     go closing h deeper = elim (Contains-cons_cases CloseL (R at row) (puts (port_journal Left log)) h) [ inl e ↦ absurd (cc) | inr k ↦ deeper k ]

@@ -6,7 +6,7 @@ use Rattle.std.proofs.lemmas.Bool.Decides.{nat_tests}
 use Rattle.hj_base.specs.declared.numbers.Side.{Side}
 use Rattle.hj_base.specs.declared.numbers.Side.TheVariants.{Left, Right}
 use Rattle.hj_base.specs.Journals.{puts}
-use Rattle.hj_msg.specs.declared.event.Event.TheVariants.{Arrive, Expire}
+use Rattle.hj_msg.specs.declared.event.Event.TheVariants.{Arrive, Expire, Quiet}
 use Rattle.hj_msg.specs.declared.message.Msg.{Msg}
 use Rattle.hj_msg.specs.declared.message.Msg.TheVariants.{R, AckS, EndS, ExpS, S, EndR, ExpR}
 use Rattle.hj_msg.specs.Messages.{is_R, is_S, is_EndR, is_EndS, is_ExpR, is_ExpS}
@@ -214,6 +214,8 @@ module _ {P : Type 0} (run : Run P) (is : IsRun run) where
   no_ending_put Left j n (admission (Arrive other Right row)) = refl
   no_ending_put Left j n (admission (Expire other Left of)) = refl
   no_ending_put Left j n (admission (Expire other Right of)) = refl
+  no_ending_put Left j n (admission (Quiet other Left)) = refl
+  no_ending_put Left j n (admission (Quiet other Right)) = refl
   no_ending_put Left j n (receipt Left message) = refl
   no_ending_put Left j n (receipt Right message) = refl
   no_ending_put Left j n closing = refl
@@ -221,6 +223,8 @@ module _ {P : Type 0} (run : Run P) (is : IsRun run) where
   no_ending_put Right i n (admission (Arrive other Right row)) = refl
   no_ending_put Right i n (admission (Expire other Left of)) = refl
   no_ending_put Right i n (admission (Expire other Right of)) = refl
+  no_ending_put Right i n (admission (Quiet other Left)) = refl
+  no_ending_put Right i n (admission (Quiet other Right)) = refl
   no_ending_put Right i n (receipt Left message) = refl
   no_ending_put Right i n (receipt Right message) = refl
   no_ending_put Right i n closing = refl

@@ -4,10 +4,10 @@ use Rattle.hj_base.specs.declared.numbers.EventNo.{EventNo}
 use Rattle.hj_base.specs.declared.numbers.Side.{Side}
 use Rattle.hj_base.specs.declared.numbers.Side.TheVariants.{Left, Right}
 use Rattle.hj_msg.specs.declared.message.Msg.{Msg}
-use Rattle.hj_msg.specs.declared.message.Msg.TheVariants.{R, AckS, EndS, ExpS, CloseL, S, CloseR}
+use Rattle.hj_msg.specs.declared.message.Msg.TheVariants.{R, AckS, EndS, ExpS, QuietL, CloseL, S, QuietR, CloseR}
 use Rattle.hj_msg.specs.declared.event.Pair.{Pair}
 use Rattle.hj_msg.specs.declared.partner.Partner.{Partner}
-use Rattle.hj_msg.specs.Messages.{is_R, is_S, is_EndR, is_EndS, is_ExpR, is_ExpS}
+use Rattle.hj_msg.specs.Messages.{is_R, is_S, is_EndR, is_EndS, is_ExpR, is_ExpS, is_QuietL, is_QuietR}
 use Rattle.hj_msg.specs.Store.{Resting}
 use Rattle.hj_msg.specs.Core.{State, sends, is_last, partners_of_left, partners_of_right}
 
@@ -33,6 +33,18 @@ abbrev pub is_expiry : {P : Type 0} → Side → ℕ → Msg P → Bool
 is_expiry Left = is_ExpR
 is_expiry Right = is_ExpS
 
+abbrev pub is_quiet : {P : Type 0} → Side → ℕ → Msg P → Bool
+is_quiet Left = is_QuietL
+is_quiet Right = is_QuietR
+
+-- what is marked under a number: the row or the quiet event of a side
+abbrev pub is_mark : {P : Type 0} → Side → ℕ → Msg P → Bool
+is_mark Left number (R at row) = at.0 == number
+is_mark Left number (QuietL at) = at.0 == number
+is_mark Right number (S at row) = at.0 == number
+is_mark Right number (QuietR at) = at.0 == number
+is_mark side number other = false
+
 abbrev pub is_close : {P : Type 0} → Side → Msg P → Bool
 is_close Left CloseL = true
 is_close Right CloseR = true
@@ -44,6 +56,7 @@ goes_right (R at row) = true
 goes_right (AckS at) = true
 goes_right (EndS at) = true
 goes_right (ExpS at) = true
+goes_right (QuietL at) = true
 goes_right CloseL = true
 goes_right other = false
 

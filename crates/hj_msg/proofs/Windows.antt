@@ -5,7 +5,7 @@ use Rattle.hj_base.specs.declared.numbers.EventNo.{EventNo}
 use Rattle.hj_base.specs.declared.numbers.Side.{Side}
 use Rattle.hj_base.specs.declared.numbers.Side.TheVariants.{Left, Right}
 use Rattle.hj_msg.specs.declared.event.Event.{Event}
-use Rattle.hj_msg.specs.declared.event.Event.TheVariants.{Arrive, Expire}
+use Rattle.hj_msg.specs.declared.event.Event.TheVariants.{Arrive, Expire, Quiet}
 use Rattle.hj_msg.specs.Event.{number, Arrives, Expires, IsWellFormed}
 use Rattle.hj_msg.specs.Kang.{Held, Windows, no_rows, without, after, windows_from, windows_after, listed, kang_from, kang}
 use Rattle.hj_msg.proofs.Members.{Contains-nil, Contains-filter, Contains-from_filter, Ranked, Ranked-push, Ranked-filter}
@@ -150,6 +150,16 @@ IsWindow-expiry front at of side window w = record {
   rising = Ranked-filter (λ x y. x.no < y.no) (λ x. not (x.no == of.0)) window w.rising;
 }
 
+-- a quiet event leaves a window as it is
+IsWindow-quiet : {P : Type 0} (front : List (Event P)) (at : EventNo) (other side : Side) (window : List (Held P)) → IsWindow front side window → IsWindow (front ++ Quiet at other ∷ []) side window
+IsWindow-quiet front at other side window w = record {
+  exact = λ held. (
+    λ k. live_on front (Quiet at other) side held (λ x gone e. cc) ((w.exact held).0 k),
+    λ live. (w.exact held).1 (live_before front (Quiet at other) side held (λ e. cc) live),
+  );
+  rising = w.rising;
+}
+
 -- both windows have the live rows of their sides
 pub record AreWindows {P : Type 0} (events : List (Event P)) (windows : Windows P) : Type 0 where
   pub left : IsWindow events Left windows.left
@@ -171,4 +181,8 @@ AreWindows-after front windows (Expire at Left of) h w = record {
 AreWindows-after front windows (Expire at Right of) h w = record {
   left = IsWindow-other_expiry front at of Right Left windows.left (λ e. cc) h w.left;
   right = IsWindow-expiry front at of Right windows.right w.right;
+}
+AreWindows-after front windows (Quiet at side) h w = record {
+  left = IsWindow-quiet front at side Left windows.left w.left;
+  right = IsWindow-quiet front at side Right windows.right w.right;
 }

@@ -7,9 +7,9 @@ use Rattle.std.specs.Prelude.{ℕ, ◌+◌, ◌%◌, Bool, true, false, not, ◌
 use Rattle.std.specs.declared.option.Option.{Option}
 use Rattle.hj_base.specs.declared.numbers.Side.TheVariants.{Left, Right}
 use Rattle.hj_msg.specs.declared.message.Msg.{Msg}
-use Rattle.hj_msg.specs.declared.message.Msg.TheVariants.{R, AckS, EndS, ExpS, CloseL, S, EndR, ExpR, CloseR}
+use Rattle.hj_msg.specs.declared.message.Msg.TheVariants.{R, AckS, EndS, ExpS, QuietL, CloseL, S, EndR, ExpR, QuietR, CloseR}
 use Rattle.hj_msg.specs.declared.message.Report.{Report}
-use Rattle.hj_msg.specs.declared.message.Report.TheVariants.{Handled, Ended}
+use Rattle.hj_msg.specs.declared.message.Report.TheVariants.{Handled, Quiet, Ended}
 use Rattle.hj_msg.specs.declared.partner.Partner.{Partner}
 use Rattle.hj_msg.specs.Store.{Resting, with_element, with_entry, with_settled, without_entry, settled_partners, by_number}
 
@@ -55,6 +55,8 @@ after place n state (EndS at) = record state { right = with_settled at.0 state.r
 after place n state (ExpR at) = record state { left = without_entry at.0 state.left }
 after place n state (ExpS at) = record state { right = without_entry at.0 state.right }
 after place n state (AckS at) = record state { in_flight = filter (λ flying. not (flying.no == at.0)) state.in_flight }
+after place n state (QuietL at) = state
+after place n state (QuietR at) = state
 after place n state CloseL = record state { closed_left = true }
 after place n state CloseR = record state { closed_right = true }
 
@@ -75,6 +77,8 @@ sends place n (EndS at) = record { left = []; right = EndS at ∷ [] }
 sends place n (ExpR at) = record { left = ExpR at ∷ []; right = [] }
 sends place n (ExpS at) = record { left = []; right = ExpS at ∷ [] }
 sends place n (AckS at) = record { left = []; right = [] }
+sends place n (QuietL at) = record { left = []; right = QuietL at ∷ [] }
+sends place n (QuietR at) = record { left = QuietR at ∷ []; right = [] }
 sends place n CloseL = record { left = []; right = CloseL ∷ [] }
 sends place n CloseR = record { left = CloseR ∷ []; right = [] }
 
@@ -90,7 +94,7 @@ partners_of_left matches state row = by_number (settled_partners (matches row) s
 abbrev pub partners_of_right : {P : Type 0} → (P → P → Bool) → State P → P → List (Partner P)
 partners_of_right matches state row = by_number (settled_partners (λ other. matches other row) state.left)
 
--- What a core reports of a message: an arrival with its partners, and its end at the second of the two closes.
+-- What a core reports of a message: an arrival with its partners, a side that was quiet, and its end at the second of the two closes.
 abbrev pub report : {P : Type 0} → (P → P → Bool) → State P → Msg P → Option (Report P)
 report matches state (R at row) = Some (Handled at Left row (partners_of_left matches state row))
 report matches state (S at row) = Some (Handled at Right row (partners_of_right matches state row))
@@ -99,6 +103,8 @@ report matches state (EndS at) = None
 report matches state (ExpR at) = None
 report matches state (ExpS at) = None
 report matches state (AckS at) = None
+report matches state (QuietL at) = Some (Quiet at Left)
+report matches state (QuietR at) = Some (Quiet at Right)
 report matches state CloseL = if not state.closed_left && state.closed_right then Some Ended else None
 report matches state CloseR = if not state.closed_right && state.closed_left then Some Ended else None
 

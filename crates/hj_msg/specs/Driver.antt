@@ -6,10 +6,10 @@ use Rattle.hj_base.specs.declared.numbers.Side.{Side}
 use Rattle.hj_base.specs.declared.numbers.Side.TheVariants.{Left, Right}
 use Rattle.hj_base.specs.Journals.{IsPrefix}
 use Rattle.hj_msg.specs.declared.event.Event.{Event}
-use Rattle.hj_msg.specs.declared.event.Event.TheVariants.{Arrive, Expire}
+use Rattle.hj_msg.specs.declared.event.Event.TheVariants.{Arrive, Expire, Quiet}
 use Rattle.hj_msg.specs.declared.message.Msg.{Msg}
-use Rattle.hj_msg.specs.declared.message.Msg.TheVariants.{R, ExpS, S, ExpR}
-use Rattle.hj_msg.specs.Messages.{is_R, is_S, is_EndR, is_EndS, is_ExpR, is_ExpS}
+use Rattle.hj_msg.specs.declared.message.Msg.TheVariants.{R, ExpS, QuietL, S, ExpR, QuietR}
+use Rattle.hj_msg.specs.Messages.{is_R, is_S, is_EndR, is_EndS, is_ExpR, is_ExpS, is_QuietL, is_QuietR}
 
 -- One turn: the put of an event's message on its port, the take of a message at a port, or the put of both closes.
 pub data DriverTurn (P : Type 0) : Type 0 where
@@ -23,12 +23,16 @@ message_of (Arrive at Left row) = R at row
 message_of (Arrive at Right row) = S at row
 message_of (Expire at Left of) = ExpR of
 message_of (Expire at Right of) = ExpS of
+message_of (Quiet at Left) = QuietL at
+message_of (Quiet at Right) = QuietR at
 
 abbrev pub port_of : {P : Type 0} → Event P → Side
 port_of (Arrive at Left row) = Left
 port_of (Arrive at Right row) = Right
 port_of (Expire at Left of) = Right
 port_of (Expire at Right of) = Left
+port_of (Quiet at Left) = Left
+port_of (Quiet at Right) = Right
 
 -- the events whose messages were put
 abbrev pub admitted : {P : Type 0} → List (DriverTurn P) → List (Event P)
@@ -52,6 +56,8 @@ has_left (Arrive at Left row) log = took Right (is_R at.0) log && took Left (is_
 has_left (Arrive at Right row) log = took Left (is_S at.0) log && took Right (is_EndS at.0) log
 has_left (Expire at Left of) log = took Left (is_ExpR of.0) log
 has_left (Expire at Right of) log = took Right (is_ExpS of.0) log
+has_left (Quiet at Left) log = took Right (is_QuietL at.0) log
+has_left (Quiet at Right) log = took Left (is_QuietR at.0) log
 
 -- The outstanding events: those that haven't left since they were put.
 abbrev pub outstanding : {P : Type 0} → List (DriverTurn P) → List (Event P)
@@ -71,6 +77,7 @@ abbrev pub row_taken : {P : Type 0} → Event P → List (DriverTurn P) → Bool
 row_taken (Arrive at Left row) log = took Right (is_R at.0) log
 row_taken (Arrive at Right row) log = took Left (is_S at.0) log
 row_taken (Expire at side of) log = false
+row_taken (Quiet at side) log = false
 
 -- whether a row of this side, under this number, came out since its arrival was put
 abbrev pub came_out : {P : Type 0} → Side → ℕ → List (DriverTurn P) → Bool
@@ -83,6 +90,7 @@ came_out side number (closing ∷ later) = came_out side number later
 abbrev pub HasComeOut : {P : Type 0} → Event P → List (DriverTurn P) → Type 0
 HasComeOut (Arrive at side row) earlier = Unit {0}
 HasComeOut (Expire at side of) earlier = IsTrue (came_out side of.0 earlier)
+HasComeOut (Quiet at side) earlier = Unit {0}
 
 -- the closes come after all events, with none outstanding, and once
 pub record ClosesLast {P : Type 0} (events : List (Event P)) (earlier : List (DriverTurn P)) : Type 0 where

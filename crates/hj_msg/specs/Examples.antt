@@ -9,9 +9,9 @@ use Rattle.hj_msg.specs.declared.event.Event.{Event}
 use Rattle.hj_msg.specs.declared.event.Event.TheVariants.{Arrive, Expire}
 use Rattle.hj_msg.specs.declared.event.Pair.{Pair}
 use Rattle.hj_msg.specs.declared.message.Msg.{Msg}
-use Rattle.hj_msg.specs.declared.message.Msg.TheVariants.{R, AckS, EndS, ExpS, CloseL, S, EndR, ExpR, CloseR}
+use Rattle.hj_msg.specs.declared.message.Msg.TheVariants.{R, AckS, EndS, ExpS, QuietL, CloseL, S, EndR, ExpR, QuietR, CloseR}
 use Rattle.hj_msg.specs.declared.message.Report.{Report}
-use Rattle.hj_msg.specs.declared.message.Report.TheVariants.{Handled, Ended}
+use Rattle.hj_msg.specs.declared.message.Report.TheVariants.{Handled, Quiet, Ended}
 use Rattle.hj_msg.specs.declared.partner.Partner.{Partner}
 use Rattle.hj_msg.specs.Store.{Resting}
 use Rattle.hj_msg.specs.Core.{State, Sends, InFlight, empty_state, after, sends, report, partners_of_left}
@@ -96,7 +96,7 @@ pub record ThreeCores : Type 0 where
   pub last_takes_S : outcome 2 3 empty_state (S (event 5) 7)
       ≡ record { state = open_state [] (resting 5 false ∷ []) (flying 5 ∷ []); sends = sent (S (event 5) 7 ∷ []) []; report = Some (Handled (event 5) Right 7 []) }
 
--- The other six kinds of message, at a core of two whose left row 2 and right row 1 rest there unsettled, with the right row 1
+-- The other eight kinds of message, at a core of two whose left row 2 and right row 1 rest there unsettled, with the right row 1
 -- in flight too.
 abbrev pub busy : State ℕ
 busy = open_state (resting 2 false ∷ []) (resting 1 false ∷ []) (flying 1 ∷ [])
@@ -108,6 +108,8 @@ pub record OtherMessages : Type 0 where
   pub expires_R : outcome 1 2 busy (ExpR (event 2)) ≡ record { state = open_state [] (resting 1 false ∷ []) (flying 1 ∷ []); sends = sent (ExpR (event 2) ∷ []) []; report = None }
   pub expires_S : outcome 1 2 busy (ExpS (event 1)) ≡ record { state = open_state (resting 2 false ∷ []) [] (flying 1 ∷ []); sends = sent [] (ExpS (event 1) ∷ []); report = None }
   pub acknowledges : outcome 1 2 busy (AckS (event 1)) ≡ record { state = open_state (resting 2 false ∷ []) (resting 1 false ∷ []) []; sends = sent [] []; report = None }
+  pub passes_quiet_left : outcome 1 2 busy (QuietL (event 4)) ≡ record { state = busy; sends = sent [] (QuietL (event 4) ∷ []); report = Some (Quiet (event 4) Left) }
+  pub passes_quiet_right : outcome 1 2 busy (QuietR (event 4)) ≡ record { state = busy; sends = sent (QuietR (event 4) ∷ []) []; report = Some (Quiet (event 4) Right) }
   pub closes_first : outcome 1 2 empty_state CloseR ≡ record { state = record empty_state { closed_right = true }; sends = sent (CloseR ∷ []) []; report = None }
   pub closes_second : outcome 1 2 (record empty_state { closed_right = true }) CloseL
       ≡ record { state = record empty_state { closed_left = true; closed_right = true }; sends = sent [] (CloseL ∷ []); report = Some Ended }
@@ -248,6 +250,10 @@ pub record Marks : Type 0 where
   pub one_core : punctuation ((reported 0 ∷ reported 1 ∷ []) ∷ (reported 0 ∷ []) ∷ []) ≡ None
   pub both_cores : punctuation ((reported 0 ∷ reported 1 ∷ []) ∷ (reported 1 ∷ reported 0 ∷ []) ∷ []) ≡ Some (up_to 0)
   pub last_ones : punctuation ((reported 0 ∷ reported 1 ∷ reported 2 ∷ Handled (event 3) Left 7 [] ∷ []) ∷ (reported 0 ∷ reported 1 ∷ Handled (event 3) Left 7 [] ∷ []) ∷ []) ≡ Some (up_to 1)
+  -- a quiet event of a side moves its mark as an arrival does
+  pub quiet : punctuation ((reported 0 ∷ Quiet (event 1) Right ∷ []) ∷ (Quiet (event 1) Right ∷ reported 0 ∷ []) ∷ []) ≡ Some (up_to 0)
+  pub quiet_alone : punctuation {P = ℕ} ((Quiet (event 0) Left ∷ Quiet (event 1) Right ∷ []) ∷ []) ≡ Some (up_to 0)
+  pub quiet_last : punctuation ((reported 0 ∷ reported 1 ∷ Handled (event 2) Left 7 [] ∷ Quiet (event 3) Right ∷ []) ∷ []) ≡ Some (up_to 2)
   pub one_ended : punctuation ((reported 0 ∷ reported 1 ∷ Ended ∷ []) ∷ (reported 0 ∷ reported 1 ∷ []) ∷ []) ≡ Some (up_to 0)
   pub both_ended : punctuation ((Ended ∷ []) ∷ (reported 0 ∷ Ended ∷ []) ∷ []) ≡ Some all
   -- the pair (0, 1) waits until the mark has come to 1

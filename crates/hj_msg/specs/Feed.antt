@@ -4,7 +4,7 @@ use Rattle.std.specs.declared.option.Option.{Option}
 use Rattle.std.specs.List.{Contains, flat_map}
 use Rattle.hj_base.specs.declared.numbers.Side.TheVariants.{Left, Right}
 use Rattle.hj_msg.specs.declared.event.Event as event
-use Rattle.hj_msg.specs.declared.event.Event.TheVariants.{Arrive, Expire}
+use Rattle.hj_msg.specs.declared.event.Event.TheVariants.{Arrive, Expire, Quiet}
 use Rattle.hj_msg.specs.declared.feed.Given.{Given}
 use Rattle.hj_msg.specs.declared.feed.Given.TheVariants.{Event, Stop}
 use Rattle.hj_msg.specs.Event.{number}
@@ -28,6 +28,7 @@ numbering_after old (Arrive at Left row) = record old { next = old.next + 1; liv
 numbering_after old (Arrive at Right row) = record old { next = old.next + 1; live_right = old.live_right ++ at.0 ∷ [] }
 numbering_after old (Expire at Left of) = record old { next = old.next + 1; live_left = without_number of.0 old.live_left }
 numbering_after old (Expire at Right of) = record old { next = old.next + 1; live_right = without_number of.0 old.live_right }
+numbering_after old (Quiet at side) = record old { next = old.next + 1 }
 
 -- the numbering behind a list of events
 abbrev pub numbering_of : {P : Type 0} → List (event.Event P) → Numbering
@@ -38,6 +39,7 @@ abbrev pub NamesLiveNumber : {P : Type 0} → Numbering → event.Event P → Ty
 NamesLiveNumber numbering (Arrive at side row) = Unit {0}
 NamesLiveNumber numbering (Expire at Left of) = Contains numbering.live_left of.0
 NamesLiveNumber numbering (Expire at Right of) = Contains numbering.live_right of.0
+NamesLiveNumber numbering (Quiet at side) = Unit {0}
 
 -- what is seen of a feed
 pub record FeedState : Type 0 where

@@ -3,7 +3,7 @@
 use Rattle.std.specs.Prelude.{ℕ, Bool, not, ◌==◌, List, [], ◌∷◌, ◌++◌, filter, map}
 use Rattle.hj_base.specs.declared.numbers.Side.TheVariants.{Left, Right}
 use Rattle.hj_msg.specs.declared.event.Event.{Event}
-use Rattle.hj_msg.specs.declared.event.Event.TheVariants.{Arrive, Expire}
+use Rattle.hj_msg.specs.declared.event.Event.TheVariants.{Arrive, Expire, Quiet}
 use Rattle.hj_msg.specs.declared.event.Pair.{Pair}
 
 -- a row in a window, with the number of its arrival
@@ -31,6 +31,7 @@ abbrev pub listed : {P : Type 0} → (P → P → Bool) → Windows P → Event 
 listed matches windows (Arrive at Left row) = map (λ held. pair (record { no = at.0; row = row }) held) (filter (λ held. matches row held.row) windows.right)
 listed matches windows (Arrive at Right row) = map (λ held. pair held (record { no = at.0; row = row })) (filter (λ held. matches held.row row) windows.left)
 listed matches windows (Expire at side of) = []
+listed matches windows (Quiet at side) = []
 
 -- The windows after an event.
 abbrev pub after : {P : Type 0} → Windows P → Event P → Windows P
@@ -38,6 +39,7 @@ after windows (Arrive at Left row) = record { left = windows.left ++ record { no
 after windows (Arrive at Right row) = record { left = windows.left; right = windows.right ++ record { no = at.0; row = row } ∷ [] }
 after windows (Expire at Left of) = record { left = without of.0 windows.left; right = windows.right }
 after windows (Expire at Right of) = record { left = windows.left; right = without of.0 windows.right }
+after windows (Quiet at side) = windows
 
 -- The pairs that events list one after another, from these windows on.
 abbrev pub kang_from : {P : Type 0} → (P → P → Bool) → Windows P → List (Event P) → List (Pair P)

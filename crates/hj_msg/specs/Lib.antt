@@ -14,6 +14,7 @@ pub mod Met
 pub mod Order
 pub mod Overtaking
 pub mod Punctuation
+pub mod Quiet
 pub mod Run
 pub mod RunsJoin
 pub mod Store

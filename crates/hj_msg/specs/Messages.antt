@@ -1,7 +1,7 @@
 -- Which message it is, by its kind and its number.
 use Rattle.std.specs.Prelude.{ℕ, Bool, false, ◌==◌}
 use Rattle.hj_msg.specs.declared.message.Msg.{Msg}
-use Rattle.hj_msg.specs.declared.message.Msg.TheVariants.{R, EndS, ExpS, S, EndR, ExpR}
+use Rattle.hj_msg.specs.declared.message.Msg.TheVariants.{R, EndS, ExpS, QuietL, S, EndR, ExpR, QuietR}
 
 abbrev pub is_R : {P : Type 0} → ℕ → Msg P → Bool
 is_R number (R at row) = at.0 == number
@@ -26,3 +26,11 @@ is_ExpR number other = false
 abbrev pub is_ExpS : {P : Type 0} → ℕ → Msg P → Bool
 is_ExpS number (ExpS at) = at.0 == number
 is_ExpS number other = false
+
+abbrev pub is_QuietL : {P : Type 0} → ℕ → Msg P → Bool
+is_QuietL number (QuietL at) = at.0 == number
+is_QuietL number other = false
+
+abbrev pub is_QuietR : {P : Type 0} → ℕ → Msg P → Bool
+is_QuietR number (QuietR at) = at.0 == number
+is_QuietR number other = false

@@ -6,7 +6,7 @@ use Rattle.hj_base.specs.declared.numbers.Side.TheVariants.{Left, Right}
 use Rattle.hj_base.specs.Journals.{IsPrefix, puts, takes}
 use Rattle.hj_msg.specs.declared.event.Pair.{Pair}
 use Rattle.hj_msg.specs.declared.message.Report.{Report}
-use Rattle.hj_msg.specs.declared.message.Report.TheVariants.{Handled, Ended, NoMemory}
+use Rattle.hj_msg.specs.declared.message.Report.TheVariants.{Handled, Quiet, Ended, NoMemory}
 use Rattle.hj_msg.specs.Run.{Run}
 
 -- Lists of reports, one for each core: prefixes of the lists of what the cores reported.
@@ -23,6 +23,7 @@ pub record AreAllReportsOf {P : Type 0} (run : Run P) (lists : List (List (Repor
 abbrev pub pairs_of : {P : Type 0} → Report P → List (Pair P)
 pairs_of (Handled at Left row partners) = map (λ partner. record { left_no = at; right_no = partner.no; left = row; right = partner.row }) partners
 pairs_of (Handled at Right row partners) = map (λ partner. record { left_no = partner.no; right_no = at; left = partner.row; right = row }) partners
+pairs_of (Quiet at side) = []
 pairs_of Ended = []
 pairs_of NoMemory = []
 

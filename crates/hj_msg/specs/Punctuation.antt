@@ -1,23 +1,33 @@
 -- Up to which number all pairs have been met (punctuation: Roy, Teubner and Gemulla, PVLDB 2014). That a mark is the number
 -- of an event, and that each core has one for each side, is this project's own profile.
-use Rattle.std.specs.Prelude.{ℕ, Bool, false, true, List, [], ◌∷◌, min, fold, None, Some, if◌then◌else◌}
+use Rattle.std.specs.Prelude.{ℕ, ◌==◌, Bool, false, true, List, [], ◌∷◌, min, fold, None, Some, if◌then◌else◌}
 use Rattle.std.specs.declared.option.Option.{Option}
 use Rattle.std.specs.List.{list_any, filter_map, flat_map, last_or}
 use Rattle.hj_base.specs.declared.numbers.Side.{Side}
 use Rattle.hj_base.specs.declared.numbers.Side.TheVariants.{Left, Right}
 use Rattle.hj_msg.specs.declared.message.Report.{Report}
-use Rattle.hj_msg.specs.declared.message.Report.TheVariants.{Handled, Ended}
+use Rattle.hj_msg.specs.declared.message.Report.TheVariants.{Handled, Quiet, Ended}
 
 -- a number, or past every number
 pub data Mark : Type 0 where
   up_to : (number : ℕ) → Mark
   all : Mark
 
--- the number of an arrival of this side that was reported
+-- the number up to which a report tells all arrivals of this side: that of the arrival, or of the quiet event
 abbrev pub arrival_of : {P : Type 0} → Side → Report P → Option ℕ
 arrival_of Left (Handled at Left row partners) = Some at.0
 arrival_of Right (Handled at Right row partners) = Some at.0
+arrival_of Left (Quiet at Left) = Some at.0
+arrival_of Right (Quiet at Right) = Some at.0
 arrival_of side report = None
+
+-- whether a report is that of an arrival or of a quiet event of this side, under this number
+abbrev pub tells : {P : Type 0} → Side → ℕ → Report P → Bool
+tells Left n (Handled at Left row partners) = at.0 == n
+tells Right n (Handled at Right row partners) = at.0 == n
+tells Left n (Quiet at Left) = at.0 == n
+tells Right n (Quiet at Right) = at.0 == n
+tells side n report = false
 
 abbrev pub is_end : {P : Type 0} → Report P → Bool
 is_end Ended = true
@@ -27,7 +37,7 @@ abbrev mark_at : Option ℕ → Option Mark
 mark_at None = None
 mark_at (Some number) = Some (up_to number)
 
--- A core's mark for a side: the last arrival of that side that it reported. Its end counts as past every number.
+-- A core's mark for a side: the last arrival or quiet event of that side that it reported. Its end counts as past every number.
 abbrev pub mark_of : {P : Type 0} → Side → List (Report P) → Option Mark
 mark_of side reports = if list_any is_end reports then Some all else mark_at (last_or None (filter_map (arrival_of side) reports))
 

@@ -1,4 +1,5 @@
 ghost use Rattle.hj_msg.specs.Run.{Run, IsRun};
+ghost use Rattle.hj_msg.specs.Quiet.{EmitsAllButLast};
 ghost use Rattle.hj_msg.specs.Overtaking.{MeetsAllWithin, EmitsJoinedWithin, EmitsPrefix, EmitsAll, PunctuationStays, EmissionGrows};
 
 /// In every run, and for any lists of what was taken of the cores' reports so far, the punctuation never overtakes a
@@ -13,4 +14,10 @@ pub fn punctuation_never_overtakes<P>()
     ensures whole { (run : Run P) (is : IsRun run) → EmitsAll is }
     ensures stays { (run : Run P) → IsRun run → PunctuationStays run }
     ensures grows { (run : Run P) → IsRun run → EmissionGrows run }
+{}
+
+/// Where no side is silent for more arrivals of the other one than so many, and every core reported all that was put, each
+/// pair of the join of what was put is emitted, but those whose later row is among the last so many arrivals.
+pub fn silence_holds_back_few<P>()
+    ensures { (run : Run P) (is : IsRun run) → EmitsAllButLast is }
 {}

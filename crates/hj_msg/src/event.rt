@@ -1,6 +1,6 @@
 use hj_base::{EventNo, Side};
 
-/// Something that happens to a row: it comes into the window of its side, or leaves it.
+/// Something that happens to a row: it comes into the window of its side, or leaves it. Or that nothing happened on a side.
 #[derive(Debug, Drop)]
 pub enum Event<P> {
     /// A row of a side arrives.
@@ -14,6 +14,11 @@ pub enum Event<P> {
         no: EventNo,
         side: Side,
         of: EventNo,
+    },
+    /// A side is quiet: no row of it arrived since the last event that told of that side.
+    Quiet {
+        no: EventNo,
+        side: Side,
     },
 }
 

@@ -18,7 +18,7 @@ mod store;
 
 pub use crossing::{journals_tell_what_was_handled, rows_cross_in_one_order};
 pub use drain::{Drain, Drained};
-pub use emission::punctuation_never_overtakes;
+pub use emission::{punctuation_never_overtakes, silence_holds_back_few};
 pub use event::{Event, Pair};
 pub use examples::{no_runs, small_logs, small_meetings, small_run, small_steps};
 pub use feed::{Feed, Given};

@@ -14,6 +14,8 @@ pub enum Msg<P> {
     EndS(EventNo),
     /// This right row expires. Goes right.
     ExpS(EventNo),
+    /// The left stream was quiet up to this event. Goes right.
+    QuietL(EventNo),
     /// Nothing more is put at the left end of the chain. Goes right.
     CloseL,
     /// A right row, by the number of its arrival. Goes left.
@@ -22,6 +24,8 @@ pub enum Msg<P> {
     EndR(EventNo),
     /// This left row expires. Goes left.
     ExpR(EventNo),
+    /// The right stream was quiet up to this event. Goes left.
+    QuietR(EventNo),
     /// Nothing more is put at the right end of the chain. Goes left.
     CloseR,
 }
@@ -35,6 +39,11 @@ pub enum Report<P> {
         side: Side,
         row: P,
         partners: Partners<P>,
+    },
+    /// A side was quiet up to this event.
+    Quiet {
+        no: EventNo,
+        side: Side,
     },
     /// The core handled both closes.
     Ended,

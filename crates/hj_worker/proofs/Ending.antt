@@ -6,7 +6,7 @@ use Rattle.std.proofs.lemmas.List.{map-append}
 use Rattle.std.proofs.lemmas.List.Elements.{All-nil, All-cons, All-append, All-contains, Contains-append_left, Contains-append_right, filter-append}
 use Rattle.hj_base.specs.Journals.{Entry, puts, put}
 use Rattle.hj_msg.specs.declared.message.Msg.{Msg}
-use Rattle.hj_msg.specs.declared.message.Msg.TheVariants.{R, AckS, EndS, ExpS, CloseL, S, EndR, ExpR, CloseR}
+use Rattle.hj_msg.specs.declared.message.Msg.TheVariants.{R, AckS, EndS, ExpS, QuietL, CloseL, S, EndR, ExpR, QuietR, CloseR}
 use Rattle.hj_msg.specs.declared.message.Report.{Report}
 use Rattle.hj_msg.specs.declared.message.Report.TheVariants.{Ended, NoMemory}
 use Rattle.hj_msg.specs.Core.{State, empty_state, after, report}
@@ -39,6 +39,8 @@ module _ {P : Type 0} where
   ended-after place n state (ExpR at) ended = ended
   ended-after place n state (ExpS at) ended = ended
   ended-after place n state (AckS at) ended = ended
+  ended-after place n state (QuietL at) ended = ended
+  ended-after place n state (QuietR at) ended = ended
   ended-after place n state CloseL ended = (both state.closed_left state.closed_right ended).1
   ended-after place n state CloseR ended = ap (λ b. b && true) (both state.closed_left state.closed_right ended).0
 
@@ -63,6 +65,8 @@ module _ {P : Type 0} where
   end-reported matches place n state (ExpR at) is = absurd (cc)
   end-reported matches place n state (ExpS at) is = absurd (cc)
   end-reported matches place n state (AckS at) is = absurd (cc)
+  end-reported matches place n state (QuietL at) is = absurd (cc)
+  end-reported matches place n state (QuietR at) is = absurd (cc)
   end-reported matches place n state CloseL is = end-closes state.closed_left state.closed_right is
   end-reported matches place n state CloseR is = ap (λ b. b && true) (end-closes state.closed_right state.closed_left is)
 
@@ -127,6 +131,8 @@ module _ {P : Type 0} where
   reports-end matches place n state (ExpR at) unended ended = absurd (true≢false (sym ended ∙ unended))
   reports-end matches place n state (ExpS at) unended ended = absurd (true≢false (sym ended ∙ unended))
   reports-end matches place n state (AckS at) unended ended = absurd (true≢false (sym ended ∙ unended))
+  reports-end matches place n state (QuietL at) unended ended = absurd (true≢false (sym ended ∙ unended))
+  reports-end matches place n state (QuietR at) unended ended = absurd (true≢false (sym ended ∙ unended))
   reports-end matches place n state CloseL unended ended = left-ends state.closed_left state.closed_right unended ended
   reports-end matches place n state CloseR unended ended = right-ends state.closed_left state.closed_right unended ended
 
