@@ -16,7 +16,7 @@ use Rattle.hj_msg.specs.declared.message.Report.{Report}
 use Rattle.hj_msg.specs.declared.message.Report.TheVariants.{Handled, Quiet, Ended, NoMemory}
 use Rattle.hj_msg.specs.Kang.{kang}
 use Rattle.hj_msg.specs.Valid.{later}
-use Rattle.hj_msg.specs.Punctuation.{up_to, all, arrival_of, tells, is_end, mark_of, punctuation}
+use Rattle.hj_msg.specs.Punctuation.{up_to, all, told_up_to, tells, is_end, mark_of, punctuation}
 use Rattle.hj_msg.specs.Emission.{is_within, emitted}
 use Rattle.hj_msg.specs.Core.{State, empty_state, after, report, state_after}
 use Rattle.hj_msg.specs.Turns.{Turn, IsCut, AreWhole, all_of, handled}
@@ -47,7 +47,7 @@ record Behind {P : Type 0} (side : Side) (m number : ℕ) (rs : List (Report P))
 -- the last arrival that was told, against one that was told
 record LastTold {P : Type 0} (side : Side) (m : ℕ) (rs : List (Report P)) (o : Option ℕ) : Type 0 where
   number : ℕ
-  is : last_or o (filter_map (arrival_of side) rs) ≡ Some number
+  is : last_or o (filter_map (told_up_to side) rs) ≡ Some number
   order : (m ≡ number) ⊎ Behind side m number rs
 
 last_some : (a : ℕ) (ns : List ℕ) → (number : ℕ) × (last_or (Some a) ns ≡ Some number)
@@ -62,16 +62,16 @@ last_of {P} side m (r ∷ rs) o h = go side r h (last_of side m rs)
     behind side r number (inl e) = inl e
     behind side r number (inr b) = inr (record { front = r ∷ b.front; back = b.back; parts = ap (λ rs. r ∷ rs) b.parts; first = any-append (tells side m) (r ∷ []) b.front ∙ grind (arith, b.first); second = b.second })
 
-    skip : (side : Side) (r : Report P) → last_or o (filter_map (arrival_of side) (r ∷ rs)) ≡ last_or o (filter_map (arrival_of side) rs) → LastTold side m rs o → LastTold side m (r ∷ rs) o
+    skip : (side : Side) (r : Report P) → last_or o (filter_map (told_up_to side) (r ∷ rs)) ≡ last_or o (filter_map (told_up_to side) rs) → LastTold side m rs o → LastTold side m (r ∷ rs) o
     skip side r same found = record { number = found.number; is = same ∙ found.is; order = behind side r found.number found.order }
 
-    own : (side : Side) (r : Report P) (a : ℕ) → last_or o (filter_map (arrival_of side) (r ∷ rs)) ≡ last_or (Some a) (filter_map (arrival_of side) rs) → tells side m r ≡ (a == m)
+    own : (side : Side) (r : Report P) (a : ℕ) → last_or o (filter_map (told_up_to side) (r ∷ rs)) ≡ last_or (Some a) (filter_map (told_up_to side) rs) → tells side m r ≡ (a == m)
         → (b : Bool) → list_any (tells side m) rs ≡ b → (tells side m r || list_any (tells side m) rs) ≡ true → ((o : Option ℕ) → list_any (tells side m) rs ≡ true → LastTold side m rs o) → LastTold side m (r ∷ rs) o
     own side r a same told true e h deeper = let found = deeper (Some a) e in record { number = found.number; is = same ∙ found.is; order = behind side r found.number found.order }
     own side r a same told false e h deeper =
         let here : tells side m r ≡ true = grind (arith, h, e) in
         let a_is : a ≡ m = grind (arith, nat_tests, here, told) in
-        let last = last_some a (filter_map (arrival_of side) rs) in
+        let last = last_some a (filter_map (told_up_to side) rs) in
         record {
           number = last.0;
           is = same ∙ last.1;

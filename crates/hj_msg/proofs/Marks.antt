@@ -10,7 +10,7 @@ use Rattle.hj_msg.specs.declared.message.Msg.{Msg}
 use Rattle.hj_msg.specs.declared.message.Msg.TheVariants.{R, QuietL, CloseL, S, QuietR, CloseR}
 use Rattle.hj_msg.specs.declared.message.Report.{Report}
 use Rattle.hj_msg.specs.declared.message.Report.TheVariants.{Handled, Quiet, Ended, NoMemory}
-use Rattle.hj_msg.specs.Punctuation.{Mark, up_to, all, arrival_of, tells, is_end, mark_of, lesser}
+use Rattle.hj_msg.specs.Punctuation.{Mark, up_to, all, told_up_to, tells, is_end, mark_of, lesser}
 use Rattle.hj_msg.specs.Emission.{is_within}
 use Rattle.hj_msg.specs.Core.{State, report}
 use Rattle.hj_msg.proofs.Sides.{is_quiet, is_mark}
@@ -68,7 +68,7 @@ tells_quiet Left n (Quiet at Left) = at.0 == n
 tells_quiet Right n (Quiet at Right) = at.0 == n
 tells_quiet side n report = false
 
-pub last_told : {P : Type 0} (side : Side) (rs : List (Report P)) (o : Option ℕ) (number : ℕ) → last_or o (filter_map (arrival_of side) rs) ≡ Some number → (o ≡ Some number) ⊎ (list_any (tells side number) rs ≡ true)
+pub last_told : {P : Type 0} (side : Side) (rs : List (Report P)) (o : Option ℕ) (number : ℕ) → last_or o (filter_map (told_up_to side) rs) ≡ Some number → (o ≡ Some number) ⊎ (list_any (tells side number) rs ≡ true)
 last_told side [] o number e = inl e
 last_told {P} side (r ∷ rs) o number e = go side r e (last_told side rs)
   where
@@ -83,8 +83,8 @@ last_told {P} side (r ∷ rs) o number e = go side r e (last_told side rs)
     passed side told (inl k) b = inl k
     passed side told (inr k) b = inr (behind b told k)
 
-    go : (side : Side) (r : Report P) → last_or o (filter_map (arrival_of side) (r ∷ rs)) ≡ Some number
-        → ((o : Option ℕ) (number : ℕ) → last_or o (filter_map (arrival_of side) rs) ≡ Some number → (o ≡ Some number) ⊎ (list_any (tells side number) rs ≡ true))
+    go : (side : Side) (r : Report P) → last_or o (filter_map (told_up_to side) (r ∷ rs)) ≡ Some number
+        → ((o : Option ℕ) (number : ℕ) → last_or o (filter_map (told_up_to side) rs) ≡ Some number → (o ≡ Some number) ⊎ (list_any (tells side number) rs ≡ true))
         → (o ≡ Some number) ⊎ (list_any (tells side number) (r ∷ rs) ≡ true)
     go Left (Handled at Left row partners) e deeper = elim (deeper (Some at.0) number e) [ inl k ↦ inr (front at.0 k (list_any (tells Left number) rs)) | inr k ↦ inr (behind (at.0 == number) (list_any (tells Left number) rs) k) ]
     go Right (Handled at Right row partners) e deeper = elim (deeper (Some at.0) number e) [ inl k ↦ inr (front at.0 k (list_any (tells Right number) rs)) | inr k ↦ inr (behind (at.0 == number) (list_any (tells Right number) rs) k) ]
@@ -106,9 +106,9 @@ pub record Reached {P : Type 0} (side : Side) (n : ℕ) (rs : List (Report P)) :
   pub told : list_any (tells side number) rs ≡ true
 
 pub reached : {P : Type 0} (side : Side) (n : ℕ) (rs : List (Report P)) → is_within (mark_of side rs) n ≡ true → (list_any is_end rs ≡ true) ⊎ Reached side n rs
-reached {P} side n rs h = go (list_any is_end rs) refl (last_or None (filter_map (arrival_of side) rs)) refl h
+reached {P} side n rs h = go (list_any is_end rs) refl (last_or None (filter_map (told_up_to side) rs)) refl h
   where
-    go : (b : Bool) → list_any is_end rs ≡ b → (o : Option ℕ) → last_or None (filter_map (arrival_of side) rs) ≡ o → is_within (mark_of side rs) n ≡ true → (list_any is_end rs ≡ true) ⊎ Reached side n rs
+    go : (b : Bool) → list_any is_end rs ≡ b → (o : Option ℕ) → last_or None (filter_map (told_up_to side) rs) ≡ o → is_within (mark_of side rs) n ≡ true → (list_any is_end rs ≡ true) ⊎ Reached side n rs
     go true e o f h = inl e
     go false e (Some number) f h =
         let marked : mark_of side rs ≡ Some (up_to number) = rw (e, f) refl in

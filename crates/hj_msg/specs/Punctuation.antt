@@ -13,13 +13,13 @@ pub data Mark : Type 0 where
   up_to : (number : ℕ) → Mark
   all : Mark
 
--- the number up to which a report tells all arrivals of this side: that of the arrival, or of the quiet event
-abbrev pub arrival_of : {P : Type 0} → Side → Report P → Option ℕ
-arrival_of Left (Handled at Left row partners) = Some at.0
-arrival_of Right (Handled at Right row partners) = Some at.0
-arrival_of Left (Quiet at Left) = Some at.0
-arrival_of Right (Quiet at Right) = Some at.0
-arrival_of side report = None
+-- the number up to which a report tells of all arrivals of this side: that of an arrival, or of a quiet event
+abbrev pub told_up_to : {P : Type 0} → Side → Report P → Option ℕ
+told_up_to Left (Handled at Left row partners) = Some at.0
+told_up_to Right (Handled at Right row partners) = Some at.0
+told_up_to Left (Quiet at Left) = Some at.0
+told_up_to Right (Quiet at Right) = Some at.0
+told_up_to side report = None
 
 -- whether a report is that of an arrival or of a quiet event of this side, under this number
 abbrev pub tells : {P : Type 0} → Side → ℕ → Report P → Bool
@@ -39,7 +39,7 @@ mark_at (Some number) = Some (up_to number)
 
 -- A core's mark for a side: the last arrival or quiet event of that side that it reported. Its end counts as past every number.
 abbrev pub mark_of : {P : Type 0} → Side → List (Report P) → Option Mark
-mark_of side reports = if list_any is_end reports then Some all else mark_at (last_or None (filter_map (arrival_of side) reports))
+mark_of side reports = if list_any is_end reports then Some all else mark_at (last_or None (filter_map (told_up_to side) reports))
 
 -- the lesser of two marks, absent where one is absent
 abbrev pub lesser : Option Mark → Option Mark → Option Mark

@@ -16,8 +16,8 @@ pub fn punctuation_never_overtakes<P>()
     ensures grows { (run : Run P) → IsRun run → EmissionGrows run }
 {}
 
-/// Where no side is silent for more arrivals of the other one than so many, and every core reported all that was put, each
-/// pair of the join of what was put is emitted, but those whose later row is among the last so many arrivals.
+/// Of any run: where nothing tells of a side for at most so many arrivals of the other one, and every core reported all that
+/// was put, each pair of the sequential join of what was put is emitted, or its later row is among the last so many arrivals.
 pub fn silence_holds_back_few<P>()
     ensures { (run : Run P) (is : IsRun run) → EmitsAllButLast is }
 {}

@@ -1,6 +1,7 @@
 use hj_base::{EventNo, Side};
 
-/// Something that happens to a row: it comes into the window of its side, or leaves it. Or that nothing happened on a side.
+/// Something that happens on the two streams, in one order over both: a row comes into the window of its side, or leaves
+/// it, or a side is told to be quiet.
 #[derive(Debug, Drop)]
 pub enum Event<P> {
     /// A row of a side arrives.
@@ -15,7 +16,7 @@ pub enum Event<P> {
         side: Side,
         of: EventNo,
     },
-    /// A side is quiet: no row of it arrived since the last event that told of that side.
+    /// No row of a side came for a while: all of its rows that are numbered below this event have arrived. Changes no window.
     Quiet {
         no: EventNo,
         side: Side,

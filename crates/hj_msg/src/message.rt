@@ -14,7 +14,7 @@ pub enum Msg<P> {
     EndS(EventNo),
     /// This right row expires. Goes right.
     ExpS(EventNo),
-    /// The left stream was quiet up to this event. Goes right.
+    /// No left row is to come any more that is numbered below this event. Goes right, through all cores.
     QuietL(EventNo),
     /// Nothing more is put at the left end of the chain. Goes right.
     CloseL,
@@ -24,7 +24,7 @@ pub enum Msg<P> {
     EndR(EventNo),
     /// This left row expires. Goes left.
     ExpR(EventNo),
-    /// The right stream was quiet up to this event. Goes left.
+    /// No right row is to come any more that is numbered below this event. Goes left, through all cores.
     QuietR(EventNo),
     /// Nothing more is put at the right end of the chain. Goes left.
     CloseR,
@@ -40,7 +40,7 @@ pub enum Report<P> {
         row: P,
         partners: Partners<P>,
     },
-    /// A side was quiet up to this event.
+    /// The core has handled all rows of a side that are numbered below this event.
     Quiet {
         no: EventNo,
         side: Side,
