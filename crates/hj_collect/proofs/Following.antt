@@ -10,8 +10,8 @@ use Rattle.hj_base.specs.declared.numbers.Side.{Side}
 use Rattle.hj_base.specs.declared.numbers.Side.TheVariants.{Left, Right}
 use Rattle.hj_msg.specs.declared.message.Report.{Report}
 use Rattle.hj_msg.specs.declared.message.Report.TheVariants.{Handled, Quiet, Ended, NoMemory}
-use Rattle.hj_msg.specs.Punctuation.{Mark, up_to, all, arrival_of, is_end, lesser, mark_of, punctuation}
-use Rattle.hj_collect.specs.Marks.{after_arrival, is_same, least_of, with_arrival, with_end}
+use Rattle.hj_msg.specs.Punctuation.{Mark, up_to, all, told_up_to, is_end, lesser, mark_of, punctuation}
+use Rattle.hj_collect.specs.Marks.{raised_to, is_same, least_of, with_raised, with_end}
 use Rattle.hj_collect.specs.Collector.{CollectorState, after_report, has_ended, least_mark, nothing_taken}
 use Rattle.hj_collect.specs.StandsFor.{StandsFor, with_report}
 use Rattle.hj_collect.proofs.MarkOrder.{lesser-comm, lesser-assoc}
@@ -31,30 +31,30 @@ module _ {P : Type 0} (side : Side) (rs : List (Report P)) (r : Report P) where
   ends_as : is_end r ≡ false → list_any is_end (rs ++ r ∷ []) ≡ list_any is_end rs
   ends_as no_end = list_any-append is_end rs (r ∷ []) ∙ (ap (λ b. list_any is_end rs || (b || false)) no_end ∙ or_false (list_any is_end rs))
 
-  pub mark-arrival : (number : ℕ) → is_end r ≡ false → arrival_of side r ≡ Some number → mark_of side (rs ++ r ∷ []) ≡ after_arrival number (mark_of side rs)
-  mark-arrival number no_end arrival = by (list_any is_end rs) refl (last_or None (filter_map (arrival_of side) rs)) refl
+  pub mark-raised : (number : ℕ) → is_end r ≡ false → told_up_to side r ≡ Some number → mark_of side (rs ++ r ∷ []) ≡ raised_to number (mark_of side rs)
+  mark-raised number no_end arrival = by (list_any is_end rs) refl (last_or None (filter_map (told_up_to side) rs)) refl
     where
-      last : last_or None (filter_map (arrival_of side) (rs ++ r ∷ [])) ≡ Some number
+      last : last_or None (filter_map (told_up_to side) (rs ++ r ∷ [])) ≡ Some number
       last =
-          ap (last_or None) (filter_map-append (arrival_of side) rs (r ∷ []) ∙ ap (λ o. filter_map (arrival_of side) rs ++ cons_option o []) arrival)
-          ∙ last_or-snoc None (filter_map (arrival_of side) rs) number
+          ap (last_or None) (filter_map-append (told_up_to side) rs (r ∷ []) ∙ ap (λ o. filter_map (told_up_to side) rs ++ cons_option o []) arrival)
+          ∙ last_or-snoc None (filter_map (told_up_to side) rs) number
 
-      by : (b : Bool) → list_any is_end rs ≡ b → (o : Option ℕ) → last_or None (filter_map (arrival_of side) rs) ≡ o → mark_of side (rs ++ r ∷ []) ≡ after_arrival number (mark_of side rs)
+      by : (b : Bool) → list_any is_end rs ≡ b → (o : Option ℕ) → last_or None (filter_map (told_up_to side) rs) ≡ o → mark_of side (rs ++ r ∷ []) ≡ raised_to number (mark_of side rs)
       by true e o f = let ended = ends_as no_end ∙ e in rw (ended, e) refl
       by false e None f = let ended = ends_as no_end ∙ e in rw (ended, e, f, last) refl
       by false e (Some n) f = let ended = ends_as no_end ∙ e in rw (ended, e, f, last) refl
 
-  pub mark-other : is_end r ≡ false → arrival_of side r ≡ None → mark_of side (rs ++ r ∷ []) ≡ mark_of side rs
+  pub mark-other : is_end r ≡ false → told_up_to side r ≡ None → mark_of side (rs ++ r ∷ []) ≡ mark_of side rs
   mark-other no_end arrival = by (list_any is_end rs) refl
     where
       append_none : (ns : List ℕ) → ns ++ [] ≡ ns
       append_none [] = refl
       append_none (n ∷ ns) = ap (λ ms. n ∷ ms) (append_none ns)
 
-      same : filter_map (arrival_of side) (rs ++ r ∷ []) ≡ filter_map (arrival_of side) rs
+      same : filter_map (told_up_to side) (rs ++ r ∷ []) ≡ filter_map (told_up_to side) rs
       same =
-          filter_map-append (arrival_of side) rs (r ∷ [])
-          ∙ (ap (λ o. filter_map (arrival_of side) rs ++ cons_option o []) arrival ∙ append_none (filter_map (arrival_of side) rs))
+          filter_map-append (told_up_to side) rs (r ∷ [])
+          ∙ (ap (λ o. filter_map (told_up_to side) rs ++ cons_option o []) arrival ∙ append_none (filter_map (told_up_to side) rs))
 
       by : (b : Bool) → list_any is_end rs ≡ b → mark_of side (rs ++ r ∷ []) ≡ mark_of side rs
       by true e = let ended = ends_as no_end ∙ e in rw (ended, e) refl
@@ -75,12 +75,12 @@ module _ {P : Type 0} (side : Side) (lists : List (List (Report P))) (core : ℕ
   marks_with : map (mark_of side) (with_report core r lists) ≡ set (map (mark_of side) lists) core (mark_of side (get_or lists core [] ++ r ∷ []))
   marks_with = map-set (mark_of side) lists core (get_or lists core [] ++ r ∷ [])
 
-  pub marks-arrival : (number : ℕ) → is_end r ≡ false → arrival_of side r ≡ Some number → with_arrival core number (map (mark_of side) lists) ≡ map (mark_of side) (with_report core r lists)
-  marks-arrival number no_end arrival =
+  pub marks-raised : (number : ℕ) → is_end r ≡ false → told_up_to side r ≡ Some number → with_raised core number (map (mark_of side) lists) ≡ map (mark_of side) (with_report core r lists)
+  marks-raised number no_end arrival =
       let at = get_or-map (mark_of side) lists core [] None low in
-      sym (marks_with ∙ ap (set (map (mark_of side) lists) core) (mark-arrival side (get_or lists core []) r number no_end arrival ∙ ap (after_arrival number) (sym at)))
+      sym (marks_with ∙ ap (set (map (mark_of side) lists) core) (mark-raised side (get_or lists core []) r number no_end arrival ∙ ap (raised_to number) (sym at)))
 
-  pub marks-other : is_end r ≡ false → arrival_of side r ≡ None → map (mark_of side) lists ≡ map (mark_of side) (with_report core r lists)
+  pub marks-other : is_end r ≡ false → told_up_to side r ≡ None → map (mark_of side) lists ≡ map (mark_of side) (with_report core r lists)
   marks-other no_end arrival = sym (map-set_same (mark_of side) lists core (get_or lists core [] ++ r ∷ []) [] (mark-other side (get_or lists core []) r no_end arrival))
 
   pub marks-end : is_end r ≡ true → with_end core (map (mark_of side) lists) ≡ map (mark_of side) (with_report core r lists)
@@ -97,16 +97,16 @@ follows {P} core r collector lists low is = go r
     go : (r : Report P) → StandsFor (after_report core r collector) (with_report core.0 r lists)
     go (Handled at Left row partners) =
         let r : Report P = Handled at Left row partners in
-        record { left = ap (with_arrival core.0 at.0) is.left ∙ marks-arrival Left lists core.0 r below at.0 refl refl; right = is.right ∙ marks-other Right lists core.0 r below refl refl }
+        record { left = ap (with_raised core.0 at.0) is.left ∙ marks-raised Left lists core.0 r below at.0 refl refl; right = is.right ∙ marks-other Right lists core.0 r below refl refl }
     go (Handled at Right row partners) =
         let r : Report P = Handled at Right row partners in
-        record { left = is.left ∙ marks-other Left lists core.0 r below refl refl; right = ap (with_arrival core.0 at.0) is.right ∙ marks-arrival Right lists core.0 r below at.0 refl refl }
+        record { left = is.left ∙ marks-other Left lists core.0 r below refl refl; right = ap (with_raised core.0 at.0) is.right ∙ marks-raised Right lists core.0 r below at.0 refl refl }
     go (Quiet at Left) =
         let r : Report P = Quiet at Left in
-        record { left = ap (with_arrival core.0 at.0) is.left ∙ marks-arrival Left lists core.0 r below at.0 refl refl; right = is.right ∙ marks-other Right lists core.0 r below refl refl }
+        record { left = ap (with_raised core.0 at.0) is.left ∙ marks-raised Left lists core.0 r below at.0 refl refl; right = is.right ∙ marks-other Right lists core.0 r below refl refl }
     go (Quiet at Right) =
         let r : Report P = Quiet at Right in
-        record { left = is.left ∙ marks-other Left lists core.0 r below refl refl; right = ap (with_arrival core.0 at.0) is.right ∙ marks-arrival Right lists core.0 r below at.0 refl refl }
+        record { left = is.left ∙ marks-other Left lists core.0 r below refl refl; right = ap (with_raised core.0 at.0) is.right ∙ marks-raised Right lists core.0 r below at.0 refl refl }
     go Ended = record { left = ap (with_end core.0) is.left ∙ marks-end Left lists core.0 Ended below refl; right = ap (with_end core.0) is.right ∙ marks-end Right lists core.0 Ended below refl }
     go NoMemory = record { left = is.left ∙ marks-other Left lists core.0 NoMemory below refl refl; right = is.right ∙ marks-other Right lists core.0 NoMemory below refl refl }
 
@@ -148,9 +148,9 @@ is_all-lesser (Some all) (Some (up_to b)) = refl
 is_all-lesser (Some all) (Some all) = refl
 
 is_all-mark : {P : Type 0} (side : Side) (rs : List (Report P)) → is_same (mark_of side rs) (Some all) ≡ list_any is_end rs
-is_all-mark side rs = by (list_any is_end rs) refl (last_or None (filter_map (arrival_of side) rs)) refl
+is_all-mark side rs = by (list_any is_end rs) refl (last_or None (filter_map (told_up_to side) rs)) refl
   where
-    by : (b : Bool) → list_any is_end rs ≡ b → (o : Option ℕ) → last_or None (filter_map (arrival_of side) rs) ≡ o → is_same (mark_of side rs) (Some all) ≡ list_any is_end rs
+    by : (b : Bool) → list_any is_end rs ≡ b → (o : Option ℕ) → last_or None (filter_map (told_up_to side) rs) ≡ o → is_same (mark_of side rs) (Some all) ≡ list_any is_end rs
     by true e o f = rw e refl
     by false e None f = rw (e, f) refl
     by false e (Some n) f = rw (e, f) refl

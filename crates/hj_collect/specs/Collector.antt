@@ -7,7 +7,7 @@ use Rattle.hj_base.specs.declared.numbers.Side.TheVariants.{Left, Right}
 use Rattle.hj_msg.specs.declared.message.Report.{Report}
 use Rattle.hj_msg.specs.declared.message.Report.TheVariants.{Handled, Quiet, Ended, NoMemory}
 use Rattle.hj_msg.specs.Punctuation.{Mark, all, lesser}
-use Rattle.hj_collect.specs.Marks.{is_same, least_of, with_arrival, with_end}
+use Rattle.hj_collect.specs.Marks.{is_same, least_of, with_raised, with_end}
 
 -- each core's mark for each side, and the first core that reported that memory ran out
 pub record CollectorState : Type 0 where
@@ -36,9 +36,9 @@ first_stopped None core (Handled at side row partners) = None
 
 -- the collector after this report of a core
 abbrev pub after_report : {P : Type 0} → CoreNo → Report P → CollectorState → CollectorState
-after_report core (Handled at Left row partners) collector = record collector { left = with_arrival core.0 at.0 collector.left }
-after_report core (Handled at Right row partners) collector = record collector { right = with_arrival core.0 at.0 collector.right }
-after_report core (Quiet at Left) collector = record collector { left = with_arrival core.0 at.0 collector.left }
-after_report core (Quiet at Right) collector = record collector { right = with_arrival core.0 at.0 collector.right }
+after_report core (Handled at Left row partners) collector = record collector { left = with_raised core.0 at.0 collector.left }
+after_report core (Handled at Right row partners) collector = record collector { right = with_raised core.0 at.0 collector.right }
+after_report core (Quiet at Left) collector = record collector { left = with_raised core.0 at.0 collector.left }
+after_report core (Quiet at Right) collector = record collector { right = with_raised core.0 at.0 collector.right }
 after_report core Ended collector = record collector { left = with_end core.0 collector.left; right = with_end core.0 collector.right }
 after_report core NoMemory collector = record collector { stopped = option_or collector.stopped (Some core) }

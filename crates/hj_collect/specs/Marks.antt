@@ -24,14 +24,14 @@ is_same (Some (up_to a)) (Some (up_to b)) = a == b
 is_same (Some all) (Some all) = true
 is_same mark other = false
 
--- a core's mark after it reported an arrival: its end counts as past every number
-abbrev pub after_arrival : ℕ → Option Meaning → Option Meaning
-after_arrival number (Some all) = Some all
-after_arrival number mark = Some (up_to number)
+-- a core's mark after it reported an arrival or a quiet event: its end counts as past every number
+abbrev pub raised_to : ℕ → Option Meaning → Option Meaning
+raised_to number (Some all) = Some all
+raised_to number mark = Some (up_to number)
 
--- the marks after a core reported an arrival, or its end
-abbrev pub with_arrival : ℕ → ℕ → List (Option Meaning) → List (Option Meaning)
-with_arrival core number marks = slice_set marks core (after_arrival number (slice_index_or marks core None))
+-- the marks after a core reported an arrival or a quiet event, or its end
+abbrev pub with_raised : ℕ → ℕ → List (Option Meaning) → List (Option Meaning)
+with_raised core number marks = slice_set marks core (raised_to number (slice_index_or marks core None))
 
 abbrev pub with_end : ℕ → List (Option Meaning) → List (Option Meaning)
 with_end core marks = slice_set marks core (Some all)

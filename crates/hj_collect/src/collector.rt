@@ -89,7 +89,7 @@ impl Collector {
             | Report::Quiet {
                 no,
                 side: Side::Left,
-            } => self.left.arrive(at, *no),
+            } => self.left.raise(at, *no),
             Report::Handled {
                 no,
                 side: Side::Right,
@@ -98,7 +98,7 @@ impl Collector {
             | Report::Quiet {
                 no,
                 side: Side::Right,
-            } => self.right.arrive(at, *no),
+            } => self.right.raise(at, *no),
             Report::Ended => {
                 self.left.end(at);
                 self.right.end(at);

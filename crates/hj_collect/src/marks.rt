@@ -1,5 +1,5 @@
 ghost use Rattle.std.specs.Prelude.{◌≡◌, ◌<◌, length, replicate, slice_set, IfOk, None};
-ghost use Rattle.hj_collect.specs.Marks.{meaning_of, least_of, with_arrival, with_end};
+ghost use Rattle.hj_collect.specs.Marks.{meaning_of, least_of, with_raised, with_end};
 
 use crate::Mark;
 use crate::least::Least;
@@ -47,11 +47,11 @@ impl Marks {
         self.least.mark
     }
 
-    /// A core reported an arrival. Where it has ended, its mark stays past every number.
+    /// A core reported an arrival or a quiet event. Where it has ended, its mark stays past every number.
     #[inline(always)]
-    pub(crate) fn arrive(&mut self, core: usize, no: EventNo)
+    pub(crate) fn raise(&mut self, core: usize, no: EventNo)
         requires { core < length self.old }
-        ensures { self.new ≡ with_arrival core no.0 self.old }
+        ensures { self.new ≡ with_raised core no.0 self.old }
     {
         if self.of_cores[core] != Some(Mark::All) {
             self.set(core, Mark::UpTo(no));

@@ -565,10 +565,10 @@ arrival_counts event at true false out here others is = omega arith
 arrival_counts event at false true out here others is = omega arith
 arrival_counts event at false false out here others is = omega arith
 
-expiry_counts : {P : Type 0} (event : Event P) (of : EventNo) (t : Bool) (out : List (Event P)) (here : List EventNo) (others : ℕ) → length out ≡ length here + others
+leaving_counts : {P : Type 0} (event : Event P) (of : EventNo) (t : Bool) (out : List (Event P)) (here : List EventNo) (others : ℕ) → length out ≡ length here + others
     → length (cond t out (event ∷ out)) ≡ length (cons_option (cond t None (Some of)) here) + others
-expiry_counts event of true out here others is = is
-expiry_counts event of false out here others is = omega arith
+leaving_counts event of true out here others is = is
+leaving_counts event of false out here others is = omega arith
 
 pub length-outstanding : {P : Type 0} (log : List (DriverTurn P)) → length (outstanding log) ≡ count_in log
 length-outstanding [] = refl
@@ -585,16 +585,16 @@ length-outstanding {P} (admission (Arrive at Right row) ∷ later) =
 length-outstanding {P} (admission (Expire at Left of) ∷ later) =
     let event : Event P = Expire at Left of in
     let all = length-outstanding later in
-    omega (arith, expiry_counts event of (took Left (is_ExpR of.0) later) (outstanding later) (expiries_of Left later) (length (arrivals_of Left later) + (length (arrivals_of Right later) + length (expiries_of Right later)) + (length (quiets_of Left later) + length (quiets_of Right later))) (omega arith))
+    omega (arith, leaving_counts event of (took Left (is_ExpR of.0) later) (outstanding later) (expiries_of Left later) (length (arrivals_of Left later) + (length (arrivals_of Right later) + length (expiries_of Right later)) + (length (quiets_of Left later) + length (quiets_of Right later))) (omega arith))
 length-outstanding {P} (admission (Expire at Right of) ∷ later) =
     let event : Event P = Expire at Right of in
     let all = length-outstanding later in
-    omega (arith, expiry_counts event of (took Right (is_ExpS of.0) later) (outstanding later) (expiries_of Right later) ((length (arrivals_of Left later) + length (expiries_of Left later)) + length (arrivals_of Right later) + (length (quiets_of Left later) + length (quiets_of Right later))) (omega arith))
+    omega (arith, leaving_counts event of (took Right (is_ExpS of.0) later) (outstanding later) (expiries_of Right later) ((length (arrivals_of Left later) + length (expiries_of Left later)) + length (arrivals_of Right later) + (length (quiets_of Left later) + length (quiets_of Right later))) (omega arith))
 length-outstanding {P} (admission (Quiet at Left) ∷ later) =
     let event : Event P = Quiet at Left in
     let all = length-outstanding later in
-    omega (arith, expiry_counts event at (took Right (is_QuietL at.0) later) (outstanding later) (quiets_of Left later) (((length (arrivals_of Left later) + length (expiries_of Left later)) + (length (arrivals_of Right later) + length (expiries_of Right later))) + length (quiets_of Right later)) (omega arith))
+    omega (arith, leaving_counts event at (took Right (is_QuietL at.0) later) (outstanding later) (quiets_of Left later) (((length (arrivals_of Left later) + length (expiries_of Left later)) + (length (arrivals_of Right later) + length (expiries_of Right later))) + length (quiets_of Right later)) (omega arith))
 length-outstanding {P} (admission (Quiet at Right) ∷ later) =
     let event : Event P = Quiet at Right in
     let all = length-outstanding later in
-    omega (arith, expiry_counts event at (took Left (is_QuietR at.0) later) (outstanding later) (quiets_of Right later) (((length (arrivals_of Left later) + length (expiries_of Left later)) + (length (arrivals_of Right later) + length (expiries_of Right later))) + length (quiets_of Left later)) (omega arith))
+    omega (arith, leaving_counts event at (took Left (is_QuietR at.0) later) (outstanding later) (quiets_of Right later) (((length (arrivals_of Left later) + length (expiries_of Left later)) + (length (arrivals_of Right later) + length (expiries_of Right later))) + length (quiets_of Left later)) (omega arith))

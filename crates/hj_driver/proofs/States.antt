@@ -197,11 +197,11 @@ unwaited_arrivals number part (a ∷ l) none =
     let w = neither (waits_for number part a) (list_any (waits_for number part) l) none in
     ap (λ o. cons_option o (filter_map (after_part number part) l)) (not_waited number part a w.0) ∙ ap (λ (ys : List Arrival). a ∷ ys) (unwaited_arrivals number part l w.1)
 
-unwaited_expiries : (number : ℕ) (l : List EventNo) → is_awaited number l ≡ false → filter (is_other number) l ≡ l
-unwaited_expiries number [] none = refl
-unwaited_expiries number (of ∷ l) none =
+unwaited_numbers : (number : ℕ) (l : List EventNo) → is_awaited number l ≡ false → filter (is_other number) l ≡ l
+unwaited_numbers number [] none = refl
+unwaited_numbers number (of ∷ l) none =
     let w = neither (number == of.0) (is_awaited number l) none in
-    ap (λ b. cond (not b) (of ∷ filter (is_other number) l) (filter (is_other number) l)) w.0 ∙ ap (λ (ys : List EventNo). of ∷ ys) (unwaited_expiries number l w.1)
+    ap (λ b. cond (not b) (of ∷ filter (is_other number) l) (filter (is_other number) l)) w.0 ∙ ap (λ (ys : List EventNo). of ∷ ys) (unwaited_numbers number l w.1)
 
 unwaited_close : (end : Side) (c : Closes) → awaits_close end c ≡ false → after_close_taken end c ≡ c
 unwaited_close Left Unsent none = refl
@@ -223,16 +223,16 @@ unawaited Left (ExpS of) d never = sym (idle d)
 unawaited Left CloseL d never = sym (idle d)
 unawaited Left (S at row) d never = simp (filter-true, filter_map-some) (ap (λ x. let changed : DriverState = record d { right_arrivals = x } in changed) (unwaited_arrivals at.0 Row d.right_arrivals (is_false _ never)))
 unawaited Left (EndR at) d never = simp (filter-true, filter_map-some) (ap (λ x. let changed : DriverState = record d { left_arrivals = x } in changed) (unwaited_arrivals at.0 End d.left_arrivals (is_false _ never)))
-unawaited Left (ExpR of) d never = simp (filter-true, filter_map-some) (ap (λ x. let changed : DriverState = record d { left_expiries = x } in changed) (unwaited_expiries of.0 d.left_expiries (is_false _ never)))
+unawaited Left (ExpR of) d never = simp (filter-true, filter_map-some) (ap (λ x. let changed : DriverState = record d { left_expiries = x } in changed) (unwaited_numbers of.0 d.left_expiries (is_false _ never)))
 unawaited Left (QuietL at) d never = sym (idle d)
-unawaited Left (QuietR at) d never = simp (filter-true, filter_map-some) (ap (λ x. let changed : DriverState = record d { right_quiets = x } in changed) (unwaited_expiries at.0 d.right_quiets (is_false _ never)))
+unawaited Left (QuietR at) d never = simp (filter-true, filter_map-some) (ap (λ x. let changed : DriverState = record d { right_quiets = x } in changed) (unwaited_numbers at.0 d.right_quiets (is_false _ never)))
 unawaited Left CloseR d never = simp (filter-true, filter_map-some) (ap (λ x. let changed : DriverState = record d { closes = x } in changed) (unwaited_close Right d.closes (is_false _ never)))
 unawaited Right (R at row) d never = simp (filter-true, filter_map-some) (ap (λ x. let changed : DriverState = record d { left_arrivals = x } in changed) (unwaited_arrivals at.0 Row d.left_arrivals (is_false _ never)))
 unawaited Right (AckS at) d never = sym (idle d)
 unawaited Right (EndS at) d never = simp (filter-true, filter_map-some) (ap (λ x. let changed : DriverState = record d { right_arrivals = x } in changed) (unwaited_arrivals at.0 End d.right_arrivals (is_false _ never)))
-unawaited Right (ExpS of) d never = simp (filter-true, filter_map-some) (ap (λ x. let changed : DriverState = record d { right_expiries = x } in changed) (unwaited_expiries of.0 d.right_expiries (is_false _ never)))
+unawaited Right (ExpS of) d never = simp (filter-true, filter_map-some) (ap (λ x. let changed : DriverState = record d { right_expiries = x } in changed) (unwaited_numbers of.0 d.right_expiries (is_false _ never)))
 unawaited Right (QuietR at) d never = sym (idle d)
-unawaited Right (QuietL at) d never = simp (filter-true, filter_map-some) (ap (λ x. let changed : DriverState = record d { left_quiets = x } in changed) (unwaited_expiries at.0 d.left_quiets (is_false _ never)))
+unawaited Right (QuietL at) d never = simp (filter-true, filter_map-some) (ap (λ x. let changed : DriverState = record d { left_quiets = x } in changed) (unwaited_numbers at.0 d.left_quiets (is_false _ never)))
 unawaited Right CloseL d never = simp (filter-true, filter_map-some) (ap (λ x. let changed : DriverState = record d { closes = x } in changed) (unwaited_close Left d.closes (is_false _ never)))
 unawaited Right (S at row) d never = sym (idle d)
 unawaited Right (EndR at) d never = sym (idle d)
