@@ -1,4 +1,4 @@
--- What a driver awaits of its outstanding arrivals and expiries, by the number of the row, where one message is taken.
+-- What a driver awaits of its outstanding events, by their numbers, where one message is taken.
 use Rattle.std.proofs.Common.{◌≡◌, ℕ, ◌+◌, ◌≤◌, inl, inr, ◌==◌, not, ◌&&◌, Bool, true, false, cond, List, [], ◌∷◌, ◌++◌, Some, None, Option, refl, ap, sym, ◌∙◌, arith}
 use Rattle.std.specs.List.{filter, filter_map}
 use Rattle.std.specs.Option.{option_to_list}
@@ -89,27 +89,27 @@ waits-others number at part taken arrivals gone none = inr (omega (arith, waits-
 pub waits-still : (number : ℕ) (part : Part) (arrivals : List Arrival) (gone : ℕ) → gone ≡ 0 → Fewer (count (waits_for number part) (filter_map (λ (a : Arrival). Some a) arrivals)) gone (count (waits_for number part) arrivals)
 waits-still number part arrivals gone none = inr (omega (arith, waits-same number part arrivals, none))
 
--- which expiries are outstanding of a row
-abbrev pub expiries_of : ℕ → List EventNo → ℕ
-expiries_of number expiries = count (λ of. of.0 == number) expiries
+-- how many events that leave by one message are outstanding under a number: expiries, by that of their row, or quiet events
+abbrev pub outstanding_of : ℕ → List EventNo → ℕ
+outstanding_of number numbers = count (λ of. of.0 == number) numbers
 
-expiry-if : (number : ℕ) (stays : Bool) (of : EventNo) (later : List EventNo) → expiries_of number (cond stays (of ∷ later) later) ≡ cond stays (one (of.0 == number)) 0 + expiries_of number later
-expiry-if number true of later = refl
-expiry-if number false of later = omega arith
+number-if : (number : ℕ) (stays : Bool) (of : EventNo) (later : List EventNo) → outstanding_of number (cond stays (of ∷ later) later) ≡ cond stays (one (of.0 == number)) 0 + outstanding_of number later
+number-if number true of later = refl
+number-if number false of later = omega arith
 
-expiry-others : (number other : ℕ) (expiries : List EventNo) → expiries_of number (filter (is_other other) expiries) ≤ expiries_of number expiries
-expiry-others number other [] = omega arith
-expiry-others number other (of ∷ later) = grind (arith, nat_tests, expiry-others number other later, expiry-if number (is_other other of) of (filter (is_other other) later))
+number-others : (number other : ℕ) (numbers : List EventNo) → outstanding_of number (filter (is_other other) numbers) ≤ outstanding_of number numbers
+number-others number other [] = omega arith
+number-others number other (of ∷ later) = grind (arith, nat_tests, number-others number other later, number-if number (is_other other of) of (filter (is_other other) later))
 
-expiry-gone : (number : ℕ) (expiries : List EventNo) → expiries_of number (filter (is_other number) expiries) ≡ 0
-expiry-gone number [] = refl
-expiry-gone number (of ∷ later) = grind (arith, nat_tests, expiry-gone number later, expiry-if number (is_other number of) of (filter (is_other number) later))
+number-gone : (number : ℕ) (numbers : List EventNo) → outstanding_of number (filter (is_other number) numbers) ≡ 0
+number-gone number [] = refl
+number-gone number (of ∷ later) = grind (arith, nat_tests, number-gone number later, number-if number (is_other number of) of (filter (is_other number) later))
 
-pub expiry-taken : (number at : ℕ) (expiries : List EventNo) → Fewer (expiries_of number (filter (is_other at) expiries)) (one (at == number)) (expiries_of number expiries)
-expiry-taken number at expiries = elim (eqb_tells at number) [
-  | inl w ↦ inl (ap (λ i. expiries_of number (filter (is_other i) expiries)) w.1 ∙ expiry-gone number expiries)
-  | inr w ↦ inr (omega (arith, expiry-others number at expiries, ap one w.0))
+pub number-taken : (number at : ℕ) (numbers : List EventNo) → Fewer (outstanding_of number (filter (is_other at) numbers)) (one (at == number)) (outstanding_of number numbers)
+number-taken number at numbers = elim (eqb_tells at number) [
+  | inl w ↦ inl (ap (λ i. outstanding_of number (filter (is_other i) numbers)) w.1 ∙ number-gone number numbers)
+  | inr w ↦ inr (omega (arith, number-others number at numbers, ap one w.0))
 ]
 
-pub expiry-still : (number : ℕ) (expiries : List EventNo) (gone : ℕ) → gone ≡ 0 → Fewer (expiries_of number (filter (λ (of : EventNo). true) expiries)) gone (expiries_of number expiries)
-expiry-still number expiries gone none = inr (omega (arith, none, ap (expiries_of number) (none_go expiries)))
+pub number-still : (number : ℕ) (numbers : List EventNo) (gone : ℕ) → gone ≡ 0 → Fewer (outstanding_of number (filter (λ (of : EventNo). true) numbers)) gone (outstanding_of number numbers)
+number-still number numbers gone none = inr (omega (arith, none, ap (outstanding_of number) (none_go numbers)))

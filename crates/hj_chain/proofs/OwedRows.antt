@@ -19,7 +19,7 @@ use Rattle.hj_chain.proofs.Counts.{count, count-append}
 use Rattle.hj_chain.proofs.Owing.{Owes, Fewer}
 use Rattle.hj_chain.proofs.Totals.{sum_of}
 use Rattle.hj_chain.proofs.Weighing.{Weights, at_entry, at_exit, at_end}
-use Rattle.hj_chain.proofs.Awaited.{one, expiries_of, waits-put, taken-one, waits-others, waits-still, expiry-taken, expiry-still}
+use Rattle.hj_chain.proofs.Awaited.{one, outstanding_of, waits-put, taken-one, waits-others, waits-still, number-taken, number-still}
 
 module _ (P : Type 0) (n number : ℕ) where
   -- the row of a left arrival, which goes through to the right port
@@ -90,7 +90,7 @@ module _ (P : Type 0) (n number : ℕ) where
   abbrev pub expiry_left : Weights (Msg P)
   expiry_left = record { rightwards = λ k message. 0; leftwards = λ k message. one (is_ExpR number message) }
 
-  expiry_left-putting : (event : Event P) (driver : DriverState) → expiries_of number (after_put event driver).left_expiries ≤ expiries_of number driver.left_expiries + at_entry expiry_left (port_of event) n (message_of event)
+  expiry_left-putting : (event : Event P) (driver : DriverState) → outstanding_of number (after_put event driver).left_expiries ≤ outstanding_of number driver.left_expiries + at_entry expiry_left (port_of event) n (message_of event)
   expiry_left-putting (Arrive at Left row) driver = omega arith
   expiry_left-putting (Arrive at Right row) driver = omega arith
   expiry_left-putting (Expire at Left of) driver = omega (arith, count-append (λ (o : EventNo). o.0 == number) driver.left_expiries (of ∷ []))
@@ -99,16 +99,16 @@ module _ (P : Type 0) (n number : ℕ) where
   expiry_left-putting (Quiet at Right) driver = omega arith
 
   expiry_left-taking : (port : Side) (message : Msg P) (expiries : List EventNo)
-      → Fewer (expiries_of number (filter (stays Left port message) expiries)) (at_exit expiry_left port n message) (expiries_of number expiries)
-  expiry_left-taking Left (ExpR of) expiries = expiry-taken number of.0 expiries
-  expiry_left-taking port message expiries = expiry-still number expiries 0 refl
+      → Fewer (outstanding_of number (filter (stays Left port message) expiries)) (at_exit expiry_left port n message) (outstanding_of number expiries)
+  expiry_left-taking Left (ExpR of) expiries = number-taken number of.0 expiries
+  expiry_left-taking port message expiries = number-still number expiries 0 refl
 
   expiry_left-handling : (end : Side) (place : ℕ) (message : Msg P) → at_end expiry_left end place message ≤ sum_of (expiry_left.leftwards place) (sends place n message).left + sum_of (expiry_left.rightwards (place + 1)) (sends place n message).right
   expiry_left-handling Left place message = omega arith
   expiry_left-handling Right place (ExpR at) = omega arith
   expiry_left-handling Right place message = omega arith
 
-  pub owes-expiry_left : Owes n expiry_left (λ driver cores. expiries_of number driver.left_expiries)
+  pub owes-expiry_left : Owes n expiry_left (λ driver cores. outstanding_of number driver.left_expiries)
   owes-expiry_left = record {
     beginning = λ most. refl;
     putting = λ event driver cores. expiry_left-putting event driver;
@@ -120,7 +120,7 @@ module _ (P : Type 0) (n number : ℕ) where
   abbrev pub expiry_right : Weights (Msg P)
   expiry_right = record { rightwards = λ k message. one (is_ExpS number message); leftwards = λ k message. 0 }
 
-  expiry_right-putting : (event : Event P) (driver : DriverState) → expiries_of number (after_put event driver).right_expiries ≤ expiries_of number driver.right_expiries + at_entry expiry_right (port_of event) n (message_of event)
+  expiry_right-putting : (event : Event P) (driver : DriverState) → outstanding_of number (after_put event driver).right_expiries ≤ outstanding_of number driver.right_expiries + at_entry expiry_right (port_of event) n (message_of event)
   expiry_right-putting (Arrive at Left row) driver = omega arith
   expiry_right-putting (Arrive at Right row) driver = omega arith
   expiry_right-putting (Expire at Left of) driver = omega arith
@@ -129,16 +129,16 @@ module _ (P : Type 0) (n number : ℕ) where
   expiry_right-putting (Quiet at Right) driver = omega arith
 
   expiry_right-taking : (port : Side) (message : Msg P) (expiries : List EventNo)
-      → Fewer (expiries_of number (filter (stays Right port message) expiries)) (at_exit expiry_right port n message) (expiries_of number expiries)
-  expiry_right-taking Right (ExpS of) expiries = expiry-taken number of.0 expiries
-  expiry_right-taking port message expiries = expiry-still number expiries 0 refl
+      → Fewer (outstanding_of number (filter (stays Right port message) expiries)) (at_exit expiry_right port n message) (outstanding_of number expiries)
+  expiry_right-taking Right (ExpS of) expiries = number-taken number of.0 expiries
+  expiry_right-taking port message expiries = number-still number expiries 0 refl
 
   expiry_right-handling : (end : Side) (place : ℕ) (message : Msg P) → at_end expiry_right end place message ≤ sum_of (expiry_right.leftwards place) (sends place n message).left + sum_of (expiry_right.rightwards (place + 1)) (sends place n message).right
   expiry_right-handling Right place message = omega arith
   expiry_right-handling Left place (ExpS at) = omega arith
   expiry_right-handling Left place message = omega arith
 
-  pub owes-expiry_right : Owes n expiry_right (λ driver cores. expiries_of number driver.right_expiries)
+  pub owes-expiry_right : Owes n expiry_right (λ driver cores. outstanding_of number driver.right_expiries)
   owes-expiry_right = record {
     beginning = λ most. refl;
     putting = λ event driver cores. expiry_right-putting event driver;
@@ -151,7 +151,7 @@ module _ (P : Type 0) (n number : ℕ) where
   abbrev pub quiet_left : Weights (Msg P)
   quiet_left = record { rightwards = λ k message. one (is_QuietL number message); leftwards = λ k message. 0 }
 
-  quiet_left-putting : (event : Event P) (driver : DriverState) → expiries_of number (after_put event driver).left_quiets ≤ expiries_of number driver.left_quiets + at_entry quiet_left (port_of event) n (message_of event)
+  quiet_left-putting : (event : Event P) (driver : DriverState) → outstanding_of number (after_put event driver).left_quiets ≤ outstanding_of number driver.left_quiets + at_entry quiet_left (port_of event) n (message_of event)
   quiet_left-putting (Arrive at Left row) driver = omega arith
   quiet_left-putting (Arrive at Right row) driver = omega arith
   quiet_left-putting (Expire at Left of) driver = omega arith
@@ -160,16 +160,16 @@ module _ (P : Type 0) (n number : ℕ) where
   quiet_left-putting (Quiet at Right) driver = omega arith
 
   quiet_left-taking : (port : Side) (message : Msg P) (quiets : List EventNo)
-      → Fewer (expiries_of number (filter (quiet_stays Left port message) quiets)) (at_exit quiet_left port n message) (expiries_of number quiets)
-  quiet_left-taking Right (QuietL at) quiets = expiry-taken number at.0 quiets
-  quiet_left-taking port message quiets = expiry-still number quiets 0 refl
+      → Fewer (outstanding_of number (filter (quiet_stays Left port message) quiets)) (at_exit quiet_left port n message) (outstanding_of number quiets)
+  quiet_left-taking Right (QuietL at) quiets = number-taken number at.0 quiets
+  quiet_left-taking port message quiets = number-still number quiets 0 refl
 
   quiet_left-handling : (end : Side) (place : ℕ) (message : Msg P) → at_end quiet_left end place message ≤ sum_of (quiet_left.leftwards place) (sends place n message).left + sum_of (quiet_left.rightwards (place + 1)) (sends place n message).right
   quiet_left-handling Right place message = omega arith
   quiet_left-handling Left place (QuietL at) = omega arith
   quiet_left-handling Left place message = omega arith
 
-  pub owes-quiet_left : Owes n quiet_left (λ driver cores. expiries_of number driver.left_quiets)
+  pub owes-quiet_left : Owes n quiet_left (λ driver cores. outstanding_of number driver.left_quiets)
   owes-quiet_left = record {
     beginning = λ most. refl;
     putting = λ event driver cores. quiet_left-putting event driver;
@@ -182,7 +182,7 @@ module _ (P : Type 0) (n number : ℕ) where
   abbrev pub quiet_right : Weights (Msg P)
   quiet_right = record { rightwards = λ k message. 0; leftwards = λ k message. one (is_QuietR number message) }
 
-  quiet_right-putting : (event : Event P) (driver : DriverState) → expiries_of number (after_put event driver).right_quiets ≤ expiries_of number driver.right_quiets + at_entry quiet_right (port_of event) n (message_of event)
+  quiet_right-putting : (event : Event P) (driver : DriverState) → outstanding_of number (after_put event driver).right_quiets ≤ outstanding_of number driver.right_quiets + at_entry quiet_right (port_of event) n (message_of event)
   quiet_right-putting (Arrive at Left row) driver = omega arith
   quiet_right-putting (Arrive at Right row) driver = omega arith
   quiet_right-putting (Expire at Left of) driver = omega arith
@@ -191,16 +191,16 @@ module _ (P : Type 0) (n number : ℕ) where
   quiet_right-putting (Quiet at Right) driver = omega (arith, count-append (λ (o : EventNo). o.0 == number) driver.right_quiets (at ∷ []))
 
   quiet_right-taking : (port : Side) (message : Msg P) (quiets : List EventNo)
-      → Fewer (expiries_of number (filter (quiet_stays Right port message) quiets)) (at_exit quiet_right port n message) (expiries_of number quiets)
-  quiet_right-taking Left (QuietR at) quiets = expiry-taken number at.0 quiets
-  quiet_right-taking port message quiets = expiry-still number quiets 0 refl
+      → Fewer (outstanding_of number (filter (quiet_stays Right port message) quiets)) (at_exit quiet_right port n message) (outstanding_of number quiets)
+  quiet_right-taking Left (QuietR at) quiets = number-taken number at.0 quiets
+  quiet_right-taking port message quiets = number-still number quiets 0 refl
 
   quiet_right-handling : (end : Side) (place : ℕ) (message : Msg P) → at_end quiet_right end place message ≤ sum_of (quiet_right.leftwards place) (sends place n message).left + sum_of (quiet_right.rightwards (place + 1)) (sends place n message).right
   quiet_right-handling Left place message = omega arith
   quiet_right-handling Right place (QuietR at) = omega arith
   quiet_right-handling Right place message = omega arith
 
-  pub owes-quiet_right : Owes n quiet_right (λ driver cores. expiries_of number driver.right_quiets)
+  pub owes-quiet_right : Owes n quiet_right (λ driver cores. outstanding_of number driver.right_quiets)
   owes-quiet_right = record {
     beginning = λ most. refl;
     putting = λ event driver cores. quiet_right-putting event driver;

@@ -36,7 +36,7 @@ use Rattle.hj_chain.specs.Reports.{queue_at}
 use Rattle.hj_chain.specs.Chain.{ChainState, Action, admit_cause, capacity, cause, cause_of, closing_cause, full_cause, or_empty}
 use Rattle.hj_chain.specs.Progress.{IsDone, EnabledActor}
 use Rattle.hj_chain.specs.Reached.{Reached}
-use Rattle.hj_chain.proofs.Awaited.{one, expiries_of}
+use Rattle.hj_chain.proofs.Awaited.{one, outstanding_of}
 use Rattle.hj_chain.proofs.Counts.{count}
 use Rattle.hj_chain.proofs.Doing.{Doing, inquires, admits, shuts, receives, works, gathers, deed}
 use Rattle.hj_chain.proofs.OwedCloses.{unhandled, owes-close_left, owes-close_right, owes-to_core_left, owes-to_core_right}
@@ -66,6 +66,17 @@ sent_or_not : (b : Bool) → (b ≡ true) ⊎ (b ≡ false)
 sent_or_not true = inl refl
 sent_or_not false = inr refl
 
+-- the driver's put
+abbrev pub is_put : Actor → Bool
+is_put Admit = true
+is_put actor = false
+
+-- an enabled actor other than the driver's put
+pub record OtherActor {P : Type 0} (chain : ChainState P) : Type 0 where
+  pub actor : Actor
+  pub enabled : cause chain actor ≡ None
+  pub other : is_put actor ≡ false
+
 -- No message is under way, and no report waits.
 pub record Idle {P : Type 0} (n : ℕ) (chain : ChainState P) : Type 0 where
   pub rightwards : (k : ℕ) → k ≤ n → (link_at chain.links k).rightwards ≡ []
@@ -89,9 +100,9 @@ no_arrivals (a ∷ later) rows ends = absurd (omega (
   waits-some a.taken,
 ))
 
-no_expiries : (expiries : List EventNo) → ((i : ℕ) → expiries_of i expiries ≡ 0) → expiries ≡ []
-no_expiries [] each = refl
-no_expiries (of ∷ later) each = absurd (omega (arith, each of.0, ap one (eq-eqb of.0 of.0 refl)))
+none_left : (numbers : List EventNo) → ((i : ℕ) → outstanding_of i numbers ≡ 0) → numbers ≡ []
+none_left [] each = refl
+none_left (of ∷ later) each = absurd (omega (arith, each of.0, ap one (eq-eqb of.0 of.0 refl)))
 
 both_taken : (closes : Closes) → is_sent closes ≡ true → one (awaits_close Left closes) ≡ 0 → one (awaits_close Right closes) ≡ 0 → IsTrue (is_finished closes)
 both_taken Unsent sent left right = absurd (cc)
@@ -146,26 +157,29 @@ module _ {P : Type 0} (matches : P → P → Bool) (n most : ℕ) {schedule : Li
   free-actor : (actor : Actor) → cause_of chain actor ≡ None → EnabledActor chain
   free-actor actor none = record { actor = actor; enabled = ap (λ b. cond b (Some Over) (cause_of chain actor)) (shape reached).going ∙ none }
 
-  collected_or : (k : ℕ) → k < n → (queue_at chain.reports k ≡ []) ⊎ EnabledActor chain
+  free-other : (actor : Actor) → is_put actor ≡ false → cause_of chain actor ≡ None → OtherActor chain
+  free-other actor other none = record { actor = actor; enabled = ap (λ b. cond b (Some Over) (cause_of chain actor)) (shape reached).going ∙ none; other = other }
+
+  collected_or : (k : ℕ) → k < n → (queue_at chain.reports k ≡ []) ⊎ OtherActor chain
   collected_or k low = elim (empty_or (queue_at chain.reports k)) [
     | inl none ↦ inl none
-    | inr w ↦ inr (free-actor (Collect (record { 0 = k })) (ap (λ b. cond b (or_empty (queue_at chain.reports k) None) (Some NoSuchCore)) (lower k low) ∙ ap (λ queue. or_empty queue None) w.2))
+    | inr w ↦ inr (free-other (Collect (record { 0 = k })) refl (ap (λ b. cond b (or_empty (queue_at chain.reports k) None) (Some NoSuchCore)) (lower k low) ∙ ap (λ queue. or_empty queue None) w.2))
   ]
 
-  handled_or : ((k : ℕ) → k < n → queue_at chain.reports k ≡ []) → (end : Side) (k : ℕ) → k < n → (incoming end k chain.links ≡ []) ⊎ EnabledActor chain
+  handled_or : ((k : ℕ) → k < n → queue_at chain.reports k ≡ []) → (end : Side) (k : ℕ) → k < n → (incoming end k chain.links ≡ []) ⊎ OtherActor chain
   handled_or collected end k low =
       let room : (length (queue_at chain.reports k) == capacity chain.driver.flight) ≡ false = ne_eqb _ _ (λ same. omega (arith, same, ap length (collected k low))) in
       elim (empty_or (incoming end k chain.links)) [
         | inl none ↦ inl none
-        | inr w ↦ inr (free-actor (Core (record { 0 = k }) end) (
+        | inr w ↦ inr (free-other (Core (record { 0 = k }) end) refl (
             ap (λ b. cond b (or_empty (incoming end k chain.links) (full_cause chain k)) (Some NoSuchCore)) (lower k low)
             ∙ ap (λ queue. or_empty queue (full_cause chain k)) w.2
             ∙ ap (λ b. cond b (Some ReportsFull) None) room))
       ]
 
-  taken_or : (port : Side) → (at_port port (length chain.cores) chain.links ≡ []) ⊎ EnabledActor chain
-  taken_or Left = elim (empty_or (at_port Left (length chain.cores) chain.links)) [ inl none ↦ inl none | inr w ↦ inr (free-actor PortLeft (ap (λ queue. or_empty queue None) w.2)) ]
-  taken_or Right = elim (empty_or (at_port Right (length chain.cores) chain.links)) [ inl none ↦ inl none | inr w ↦ inr (free-actor PortRight (ap (λ queue. or_empty queue None) w.2)) ]
+  taken_or : (port : Side) → (at_port port (length chain.cores) chain.links ≡ []) ⊎ OtherActor chain
+  taken_or Left = elim (empty_or (at_port Left (length chain.cores) chain.links)) [ inl none ↦ inl none | inr w ↦ inr (free-other PortLeft refl (ap (λ queue. or_empty queue None) w.2)) ]
+  taken_or Right = elim (empty_or (at_port Right (length chain.cores) chain.links)) [ inl none ↦ inl none | inr w ↦ inr (free-other PortRight refl (ap (λ queue. or_empty queue None) w.2)) ]
 
   nothing_right : ((k : ℕ) → k < n → incoming Left k chain.links ≡ []) → at_port Right (length chain.cores) chain.links ≡ [] → (k : ℕ) → k ≤ n → (link_at chain.links k).rightwards ≡ []
   nothing_right inner last k within = elim (eqb_tells k n) [
@@ -177,12 +191,12 @@ module _ {P : Type 0} (matches : P → P → Bool) (n most : ℕ) {schedule : Li
   nothing_left inner first zero within = first
   nothing_left inner first (suc k) within = ap (λ j. (link_at chain.links j).leftwards) (sym (add-one k)) ∙ inner k (omega (arith, within))
 
-  idle_or : Idle n chain ⊎ EnabledActor chain
-  idle_or = elim (all_or (λ k. queue_at chain.reports k ≡ []) (EnabledActor chain) n collected_or) [
+  pub idle_or : Idle n chain ⊎ OtherActor chain
+  idle_or = elim (all_or (λ k. queue_at chain.reports k ≡ []) (OtherActor chain) n collected_or) [
     | inr goes ↦ inr goes
-    | inl collected ↦ elim (all_or (λ k. incoming Left k chain.links ≡ []) (EnabledActor chain) n (handled_or collected Left)) [
+    | inl collected ↦ elim (all_or (λ k. incoming Left k chain.links ≡ []) (OtherActor chain) n (handled_or collected Left)) [
       | inr goes ↦ inr goes
-      | inl rights ↦ elim (all_or (λ k. incoming Right k chain.links ≡ []) (EnabledActor chain) n (handled_or collected Right)) [
+      | inl rights ↦ elim (all_or (λ k. incoming Right k chain.links ≡ []) (OtherActor chain) n (handled_or collected Right)) [
         | inr goes ↦ inr goes
         | inl lefts ↦ elim (taken_or Left) [
           | inr goes ↦ inr goes
@@ -210,11 +224,11 @@ module _ {P : Type 0} (matches : P → P → Bool) (n most : ℕ) {schedule : Li
     free : Free chain.driver
     free = record {
       left_arrivals = no_arrivals chain.driver.left_arrivals (λ i. none_owed _ _ (owes-row_left P n i)) (λ i. none_owed _ _ (owes-end_left P n i (some_core reached)));
-      left_expiries = no_expiries chain.driver.left_expiries (λ i. none_owed _ _ (owes-expiry_left P n i));
+      left_expiries = none_left chain.driver.left_expiries (λ i. none_owed _ _ (owes-expiry_left P n i));
       right_arrivals = no_arrivals chain.driver.right_arrivals (λ i. none_owed _ _ (owes-row_right P n i)) (λ i. none_owed _ _ (owes-end_right P n i (some_core reached)));
-      right_expiries = no_expiries chain.driver.right_expiries (λ i. none_owed _ _ (owes-expiry_right P n i));
-      left_quiets = no_expiries chain.driver.left_quiets (λ i. none_owed _ _ (owes-quiet_left P n i));
-      right_quiets = no_expiries chain.driver.right_quiets (λ i. none_owed _ _ (owes-quiet_right P n i));
+      right_expiries = none_left chain.driver.right_expiries (λ i. none_owed _ _ (owes-expiry_right P n i));
+      left_quiets = none_left chain.driver.left_quiets (λ i. none_owed _ _ (owes-quiet_left P n i));
+      right_quiets = none_left chain.driver.right_quiets (λ i. none_owed _ _ (owes-quiet_right P n i));
     }
 
     -- once the closes were put, they were handled everywhere
@@ -237,7 +251,7 @@ module _ {P : Type 0} (matches : P → P → Bool) (n most : ℕ) {schedule : Li
     ]
 
   pub done_or_enabled : 1 ≤ most → IsDone chain ⊎ EnabledActor chain
-  done_or_enabled some = elim idle_or [ inl idle ↦ idle-goes_on idle some | inr goes ↦ inr goes ]
+  done_or_enabled some = elim idle_or [ inl idle ↦ idle-goes_on idle some | inr goes ↦ inr (record { actor = goes.actor; enabled = goes.enabled }) ]
 
   pub stuck_is_done : 1 ≤ most → ((actor : Actor) → cause chain actor ≢ None) → IsDone chain
   stuck_is_done some none = elim (done_or_enabled some) [ inl done ↦ done | inr goes ↦ absurd (none goes.actor goes.enabled) ]
