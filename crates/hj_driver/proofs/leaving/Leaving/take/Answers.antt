@@ -1,4 +1,4 @@
-use Rattle.std.proofs.Common.{◌≡◌, ◌==◌, ℕ, List, refl, sym, subst, ap, arith, ◌∙◌, Some, position}
+use Rattle.std.proofs.Common.{◌≡◌, ◌==◌, refl, sym, subst, ap, arith, ◌∙◌, Some, position}
 use Rattle.std.specs.List.{filter}
 use Rattle.hj_base.specs.declared.numbers.EventNo.{EventNo}
 use Rattle.hj_driver.specs.Leaving.{LeavingState}
