@@ -34,7 +34,7 @@ impl Model for Collector {
 }
 
 impl Collector {
-    /// The collector of so many cores, of which no report was taken.
+    /// Makes the collector of `cores` cores, of which no report was taken.
     pub fn new(alloc: Global, cores: u16) -> Result<Self, Memory>
         ensures { IfOk result (λ collector. collector ≡ nothing_taken cores) }
     {
@@ -46,7 +46,7 @@ impl Collector {
         })
     }
 
-    /// Takes the next report of a core, and gives its pairs. A report without partners takes no memory. After a refusal
+    /// Takes the next report of a core, and gives its pairs. A report without partners takes no memory. After an error
     /// the report isn't taken.
     pub fn take<P: Share + Drop>(
         &mut self,
@@ -65,7 +65,7 @@ impl Collector {
         Ok(pairs)
     }
 
-    /// The pairs of a report, each with rows of its own. A report without partners takes no memory.
+    /// Makes the pairs of a report, each with rows of its own. A report without partners takes no memory.
     #[inline(always)]
     pub fn pairs<P: Share + Drop>(&self, report: &Report<P>) -> Result<Vec<Pair<P>>, Memory>
         ensures { IfOk result (λ pairs. pairs.items ≡ pairs_of report.now) }
@@ -107,7 +107,7 @@ impl Collector {
         }
     }
 
-    /// Up to which number all pairs have come: None where some core that hasn't ended hasn't reported both sides.
+    /// Returns up to which number all pairs have come: None if some core that hasn't ended hasn't reported both sides.
     #[inline(always)]
     pub fn punctuation(&self) -> Option<Mark>
         ensures { meaning_of result ≡ least_mark self.now }
@@ -115,14 +115,14 @@ impl Collector {
         self.left.least().min(self.right.least())
     }
 
-    /// Whether every core reported its end.
+    /// Returns whether every core reported its end.
     pub fn ended(&self) -> bool
         ensures { result ≡ has_ended self.now }
     {
         self.punctuation() == Some(Mark::All)
     }
 
-    /// The first core that reported that memory ran out.
+    /// Returns the first core that reported that memory ran out.
     pub fn stopped(&self) -> Option<CoreNo>
         ensures { result ≡ self.now.stopped }
     {

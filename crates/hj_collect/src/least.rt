@@ -16,7 +16,7 @@ pub struct Least {
 impl Least {
     ghost use Rattle.hj_collect.specs.Least.{IsLeast};
 
-    /// The least of these marks; past every number where there is none.
+    /// Returns the least of these marks; past every number if there is none.
     pub(crate) fn of(marks: &[Option<Mark>]) -> Self
         ensures { IsLeast result (map meaning_of marks.now) }
     {
@@ -30,7 +30,7 @@ impl Least {
         least
     }
 
-    /// The least of the marks and of one more.
+    /// Returns the least of the marks and of one more.
     #[inline(always)]
     pub(crate) fn with(self, mark: Option<Mark>) -> Self
         requires { self.holders + 1 < 2 ^ 64 }
@@ -46,7 +46,7 @@ impl Least {
         }
     }
 
-    /// The least of the marks but for one of them; None where no other of them is the least.
+    /// Returns the least of the marks except one of them; None if no other of them is the least.
     #[inline(always)]
     pub(crate) fn without(self, mark: Option<Mark>) -> Option<Self>
         ensures { (marks : List (Option Meaning)) → IsLeast self (meaning_of mark ∷ marks) → IfSome result (λ least. IsLeast least marks) }

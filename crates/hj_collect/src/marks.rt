@@ -30,7 +30,7 @@ impl Model for Marks {
 }
 
 impl Marks {
-    /// No mark, for each of so many cores.
+    /// Makes the list for `cores` cores, with no marks.
     pub(crate) fn new(alloc: Global, cores: u16) -> Result<Self, Memory>
         ensures { IfOk result (λ marks. marks ≡ replicate cores None) }
     {
@@ -39,7 +39,7 @@ impl Marks {
         Ok(Marks { of_cores, least })
     }
 
-    /// The least mark; None where a core has none.
+    /// Returns the least mark; None if a core has none.
     #[inline(always)]
     pub(crate) fn least(&self) -> Option<Mark>
         ensures { meaning_of result ≡ least_of self.now }
@@ -47,7 +47,7 @@ impl Marks {
         self.least.mark
     }
 
-    /// A core reported an arrival or a quiet event. Where it has ended, its mark stays past every number.
+    /// Takes note that a core reported an arrival or a quiet event. If it has ended, its mark stays past every number.
     #[inline(always)]
     pub(crate) fn raise(&mut self, core: usize, no: EventNo)
         requires { core < length self.old }
@@ -58,7 +58,7 @@ impl Marks {
         }
     }
 
-    /// A core reported its end.
+    /// Takes note that a core reported its end.
     pub(crate) fn end(&mut self, core: usize)
         requires { core < length self.old }
         ensures { self.new ≡ with_end core self.old }
@@ -66,7 +66,7 @@ impl Marks {
         self.set(core, Mark::All);
     }
 
-    /// Gives a core another mark. Where its last one was the least alone, the least is looked for anew.
+    /// Gives a core another mark. If its last one was the only least one, the least is looked for anew.
     #[inline(always)]
     fn set(&mut self, core: usize, mark: Mark)
         requires { core < length self.old }

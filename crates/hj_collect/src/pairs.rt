@@ -6,7 +6,7 @@ use hj_base::{EventNo, Memory, Share, Side};
 use hj_msg::{Pair, Partner, Report};
 use std::alloc::Global;
 
-/// The pairs of a report, each with rows of its own. Takes memory only where there are some.
+/// Makes the pairs of a report, each with rows of its own. Takes memory only if there are some.
 pub(crate) fn pairs_of<P: Share + Drop>(
     alloc: Global,
     report: &Report<P>,
@@ -32,7 +32,7 @@ pub(crate) fn pairs_of<P: Share + Drop>(
     Ok(pairs)
 }
 
-/// The pair of a row of a side and of a partner.
+/// Makes the pair of a row of a side and of a partner.
 fn pair_of<P: Share + Drop>(
     no: EventNo,
     side: Side,

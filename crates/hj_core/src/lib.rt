@@ -1,4 +1,4 @@
-//! One core of the chain: for each message it finds the partners, keeps the row where it is to be kept, and tells what to
+//! One core of the chain: for each message it finds the partners, keeps the row if it is to be kept, and tells what to
 //! send on.
 #![tactic(auto)]
 

@@ -48,7 +48,7 @@ impl<P: Share + Drop, J: Join<P> + Drop, L: Store<P, J> + Drop, R: Store<P, J> +
     ghost use Rattle.hj_core.specs.Prepared.{IsPrepared};
     ghost use Rattle.hj_core.specs.Sent.{sent};
 
-    /// The core of this place among `cores`, which are at most 64, over two empty stores.
+    /// Makes the core of this place among `cores`, which are at most 64, over two empty stores.
     pub fn new(
         join: J,
         left_store: L,
@@ -79,7 +79,7 @@ impl<P: Share + Drop, J: Join<P> + Drop, L: Store<P, J> + Drop, R: Store<P, J> +
         }
     }
 
-    /// Takes all memory that a message needs, and finds the partners of its row. What the core holds stays.
+    /// Takes all memory that a message needs, and finds the partners of its row. What the core holds stays the same.
     #[inline(always)]
     pub fn prepare(&mut self, msg: &Msg<P>) -> Result<Prepared<P>, Memory>
         ensures state { state_of L.entries R.entries self.new ≡ state_of L.entries R.entries self.old }
@@ -94,7 +94,8 @@ impl<P: Share + Drop, J: Join<P> + Drop, L: Store<P, J> + Drop, R: Store<P, J> +
         }
     }
 
-    /// Handles a message for which this was prepared, with no other message prepared or handled between. Takes no memory.
+    /// Handles a message for which `prepared` was made, with no other one prepared or handled in between. Takes no
+    /// memory.
     #[inline(always)]
     pub fn commit(&mut self, msg: Msg<P>, prepared: Prepared<P>) -> Sends<P>
         requires { IsPrepared (J.predicate self.old.join) self.old.place self.old.cores (state_of L.entries R.entries self.old)
@@ -152,21 +153,21 @@ impl<P: Share + Drop, J: Join<P> + Drop, L: Store<P, J> + Drop, R: Store<P, J> +
         }
     }
 
-    /// Whether both closes were handled.
+    /// Returns whether both closes were handled.
     pub fn ended(&self) -> bool
         ensures { result ≡ (self.now.closed_left && self.now.closed_right) }
     {
         self.closed_left && self.closed_right
     }
 
-    /// The core's place in the chain.
+    /// Returns the core's place in the chain.
     pub fn place(&self) -> CoreNo
         ensures { result.0 ≡ self.now.place }
     {
         self.place
     }
 
-    /// Whether this core is the home of an event.
+    /// Returns whether this core is the home of an event.
     #[inline(always)]
     fn is_home(&self, no: EventNo) -> bool
         ensures { result ≡ is_home self.now.place self.now.cores no.0 }
@@ -300,7 +301,7 @@ impl<P: Share + Drop, J: Join<P> + Drop, L: Store<P, J> + Drop, R: Store<P, J> +
     }
 }
 
-/// At its home, one more of a row, with a place for it in a store.
+/// Makes a row equal to this one, and a place for it in a store, if this is its home.
 #[inline(always)]
 fn share_at_home<P: Share + Drop, J: Join<P>, S: Store<P, J>>(
     store: &mut S,
@@ -320,7 +321,7 @@ fn share_at_home<P: Share + Drop, J: Join<P>, S: Store<P, J>>(
     }
 }
 
-/// Where a row has a left neighbour to go to, one more of it, with room in flight.
+/// Makes a row equal to this one, and room for it in flight, if it has a left neighbour to go to.
 #[inline(always)]
 fn share_in_flight<P: Share + Drop>(
     flight: &mut Flight<P>,
@@ -338,7 +339,7 @@ fn share_in_flight<P: Share + Drop>(
     }
 }
 
-/// Puts the row that rests here into its store.
+/// Puts the row that rests here, if one does, into its store.
 #[inline(always)]
 fn rest_at_home<P: Drop, J: Join<P>, S: Store<P, J>>(
     store: &mut S,
@@ -356,7 +357,7 @@ fn rest_at_home<P: Drop, J: Join<P>, S: Store<P, J>>(
     }
 }
 
-/// Keeps the row that is in flight.
+/// Keeps the row that is in flight, if one is.
 #[inline(always)]
 fn keep_in_flight<P: Drop>(flight: &mut Flight<P>, no: EventNo, flying: Option<P>)
     requires { ForSome flying (λ row. 0 < flight.old.room) }

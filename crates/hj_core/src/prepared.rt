@@ -9,9 +9,9 @@ pub enum Prepared<P> {
     Arrival {
         partners: Partners<P>,
         reported: P,
-        /// The row that rests here; None where this isn't its home.
+        /// The row that rests here; None if this isn't its home.
         resting: Option<P>,
-        /// The row that is kept in flight; None where it isn't.
+        /// The row that is kept in flight; None if it isn't.
         flying: Option<P>,
     },
 }

@@ -11,14 +11,14 @@ pub struct Sends<P> {
     pub to_left: Option<Msg<P>>,
     /// Goes to the right.
     pub to_right: Option<Msg<P>>,
-    /// Goes to the right, behind `to_right`.
+    /// Goes to the right, after `to_right`.
     pub to_right_then: Option<Msg<P>>,
     /// Goes to the core's reports.
     pub entry: Option<Report<P>>,
 }
 
 impl<P> Sends<P> {
-    /// Nothing.
+    /// Makes one that sends and reports nothing.
     #[inline(always)]
     pub(crate) fn nothing() -> Self
         ensures { result ≡ record { to_left = None; to_right = None; to_right_then = None; entry = None } }
@@ -31,7 +31,7 @@ impl<P> Sends<P> {
         }
     }
 
-    /// A message to the left alone.
+    /// Makes one that sends a message to the left alone.
     #[inline(always)]
     pub(crate) fn left(msg: Msg<P>) -> Self
         ensures { result ≡ record { to_left = Some msg; to_right = None; to_right_then = None; entry = None } }
@@ -44,7 +44,7 @@ impl<P> Sends<P> {
         }
     }
 
-    /// A message to the right alone.
+    /// Makes one that sends a message to the right alone.
     #[inline(always)]
     pub(crate) fn right(msg: Msg<P>) -> Self
         ensures { result ≡ record { to_left = None; to_right = Some msg; to_right_then = None; entry = None } }
@@ -59,7 +59,7 @@ impl<P> Sends<P> {
 }
 
 impl<P: Drop> Sends<P> {
-    /// This with a report. There is none yet.
+    /// Adds a report. There is none yet.
     #[inline(always)]
     pub(crate) fn with_report(self, report: Report<P>) -> Self
         requires { self.entry ≡ None }
@@ -73,7 +73,7 @@ impl<P: Drop> Sends<P> {
         }
     }
 
-    /// This with the core's end, where that is to be reported. There is no report yet.
+    /// Adds the core's end, if that is to be reported. There is no report yet.
     #[inline(always)]
     pub(crate) fn with_end(self, ends: bool) -> Self
         requires { self.entry ≡ None }
@@ -88,7 +88,7 @@ impl<P: Drop> Sends<P> {
     }
 }
 
-/// A message, where it is to be sent.
+/// Returns a message if it is to be sent.
 #[inline(always)]
 pub(crate) fn when<P: Drop>(holds: bool, msg: Msg<P>) -> Option<Msg<P>>
     ensures { option_to_list result ≡ only_if holds msg }

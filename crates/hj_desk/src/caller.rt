@@ -37,9 +37,9 @@ impl<P: Share + Drop, F: Feed<P>, D: Drain<P>> Caller<P, F, D> {
     ghost use Rattle.hj_desk.specs.Desk.{Stands};
     ghost use Rattle.hj_desk.specs.Caller.{Goes, GoesRound, GoesOnAsking};
 
-    /// One round: takes what came out of the chain and what the cores reported, gives the pairs that are due, and puts events.
-    /// It waits for the feed only where all that was put has left the chain, every report of it was taken, and every pair that
-    /// is due was given.
+    /// Does one round: takes what came out of the chain and what the cores reported, gives the pairs that are due, and
+    /// puts events. Waits for the feed only if all that was put has left the chain, every report of it was taken, and
+    /// every pair that is due was given.
     pub fn round(&mut self) -> Round
         requires stands { Stands self.old.desk (F.state self.old.feed) }
         requires few { length self.old.desk.reports.items ≤ 64 }
@@ -62,7 +62,7 @@ impl<P: Share + Drop, F: Feed<P>, D: Drain<P>> Caller<P, F, D> {
         }
     }
 
-    /// Takes the messages that stand at a port, and answers whether there was one.
+    /// Takes the messages that wait at a port, and returns whether there was one.
     fn receive_from(&mut self, port: Side) -> bool
         ensures { Goes F.gives F.state D.takes self.old [] [] self.new }
     {
@@ -74,7 +74,7 @@ impl<P: Share + Drop, F: Feed<P>, D: Drain<P>> Caller<P, F, D> {
         true
     }
 
-    /// Takes the reports of all cores that stand in their queues, and answers whether there was one.
+    /// Takes the reports of all cores that wait in their queues, and returns whether there was one.
     fn collect_all(&mut self) -> bool
         requires stands { Stands self.old.desk (F.state self.old.feed) }
         requires few { length self.old.desk.reports.items ≤ 64 }
@@ -89,7 +89,7 @@ impl<P: Share + Drop, F: Feed<P>, D: Drain<P>> Caller<P, F, D> {
         collected
     }
 
-    /// Takes the reports of a core that stand in its queue, and answers whether there was one.
+    /// Takes the reports of a core that wait in its queue, and returns whether there was one.
     fn collect_from(&mut self, core: CoreNo) -> bool
         requires stands { Stands self.old.desk (F.state self.old.feed) }
         requires in_range { core.0 < length self.old.desk.reports.items }
@@ -104,7 +104,7 @@ impl<P: Share + Drop, F: Feed<P>, D: Drain<P>> Caller<P, F, D> {
         true
     }
 
-    /// Puts events one after another, as long as that may be done, and answers whether it put one.
+    /// Puts events one after another, as long as that may be done, and returns whether it put one.
     fn admit_all(&mut self) -> bool
         requires { Stands self.old.desk (F.state self.old.feed) }
         ensures { GoesOnAsking F.gives F.state D.takes self.old self.new }
@@ -117,7 +117,7 @@ impl<P: Share + Drop, F: Feed<P>, D: Drain<P>> Caller<P, F, D> {
         true
     }
 
-    /// Puts the next event, or the closes where none is to come, and answers whether it did.
+    /// Puts the next event, or the closes if none is to come, and returns whether it did.
     #[inline(always)]
     fn admit_next(&mut self) -> bool
         requires { Stands self.old.desk (F.state self.old.feed) }
@@ -134,7 +134,8 @@ impl<P: Share + Drop, F: Feed<P>, D: Drain<P>> Caller<P, F, D> {
         true
     }
 
-    /// Whether it is known what is to be put next. The feed is asked for it, where that needn't wait or nothing else is to do.
+    /// Returns whether it is known what is to be put next. Asks the feed for it if that needn't wait or nothing else is
+    /// to be done.
     #[inline(always)]
     fn knows_next(&mut self) -> bool
         ensures { GoesOnAsking F.gives F.state D.takes self.old self.new }
@@ -149,7 +150,7 @@ impl<P: Share + Drop, F: Feed<P>, D: Drain<P>> Caller<P, F, D> {
         true
     }
 
-    /// Whether all that was put has left the chain, and every report of it was taken.
+    /// Returns whether all that was put has left the chain, and every report of it was taken.
     #[inline(always)]
     fn is_quiet(&self) -> bool {
         self.awaited == 0 && self.desk.outstanding() == 0

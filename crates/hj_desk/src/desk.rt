@@ -1,4 +1,5 @@
-//! What the calling thread does of a run: it drives the chain at its two ends, takes the cores' reports and gives the pairs.
+//! What the calling thread does of a run: it drives the chain at its two ends, takes the cores' reports and gives the
+//! pairs.
 ghost use Rattle.std.specs.Prelude.{◌≡◌, ◌↔◌, ◌+◌, ◌<◌, ◌≤◌, ◌++◌, ◌∷◌, ◌&&◌, true, false, [], length, Some, None, All, IfOk, IfSome, IfNone, OnOk, OnErr, IsPermutation};
 ghost use Rattle.hj_msg.specs.Driver.{port_of};
 ghost use Rattle.hj_msg.specs.Met.{pairs_of};
@@ -15,7 +16,8 @@ use hj_msg::{Drain, Drained, Event, Feed, Fin, Given, Msg, Pair, Report};
 use hj_order::Ordered;
 use std::alloc::Global;
 
-/// The calling thread's part of a run. It holds the two ends of the chain and the receivers of the cores' reports, and no thread.
+/// The calling thread's part of a run. It holds the two ends of the chain and the receivers of the cores' reports, and
+/// no thread.
 #[derive(Drop)]
 pub struct Desk<P: Drop> {
     pub driver: Driver,
@@ -25,7 +27,7 @@ pub struct Desk<P: Drop> {
     pub collector: Collector,
     /// The pairs that were met and weren't given yet.
     pub kept: Ordered<P>,
-    /// What the feed said last, where it isn't used up.
+    /// What the feed said last, if it isn't used up.
     pub next: Option<Given<P>>,
     /// The number of the next turn.
     pub turns: u64,
@@ -42,8 +44,8 @@ impl<P: Share + Drop> Desk<P> {
     ghost use Rattle.hj_desk.specs.Desk.{History, StandsFor, Stands, nothing_happened};
     ghost use Rattle.hj_desk.specs.Steps.{IsSpent, Turns, Receives, Admits, Collects, NoneDue, GivesPairs, end_of, reports_of, with_events, with_pairs};
 
-    /// The part of a run in which nothing happened yet, over the two ends of the chain and the receivers of the cores' reports,
-    /// with at most `flight` events outstanding.
+    /// Makes the part of a run in which nothing happened yet, over the two ends of the chain and the receivers of the
+    /// cores' reports, with at most `flight` events outstanding.
     pub fn new(
         alloc: Global,
         flight: u16,
@@ -75,7 +77,7 @@ impl<P: Share + Drop> Desk<P> {
         })
     }
 
-    /// Whether no turn number is left. Then no step puts or takes any more.
+    /// Returns whether no turn number is left. Then no step puts or takes any more.
     #[inline(always)]
     pub fn is_spent(&self) -> bool
         ensures { (result ≡ true) ↔ IsSpent self.now }
@@ -83,7 +85,7 @@ impl<P: Share + Drop> Desk<P> {
         self.turns == u64::MAX
     }
 
-    /// Whether the feed is to be asked before the driver can put anything.
+    /// Returns whether the feed is to be asked before the driver can put anything.
     #[inline(always)]
     pub fn is_unasked(&self) -> bool
         ensures { (result ≡ true) ↔ (self.now.next ≡ None) }
@@ -91,7 +93,7 @@ impl<P: Share + Drop> Desk<P> {
         self.next.is_none()
     }
 
-    /// The driver takes the first message that comes out at a port.
+    /// Takes the first message that comes out at a port, and lets the driver take note of it.
     #[inline(always)]
     pub fn receive(&mut self, port: Side) -> Step
         ensures { Receives port result self.old self.new }
@@ -116,7 +118,7 @@ impl<P: Share + Drop> Desk<P> {
         self.next = Some(feed.next());
     }
 
-    /// The driver puts the next event, or both closes where no event is to come: where it may, and the links have room.
+    /// Puts the next event, or both closes if no event is to come: if the driver may, and the links have room.
     #[inline(always)]
     pub fn admit(&mut self) -> Step
         requires { (feed : FeedState) × Stands self.old feed }
@@ -142,7 +144,7 @@ impl<P: Share + Drop> Desk<P> {
         }
     }
 
-    /// The next report of a core is taken, and its pairs are kept. Where memory runs out for them, they are lost.
+    /// Takes the next report of a core, and keeps its pairs. If memory runs out for them, they are lost.
     #[inline(always)]
     pub fn collect(&mut self, core: CoreNo) -> Step
         requires stands { (feed : FeedState) × Stands self.old feed }
@@ -164,7 +166,7 @@ impl<P: Share + Drop> Desk<P> {
         Step::Did
     }
 
-    /// Gives the pairs that are due to the drain, one after the other, up to the first one that it refuses.
+    /// Gives the drain the pairs that are due, one after the other, up to the first one that it refuses.
     pub fn release<D: Drain<P>>(&mut self, drain: &mut D) -> Drained
         ensures { GivesPairs D.takes self.old drain.old result self.new drain.new }
     {
@@ -176,14 +178,14 @@ impl<P: Share + Drop> Desk<P> {
         Drained::Kept
     }
 
-    /// Whether the driver took both closes, and of each core the report of its end was taken.
+    /// Returns whether the driver took both closes, and of each core the report of its end was taken.
     pub fn is_done(&self) -> bool
         ensures { result ≡ (is_finished self.now.driver.closes && has_ended self.now.collector) }
     {
         self.driver.finished() && self.collector.ended()
     }
 
-    /// How the run ended, if it did: memory ran out, at the desk or at a core; or all is done.
+    /// Returns how the run ended, if it did: memory ran out, at the desk or at a core; or all is done.
     pub fn end(&self) -> Option<Fin>
         ensures { result ≡ end_of self.now }
     {
@@ -193,7 +195,7 @@ impl<P: Share + Drop> Desk<P> {
         self.is_done().then_some(Fin::Done)
     }
 
-    /// How many cores there are.
+    /// Returns how many cores there are.
     pub fn cores(&self) -> u16
         requires { length self.now.reports.items ≤ 64 }
         ensures { result ≡ length self.now.reports.items }
@@ -201,7 +203,7 @@ impl<P: Share + Drop> Desk<P> {
         self.reports.len() as u16
     }
 
-    /// How many events are outstanding.
+    /// Returns how many events are outstanding.
     #[inline(always)]
     pub fn outstanding(&self) -> u32
         ensures { result ≡ count_of self.now.driver }
@@ -209,8 +211,7 @@ impl<P: Share + Drop> Desk<P> {
         self.driver.outstanding()
     }
 
-    /// How many reports come of what is known next: each core reports a row that arrives, and a quiet
-    /// event.
+    /// Returns how many reports come of what is known next: each core reports a row that arrives, and a quiet event.
     #[inline(always)]
     pub fn reports_of_next(&self) -> u64
         ensures { result ≡ reports_of self.now.next (length self.now.reports.items) }
@@ -240,7 +241,7 @@ impl<P: Share + Drop> Desk<P> {
         self.turns += 1;
     }
 
-    /// Puts both closes, where no event is outstanding and both links have room.
+    /// Puts both closes, if no event is outstanding and both links have room.
     fn close(&mut self) -> Step
         requires number { ¬ (IsSpent self.old) }
         requires last { self.old.next ≡ Some Given.Stop }
@@ -261,7 +262,7 @@ impl<P: Share + Drop> Desk<P> {
         Step::Did
     }
 
-    /// The next pair that is due, if there is one.
+    /// Removes the next pair that is due, if there is one, and returns it.
     fn pair(&mut self) -> Option<Pair<P>>
         ensures stands { IfSome result (λ pair. (feed : FeedState) (history : History P) → StandsFor self.old feed history → StandsFor self.new feed (with_pairs (pair ∷ []) history)) }
         ensures fewer { IfSome result (λ pair. IsPermutation self.old.kept (pair ∷ self.new.kept)) }
@@ -276,7 +277,7 @@ impl<P: Share + Drop> Desk<P> {
     }
 }
 
-/// The port at which an event is put.
+/// Returns the port at which an event is put.
 #[inline(always)]
 fn port_of<P>(event: &Event<P>) -> Side
     ensures { result ≡ port_of event.now }
@@ -294,7 +295,7 @@ fn port_of<P>(event: &Event<P>) -> Side
     }
 }
 
-/// Keeps the pairs of a report. Where memory runs out none of them is kept.
+/// Keeps the pairs of a report. If memory runs out, none of them is kept.
 #[inline(always)]
 fn keep_pairs<P: Share + Drop>(
     collector: &Collector,

@@ -10,10 +10,10 @@ ghost use Rattle.hj_desk.specs.Desk.{History, StandsFor, collected, turns_of};
 ghost use Rattle.hj_desk.specs.Runs.{Workers, AreUncut, DoTheirPart, IsDone, run_of};
 ghost use Rattle.hj_desk.specs.Steps.{NoneDue};
 
-/// The log of a desk is lawful over the events that the feed gave (`lawful`). Where the workers of the cores do their part, its
-/// journals and theirs make a run over these events (`run`), of which it took its reports (`reports`). The pairs that it gave
-/// begin the sequential join of these events (`in_order`), and are the whole of it where the desk is done, no last turn of a
-/// worker is cut, and no pair is due (`whole`).
+/// Shows that the log of a desk is lawful over the events that the feed gave (`lawful`). If the workers of the cores do
+/// their part, its journals and theirs make a run over these events (`run`), of which it took its reports (`reports`).
+/// The pairs that it gave begin the sequential join of these events (`in_order`), and are the whole of it if the desk
+/// is done, no last turn of a worker is cut, and no pair is due (`whole`).
 pub fn desks_give_the_join<P>()
     ensures lawful { (desk : Desk P) (feed : FeedState) (history : History P) → StandsFor desk feed history → IsLawful desk.driver.flight history.events (turns_of history.log) }
     ensures run { (workers : Workers P) (desk : Desk P) (feed : FeedState) (history : History P) → StandsFor desk feed history → DoTheirPart workers desk history.events → IsRun (run_of workers desk history.events) }

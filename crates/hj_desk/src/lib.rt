@@ -1,5 +1,5 @@
-//! The calling thread's part of a run on threads: it puts events into the chain of cores, takes what the cores report, and gives the
-//! pairs.
+//! The calling thread's part of a run on threads: it puts events into the chain of cores, takes what the cores report,
+//! and gives the pairs.
 #![tactic(auto)]
 
 mod caller;

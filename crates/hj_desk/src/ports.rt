@@ -35,7 +35,7 @@ impl<P: Drop> Ports<P> {
         }
     }
 
-    /// Whether the next put at a port finds room. The other port isn't looked at.
+    /// Returns whether the next put at a port finds room. Doesn't look at the other port.
     #[inline(always)]
     pub fn has_room(&mut self, port: Side) -> bool
         ensures links { KeepsLinks self.old self.new }

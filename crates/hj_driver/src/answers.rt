@@ -4,7 +4,7 @@ use hj_msg::{Event, Msg};
 /// Why an event isn't put into the chain now.
 #[derive(Clone, Copy, Debug, PartialEq, Eq)]
 pub enum Why {
-    /// So many events are outstanding, and no more may be.
+    /// This many events are outstanding, and no more may be.
     Flight(u32),
     /// The row that arrived under this number hasn't come out of its link, so it can't expire.
     NotMarked(EventNo),
@@ -26,7 +26,7 @@ pub enum Admitted<P> {
 pub enum Closing {
     /// Both closes are to be put, each on the link at its end of the chain.
     Send,
-    /// So many events are still outstanding.
+    /// This many events are still outstanding.
     Wait(u32),
     /// The closes were sent before.
     Already,

@@ -11,14 +11,14 @@ pub enum Closes {
 }
 
 impl Closes {
-    /// Whether they were sent.
+    /// Returns whether they were sent.
     pub fn are_sent(self) -> bool
         ensures { result ≡ is_sent self }
     {
         matches!(self, Closes::Sent { .. })
     }
 
-    /// Whether both were taken.
+    /// Returns whether both were taken.
     pub fn are_taken(self) -> bool
         ensures { result ≡ is_finished self }
     {
@@ -31,7 +31,7 @@ impl Closes {
         )
     }
 
-    /// The close of an end is taken. It counts only after it was sent.
+    /// Takes note that the close of an end was taken. It counts only after it was sent.
     pub fn take(self, end: Side) -> Self
         ensures { result ≡ after_close_taken end self }
     {

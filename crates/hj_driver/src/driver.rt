@@ -53,8 +53,8 @@ impl Model for Driver {
 }
 
 impl Driver {
-    /// The driver of a chain in which nothing was put, with at most `flight` events outstanding. Its rules are the same for
-    /// every number of cores. All memory of the driver is taken here.
+    /// Makes the driver of a chain in which nothing was put, with at most `flight` events outstanding. Its rules are
+    /// the same for every number of cores. All memory of the driver is taken here.
     pub fn new(alloc: Global, _cores: u16, flight: u16) -> Result<Self, Memory>
         ensures { IfOk result (λ driver. driver ≡ new_driver flight) }
     {
@@ -69,7 +69,7 @@ impl Driver {
         })
     }
 
-    /// How many events are outstanding: put, and not yet left.
+    /// Returns how many events are outstanding: put, and not yet left.
     #[inline(always)]
     pub fn outstanding(&self) -> u32
         ensures { result ≡ count_of self.now }
@@ -80,14 +80,14 @@ impl Driver {
             + self.right_quiets.len()) as u32
     }
 
-    /// Whether both closes were taken.
+    /// Returns whether both closes were taken.
     pub fn finished(&self) -> bool
         ensures { result ≡ is_finished self.now.closes }
     {
         self.closes.are_taken()
     }
 
-    /// Why `admit` of this event would answer Wait now; None exactly where it would answer Send.
+    /// Returns why `admit` of this event would answer Wait now; None exactly if it would answer Send.
     #[inline(always)]
     pub fn waits<P>(&self, event: &Event<P>) -> Option<Why>
         ensures kept { result ≡ cause_of event.now self.now }
@@ -128,7 +128,7 @@ impl Driver {
         }
     }
 
-    /// What `close` would answer now.
+    /// Returns what `close` would answer now.
     pub fn closing(&self) -> Closing
         ensures { result ≡ closing_of self.now }
     {
@@ -141,7 +141,7 @@ impl Driver {
         }
     }
 
-    /// Whether both closes are to be put now: where no event is outstanding, and they weren't sent before.
+    /// Answers a wish to close: both closes are to be put now if no event is outstanding and they weren't sent before.
     pub fn close(&mut self) -> Closing
         ensures answer { result ≡ closing_of self.old }
         ensures sent { result ≡ Closing.Send → self.new ≡ closed self.old }
@@ -157,7 +157,7 @@ impl Driver {
         answer
     }
 
-    /// Why an event waits, if it does.
+    /// Returns why an event waits, if it does.
     #[inline(always)]
     fn cause<P>(&self, event: &Event<P>) -> Option<Why>
         ensures cause { result ≡ cause_of event.now self.now }
@@ -182,7 +182,7 @@ impl Driver {
         }
     }
 
-    /// An event is put: its message, and the end of the chain at which it is put.
+    /// Takes note that an event is put; returns the end of the chain at which it is put, and its message.
     #[inline(always)]
     fn put<P>(&mut self, event: Event<P>) -> (Side, Msg<P>)
         requires room { count_of self.old < self.old.flight }
@@ -241,7 +241,7 @@ impl Driver {
         }
     }
 
-    /// A message was taken at the left port.
+    /// Takes note of a message that was taken at the left port.
     #[inline(always)]
     fn take_at_left<P>(&mut self, msg: &Msg<P>)
         ensures { self.new ≡ after_take Side.Left msg.now self.old }
@@ -256,7 +256,7 @@ impl Driver {
         }
     }
 
-    /// A message was taken at the right port.
+    /// Takes note of a message that was taken at the right port.
     #[inline(always)]
     fn take_at_right<P>(&mut self, msg: &Msg<P>)
         ensures { self.new ≡ after_take Side.Right msg.now self.old }

@@ -25,7 +25,7 @@ pub struct Arrival {
 }
 
 impl Arrival {
-    /// Whether its row is still to be taken.
+    /// Returns whether its row is still to be taken.
     #[inline(always)]
     fn is_before_its_row(self) -> bool
         ensures { result ≡ not (is_taken Part.Row self.taken) }
@@ -33,7 +33,8 @@ impl Arrival {
         !matches!(self.taken, Some(Part::Row))
     }
 
-    /// The arrival behind one of its messages; None exactly where the other one was taken before, so that it has left.
+    /// Returns the arrival after one of its messages; None exactly if the other one was taken before, so that it has
+    /// left.
     #[inline(always)]
     fn after(self, part: Part) -> Option<Arrival>
         ensures { result ≡ with_part part self self.taken }
@@ -49,8 +50,8 @@ impl Arrival {
     }
 }
 
-/// The outstanding events of one side. Its arrivals stand by their rising numbers; its expiries, each by the number of its
-/// row, in the order in which they were put, which is mostly that in which they leave.
+/// The outstanding events of one side: its arrivals by rising number, and its expiries, each by the number of its row,
+/// in the order in which they were put, which is mostly that in which they leave.
 #[derive(Debug, Drop)]
 pub struct Lane {
     arrivals: VecDeque<Arrival>,
@@ -76,7 +77,7 @@ impl Model for Lane {
 }
 
 impl Lane {
-    /// No events, with room for so many of each kind.
+    /// Makes a lane with no events, and room for `room` of each kind.
     pub fn new(alloc: Global, room: usize) -> Result<Self, Memory>
         ensures { IfOk result (λ lane. lane ≡ record { arrivals = []; expiries = []; room = room }) }
     {
@@ -87,7 +88,7 @@ impl Lane {
         })
     }
 
-    /// How many events are outstanding.
+    /// Returns how many events are outstanding.
     #[inline(always)]
     pub fn len(&self) -> usize
         requires { length self.now.arrivals + length self.now.expiries < 2 ^ 64 }
@@ -96,7 +97,7 @@ impl Lane {
         self.arrivals.len() + self.expiries.len()
     }
 
-    /// Whether the row of an arrival is still to be taken.
+    /// Returns whether the row of an arrival is still to be taken.
     #[inline(always)]
     pub fn waits_for_row(&self, no: EventNo) -> bool
         ensures { result ≡ list_any (waits_for no.0 Part.Row) self.now.arrivals }
@@ -107,7 +108,7 @@ impl Lane {
         }
     }
 
-    /// An arrival is put.
+    /// Takes note that an arrival is put.
     #[inline(always)]
     pub fn arrive(&mut self, no: EventNo)
         requires room { length self.old.arrivals < self.old.room }
@@ -118,7 +119,7 @@ impl Lane {
             .push_back_reserved(Arrival { no, taken: None });
     }
 
-    /// The expiry of a row is put.
+    /// Takes note that the expiry of a row is put.
     #[inline(always)]
     pub fn expire(&mut self, of: EventNo)
         requires room { length self.old.expiries < self.old.room }
@@ -128,7 +129,7 @@ impl Lane {
         self.expiries.push_back_reserved(of);
     }
 
-    /// A message of an arrival is taken.
+    /// Takes note that a message of an arrival was taken.
     #[inline(always)]
     pub fn take(&mut self, no: EventNo, part: Part)
         ensures { self.new ≡ record self.old { arrivals = filter_map (after_part no.0 part) self.old.arrivals } }
@@ -142,7 +143,7 @@ impl Lane {
         }
     }
 
-    /// The message of the expiry of a row is taken.
+    /// Takes note that the message of the expiry of a row was taken.
     #[inline(always)]
     pub fn take_expiry(&mut self, of: EventNo)
         ensures { self.new ≡ record self.old { expiries = filter (is_other of.0) self.old.expiries } }
@@ -152,7 +153,7 @@ impl Lane {
         }
     }
 
-    /// The place of an arrival: mostly that of the first one, or none where it left before that one came.
+    /// Finds the place of an arrival: mostly that of the first one, or none if it left before that one came.
     #[inline(always)]
     fn search(&self, no: EventNo) -> Result<usize, usize>
         ensures found { IfOk result (IsAt self.now.arrivals no.0) }
@@ -165,7 +166,7 @@ impl Lane {
         }
     }
 
-    /// The place of an arrival, looked for among all.
+    /// Finds the place of an arrival among all.
     fn search_all(&self, no: EventNo) -> Result<usize, usize>
         ensures found { IfOk result (IsAt self.now.arrivals no.0) }
         ensures absent { IfErr result (λ _. IsAbsent self.now.arrivals no.0) }
@@ -174,7 +175,7 @@ impl Lane {
             .binary_search_by_key(&no.0, |arrival| arrival.no.0)
     }
 
-    /// The place of an expiry: in a chain its message comes out as the first of its side.
+    /// Finds the place of an expiry: in a chain its message comes out as the first of its side.
     #[inline(always)]
     fn find(&self, of: EventNo) -> Option<usize>
         ensures { result ≡ position (λ other. of.0 == other.0) self.now.expiries }
@@ -183,7 +184,7 @@ impl Lane {
     }
 }
 
-/// Takes out the element at a place, which is mostly the first.
+/// Removes the element at a place, which is mostly the first.
 #[inline(always)]
 pub(crate) fn take_out<T: Drop>(items: &mut VecDeque<T>, at: usize)
     requires { at < length items.old.items }

@@ -32,7 +32,7 @@ impl Model for Leaving {
 }
 
 impl Leaving {
-    /// No events, with room for so many.
+    /// Makes an empty list, with room for `room` events.
     pub fn new(alloc: Global, room: usize) -> Result<Self, Memory>
         ensures { IfOk result (λ leaving. leaving ≡ record { numbers = []; room = room }) }
     {
@@ -42,7 +42,7 @@ impl Leaving {
         })
     }
 
-    /// How many events are outstanding.
+    /// Returns how many events are outstanding.
     #[inline(always)]
     pub fn len(&self) -> usize
         ensures { result ≡ length self.now.numbers }
@@ -50,7 +50,7 @@ impl Leaving {
         self.numbers.len()
     }
 
-    /// An event is put.
+    /// Takes note that an event is put.
     #[inline(always)]
     pub fn put(&mut self, no: EventNo)
         requires room { length self.old.numbers < self.old.room }
@@ -60,7 +60,7 @@ impl Leaving {
         self.numbers.push_back_reserved(no);
     }
 
-    /// The message of an event is taken.
+    /// Takes note that the message of an event was taken.
     #[inline(always)]
     pub fn take(&mut self, no: EventNo)
         ensures { self.new ≡ record self.old { numbers = filter (is_other no.0) self.old.numbers } }
@@ -70,7 +70,7 @@ impl Leaving {
         }
     }
 
-    /// The place of an event, which is mostly the first.
+    /// Finds the place of an event, which is mostly the first.
     #[inline(always)]
     fn find(&self, no: EventNo) -> Option<usize>
         ensures { result ≡ position (λ other. no.0 == other.0) self.now.numbers }

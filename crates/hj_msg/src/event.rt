@@ -1,7 +1,7 @@
 use hj_base::{EventNo, Side};
 
-/// Something that happens on the two streams, in one order over both: a row comes into the window of its side, or leaves
-/// it, or a side is told to be quiet.
+/// Something that happens on the two streams, in one order over both: a row comes into the window of its side, or
+/// leaves it, or a side is told to be quiet.
 #[derive(Debug, Drop)]
 pub enum Event<P> {
     /// A row of a side arrives.
@@ -16,7 +16,8 @@ pub enum Event<P> {
         side: Side,
         of: EventNo,
     },
-    /// No row of a side came for a while: all of its rows that are numbered below this event have arrived. Changes no window.
+    /// No row of a side came for a while: all of its rows that are numbered below this event have arrived. Changes no
+    /// window.
     Quiet {
         no: EventNo,
         side: Side,

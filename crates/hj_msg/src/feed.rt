@@ -8,7 +8,7 @@ use crate::Event;
 pub enum Given<P> {
     /// The next event.
     Event(Event<P>),
-    /// No event comes any more.
+    /// No more events come.
     Stop,
 }
 
@@ -16,21 +16,21 @@ pub enum Given<P> {
 pub trait Feed<P> {
     ghost use Rattle.hj_msg.specs.declared.feed.Given.{Given};
 
-    /// From a feed, an answer may come and leave it as another one.
+    /// A feed may give an answer, and be left as another one.
     ghost gives: { Self → Given P → Self → Type 0 };
 
-    /// What stands of the feed.
+    /// The state of the feed.
     ghost state: { Self → FeedState };
 
     /// Whether the next answer is there without waiting for input.
     ghost ready: { Self → Bool };
 
-    /// The next event, or Stop where there is none, and again at every later call.
+    /// Returns the next event, or Stop if there is none, and again at every later call.
     fn next(&mut self) -> Given<P>
         ensures gives { gives self.old result self.new }
         ensures answers { Answers result (state self.old) (state self.new) };
 
-    /// Whether the next answer is there, so that `next` needn't wait for input.
+    /// Returns whether the next answer is there, so that `next` needn't wait for input.
     fn is_ready(&self) -> bool
         ensures { result ≡ ready self.now };
 }

@@ -7,7 +7,7 @@ pub trait Join<P>: Share {
     /// Which rows satisfy it, a left row and a right one.
     ghost predicate: { Self → P → P → Bool };
 
-    /// Whether a left row and a right row satisfy it.
+    /// Returns whether a left row and a right row satisfy it.
     fn matches(&self, left: &P, right: &P) -> bool
         ensures { result ≡ predicate self.now left.now right.now };
 }

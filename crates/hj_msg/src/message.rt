@@ -14,7 +14,7 @@ pub enum Msg<P> {
     EndS(EventNo),
     /// This right row expires. Goes right.
     ExpS(EventNo),
-    /// No left row is to come any more that is numbered below this event. Goes right, through all cores.
+    /// No more left rows come that are numbered below this event. Goes right, through all cores.
     QuietL(EventNo),
     /// Nothing more is put at the left end of the chain. Goes right.
     CloseL,
@@ -24,7 +24,7 @@ pub enum Msg<P> {
     EndR(EventNo),
     /// This left row expires. Goes left.
     ExpR(EventNo),
-    /// No right row is to come any more that is numbered below this event. Goes left, through all cores.
+    /// No more right rows come that are numbered below this event. Goes left, through all cores.
     QuietR(EventNo),
     /// Nothing more is put at the right end of the chain. Goes left.
     CloseR,

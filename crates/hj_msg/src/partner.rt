@@ -28,7 +28,7 @@ impl<P> Model for Partners<P> {
 }
 
 impl<P> Partners<P> {
-    /// No partners.
+    /// Makes an empty list of partners.
     pub fn new(alloc: Global) -> Self
         ensures { result ≡ [] }
     {
@@ -37,21 +37,21 @@ impl<P> Partners<P> {
         }
     }
 
-    /// How many there are.
+    /// Returns how many there are.
     pub fn len(&self) -> usize
         ensures { result ≡ length self.now }
     {
         self.found.len()
     }
 
-    /// The partner at a place, counted from 0; None exactly at or past the length.
+    /// Returns the partner at a place, counted from 0; None exactly at or past the length.
     pub fn get(&self, at: usize) -> Option<&Partner<P>>
         ensures { option_copied result ≡ slice_get self.now at }
     {
         self.found.get(at)
     }
 
-    /// Adds a partner at the end. After a refusal nothing changed, and the partner is dropped.
+    /// Appends a partner. An error changes nothing, and drops the partner.
     pub fn push(&mut self, partner: Partner<P>) -> Result<(), Memory>
     where
         P: Drop,

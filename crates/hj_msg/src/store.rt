@@ -17,35 +17,36 @@ pub trait Store<P, J: Join<P>> {
     /// Probes may be made by this join, of rows of this side.
     ghost suits: { Self → Side → J → Type 0 };
 
-    /// Makes a place for a row. A place that was made before may end, also where memory ran out.
+    /// Makes a place for a row. A place made before may be gone then, also if memory ran out.
     fn reserve(&mut self, no: EventNo, row: &P) -> Result<(), Memory>
         ensures entries { entries self.new ≡ entries self.old }
         ensures place { OnOk result (has_place self.new no.0 row.now) }
         ensures distinct { AreDistinct (entries self.new) }
         ensures suits { (side : Side) (join : J) → suits self.new side join ↔ suits self.old side join };
 
-    /// Puts a row under its number: in place of the one that has it, or else behind all others.
+    /// Puts a row under its number: in place of the one that has it, or else after all others.
     fn insert(&mut self, no: EventNo, row: P, settled: bool)
         requires { has_place self.old no.0 row }
         ensures entries { entries self.new ≡ with_entry (record { no = no.0; row = row; settled = settled }) (entries self.old) }
         ensures distinct { AreDistinct (entries self.new) }
         ensures suits { (side : Side) (join : J) → suits self.new side join ↔ suits self.old side join };
 
-    /// Settles the row of a number; false exactly where there is none.
+    /// Settles the row of a number; false exactly if there is none.
     fn settle(&mut self, no: EventNo) -> bool
         ensures held { result ≡ holds no.0 (entries self.old) }
         ensures entries { entries self.new ≡ with_settled no.0 (entries self.old) }
         ensures distinct { AreDistinct (entries self.new) }
         ensures suits { (side : Side) (join : J) → suits self.new side join ↔ suits self.old side join };
 
-    /// Removes the row of a number; false exactly where there is none.
+    /// Removes the row of a number; false exactly if there is none.
     fn remove(&mut self, no: EventNo) -> bool
         ensures held { result ≡ holds no.0 (entries self.old) }
         ensures entries { entries self.new ≡ without_entry no.0 (entries self.old) }
         ensures distinct { AreDistinct (entries self.new) }
         ensures suits { (side : Side) (join : J) → suits self.new side join ↔ suits self.old side join };
 
-    /// The settled rows that join with a row of the other stream, by ascending number. `side` is that of the rows at rest.
+    /// Finds the settled rows that join with a row of the other stream, by ascending number. `side` is that of the rows
+    /// at rest.
     fn probe(&self, side: Side, against: &P, join: &J) -> Result<Partners<P>, Memory>
         requires { suits self.now side join.now }
         ensures { IfOk result (λ partners. partners ≡ settled_matches (J.predicate join.now) side against.now (entries self.now)) };

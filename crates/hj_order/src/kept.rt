@@ -14,14 +14,14 @@ pub struct Kept<P> {
 }
 
 impl<P> Kept<P> {
-    /// The number of the row that came later.
+    /// Returns the number of the row that came later.
     pub(crate) fn later(&self) -> u64
         ensures { result ≡ later self.now.pair }
     {
         self.pair.left_no.0.max(self.pair.right_no.0)
     }
 
-    /// The number of the row that came earlier.
+    /// Returns the number of the row that came earlier.
     pub(crate) fn earlier(&self) -> u64
         ensures { result ≡ earlier self.now.pair }
     {

@@ -33,7 +33,7 @@ impl<P> Model for Ordered<P> {
 }
 
 impl<P> Ordered<P> {
-    /// No pairs.
+    /// Makes one that keeps no pairs.
     pub fn new(alloc: Global) -> Self
         ensures { result ≡ [] }
     {
@@ -44,7 +44,7 @@ impl<P> Ordered<P> {
 }
 
 impl<P: Drop> Ordered<P> {
-    /// Keeps these pairs too. After a refusal nothing changed, and the pairs are dropped.
+    /// Keeps these pairs too. An error changes nothing, and drops the pairs.
     #[inline(always)]
     pub fn add(&mut self, pairs: Vec<Pair<P>>) -> Result<(), Memory>
         ensures ok { OnOk result (IsPermutation (self.old ++ pairs.items) self.new) }
@@ -55,8 +55,8 @@ impl<P: Drop> Ordered<P> {
         Ok(())
     }
 
-    /// Takes out a pair that is due: one whose later number is within the mark, and before which no kept pair comes by its
-    /// later number and then by its earlier one. None where no later number is within the mark.
+    /// Removes a pair that is due, and returns it: one whose later number is within the mark, and before which no kept
+    /// pair comes by its later number and then by its earlier one. None if no later number is within the mark.
     #[inline(always)]
     pub fn release(&mut self, up_to: Mark) -> Option<Pair<P>>
         ensures kept { IfSome result (λ pair. IsPermutation self.old (pair ∷ self.new)) }
@@ -87,7 +87,7 @@ fn push_all<P: Drop>(heap: &mut BinaryHeap<Kept<P>>, pairs: Vec<Pair<P>>)
     }
 }
 
-/// Whether a number is within a mark.
+/// Returns whether a number is within a mark.
 #[inline(always)]
 fn is_within(number: u64, mark: Mark) -> bool
     ensures { result ≡ is_within (Some (meaning mark)) number }

@@ -33,7 +33,7 @@ impl<P: Drop> Ends<P> {
     ghost use Rattle.hj_worker.specs.Seen.{journals_of};
     ghost use Rattle.hj_worker.specs.Turning.{KeepsLinks, Puts, AreBlocked, FindsNone, Takes};
 
-    /// Takes a message under a turn. It looks at the first of its links, and only where there is none at the other one.
+    /// Takes a message under a turn. Looks at the link on the side `first`, and only if that has none at the other one.
     #[inline(always)]
     pub(crate) fn take(&mut self, turn: u64, first: Side) -> Option<Msg<P>>
         ensures links { KeepsLinks self.old self.new }
@@ -54,7 +54,7 @@ impl<P: Drop> Ends<P> {
         }
     }
 
-    /// Puts what a core sends for a message, in order, up to the first full place; then its report.
+    /// Puts what a core sends for a message, in order, then its report, up to the first full place. Returns the rest.
     #[inline(always)]
     pub(crate) fn put_all(&mut self, turn: u64, sends: Sends<P>) -> Option<Unput<P>>
         ensures links { KeepsLinks self.old self.new }
@@ -116,7 +116,7 @@ impl<P: Drop> Ends<P> {
     }
 }
 
-/// Puts a message, if there is one. Hands it back where the link is full.
+/// Puts a message, if there is one. Hands it back if the link is full.
 #[inline(always)]
 fn put_left<P: Drop>(
     end: &mut RightEnd<Msg<P>>,
@@ -133,7 +133,7 @@ fn put_left<P: Drop>(
     }
 }
 
-/// Puts a message, if there is one. Hands it back where the link is full.
+/// Puts a message, if there is one. Hands it back if the link is full.
 #[inline(always)]
 fn put_right<P: Drop>(
     end: &mut LeftEnd<Msg<P>>,
@@ -150,7 +150,7 @@ fn put_right<P: Drop>(
     }
 }
 
-/// Puts a report, if there is one. Hands it back where the queue is full.
+/// Puts a report, if there is one. Hands it back if the queue is full.
 #[inline(always)]
 fn put_report<P: Drop>(
     reports: &mut Sender<Report<P>>,

@@ -75,7 +75,7 @@ impl<P: Share + Drop, J: Join<P> + Drop, L: Store<P, J> + Drop, R: Store<P, J> +
     ghost use Rattle.hj_worker.specs.Seen.{first_end, full_looks, has_ended, journals_of};
     ghost use Rattle.hj_worker.specs.Turning.{FindsNone, StaysItself, IsUnmoved, PutsOn, TurnsOn};
 
-    /// The worker of a core that has handled nothing, over ends that have taken and put nothing.
+    /// Makes the worker of a core that has handled nothing, over ends that have taken and put nothing.
     pub fn new(
         core: Core<P, J, L, R>,
         left: RightEnd<Msg<P>>,
@@ -110,7 +110,8 @@ impl<P: Share + Drop, J: Join<P> + Drop, L: Store<P, J> + Drop, R: Store<P, J> +
         }
     }
 
-    /// Puts what is in hand. With nothing in hand it takes a message, handles it, and puts what its core sends and reports of it.
+    /// Puts what is in hand. With nothing in hand, takes a message, handles it, and puts what its core sends and
+    /// reports of it.
     pub fn turn<G: Gate>(&mut self, gate: &G) -> Turn
         requires { self.old.taken ≢ 2 ^ 64 - 1 }
         ensures itself { StaysItself self.old self.new }
@@ -143,7 +144,7 @@ impl<P: Share + Drop, J: Join<P> + Drop, L: Store<P, J> + Drop, R: Store<P, J> +
         }
     }
 
-    /// Whether it took 2^64 - 1 messages, and so has no number left for a turn.
+    /// Returns whether it took 2^64 - 1 messages, and so has no number left for a turn.
     pub fn spent(&self) -> bool
         ensures { result ≡ (self.now.taken == 2 ^ 64 - 1) }
     {
@@ -185,7 +186,8 @@ impl<P: Share + Drop, J: Join<P> + Drop, L: Store<P, J> + Drop, R: Store<P, J> +
         }
     }
 
-    /// Takes a message and handles it, where there is room for a report. It looks at the first of its links, then at the other one.
+    /// Takes a message and handles it, if there is room for a report. Looks at the link on the side `first`, then at
+    /// the other one.
     fn handle_next(&mut self, first: Side) -> Turn
         requires hand { self.old.hand ≡ unput [] }
         requires open { has_ended self.old.state ≡ false }
@@ -220,7 +222,7 @@ impl<P: Share + Drop, J: Join<P> + Drop, L: Store<P, J> + Drop, R: Store<P, J> +
     }
 }
 
-/// The link at which a call looks first, after so many calls.
+/// Returns the side of the link at which a call looks first, after `calls` earlier ones.
 #[inline(always)]
 fn first_look(calls: u64) -> Side
     ensures { result ≡ first_end calls }
