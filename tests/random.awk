@@ -1,5 +1,6 @@
-# Random streams and queries, and the text of their joins. For each case it writes the files N.query, N.left, N.right and N.wanted to
-# `folder`. A condition is a tree that is kept in prefix order: `words` are what the query says, and holds() evaluates them.
+# Makes random streams and queries, and the text of their joins. For each case it writes the files N.query, N.left,
+# N.right and N.wanted to `folder`. A condition is a tree that is kept in prefix order: condition() returns what the
+# query says, and holds() evaluates it.
 
 function draw(below) {
     state = (state * 16807) % 2147483647
@@ -17,7 +18,7 @@ function field_of(text,    quoted) {
 
 function column(side) { return side "." (draw(2) ? "k" : "q") }
 
-# A condition, at most this deep, in the query's words; its tree goes behind `size`.
+# Returns a random condition, at most this deep, in the query's words; its tree goes after `size`.
 function condition(depth,    kind, at, first) {
     kind = depth > 0 ? draw(7) : 3 + draw(4)
     at = ++size
@@ -48,7 +49,7 @@ function value(name, left, right,    row, side) {
     return plain[side, row] ""
 }
 
-# Whether the tree from `next_node` on holds for two rows; `next_node` is then behind it.
+# Returns whether the tree from `next_node` on holds for two rows; `next_node` is then after it.
 function holds(left, right,    at, a, b) {
     at = next_node++
     if (node[at] == "not") return !holds(left, right)
@@ -92,7 +93,7 @@ function stream(side, file,    rows, at, time) {
     return rows
 }
 
-# Rows that are too old when a row comes at this time.
+# Removes the rows of a side that are too old when a row comes at this time.
 function expire(side, now) {
     if (kinds[side] == "time")
         while (oldest[side] < newest[side] && now - times[side, oldest[side]] >= sizes[side]) oldest[side]++
