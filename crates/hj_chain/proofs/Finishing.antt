@@ -95,7 +95,7 @@ done-is {P} {J} predicate opened now is goes result tells =
     )
 
 -- behind the last element
-none-behind : {X : Type 0} (xs : List X) (i : ℕ) → slice_get xs i ≡ None → take i xs ≡ xs
+pub none-behind : {X : Type 0} (xs : List X) (i : ℕ) → slice_get xs i ≡ None → take i xs ≡ xs
 none-behind [] zero is = refl
 none-behind [] (suc i) is = refl
 none-behind (x ∷ xs) zero is = absurd (cc)

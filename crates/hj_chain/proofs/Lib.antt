@@ -40,6 +40,7 @@ pub mod Places
 pub mod Placing
 pub mod Projection
 pub mod Putting
+pub mod Reaching
 pub mod ReportQueues
 pub mod Reporting
 pub mod Room
@@ -54,5 +55,6 @@ pub mod Stuck
 pub mod Totals
 pub mod Turning
 pub mod UnderWay
+pub mod Waiting
 pub mod Ways
 pub mod Weighing

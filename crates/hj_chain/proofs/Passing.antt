@@ -26,6 +26,12 @@ module _ (sent came under_way : ℕ → ℕ) (n : ℕ) (passes : PassesOn sent c
   pub few_under_way : (k : ℕ) → k ≤ n → under_way k + came n ≤ sent 0
   few_under_way k within = omega (arith, passes.each k within, fewer_sent k within, fewer_came k within)
 
+  -- where nothing is under way, all that was sent came everywhere
+  pub all_came : ((k : ℕ) → k ≤ n → under_way k ≡ 0) → (k : ℕ) → k ≤ n → came k ≡ sent 0
+  all_came none zero within = omega (arith, passes.each zero within, none zero within)
+  all_came none (suc k) within =
+      omega (arith, passes.each (suc k) within, none (suc k) within, passes.sent_on k (omega (arith, within)), all_came none k (omega (arith, within)))
+
 -- The same to the other side.
 pub record PassesBack (sent came under_way : ℕ → ℕ) (n : ℕ) : Type 0 where
   pub each : (k : ℕ) → k ≤ n → sent k ≡ came k + under_way k
@@ -50,3 +56,14 @@ module _ (sent came under_way : ℕ → ℕ) (n : ℕ) (passes : PassesBack sent
   few_under_way_back k within =
       let e : 0 + k ≡ k = omega arith in
       omega (arith, passes.each k within, fewer_sent_back k within, ap came e, fewer_came_back 0 k (omega (arith, within)))
+
+  pub all_came_back : ((k : ℕ) → k ≤ n → under_way k ≡ 0) → (k d : ℕ) → k + d ≡ n → came k ≡ sent n
+  all_came_back none k zero is = let e : k ≡ n = omega (arith, is) in omega (arith, ap sent e, passes.each k (omega (arith, is)), none k (omega (arith, is)))
+  all_came_back none k (suc d) is =
+      omega (
+        arith,
+        passes.each k (omega (arith, is)),
+        none k (omega (arith, is)),
+        passes.sent_on k (omega (arith, is)),
+        all_came_back none (suc k) d (omega (arith, is)),
+      )

@@ -2,6 +2,7 @@ pub mod Chain
 pub mod Links
 pub mod Placed
 pub mod Progress
+pub mod Prompt
 pub mod Reached
 pub mod Reports
 pub mod Serial

@@ -6,9 +6,11 @@ ghost use Rattle.hj_msg.specs.Event.{IsWellFormed};
 ghost use Rattle.hj_msg.specs.Emission.{emitted};
 ghost use Rattle.hj_msg.specs.Run.{IsRun};
 ghost use Rattle.hj_msg.specs.Met.{AreAllReportsOf};
+ghost use Rattle.hj_msg.specs.Quiet.{IsQuietWithin};
 ghost use Rattle.hj_chain.specs.declared.actor.Actor.{Actor};
 ghost use Rattle.hj_chain.specs.Chain.{ChainState, Contents};
 ghost use Rattle.hj_chain.specs.Progress.{IsDone};
+ghost use Rattle.hj_chain.specs.Prompt.{GaveAllButLast, WaitsForEvents};
 ghost use Rattle.hj_chain.specs.Reached.{Reached, StandsFor, collected_of, next_pair, pairs_given, run_of};
 ghost use Rattle.hj_chain.specs.Steps.{HasRoom};
 
@@ -40,4 +42,12 @@ pub fn chains_give_the_join<P, J>()
         → IsWellFormed events → IsPrefix (pairs_given stands) (kang (predicate chain.join) events) }
     ensures whole { (predicate : J → P → P → Bool) (chain : Contents P J) (schedule : List Actor) (events : List (Event P)) (given : ℕ) (stands : StandsFor predicate chain schedule events given)
         → IsWellFormed events → chain.state.over ≡ false → IsDone chain.state → next_pair stands ≡ None → pairs_given stands ≡ kang (predicate chain.join) events }
+{}
+
+/// Where a chain waits for events, that is, no actor is enabled but, perhaps, the driver's put (`Chain::enabled`, `Chain::nth`), no
+/// pair is to be given (`Chain::pair`) and memory didn't run out: if its events are quiet within so many arrivals, each pair of the
+/// sequential join of the events that were put so far was given, or its later row is among the last so many of their arrivals.
+pub fn chains_hold_back_few<P, J>()
+    ensures { (predicate : J → P → P → Bool) (chain : Contents P J) (schedule : List Actor) (events : List (Event P)) (given : ℕ) (stands : StandsFor predicate chain schedule events given) (most : ℕ)
+        → IsWellFormed events → IsQuietWithin most events → chain.state.over ≡ false → WaitsForEvents chain.state → next_pair stands ≡ None → GaveAllButLast most stands }
 {}

@@ -11,6 +11,8 @@ mod serial;
 
 pub use actor::{Actor, NotNow, Stepped};
 pub use chain::Chain;
-pub use laws::{chains_give_the_join, emission_begins_the_join, steps_give_a_run};
+pub use laws::{
+    chains_give_the_join, chains_hold_back_few, emission_begins_the_join, steps_give_a_run,
+};
 pub use progress::{done_is_complete, some_actor_is_enabled, steps_are_few};
 pub use serial::Chooser;
