@@ -63,3 +63,11 @@ doubled_last bytes at old here past within h =
     ∙ h
     ∙ append_assoc old (quote ∷ []) (doubled bytes))
     ∙ append_assoc old (quote ∷ doubled bytes) (quote ∷ [])
+
+-- four lines, one behind the other
+pub four_lines : (text one two three end a first b second c third d fourth : List ℕ)
+    → one ≡ text ++ a ++ first ++ end → two ≡ one ++ b ++ second ++ end → three ≡ two ++ c ++ third ++ end
+    → three ++ d ++ fourth ++ end ≡ text ++ (a ++ first ++ end ++ b ++ second ++ end ++ c ++ third ++ end ++ d ++ fourth ++ end)
+four_lines text one two three end a first b second c third d fourth e1 e2 e3 =
+    let whole : three ++ d ++ fourth ++ end ≡ text ++ a ++ first ++ end ++ b ++ second ++ end ++ c ++ third ++ end ++ d ++ fourth ++ end = cc in
+    whole ∙ simp append_assoc

@@ -16,7 +16,9 @@ use Rattle.hj_value.specs.declared.column.ColumnType.TheVariants as types
 use Rattle.hj_value.specs.declared.schema.Schema.{Schema}
 use Rattle.hj_lex.specs.Tokens.{is_digits, is_name, number_end, number_value}
 use Rattle.hj_lex.specs.declared.token.TokenKind.TheVariants as kinds
-use Rattle.hj_query.specs.Grammar.{AreSuited, EndsSum, IsCondition, IsReadable, IsSchema, IsSum, IsWindow, by_rows, compared, enclosed, further, is_int_sum, is_text_at, lone, most_rows, named, of_atom, of_column, of_conj, of_lines, of_pred, of_term, of_unary, place_of_name, side_word, spanned}
+use Rattle.hj_query.specs.declared.setting.Setting.{Setting}
+use Rattle.hj_query.specs.declared.setting.Setting.TheVariants as settings
+use Rattle.hj_query.specs.Grammar.{AreSuited, EndsSum, IsCondition, IsReadable, IsSchema, IsSetting, IsSum, IsWindow, absent, by_rows, compared, enclosed, further, is_int_sum, is_text_at, lone, most_rows, named, of_atom, of_column, of_conj, of_lines, of_pred, of_term, of_unary, place_of_name, side_word, spanned}
 use Rattle.hj_query.specs.Keyed.{keyed_columns}
 use Rattle.hj_query.specs.Lexemes.{IsNumber, IsSign, IsWord, Lexeme, behind, lexeme, next_is}
 use Rattle.hj_query.specs.Sides.{by_side}
@@ -144,6 +146,12 @@ condition_next left right parts more l r none nothing =
     refl))))
     end_is
 
+-- no setting stands before it
+setting_next : (setting : Setting) → IsSetting setting condition_line 0 condition_line
+unfolding next_is
+setting_next settings.Slack = absent refl refl refl
+setting_next settings.Quiet = absent refl refl refl
+
 -- `left (ts int, key int) right (ts int, key int) window left rows N window right rows N on l.key = r.key`
 abbrev from_right_window : ℕ → List Lexeme
 from_right_window rows = window_line (codes "right") rows condition_line
@@ -175,6 +183,8 @@ pub keyed_readable : (left right : Schema) (rows : ℕ) (parts more : List Part)
       right = right;
       left_window = windows.Rows rows;
       right_window = windows.Rows rows;
+      slack = 0;
+      quiet = 0;
       pred = Compare ops.Eq (key_of sides.Left parts) (key_of sides.Right more);
     })
 keyed_readable left right rows parts more some few l r none nothing = (
@@ -182,10 +192,12 @@ keyed_readable left right rows parts more some few l r none nothing = (
   schema_suited (codes "left") (from_right_schema rows) refl
       (schema_suited (codes "right") (from_left_window rows) refl
       (window_suited (codes "left") rows (from_right_window rows) few refl (window_suited (codes "right") rows condition_line few refl condition_suited))),
-  of_lines _ _ _ _
+  of_lines _ _ _ _ _ _
       (schema_next (codes "left") left.columns _ l)
       (schema_next (codes "right") right.columns _ r)
       (window_next (codes "left") rows _ some few)
       (window_next (codes "right") rows _ some few)
+      (setting_next settings.Slack)
+      (setting_next settings.Quiet)
       (condition_next left.columns right.columns parts more l r none nothing),
 )

@@ -22,6 +22,7 @@ pub mod ReadingAnswers
 pub mod SchemaFacts
 pub mod SchemaOutcomes
 pub mod Sequences
+pub mod SettingOutcomes
 pub mod Shapes
 pub mod Spelling
 pub mod Suited

@@ -1,23 +1,31 @@
--- The lines of schemas and windows in the canonical text are read as them.
-use Rattle.std.proofs.Common.{◌≡◌, ℕ, ◌<◌, ◌≤◌, true, false, List, [], ◌∷◌, ◌++◌, length, IsTrue, codes, refl, sym, ap, subst, ◌∙◌, arith, append_assoc, length-append}
+-- The lines of schemas, windows and settings in the canonical text are read as them.
+use Rattle.std.proofs.Common.{◌≡◌, ℕ, zero, suc, ◌<◌, ◌≤◌, true, false, List, [], ◌∷◌, ◌++◌, length, IsTrue, codes, refl, sym, ap, subst, ◌∙◌, arith, append_assoc, length-append}
+use Rattle.std.proofs.lemmas.Bool.Decides.{nat_tests}
 use Rattle.std.proofs.lemmas.Grind.{flat_map-append}
 use Rattle.std.proofs.lemmas.List.{append-nil}
 use Rattle.std.specs.Fmt.{decimal}
 use Rattle.std.specs.List.{flat_map, join_by}
+use Rattle.std.specs.Prelude.{if◌then◌else◌, ◌==◌}
 use Rattle.hj_base.specs.declared.numbers.Window.{Window}
 use Rattle.hj_base.specs.declared.numbers.Window.TheVariants as windows
+use Rattle.hj_base.specs.declared.numbers.Side.{Side}
 use Rattle.hj_value.specs.declared.column.Column.{Column}
 use Rattle.hj_value.specs.declared.column.ColumnType.{ColumnType}
 use Rattle.hj_value.specs.declared.column.ColumnType.TheVariants as types
 use Rattle.hj_value.specs.Schema.{starts_with_time}
 use Rattle.hj_lex.specs.declared.token.TokenKind.TheVariants as kinds
 use Rattle.hj_lex.specs.Tokens.{is_name, number_end}
-use Rattle.hj_query.specs.Canonical.{column_text, line_end, schema_text, window_text}
-use Rattle.hj_query.specs.Grammar.{AreSuited, IsColumn, IsColumns, IsSchema, IsSpan, IsWindow, by_rows, by_time, enclosed, further, has_column, kind_word, lone, most_columns, most_rows, most_time, named, spanned}
-use Rattle.hj_query.specs.Lexemes.{Lexeme, IsSign}
+use Rattle.hj_query.specs.declared.pred.Pred.{Pred}
+use Rattle.hj_query.specs.declared.setting.Setting.{Setting}
+use Rattle.hj_query.specs.declared.setting.Setting.TheVariants as settings
+use Rattle.hj_query.specs.Canonical.{column_text, line_end, schema_text, setting_line, window_text}
+use Rattle.hj_query.specs.Grammar.{AreSuited, IsColumn, IsColumns, IsCondition, IsSchema, IsSetting, IsSpan, IsWindow, absent, by_rows, by_time, enclosed, further, given, has_column, kind_word, lone, most_columns, most_of, most_rows, most_time, named, of_pred, setting_word, spanned}
+use Rattle.hj_query.specs.Lexemes.{Lexeme, IsSign, LacksWord}
 use Rattle.hj_query.proofs.Pieces.{Anything, EndsToken, Spelled, Told, blank_behind, name_spelled, sign_spelled, spelled_as, spelled_then, word_spelled}
+use Rattle.hj_query.proofs.Spelling.{Reads}
 use Rattle.hj_query.proofs.Suited.{SuitedNext, next_suited}
 use Rattle.hj_query.proofs.Terms.{SuitedNumber, number_spelled, number_suited}
+use Rattle.hj_query.proofs.TokenOutcomes.{next_other}
 
 -- Columns.
 
@@ -150,3 +158,62 @@ window_told word here window rest h s (spanned side span is_window is_side insid
     let behind_side : SuitedNext kinds.Name word span = next_suited kinds.Name word side span behind_window.others is_side in
     let told : Told EndsToken (λ here rest. IsSpan here window rest) (window_text window) rest = span_told span window rest behind_side.others inside in
     record { spelled = window_spelled word window h told.spelled; others = told.others }
+
+-- Settings. Where one is left out, its word must not stand behind.
+
+abbrev pub LacksSetting : Setting → List ℕ → List Lexeme → Type 0
+LacksSetting setting more rest = LacksWord (setting_word setting) rest
+
+setting_name : (setting : Setting) → is_name (setting_word setting) ≡ true
+setting_name settings.Slack = refl
+setting_name settings.Quiet = refl
+
+absent_spelled : (setting : Setting) → Spelled (LacksSetting setting) (λ here rest. IsSetting setting here 0 rest) []
+absent_spelled setting = record {
+  read = λ at more rest lacks reads. record {
+    here = rest;
+    reads = subst (λ k. Reads k more rest) (omega arith) reads;
+    stands = absent lacks refl refl;
+  };
+}
+
+given_spelled : (setting : Setting) (value : ℕ) → value < number_end → value ≤ most_of setting
+    → Spelled Anything (λ here rest. IsSetting setting here value rest) (setting_word setting ++ codes " " ++ decimal value ++ line_end)
+given_spelled setting value small high =
+    let whole = spelled_then {Behind = Anything} (setting_word setting ++ codes " ") (decimal value) (word_spelled (setting_word setting) (setting_name setting)) (number_spelled value small)
+    (λ more rest mid b n. tt) in
+    let numbered : Spelled EndsToken (λ here rest. IsSetting setting here value rest) (setting_word setting ++ codes " " ++ decimal value) =
+    spelled_as _ (λ more rest b. b) (λ more here rest b s. given s.0 s.1 s.2 high) whole in
+    blank_behind {Behind = EndsToken} 10 _ refl (λ more rest b. refl) numbered
+
+not_none : (less : ℕ) → (suc less == 0) ≡ false
+not_none less = grind (arith, nat_tests)
+
+setting_spelled : (setting : Setting) (value : ℕ) → value < number_end → value ≤ most_of setting
+    → Spelled (LacksSetting setting) (λ here rest. IsSetting setting here value rest) (setting_line setting value)
+setting_spelled setting zero small high = absent_spelled setting
+setting_spelled setting (suc less) small high =
+    let line = setting_word setting ++ codes " " ++ decimal (suc less) ++ line_end in
+    subst (λ none. Spelled (LacksSetting setting) (λ here rest. IsSetting setting here (suc less) rest) (if none then [] else line)) (sym (not_none less))
+    (spelled_as {Behind = Anything} line (λ more rest lacks. tt) (λ more here rest lacks s. s) (given_spelled setting (suc less) small high))
+
+pub setting_told : (setting : Setting) (here : List Lexeme) (value : ℕ) (rest : List Lexeme) → AreSuited here → IsSetting setting here value rest
+    → Told (LacksSetting setting) (λ here rest. IsSetting setting here value rest) (setting_line setting value) rest
+setting_told setting here value rest s (absent lacks none same) = record {
+  spelled = subst (λ value. Spelled (LacksSetting setting) (λ here rest. IsSetting setting here value rest) (setting_line setting value)) (sym none) (absent_spelled setting);
+  others = subst AreSuited (sym same) s;
+}
+setting_told setting here value rest s (given number is_word n high) =
+    let behind_word : SuitedNext kinds.Name (setting_word setting) number = next_suited kinds.Name (setting_word setting) here number s is_word in
+    let behind_number : SuitedNumber value rest = number_suited value number rest behind_word.others n in
+    record { spelled = setting_spelled setting value behind_number.small high; others = behind_number.others }
+
+-- no `slack` stands before `quiet`, or before what comes without it
+pub quiet_lacks : (here : List Lexeme) (value : ℕ) (rest : List Lexeme) → IsSetting settings.Quiet here value rest → LacksWord (codes "slack") rest → LacksWord (codes "slack") here
+quiet_lacks here value rest (absent lacks none same) h = subst (LacksWord (codes "slack")) same h
+quiet_lacks here value rest (given number is_quiet n high) h = next_other kinds.Name (codes "quiet") (codes "slack") here number is_quiet refl
+
+-- neither stands before a condition
+pub condition_lacks : (columns : Side → List Column) (setting : Setting) (here : List Lexeme) (pred : Pred) → IsCondition columns here pred → LacksWord (setting_word setting) here
+condition_lacks columns settings.Slack here pred (of_pred first last is_on p is_last) = next_other kinds.Name (codes "on") (codes "slack") here first is_on refl
+condition_lacks columns settings.Quiet here pred (of_pred first last is_on p is_last) = next_other kinds.Name (codes "on") (codes "quiet") here first is_on refl

@@ -2,14 +2,14 @@
 use Rattle.std.proofs.Common.{◌≡◌, ◌⊎◌, inl, inr, List, ap, subst}
 use Rattle.hj_query.specs.declared.fault.QueryFault.{QueryFault}
 use Rattle.hj_query.specs.declared.pred.Pred.{Pred}
-use Rattle.hj_query.specs.Faults.{FaultsCondition, FaultsQuery, in_condition, in_left_window, in_right_window, left_schema, right_schema}
+use Rattle.hj_query.specs.Faults.{FaultsCondition, FaultsQuery, in_condition, in_left_window, in_quiet, in_right_window, in_slack, left_schema, right_schema}
 use Rattle.hj_query.specs.Grammar.{IsCondition, IsQuery, columns_of, of_lines}
 use Rattle.hj_query.specs.Lexemes.{Lexeme}
 use Rattle.hj_query.specs.Parts.{Parts}
 use Rattle.hj_query.specs.Same.{IsSameQuery}
 use Rattle.hj_query.specs.Sides.{by_side}
 use Rattle.hj_query.proofs.ConditionOutcomes.{condition_both, condition_fault, condition_same, condition_some}
-use Rattle.hj_query.proofs.HeadOutcomes.{FaultsHead, Head, HeadGives, IsHead, head, head_one, head_suited, left_columns, left_rows, of_head, right_columns, right_rows}
+use Rattle.hj_query.proofs.HeadOutcomes.{FaultsHead, Head, HeadGives, IsHead, head, head_one, head_suited, left_columns, left_rows, of_head, quiet_number, right_columns, right_rows, slack_number}
 use Rattle.hj_query.proofs.Outcomes.{Outcome, fault, fault_same, one_same, read, read_fault, read_same}
 use Rattle.hj_query.proofs.SchemaFacts.{schema_fit, schema_of}
 use Rattle.hj_query.proofs.TokenOutcomes.{AreSuited}
@@ -17,7 +17,7 @@ use Rattle.hj_query.proofs.TokenOutcomes.{AreSuited}
 -- A query is what stands before its condition, and the condition.
 
 abbrev head_in : Parts → Head
-head_in query = head query.left.columns query.right.columns query.left_window query.right_window
+head_in query = head query.left.columns query.right.columns query.left_window query.right_window query.slack query.quiet
 
 abbrev IsCondition-behind : Head → List Lexeme → Pred → Type 0
 IsCondition-behind found condition pred = IsCondition (by_side found.left found.right) condition pred
@@ -32,36 +32,46 @@ abbrev HasFault : List Lexeme → QueryFault → Type 0
 HasFault here f = FaultsHead here f ⊎ ((found : Head) × ((condition : List Lexeme) × IsHead here found condition × FaultsCondition-behind found condition f))
 
 parts_of : (here : List Lexeme) (query : Parts) → IsQuery here query → HasParts here query
-parts_of here query (of_lines word span next condition s t w v c) = (condition, of_head word span next s t w v, c)
+parts_of here query (of_lines word span next slack quiet condition s t w v a b c) = (condition, of_head word span next slack quiet s t w v a b, c)
 
 fault_of : (here : List Lexeme) (f : QueryFault) → FaultsQuery here f → HasFault here f
 fault_of here f (left_schema h) = inl (left_columns h)
 fault_of here f (right_schema left word s h) = inl (right_columns left word s h)
 fault_of here f (in_left_window left right word span s t h) = inl (left_rows left right word span s t h)
 fault_of here f (in_right_window left right left_window word span next s t w h) = inl (right_rows left right left_window word span next s t w h)
-fault_of here f (in_condition left right left_window right_window word span next condition s t w v h) =
-    inr (head left right left_window right_window, (condition, of_head word span next s t w v, h))
+fault_of here f (in_slack left right left_window right_window word span next slack s t w v h) =
+    inl (slack_number left right left_window right_window word span next slack s t w v h)
+fault_of here f (in_quiet left right left_window right_window late word span next slack quiet s t w v a h) =
+    inl (quiet_number left right left_window right_window late word span next slack quiet s t w v a h)
+fault_of here f (in_condition left right left_window right_window late silent word span next slack quiet condition s t w v a b h) =
+    inr (head left right left_window right_window late silent, (condition, of_head word span next slack quiet s t w v a b, h))
 
 head_fault : (here : List Lexeme) (f : QueryFault) → FaultsHead here f → FaultsQuery here f
 head_fault here f (left_columns h) = left_schema h
 head_fault here f (right_columns left word s h) = right_schema left word s h
 head_fault here f (left_rows left right word span s t h) = in_left_window left right word span s t h
 head_fault here f (right_rows left right left_window word span next s t w h) = in_right_window left right left_window word span next s t w h
+head_fault here f (slack_number left right left_window right_window word span next slack s t w v h) =
+    in_slack left right left_window right_window word span next slack s t w v h
+head_fault here f (quiet_number left right left_window right_window late word span next slack quiet s t w v a h) =
+    in_quiet left right left_window right_window late word span next slack quiet s t w v a h
 
 condition_faults : (here condition : List Lexeme) (found : Head) (f : QueryFault) → IsHead here found condition → FaultsCondition-behind found condition f → FaultsQuery here f
-condition_faults here condition found f (of_head word span next s t w v) h =
-    in_condition found.left found.right found.left_window found.right_window word span next condition s t w v h
+condition_faults here condition found f (of_head word span next slack quiet s t w v a b) h =
+    in_condition found.left found.right found.left_window found.right_window found.slack found.quiet word span next slack quiet condition s t w v a b h
 
 query_of : (here condition : List Lexeme) (found : Head) (pred : Pred) → IsHead here found condition → IsCondition-behind found condition pred → (query : Parts) × IsQuery here query
-query_of here condition found pred (of_head word span next s t w v) c = (
+query_of here condition found pred (of_head word span next slack quiet s t w v a b) c = (
   record {
     left = schema_of found.left (schema_fit _ here found.left word s);
     right = schema_of found.right (schema_fit _ word found.right span t);
     left_window = found.left_window;
     right_window = found.right_window;
+    slack = found.slack;
+    quiet = found.quiet;
     pred = pred;
   },
-  of_lines word span next condition s t w v c,
+  of_lines word span next slack quiet condition s t w v a b c,
 )
 
 -- A query, or a fault.
@@ -105,6 +115,8 @@ same_parts here query other suited (condition, a, c) (last, b, d) =
       right = ap (λ (h : Head). h.right) e.0;
       left_window = ap (λ (h : Head). h.left_window) e.0;
       right_window = ap (λ (h : Head). h.right_window) e.0;
+      slack = ap (λ (h : Head). h.slack) e.0;
+      quiet = ap (λ (h : Head). h.quiet) e.0;
       pred = condition_same (columns_of query) condition (head_suited here condition (head_in query) a suited) query.pred other.pred c
           (moved (λ h here. IsCondition-behind h here other.pred) (head_in query) (head_in other) condition last e d);
     }

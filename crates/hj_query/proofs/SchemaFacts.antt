@@ -1,4 +1,4 @@
--- What holds of a schema's columns, and of the tokens behind a schema or a window.
+-- What holds of a schema's columns, and of the tokens behind a schema, a window or a setting.
 use Rattle.std.proofs.Common.{◌≡◌, ℕ, ◌<◌, ◌≤◌, false, List, [], ◌∷◌, ◌++◌, length, length-append, IsTrue, refl, sym, subst, arith}
 use Rattle.std.specs.Prelude.{codes}
 use Rattle.hj_base.specs.declared.numbers.Window.{Window}
@@ -6,7 +6,8 @@ use Rattle.hj_value.specs.declared.column.Column.{Column}
 use Rattle.hj_value.specs.declared.schema.Schema.{Schema}
 use Rattle.hj_value.specs.Schema.{has_distinct_names, starts_with_time}
 use Rattle.hj_lex.specs.declared.token.TokenKind.TheVariants as kinds
-use Rattle.hj_query.specs.Grammar.{IsColumn, IsColumns, IsSchema, IsSpan, IsWindow, by_rows, by_time, enclosed, further, has_column, kind_word, lone, most_columns, named, spanned}
+use Rattle.hj_query.specs.declared.setting.Setting.{Setting}
+use Rattle.hj_query.specs.Grammar.{IsColumn, IsColumns, IsSchema, IsSetting, IsSpan, IsWindow, absent, by_rows, by_time, enclosed, further, given, has_column, kind_word, lone, most_columns, named, setting_word, spanned}
 use Rattle.hj_query.specs.Lexemes.{Lexeme, IsNumber}
 use Rattle.hj_query.proofs.Columns.{distinct_more, timed_more}
 use Rattle.hj_query.proofs.TokenOutcomes.{AreSuited, suited_rest}
@@ -57,3 +58,7 @@ span_suited here window rest (by_time count number w n ge le e) h = number_suite
 pub window_suited : (word : List ℕ) (here : List Lexeme) (window : Window) (rest : List Lexeme) → IsWindow word here window rest → AreSuited here → AreSuited rest
 window_suited word here window rest (spanned side span w s h) known =
     span_suited span window rest h (suited_rest kinds.Name word side span s (suited_rest kinds.Name (codes "window") here side w known))
+
+pub setting_suited : (setting : Setting) (here : List Lexeme) (value : ℕ) (rest : List Lexeme) → IsSetting setting here value rest → AreSuited here → AreSuited rest
+setting_suited setting here value rest (absent lacks none same) h = subst AreSuited (sym same) h
+setting_suited setting here value rest (given number w n le) h = number_suited value number rest n (suited_rest kinds.Name (setting_word setting) here number w h)

@@ -87,7 +87,7 @@ either_one here =
     (one_test (next_is kinds.Name (codes "time") here) (CountedGives windows.Time most_time (behind here)) (λ end. end ≡ fault (faults.Expected wants.WindowKind (place here)))
     (counted_one windows.Time most_time (behind here)) (one_is _))
 
-word_at : (word : List ℕ) (here : List Lexeme) → next_is kinds.Name word here ≡ true → IsWord word here (behind here)
+pub word_at : (word : List ℕ) (here : List Lexeme) → next_is kinds.Name word here ≡ true → IsWord word here (behind here)
 word_at word here t = record { found = t; left = refl }
 
 to_span : (here : List Lexeme) (end : Outcome Window) → EitherGives here end → SpanGives here end

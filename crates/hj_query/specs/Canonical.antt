@@ -1,5 +1,5 @@
--- The canonical text of a query: one line for each schema and each window, and one for the condition.
-use Rattle.std.specs.Prelude.{ℕ, Bool, true, false, ◌||◌, List, [], ◌++◌, codes, slice_get, if◌then◌else◌}
+-- The canonical text of a query: one line for each schema, each window and each setting that isn't 0, and one for the condition.
+use Rattle.std.specs.Prelude.{ℕ, Bool, true, false, ◌||◌, List, [], ◌++◌, codes, slice_get, if◌then◌else◌, ◌==◌}
 use Rattle.std.specs.Fmt.{decimal, signed_decimal}
 use Rattle.std.specs.List.{flat_map, join_by}
 use Rattle.std.specs.declared.option.Option.{Option}
@@ -10,11 +10,13 @@ use Rattle.hj_base.specs.declared.numbers.Window.TheVariants as windows
 use Rattle.hj_value.specs.declared.column.Column.{Column}
 use Rattle.hj_lex.specs.Tokens.{quoted}
 use Rattle.hj_query.specs.declared.pred.Pred.{Pred, Or', And', Not', Compare, Within}
+use Rattle.hj_query.specs.declared.setting.Setting.{Setting}
+use Rattle.hj_query.specs.declared.setting.Setting.TheVariants as settings
 use Rattle.hj_query.specs.declared.sum.Part.{Part}
 use Rattle.hj_query.specs.declared.sum.Sum.{Sum}
 use Rattle.hj_query.specs.declared.sum.Term.{Term}
 use Rattle.hj_query.specs.declared.sum.Term.TheVariants as terms
-use Rattle.hj_query.specs.Grammar.{columns_of, kind_word, op_sign, part_sign, side_word}
+use Rattle.hj_query.specs.Grammar.{columns_of, kind_word, op_sign, part_sign, setting_word, side_word}
 use Rattle.hj_query.specs.Parts.{Parts}
 
 -- a name and its type
@@ -28,6 +30,13 @@ schema_text columns = codes "(" ++ join_by column_text (codes ", ") columns ++ c
 abbrev pub window_text : Window → List ℕ
 window_text (windows.Rows count) = codes "rows " ++ decimal count
 window_text (windows.Time span) = codes "time " ++ decimal span
+
+abbrev pub line_end : List ℕ
+line_end = codes "\n"
+
+-- the line of a setting; none for 0
+abbrev pub setting_line : Setting → ℕ → List ℕ
+setting_line setting value = if value == 0 then [] else setting_word setting ++ codes " " ++ decimal value ++ line_end
 
 -- Conditions. The columns of each side are known.
 
@@ -73,13 +82,17 @@ pred_text columns (Compare op left right) = sum_text columns left ++ codes " " +
 pred_text columns (Within distance left right) =
     sum_text columns left ++ codes " within " ++ decimal distance ++ codes " of " ++ sum_text columns right
 
-abbrev pub line_end : List ℕ
-line_end = codes "\n"
-
-abbrev pub canonical : Parts → List ℕ
-canonical query =
+-- the lines of the two streams
+abbrev pub streams_text : Parts → List ℕ
+streams_text query =
     codes "left " ++ schema_text query.left.columns ++ line_end
     ++ codes "right " ++ schema_text query.right.columns ++ line_end
     ++ codes "window left " ++ window_text query.left_window ++ line_end
     ++ codes "window right " ++ window_text query.right_window ++ line_end
+
+abbrev pub canonical : Parts → List ℕ
+canonical query =
+    streams_text query
+    ++ setting_line settings.Slack query.slack
+    ++ setting_line settings.Quiet query.quiet
     ++ codes "on " ++ pred_text (columns_of query) query.pred ++ line_end

@@ -13,9 +13,11 @@ use Rattle.hj_query.specs.declared.fault.Wanted.{Wanted}
 use Rattle.hj_query.specs.declared.fault.Wanted.TheVariants as wants
 use Rattle.hj_query.specs.declared.pred.Op.{Op}
 use Rattle.hj_query.specs.declared.pred.Pred.{Pred}
+use Rattle.hj_query.specs.declared.setting.Setting.{Setting}
+use Rattle.hj_query.specs.declared.setting.Setting.TheVariants as settings
 use Rattle.hj_query.specs.declared.sum.Sum.{Sum}
 use Rattle.hj_query.specs.Lexemes.{Lexeme, place, IsNumber, IsWord, IsSign, LacksWord, LacksSign, LacksKind}
-use Rattle.hj_query.specs.Grammar.{IsColumn, has_column, most_columns, IsColumns, IsSchema, most_rows, most_time, IsWindow, side_word, part_sign, op_sign, most_depth, can_compare, can_subtract, EndsSum, place_of_name, IsSum, IsPred, IsConj}
+use Rattle.hj_query.specs.Grammar.{IsColumn, has_column, most_columns, IsColumns, IsSchema, most_rows, most_time, IsWindow, setting_word, most_of, IsSetting, side_word, part_sign, op_sign, most_depth, can_compare, can_subtract, EndsSum, place_of_name, IsSum, IsPred, IsConj}
 use Rattle.hj_query.specs.Sides.{by_side}
 
 -- the next token isn't what is wanted
@@ -74,6 +76,19 @@ pub data FaultsWindow (word : List ℕ) (here : List Lexeme) (fault : QueryFault
   no_window_word : LacksWord (codes "window") here → IsExpected wants.WindowWord here fault → FaultsWindow word here fault
   no_window_side : (side : List Lexeme) → IsWord (codes "window") here side → LacksWord word side → IsExpected wants.WindowSide side fault → FaultsWindow word here fault
   in_span : (side span : List Lexeme) → IsWord (codes "window") here side → IsWord word side span → FaultsSpan span fault → FaultsWindow word here fault
+
+-- Settings.
+
+-- the fault of a number that is outside the range of its setting
+abbrev pub range_fault : Setting → ℕ → QueryFault
+range_fault settings.Slack at = faults.SlackRange at
+range_fault settings.Quiet at = faults.QuietRange at
+
+pub data FaultsSetting (setting : Setting) (here : List Lexeme) (fault : QueryFault) : Type 0 where
+  no_value : (number : List Lexeme)
+      → IsWord (setting_word setting) here number → LacksKind kinds.Number number → IsExpected wants.Number number fault → FaultsSetting setting here fault
+  too_large : (value : ℕ) (number rest : List Lexeme) → IsWord (setting_word setting) here number → IsNumber value number rest
+      → most_of setting < value → fault ≡ range_fault setting (place number) → FaultsSetting setting here fault
 
 -- Conditions. The columns of each side are known.
 
@@ -171,7 +186,17 @@ pub data FaultsQuery (here : List Lexeme) (fault : QueryFault) : Type 0 where
   in_right_window : (left right : List Column) (left_window : Window) (right_word left_span right_span : List Lexeme)
       → IsSchema (codes "left") here left right_word → IsSchema (codes "right") right_word right left_span
       → IsWindow (codes "left") left_span left_window right_span → FaultsWindow (codes "right") right_span fault → FaultsQuery here fault
-  in_condition : (left right : List Column) (left_window right_window : Window) (right_word left_span right_span condition : List Lexeme)
+  in_slack : (left right : List Column) (left_window right_window : Window) (right_word left_span right_span slack : List Lexeme)
       → IsSchema (codes "left") here left right_word → IsSchema (codes "right") right_word right left_span
-      → IsWindow (codes "left") left_span left_window right_span → IsWindow (codes "right") right_span right_window condition
+      → IsWindow (codes "left") left_span left_window right_span → IsWindow (codes "right") right_span right_window slack
+      → FaultsSetting settings.Slack slack fault → FaultsQuery here fault
+  in_quiet : (left right : List Column) (left_window right_window : Window) (late : ℕ) (right_word left_span right_span slack quiet : List Lexeme)
+      → IsSchema (codes "left") here left right_word → IsSchema (codes "right") right_word right left_span
+      → IsWindow (codes "left") left_span left_window right_span → IsWindow (codes "right") right_span right_window slack
+      → IsSetting settings.Slack slack late quiet → FaultsSetting settings.Quiet quiet fault → FaultsQuery here fault
+  in_condition : (left right : List Column) (left_window right_window : Window) (late silent : ℕ)
+      (right_word left_span right_span slack quiet condition : List Lexeme)
+      → IsSchema (codes "left") here left right_word → IsSchema (codes "right") right_word right left_span
+      → IsWindow (codes "left") left_span left_window right_span → IsWindow (codes "right") right_span right_window slack
+      → IsSetting settings.Slack slack late quiet → IsSetting settings.Quiet quiet silent condition
       → FaultsCondition (by_side left right) condition fault → FaultsQuery here fault

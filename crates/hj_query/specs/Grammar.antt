@@ -16,10 +16,12 @@ use Rattle.hj_lex.specs.declared.token.TokenKind.TheVariants as kinds
 use Rattle.hj_query.specs.declared.pred.Op.{Op}
 use Rattle.hj_query.specs.declared.pred.Op.TheVariants as ops
 use Rattle.hj_query.specs.declared.pred.Pred.{Pred, Or', And', Not', Compare, Within}
+use Rattle.hj_query.specs.declared.setting.Setting.{Setting}
+use Rattle.hj_query.specs.declared.setting.Setting.TheVariants as settings
 use Rattle.hj_query.specs.declared.sum.Term.{Term}
 use Rattle.hj_query.specs.declared.sum.Term.TheVariants as terms
 use Rattle.hj_query.specs.declared.sum.Sum.{Sum}
-use Rattle.hj_query.specs.Lexemes.{Lexeme, next_is, IsNumber, IsWord, IsSign, IsText, LacksSign, Suits}
+use Rattle.hj_query.specs.Lexemes.{Lexeme, next_is, IsNumber, IsWord, IsSign, IsText, LacksSign, LacksWord, Suits}
 use Rattle.hj_query.specs.Parts.{Parts}
 use Rattle.hj_query.specs.Sides.{by_side}
 
@@ -75,6 +77,28 @@ pub data IsSpan (here : List Lexeme) (window : Window) (rest : List Lexeme) : Ty
 -- `window`, the word of its side, and its span
 pub data IsWindow (word : List ℕ) (here : List Lexeme) (window : Window) (rest : List Lexeme) : Type 0 where
   spanned : (side span : List Lexeme) → IsWord (codes "window") here side → IsWord word side span → IsSpan span window rest → IsWindow word here window rest
+
+-- Settings.
+
+abbrev pub setting_word : Setting → List ℕ
+setting_word settings.Slack = codes "slack"
+setting_word settings.Quiet = codes "quiet"
+
+abbrev pub most_slack : ℕ
+most_slack = 2 ^ 62
+
+abbrev pub most_quiet : ℕ
+most_quiet = 1000000
+
+abbrev pub most_of : Setting → ℕ
+most_of settings.Slack = most_slack
+most_of settings.Quiet = most_quiet
+
+-- a setting's word and a number in range, or neither, which stands for 0
+pub data IsSetting (setting : Setting) (here : List Lexeme) (value : ℕ) (rest : List Lexeme) : Type 0 where
+  absent : LacksWord (setting_word setting) here → value ≡ 0 → rest ≡ here → IsSetting setting here value rest
+  given : (number : List Lexeme)
+      → IsWord (setting_word setting) here number → IsNumber value number rest → value ≤ most_of setting → IsSetting setting here value rest
 
 -- Conditions. The columns of each side are known.
 
@@ -202,11 +226,13 @@ columns_of query = by_side query.left.columns query.right.columns
 
 -- a whole query
 pub data IsQuery (here : List Lexeme) (query : Parts) : Type 0 where
-  of_lines : (right_word left_span right_span condition : List Lexeme)
+  of_lines : (right_word left_span right_span slack quiet condition : List Lexeme)
       → IsSchema (codes "left") here query.left.columns right_word
       → IsSchema (codes "right") right_word query.right.columns left_span
       → IsWindow (codes "left") left_span query.left_window right_span
-      → IsWindow (codes "right") right_span query.right_window condition
+      → IsWindow (codes "right") right_span query.right_window slack
+      → IsSetting settings.Slack slack query.slack quiet
+      → IsSetting settings.Quiet quiet query.quiet condition
       → IsCondition (columns_of query) condition query.pred
       → IsQuery here query
 

@@ -19,4 +19,6 @@ pub record IsKeyed (rows : ℕ) (query : Parts) : Type 0 where
   pub right : query.right.columns ≡ keyed_columns
   pub left_window : query.left_window ≡ windows.Rows rows
   pub right_window : query.right_window ≡ windows.Rows rows
+  pub slack : query.slack ≡ 0
+  pub quiet : query.quiet ≡ 0
   pub pred : query.pred ≡ Compare ops.Eq (record { first = terms.Column sides.Left 1; rest = [] }) (record { first = terms.Column sides.Right 1; rest = [] })

@@ -12,10 +12,12 @@ IsSame (Compare op left right) (Compare sign other more) = (sign ≡ op) × (oth
 IsSame (Within distance left right) (Within span other more) = (span ≡ distance) × (other ≡ left) × (more ≡ right)
 IsSame _ _ = ⊥
 
--- the same columns, windows and condition
+-- the same columns, windows, settings and condition
 pub record IsSameQuery (query other : Parts) : Type 0 where
   pub left : other.left.columns ≡ query.left.columns
   pub right : other.right.columns ≡ query.right.columns
   pub left_window : other.left_window ≡ query.left_window
   pub right_window : other.right_window ≡ query.right_window
+  pub slack : other.slack ≡ query.slack
+  pub quiet : other.quiet ≡ query.quiet
   pub pred : IsSame query.pred other.pred

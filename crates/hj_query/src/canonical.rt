@@ -1,7 +1,7 @@
 ghost use Rattle.std.specs.Prelude.{◌≡◌, ◌≤◌, ◌++◌, [], ◌∷◌, codes, length, slice_get, IfOk, OnOk, OnErr};
 ghost use Rattle.std.specs.List.{join_by};
 ghost use Rattle.std.specs.Option.{option_copied};
-ghost use Rattle.hj_query.specs.Canonical.{canonical, column_text, line_end, schema_text, window_text};
+ghost use Rattle.hj_query.specs.Canonical.{canonical, column_text, line_end, schema_text, setting_line, streams_text, window_text};
 ghost use Rattle.hj_query.specs.Grammar.{kind_word};
 ghost use Rattle.hj_query.specs.Texts.{most_bytes, Spells};
 
@@ -9,6 +9,7 @@ mod nodes;
 mod pieces;
 mod terms;
 
+use crate::setting::Setting;
 use crate::{Query, QueryText};
 use hj_base::{Memory, Side, Window};
 use hj_value::{Column, ColumnType, Columns};
@@ -16,8 +17,8 @@ use nodes::push_pred;
 use pieces::{push_bytes, push_count};
 use std::alloc::Global;
 
-/// The canonical text of a query: a line for each schema and each window, and one for the condition, with one blank between
-/// words, signs and numbers, and parentheses only where the tree needs them.
+/// The canonical text of a query: a line for each schema, each window and each of slack and quiet that isn't 0, and one for the
+/// condition, with one blank between words, signs and numbers, and parentheses only where the tree needs them.
 ///
 /// Where it has at most 65,536 bytes it spells this query, so that `parse` reads it again. It may have more where the query's own
 /// text has nearly as many. The one refusal is want of memory.
@@ -26,14 +27,23 @@ pub fn print(alloc: Global, query: &Query) -> Result<QueryText, Memory>
     ensures again { IfOk result (λ text. length text ≤ most_bytes → Spells text query.now) }
 {
     let mut bytes = Vec::new(alloc);
-    push_schema(&mut bytes, b"left ", &query.schema(Side::Left).columns)?;
-    push_schema(&mut bytes, b"right ", &query.schema(Side::Right).columns)?;
-    push_window(&mut bytes, b"window left ", query.window(Side::Left))?;
-    push_window(&mut bytes, b"window right ", query.window(Side::Right))?;
+    push_streams(&mut bytes, query)?;
+    push_setting(&mut bytes, Setting::Slack, query.slack())?;
+    push_setting(&mut bytes, Setting::Quiet, u64::from(query.quiet()))?;
     push_bytes(&mut bytes, b"on ")?;
     push_pred(alloc, &mut bytes, query, query.pred())?;
     push_bytes(&mut bytes, b"\n")?;
     Ok(QueryText::from_vec(bytes))
+}
+
+/// Adds the lines of the two streams to a text.
+fn push_streams(text: &mut Vec<u8>, query: &Query) -> Result<(), Memory>
+    ensures { OnOk result (text.new.items ≡ text.old.items ++ streams_text query.now) }
+{
+    push_schema(text, b"left ", &query.schema(Side::Left).columns)?;
+    push_schema(text, b"right ", &query.schema(Side::Right).columns)?;
+    push_window(text, b"window left ", query.window(Side::Left))?;
+    push_window(text, b"window right ", query.window(Side::Right))
 }
 
 /// Adds the line of a schema to a text.
@@ -106,4 +116,17 @@ fn push_span(text: &mut Vec<u8>, window: Window) -> Result<(), Memory>
             push_count(text, span)
         }
     }
+}
+
+/// Adds the line of a setting to a text; none for 0.
+fn push_setting(text: &mut Vec<u8>, setting: Setting, value: u64) -> Result<(), Memory>
+    ensures { OnOk result (text.new.items ≡ text.old.items ++ setting_line setting value) }
+{
+    if value == 0 {
+        return Ok(());
+    }
+    push_bytes(text, setting.word())?;
+    push_bytes(text, b" ")?;
+    push_count(text, value)?;
+    push_bytes(text, b"\n")
 }

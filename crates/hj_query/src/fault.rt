@@ -70,6 +70,12 @@ pub enum QueryFault {
     /// The number here is outside the range of its window.
     #[error("window out of range at {0}")]
     WindowRange(usize),
+    /// The slack's number, here, is above 2^62.
+    #[error("slack out of range at {0}")]
+    SlackRange(usize),
+    /// The quiet number, here, is above 1000000.
+    #[error("quiet out of range at {0}")]
+    QuietRange(usize),
     /// The `not` or `(` here stands inside 64 others.
     #[error("too deep at {0}")]
     TooDeep(usize),

@@ -33,7 +33,7 @@ pub fn equi(alloc: Global, rows: u32) -> Result<Query, Memory>
         },
     );
     let window = Window::Rows(rows);
-    Ok(Query::new(schemas, window, window, pred))
+    Ok(Query::new(schemas, window, window, 0, 0, pred))
 }
 
 /// `ts int, key int`.

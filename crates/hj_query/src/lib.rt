@@ -11,6 +11,7 @@ mod pred;
 mod query;
 mod schema;
 mod schemas;
+mod setting;
 mod sum;
 mod term;
 mod text;

@@ -1,5 +1,5 @@
-ghost use Rattle.std.specs.Prelude.{◌≡◌};
-ghost use Rattle.hj_query.specs.Grammar.{IsReadable};
+ghost use Rattle.std.specs.Prelude.{◌≡◌, ◌≤◌};
+ghost use Rattle.hj_query.specs.Grammar.{IsReadable, most_quiet, most_slack};
 ghost use Rattle.hj_query.specs.Sides.{by_side};
 
 use crate::Pred;
@@ -8,12 +8,15 @@ use hj_base::{Side, Window};
 use hj_value::Schema;
 use std::marker::Model;
 
-/// Which rows of two streams are joined: the schemas and the windows of both, and the condition on their rows.
+/// Which rows of two streams are joined: the schemas and the windows of both, how late a row may be, how long a side may be
+/// silent, and the condition on their rows.
 #[derive(Debug, Drop)]
 pub struct Query {
     schemas: Schemas,
     left_window: Window,
     right_window: Window,
+    slack: u64,
+    quiet: u32,
     pred: Pred,
 }
 
@@ -32,6 +35,8 @@ impl Model for Query {
       right = q.schemas.right;
       left_window = q.left_window;
       right_window = q.right_window;
+      slack = q.slack;
+      quiet = q.quiet;
       pred = q.pred;
     } };
 
@@ -40,6 +45,8 @@ impl Model for Query {
       right = q.schemas.right;
       left_window = q.left_window;
       right_window = q.right_window;
+      slack = q.slack;
+      quiet = q.quiet;
       pred = q.pred;
     }) };
 }
@@ -50,6 +57,8 @@ impl Query {
         schemas: Schemas,
         left_window: Window,
         right_window: Window,
+        slack: u64,
+        quiet: u32,
         pred: Pred,
     ) -> Self
         requires { IsReadable (record {
@@ -57,6 +66,8 @@ impl Query {
           right = schemas.right;
           left_window = left_window;
           right_window = right_window;
+          slack = slack;
+          quiet = quiet;
           pred = pred;
         }) }
         ensures { result ≡ record {
@@ -64,6 +75,8 @@ impl Query {
           right = schemas.right;
           left_window = left_window;
           right_window = right_window;
+          slack = slack;
+          quiet = quiet;
           pred = pred;
         } }
     {
@@ -71,6 +84,8 @@ impl Query {
             schemas,
             left_window,
             right_window,
+            slack,
+            quiet,
             pred,
         }
     }
@@ -83,6 +98,23 @@ impl Query {
             Side::Left => self.left_window,
             Side::Right => self.right_window,
         }
+    }
+
+    /// How much a row's time may be below the greatest time of the rows before it on its side: 0 to 2^62, in the stream's own time units.
+    pub fn slack(&self) -> u64
+        ensures slack { result ≡ self.now.slack }
+        ensures range { result ≤ most_slack }
+    {
+        self.slack
+    }
+
+    /// After how many arrivals of one side, with none of the other, the other one is taken for silent: 0 to 1,000,000, where 0
+    /// stands for never.
+    pub fn quiet(&self) -> u32
+        ensures quiet { result ≡ self.now.quiet }
+        ensures range { result ≤ most_quiet }
+    {
+        self.quiet
     }
 
     /// The columns of a side's rows, in their order.

@@ -8,6 +8,7 @@ use crate::condition::condition;
 use crate::cursor::Cursor;
 use crate::schema::schema;
 use crate::schemas::Schemas;
+use crate::setting::{Setting, read_setting};
 use crate::window::window;
 use crate::{Query, QueryFault, Wanted};
 use hj_lex::lex;
@@ -46,7 +47,16 @@ fn query(alloc: Global, text: &[u8]) -> Result<Query, QueryFault>
     let right = schema(alloc, &mut cursor, b"right", Wanted::RightWord)?;
     let left_window = window(&mut cursor, b"left")?;
     let right_window = window(&mut cursor, b"right")?;
+    let slack = read_setting(&mut cursor, Setting::Slack)?;
+    let quiet = read_setting(&mut cursor, Setting::Quiet)?;
     let schemas = Schemas { left, right };
     let pred = condition(alloc, &schemas, &mut cursor)?;
-    Ok(Query::new(schemas, left_window, right_window, pred))
+    Ok(Query::new(
+        schemas,
+        left_window,
+        right_window,
+        slack,
+        quiet as u32,
+        pred,
+    ))
 }
