@@ -105,7 +105,7 @@ stops_left why old left before now takes others step = record {
       (takes.leads l (follows_as (has_failed {T = Option (List Field)} (Err why)) (fails (Err (last_of Left why)) Left) left.reading.ended l (stop_fails_left why) l_follows));
   ended = stop_ends Left why left.reading.ended old.right.reading.ended;
   left_needed = takes.needed;
-  right_needed = not_needed old.right.head old.right.reading (before role.Right) (now role.Right) (others role.Right (λ e. cc));
+  right_needed = not_needed old.right.head old.right (before role.Right) (now role.Right) (others role.Right (λ e. cc));
 }
 
 -- What both sides did, where the left one gave its head.
@@ -122,11 +122,11 @@ module _ (head : Option (List Field)) (answer : Result (Option (List Field)) Sto
   right_read : IsReadOn (has_failed answer) both.right.bytes old.right.reading.ended new.right.reading.ended (before role.Right) (now role.Right)
   right_read = subst (λ (s : RoleState). IsReadOn (has_failed answer) both.right.bytes old.right.reading.ended new.right.reading.ended s (now role.Right)) (both.left_others role.Right (λ e. cc)) both.right.reads
 
-  left_needs : IsReadAsNeeded old.left.head old.left.reading both.left.bytes (before role.Left) (now role.Left)
-  left_needs = subst (λ (s : RoleState). IsReadAsNeeded old.left.head old.left.reading both.left.bytes (before role.Left) s) (sym (both.right_others role.Left (λ e. cc))) both.left.needed
+  left_needs : IsReadAsNeeded old.left.head old.left both.left.bytes (before role.Left) (now role.Left)
+  left_needs = subst (λ (s : RoleState). IsReadAsNeeded old.left.head old.left both.left.bytes (before role.Left) s) (sym (both.right_others role.Left (λ e. cc))) both.left.needed
 
-  right_needs : IsReadAsNeeded old.right.head old.right.reading both.right.bytes (before role.Right) (now role.Right)
-  right_needs = subst (λ (s : RoleState). IsReadAsNeeded old.right.head old.right.reading both.right.bytes s (now role.Right)) (both.left_others role.Right (λ e. cc)) both.right.needed
+  right_needs : IsReadAsNeeded old.right.head old.right both.right.bytes (before role.Right) (now role.Right)
+  right_needs = subst (λ (s : RoleState). IsReadAsNeeded old.right.head old.right both.right.bytes s (now role.Right)) (both.left_others role.Right (λ e. cc)) both.right.needed
 
   query_stays : now role.Query ≡ before role.Query
   query_stays = both.right_others role.Query (λ e. cc) ∙ both.left_others role.Query (λ e. cc)
@@ -152,7 +152,7 @@ abbrev pub put_back : List Field → SideState → SideState
 put_back row side = record side { head = Some row }
 
 put_back_ahead : (row : List Field) (side : SideState) (stream : Stream) → side.head ≡ None → side_ahead (put_back row side) stream ≡ then_rows row (side_ahead side stream)
-put_back_ahead row side stream none = ap (λ (h : Option (List Field)). then_rows row (with_head h (rows_ahead side.reading stream))) (sym none)
+put_back_ahead row side stream none = ap (λ (h : Option (List Field)). then_rows row (with_head h (rows_ahead side stream))) (sym none)
 
 -- An arrival, where the sides behind it have these rows.
 module _ (head : Option (List Field)) (answer : Option (List Field)) (old mid new : Sides) (before between now : Roles) (both : BothTaken head (Ok answer) old mid before between now) (left_same : new.left.reading ≡ mid.left.reading) (right_same : new.right.reading ≡ mid.right.reading) where

@@ -1,5 +1,6 @@
 -- The rows, the arrivals and the events of streams that were cut off, beside those of the whole ones.
 use Rattle.std.proofs.Common.{◌≡◌, ℕ, ◌+◌, ◌-◌, ◌≤◌, ◌⊎◌, inl, inr, Bool, true, false, cond, ltb, ℤ, int_le, List, [], ◌∷◌, ◌++◌, take, length, length-append, arith, append_assoc, append-nil, Option, Result, None, Some, Ok, Err, refl, sym, ap, subst, ◌∙◌}
+use Rattle.std.specs.List.{filter}
 use Rattle.std.proofs.Math.Seq.{take-append-add}
 use Rattle.std.proofs.lemmas.List.{take-append-le}
 use Rattle.std.proofs.lemmas.Bool.{lt-ltb, le-ltb, cases_lt}
@@ -14,11 +15,13 @@ use Rattle.hj_record.specs.Pieces.{Stream, Pieces, PiecesEnd, pieces_of, unread 
 use Rattle.hj_query.specs.Parts.{Parts}
 use Rattle.hj_window.specs.LiveRows.{LiveRows, arrive}
 use Rattle.hj_event.specs.declared.fault.RecordFault.{RecordFault}
-use Rattle.hj_event.specs.Rows.{Rows, RowsEnd, then_rows, put_row, row_at, rows_from, rows_of, most_in_stream, clean as rows_clean, bad as rows_bad, unread as rows_unread}
+use Rattle.hj_event.specs.Rows.{Rows, RowsEnd, then_rows, put_row, row_at, rows_from, rows_in, rows_of, with_time, put_in, is_sure, in_order, most_in_stream, clean as rows_clean, bad as rows_bad, unread as rows_unread}
+use Rattle.hj_event.specs.Waiting.{AreInOrder}
 use Rattle.hj_event.specs.Arrivals.{Arrival, Arrivals, Ending, unread, too_many, no_arrival, then_arrivals, stop_or, right_only, left_among, merge, arrivals_of}
-use Rattle.hj_event.specs.Events.{events_at, number_from, none_live, Numbered, numbered, up_to, all_events_of, events_of}
+use Rattle.hj_event.specs.Events.{Silence, no_silence, silence_at, quiet_side, silence_behind, events_at, number_from, none_live, Numbered, numbered, up_to, all_events_of, events_of}
 use Rattle.hj_event.specs.Cut.{IsCutOf}
 use Rattle.hj_event.proofs.CutPieces.{IsPrefix-cons, IsPrefix-nil, PiecesCut, pieces_of-cut}
+use Rattle.hj_event.proofs.OrderLemmas.{none_sure, put_in-in_order, sure_ahead}
 
 -- The same rows with the same ending, or the first of them, up to where the stream was cut off.
 abbrev pub RowsCut : Rows → Rows → Type 0
@@ -31,29 +34,70 @@ then_rows-cut row cut all (inr e) = inr (e.0, IsPrefix-cons row cut.rows all.row
 put_row-cut : (record_no : ℕ) (before : Option ℤ) (found : Result (Option (List Field)) RecordFault) (cut all : ℕ → Option ℤ → Rows) → ((next : ℕ) (time : Option ℤ) → RowsCut (cut next time) (all next time)) → RowsCut (put_row record_no before found cut) (put_row record_no before found all)
 put_row-cut record_no before (Err found) cut all h = inl refl
 put_row-cut record_no before (Ok None) cut all h = h record_no before
-put_row-cut record_no before (Ok (Some row)) cut all h = then_rows-cut row (cut (record_no + 1) (Some (time_of row))) (all (record_no + 1) (Some (time_of row))) (h (record_no + 1) (Some (time_of row)))
+put_row-cut record_no before (Ok (Some row)) cut all h =
+    let at = Some (with_time before (time_of row)) in
+    then_rows-cut row (cut (record_no + 1) at) (all (record_no + 1) at) (h (record_no + 1) at)
 
-rows_from-front : (columns : List Column) (record_no : ℕ) (before : Option ℤ) (pieces others : List (List ℕ)) (ending : PiecesEnd) → RowsCut (rows_from columns record_no before pieces pieces_unread) (rows_from columns record_no before (pieces ++ others) ending)
-rows_from-front columns record_no before [] others ending = inr (refl, IsPrefix-nil (rows_from columns record_no before others ending).rows)
-rows_from-front columns record_no before (piece ∷ pieces) others ending = put_row-cut record_no before (row_at columns before piece) (λ next time. rows_from columns next time pieces pieces_unread) (λ next time. rows_from columns next time (pieces ++ others) ending)
-    (λ next time. rows_from-front columns next time pieces others ending)
+rows_from-front : (columns : List Column) (slack record_no : ℕ) (before : Option ℤ) (pieces others : List (List ℕ)) (ending : PiecesEnd) → RowsCut (rows_from columns slack record_no before pieces pieces_unread) (rows_from columns slack record_no before (pieces ++ others) ending)
+rows_from-front columns slack record_no before [] others ending = inr (refl, IsPrefix-nil (rows_from columns slack record_no before others ending).rows)
+rows_from-front columns slack record_no before (piece ∷ pieces) others ending = put_row-cut record_no before (row_at columns slack before piece) (λ next time. rows_from columns slack next time pieces pieces_unread) (λ next time. rows_from columns slack next time (pieces ++ others) ending)
+    (λ next time. rows_from-front columns slack next time pieces others ending)
 
-pub rows_from-cut : (columns : List Column) (record_no : ℕ) (before : Option ℤ) (cut all : Pieces) → PiecesCut cut all → RowsCut (rows_from columns record_no before cut.pieces cut.ending) (rows_from columns record_no before all.pieces all.ending)
-rows_from-cut columns record_no before cut all (inl e) = inl (ap (λ pieces. rows_from columns record_no before pieces.pieces pieces.ending) e)
-rows_from-cut columns record_no before cut all (inr e) = rw (e.0) (rw (e.1.is) (rows_from-front columns record_no before cut.pieces e.1.rest all.ending))
+-- the rows as they are read
+pub rows_from-cut : (columns : List Column) (slack record_no : ℕ) (before : Option ℤ) (cut all : Pieces) → PiecesCut cut all → RowsCut (rows_from columns slack record_no before cut.pieces cut.ending) (rows_from columns slack record_no before all.pieces all.ending)
+rows_from-cut columns slack record_no before cut all (inl e) = inl (ap (λ pieces. rows_from columns slack record_no before pieces.pieces pieces.ending) e)
+rows_from-cut columns slack record_no before cut all (inr e) = rw (e.0) (rw (e.1.is) (rows_from-front columns slack record_no before cut.pieces e.1.rest all.ending))
 
-abbrev rows_within : List Column → ℕ → Stream → Rows
-rows_within columns limit stream = rows_from columns 1 None (pieces_of limit stream).pieces (pieces_of limit stream).ending
+-- ---- the rows in order
 
-rows_within-cut : (columns : List Column) (limit : ℕ) (cut all : Stream) → IsCutOf cut all → RowsCut (rows_within columns limit cut) (rows_within columns limit all)
-rows_within-cut columns limit cut all (inl e) = inl (ap (λ stream. rows_within columns limit stream) e)
-rows_within-cut columns limit cut all (inr e) =
-    subst (λ stream. RowsCut (rows_within columns limit stream) (rows_within columns limit all)) (ap (λ whole. record { bytes = cut.bytes; whole = whole }) (sym e.0))
-    (subst (λ bytes. RowsCut (rows_within columns limit (record { bytes = cut.bytes; whole = false })) (rows_within columns limit (record { bytes = bytes; whole = all.whole }))) (sym e.1.is)
-    (rows_from-cut columns 1 None (pieces_of limit (record { bytes = cut.bytes; whole = false })) (pieces_of limit (record { bytes = cut.bytes ++ e.1.rest; whole = all.whole })) (pieces_of-cut limit cut.bytes e.1.rest all.whole)))
+-- Of the rows that wait those that are sure come first, whatever is read behind them.
+sure_front : (columns : List Column) (slack record_no : ℕ) (greatest : Option ℤ) (waiting : List (List Field)) (pieces : List (List ℕ)) (ending : PiecesEnd) → AreInOrder waiting
+    → IsPrefix (filter (is_sure slack greatest) waiting) (in_order slack greatest waiting (rows_from columns slack record_no greatest pieces ending)).rows
+sure_front columns slack record_no greatest [] pieces ending ordered = IsPrefix-nil (in_order slack greatest [] (rows_from columns slack record_no greatest pieces ending)).rows
+sure_front columns slack record_no greatest (row ∷ waiting) pieces ending ordered =
+    by_test (is_sure slack greatest row) refl (sure_front columns slack record_no greatest waiting pieces ending ordered.1)
+  where
+    by_test : (test : Bool) → is_sure slack greatest row ≡ test → IsPrefix (filter (is_sure slack greatest) waiting) (in_order slack greatest waiting (rows_from columns slack record_no greatest pieces ending)).rows
+        → IsPrefix (cond test (row ∷ filter (is_sure slack greatest) waiting) (filter (is_sure slack greatest) waiting)) (in_order slack greatest (row ∷ waiting) (rows_from columns slack record_no greatest pieces ending)).rows
+    by_test true sure behind =
+        let others = in_order slack greatest waiting (rows_from columns slack record_no greatest pieces ending) in
+        subst (λ (rows : List (List Field)). IsPrefix (row ∷ filter (is_sure slack greatest) waiting) rows)
+        (sym (ap (λ (rows : Rows). rows.rows) (sure_ahead columns slack row record_no greatest waiting (record { pieces = pieces; ending = ending }) sure)))
+        (IsPrefix-cons row (filter (is_sure slack greatest) waiting) others.rows behind)
+    by_test false unsure behind =
+        subst (λ (rows : List (List Field)). IsPrefix rows (in_order slack greatest (row ∷ waiting) (rows_from columns slack record_no greatest pieces ending)).rows) (sym (none_sure slack greatest row waiting unsure ordered.0))
+        (IsPrefix-nil (in_order slack greatest (row ∷ waiting) (rows_from columns slack record_no greatest pieces ending)).rows)
 
-rows_of-cut : (columns : List Column) (cut all : Stream) → IsCutOf cut all → RowsCut (rows_of columns cut) (rows_of columns all)
-rows_of-cut columns cut all h = rows_within-cut columns most_in_stream cut all h
+in_order-put : (slack record_no : ℕ) (greatest : Option ℤ) (waiting : List (List Field)) (found : Result (Option (List Field)) RecordFault) (cut all : ℕ → Option ℤ → Rows) → AreInOrder waiting
+    → ((next : ℕ) (time : Option ℤ) (rows : List (List Field)) → AreInOrder rows → RowsCut (in_order slack time rows (cut next time)) (in_order slack time rows (all next time)))
+    → RowsCut (in_order slack greatest waiting (put_row record_no greatest found cut)) (in_order slack greatest waiting (put_row record_no greatest found all))
+in_order-put slack record_no greatest waiting (Err found) cut all ordered h = inl refl
+in_order-put slack record_no greatest waiting (Ok None) cut all ordered h = h record_no greatest waiting ordered
+in_order-put slack record_no greatest waiting (Ok (Some row)) cut all ordered h = h (record_no + 1) (Some (with_time greatest (time_of row))) (put_in row waiting) (put_in-in_order row waiting ordered)
+
+in_order-front : (columns : List Column) (slack record_no : ℕ) (greatest : Option ℤ) (waiting : List (List Field)) (pieces others : List (List ℕ)) (ending : PiecesEnd) → AreInOrder waiting
+    → RowsCut (in_order slack greatest waiting (rows_from columns slack record_no greatest pieces pieces_unread)) (in_order slack greatest waiting (rows_from columns slack record_no greatest (pieces ++ others) ending))
+in_order-front columns slack record_no greatest waiting [] others ending ordered = inr (refl, sure_front columns slack record_no greatest waiting others ending ordered)
+in_order-front columns slack record_no greatest waiting (piece ∷ pieces) others ending ordered =
+    in_order-put slack record_no greatest waiting (row_at columns slack greatest piece) (λ next time. rows_from columns slack next time pieces pieces_unread) (λ next time. rows_from columns slack next time (pieces ++ others) ending) ordered
+    (λ next time rows still. in_order-front columns slack next time rows pieces others ending still)
+
+in_order-cut : (columns : List Column) (slack : ℕ) (cut all : Pieces) → PiecesCut cut all → RowsCut (in_order slack None [] (rows_in columns slack 1 None cut)) (in_order slack None [] (rows_in columns slack 1 None all))
+in_order-cut columns slack cut all (inl e) = inl (ap (λ (pieces : Pieces). in_order slack None [] (rows_in columns slack 1 None pieces)) e)
+in_order-cut columns slack cut all (inr e) = rw (e.0) (rw (e.1.is) (in_order-front columns slack 1 None [] cut.pieces e.1.rest all.ending tt))
+
+abbrev rows_within : List Column → ℕ → ℕ → Stream → Rows
+rows_within columns slack limit stream = in_order slack None [] (rows_in columns slack 1 None (pieces_of limit stream))
+
+rows_within-cut : (columns : List Column) (slack limit : ℕ) (cut all : Stream) → IsCutOf cut all → RowsCut (rows_within columns slack limit cut) (rows_within columns slack limit all)
+rows_within-cut columns slack limit cut all (inl e) = inl (ap (λ stream. rows_within columns slack limit stream) e)
+rows_within-cut columns slack limit cut all (inr e) =
+    subst (λ stream. RowsCut (rows_within columns slack limit stream) (rows_within columns slack limit all)) (ap (λ whole. record { bytes = cut.bytes; whole = whole }) (sym e.0))
+    (subst (λ bytes. RowsCut (rows_within columns slack limit (record { bytes = cut.bytes; whole = false })) (rows_within columns slack limit (record { bytes = bytes; whole = all.whole }))) (sym e.1.is)
+    (in_order-cut columns slack (pieces_of limit (record { bytes = cut.bytes; whole = false })) (pieces_of limit (record { bytes = cut.bytes ++ e.1.rest; whole = all.whole })) (pieces_of-cut limit cut.bytes e.1.rest all.whole)))
+
+rows_of-cut : (columns : List Column) (slack : ℕ) (cut all : Stream) → IsCutOf cut all → RowsCut (rows_of columns slack cut) (rows_of columns slack all)
+rows_of-cut columns slack cut all h = rows_within-cut columns slack most_in_stream cut all h
 
 -- The same arrivals with the same ending, or the first of them, up to where a stream was cut off.
 abbrev ArrivalsCut : Arrivals → Arrivals → Type 0
@@ -127,20 +171,22 @@ IsPrefix-front : {X : Type 0} (front cut all : List X) → IsPrefix cut all → 
 IsPrefix-front [] cut all h = h
 IsPrefix-front (x ∷ front) cut all h = IsPrefix-cons x (front ++ cut) (front ++ all) (IsPrefix-front front cut all h)
 
-number_from-prefix : (at : ℕ) (live : LiveRows) (arrivals others : List Arrival) → IsPrefix (number_from at live arrivals) (number_from at live (arrivals ++ others))
-number_from-prefix at live [] others = IsPrefix-nil (number_from at live others)
-number_from-prefix at live (arrival ∷ arrivals) others =
+number_from-prefix : (quiet at : ℕ) (live : LiveRows) (silence : Silence) (arrivals others : List Arrival) → IsPrefix (number_from quiet at live silence arrivals) (number_from quiet at live silence (arrivals ++ others))
+number_from-prefix quiet at live silence [] others = IsPrefix-nil (number_from quiet at live silence others)
+number_from-prefix quiet at live silence (arrival ∷ arrivals) others =
     let came = arrive live arrival.side (time_of arrival.row) at in
-    let events = events_at at arrival came in
-    IsPrefix-front events (number_from (at + length events) came.live arrivals) (number_from (at + length events) came.live (arrivals ++ others)) (number_from-prefix (at + length events) came.live arrivals others)
+    let told = quiet_side quiet (silence_at silence arrival.side) in
+    let silent = silence_behind told (silence_at silence arrival.side) in
+    let events = events_at at arrival came told in
+    IsPrefix-front events (number_from quiet (at + length events) came.live silent arrivals) (number_from quiet (at + length events) came.live silent (arrivals ++ others)) (number_from-prefix quiet (at + length events) came.live silent arrivals others)
 
 -- The same events with the same ending, or the first of them, up to where a stream was cut off.
 abbrev pub NumberedCut : Numbered → Numbered → Type 0
 NumberedCut cut all = (cut ≡ all) ⊎ (((side : Side) × (cut.ending ≡ unread side)) × IsPrefix cut.events all.events)
 
-numbered-cut : (live : LiveRows) (cut all : Arrivals) → ArrivalsCut cut all → NumberedCut (numbered 0 live cut) (numbered 0 live all)
-numbered-cut live cut all (inl e) = inl (ap (λ arrivals. numbered 0 live arrivals) e)
-numbered-cut live cut all (inr e) = inr (e.0, rw (e.1.is) (number_from-prefix 0 live cut.rows e.1.rest))
+numbered-cut : (quiet : ℕ) (live : LiveRows) (silence : Silence) (cut all : Arrivals) → ArrivalsCut cut all → NumberedCut (numbered quiet 0 live silence cut) (numbered quiet 0 live silence all)
+numbered-cut quiet live silence cut all (inl e) = inl (ap (λ arrivals. numbered quiet 0 live silence arrivals) e)
+numbered-cut quiet live silence cut all (inr e) = inr (e.0, rw (e.1.is) (number_from-prefix quiet 0 live silence cut.rows e.1.rest))
 
 -- the events within a limit
 limited : (limit : ℕ) (events rest : List (Event (List Field))) (cut_ending ending : Ending) (side : Side) → cut_ending ≡ unread side → NumberedCut (up_to limit (record { events = events; ending = cut_ending })) (up_to limit (record { events = events ++ rest; ending = ending }))
@@ -162,11 +208,11 @@ up_to-cut limit cut all (inr e) =
 
 pub events_of-cut : (query : Parts) (limit : ℕ) (cut_left cut_right left right : Stream) → IsCutOf cut_left left → IsCutOf cut_right right → NumberedCut (events_of query cut_left cut_right limit) (events_of query left right limit)
 events_of-cut query limit cut_left cut_right left right h k =
-    let one = query.left.columns in
-    let other = query.right.columns in
+    let one = rows_of query.left.columns query.slack in
+    let other = rows_of query.right.columns query.slack in
     up_to-cut limit (all_events_of query cut_left cut_right) (all_events_of query left right)
-    (numbered-cut (none_live query) (arrivals_of (rows_of one cut_left) (rows_of other cut_right)) (arrivals_of (rows_of one left) (rows_of other right))
-    (arrivals_of-cut (rows_of one cut_left) (rows_of other cut_right) (rows_of one left) (rows_of other right) (rows_of-cut one cut_left left h) (rows_of-cut other cut_right right k)))
+    (numbered-cut query.quiet (none_live query) no_silence (arrivals_of (one cut_left) (other cut_right)) (arrivals_of (one left) (other right))
+    (arrivals_of-cut (one cut_left) (other cut_right) (one left) (other right) (rows_of-cut query.left.columns query.slack cut_left left h) (rows_of-cut query.right.columns query.slack cut_right right k)))
 
 pub events-begin : (cut all : Numbered) → NumberedCut cut all → IsPrefix cut.events all.events
 events-begin cut all (inl e) = record { rest = []; is = sym (ap (λ numbered. numbered.events) e) ∙ sym (append-nil cut.events) }

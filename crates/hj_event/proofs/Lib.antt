@@ -2,8 +2,12 @@ pub mod CallLemmas
 pub mod CutPieces
 pub mod CutRows
 pub mod Pieces
+pub mod OrderLemmas
+pub mod OrderLaws
+pub mod WaitingLemmas
 pub mod RowLemmas
 pub mod RoleLemmas
+pub mod ReaderLemmas
 pub mod SourceLemmas
 pub mod ArrivalLemmas
 pub mod NumberLemmas
@@ -12,6 +16,7 @@ pub mod Moments
 pub mod LiveRows
 pub mod Stands
 pub mod Turns
+pub mod SilenceLemmas
 pub mod Whole
 pub mod CallerLemmas
 pub mod LinesAhead

@@ -73,9 +73,9 @@ nothing_first (b ∷ piece) is = cc
 blank_unquoted : (b : ℕ) → is_blank b ≡ true → b ≢ 34
 blank_unquoted b blank quote = false≢true (ap is_blank (sym quote) ∙ blank)
 
-module _ (columns : List Column) (cutting : Cutting) (portion : List ℕ) (taken filled : ℕ) (ended : Bool) (record_no : ℕ) (time : Option ℤ) where
+module _ (columns : List Column) (slack : ℕ) (cutting : Cutting) (portion : List ℕ) (taken filled : ℕ) (ended : Bool) (record_no : ℕ) (time : Option ℤ) where
   abbrev side : Reading
-  side = reading columns cutting portion taken filled ended record_no time
+  side = reading columns slack cutting portion taken filled ended record_no time
 
   -- The piece that has begun ends in what was read.
   pub piece_tells : (first : ℕ) → Some first ≡ slice_get cutting.piece 0 → is_blank first ≡ false → HasEnd (slice_range portion taken filled) cutting → TellsRow side

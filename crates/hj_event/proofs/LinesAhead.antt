@@ -1,5 +1,5 @@
 -- What was read of a side tells its next row where the end of a line that isn't empty is in it.
-use Rattle.std.proofs.Common.{◌≡◌, ◌≢◌, ℕ, zero, suc, ◌+◌, ◌<◌, ◌≤◌, ◌==◌, Bool, true, false, cond, List, [], ◌∷◌, ◌++◌, length, get_or, take, ℤ, int_lt, Ok, Err, None, Some, refl, sym, ap, subst, ◌∙◌, arith, length-append, append-nil}
+use Rattle.std.proofs.Common.{◌≡◌, ◌≢◌, ℕ, zero, suc, ◌+◌, ◌<◌, ◌≤◌, ◌==◌, Bool, true, false, cond, List, [], ◌∷◌, ◌++◌, length, get_or, take, ℤ, pos, ◌-ℤ◌, int_lt, Ok, Err, None, Some, refl, sym, ap, subst, ◌∙◌, arith, length-append, append-nil}
 use Rattle.std.specs.declared.option.Option.{Option}
 use Rattle.std.specs.declared.result.Result.{Result}
 use Rattle.std.proofs.Math.Seq.{take-append-add}
@@ -45,21 +45,21 @@ outside_through (b ∷ bytes) (suc n) none =
 
 -- ---- rows where none is told
 
-timed : (before : Option ℤ) (row : List Field) → in_time before row ≡ Ok None → ⊥
-timed None row e = cc
-timed (Some time) row e =
+timed : (slack : ℕ) (before : Option ℤ) (row : List Field) → in_time slack before row ≡ Ok None → ⊥
+timed slack None row e = cc
+timed slack (Some time) row e =
     let by_test : (test : Bool) → cond test (Err (fault.TimeBack time (time_of row))) (Ok (Some row)) ≡ Ok None → ⊥ =
     λ test. elim test as (λ t. cond t (Err (fault.TimeBack time (time_of row))) (Ok (Some row)) ≡ Ok None → ⊥) [ true ↦ λ f. cc | false ↦ λ f. cc ] in
-    by_test (int_lt (time_of row) time) e
+    by_test (int_lt (time_of row) (time -ℤ pos slack)) e
 
-some_row : (before : Option ℤ) (row : Result (List Field) RowFault) → row_in_time before row ≡ Ok None → ⊥
-some_row before (Err found) e = cc
-some_row before (Ok row) e = timed before row e
+some_row : (slack : ℕ) (before : Option ℤ) (row : Result (List Field) RowFault) → row_in_time slack before row ≡ Ok None → ⊥
+some_row slack before (Err found) e = cc
+some_row slack before (Ok row) e = timed slack before row e
 
-no_record : (columns : List Column) (before : Option ℤ) (read : Result (Option (List (List ℕ))) PieceFault) → record_row columns before read ≡ Ok None → read ≡ Ok None
-no_record columns before (Err found) e = cc
-no_record columns before (Ok None) e = refl
-no_record columns before (Ok (Some fields)) e = absurd (some_row before (row_of columns fields) e)
+no_record : (columns : List Column) (slack : ℕ) (before : Option ℤ) (read : Result (Option (List (List ℕ))) PieceFault) → record_row columns slack before read ≡ Ok None → read ≡ Ok None
+no_record columns slack before (Err found) e = cc
+no_record columns slack before (Ok None) e = refl
+no_record columns slack before (Ok (Some fields)) e = absurd (some_row slack before (row_of columns fields) e)
 
 put_none : (record_no : ℕ) (before : Option ℤ) (found : Result (Option (List Field)) RecordFault) (behind : ℕ → Option ℤ → Rows) → put_row record_no before found behind ≡ no_row unread → (found ≡ Ok None) × (behind record_no before ≡ no_row unread)
 put_none record_no before (Err found) behind e = let ends = ap (λ (rows : Rows). rows.ending) e in cc
@@ -72,19 +72,19 @@ no_ending record_no (pieces_bad found) e = cc
 no_ending record_no pieces_unread e = refl
 
 -- Pieces that tell no row hold no record, and are cut off.
-none_told : (columns : List Column) (record_no : ℕ) (before : Option ℤ) (pieces : List (List ℕ)) (ending : PiecesEnd) → rows_from columns record_no before pieces ending ≡ no_row unread → HaveNoRecord pieces × (ending ≡ pieces_unread)
-none_told columns record_no before [] ending e = (tt, no_ending record_no ending (ap (λ (rows : Rows). rows.ending) e))
-none_told columns record_no before (piece ∷ pieces) ending e =
-    let first = put_none record_no before (row_at columns before piece) (λ next time. rows_from columns next time pieces ending) e in
-    let others = none_told columns record_no before pieces ending first.1 in
-    ((no_record columns before _ first.0, others.0), others.1)
+none_told : (columns : List Column) (slack : ℕ) (record_no : ℕ) (before : Option ℤ) (pieces : List (List ℕ)) (ending : PiecesEnd) → rows_from columns slack record_no before pieces ending ≡ no_row unread → HaveNoRecord pieces × (ending ≡ pieces_unread)
+none_told columns slack record_no before [] ending e = (tt, no_ending record_no ending (ap (λ (rows : Rows). rows.ending) e))
+none_told columns slack record_no before (piece ∷ pieces) ending e =
+    let first = put_none record_no before (row_at columns slack before piece) (λ next time. rows_from columns slack next time pieces ending) e in
+    let others = none_told columns slack record_no before pieces ending first.1 in
+    ((no_record columns slack before _ first.0, others.0), others.1)
 
 -- ---- a side
 
-written_told : (side : Reading) (stream : Stream) (at k : ℕ) → EndsWithin false stream.bytes at → k ≤ at → is_blank (get_or stream.bytes k 0) ≡ false → (found : Option PieceFault) → rows_in side.columns side.record_no side.time (unless_refused found (pieces_of side.room stream)) ≡ no_row unread → ⊥
+written_told : (side : Reading) (stream : Stream) (at k : ℕ) → EndsWithin false stream.bytes at → k ≤ at → is_blank (get_or stream.bytes k 0) ≡ false → (found : Option PieceFault) → rows_in side.columns side.slack side.record_no side.time (unless_refused found (pieces_of side.room stream)) ≡ no_row unread → ⊥
 written_told side stream at k ends le written None e =
     let pieces = pieces_of side.room stream in
-    let none = none_told side.columns side.record_no side.time pieces.pieces pieces.ending e in
+    let none = none_told side.columns side.slack side.record_no side.time pieces.pieces pieces.ending e in
     false≢true (sym written ∙ blank_unread side.room stream at k none.1 none.0 ends le)
 written_told side stream at k ends le written (Some found) e = let ends = ap (λ (rows : Rows). rows.ending) e in cc
 

@@ -8,7 +8,7 @@ use Rattle.hj_base.specs.declared.numbers.EventNo.{EventNo}
 use Rattle.hj_base.specs.declared.numbers.Side.{Side}
 use Rattle.hj_base.specs.declared.numbers.Side.TheVariants.{Left, Right}
 use Rattle.hj_msg.specs.declared.event.Event.{Event}
-use Rattle.hj_msg.specs.declared.event.Event.TheVariants.{Arrive, Expire}
+use Rattle.hj_msg.specs.declared.event.Event.TheVariants.{Arrive, Expire, Quiet}
 use Rattle.hj_msg.specs.Event.{Arrives, Expires}
 use Rattle.hj_msg.proofs.Members.{Contains-nil, Contains-head, Contains-cons, Contains-cons_cases, Contains-filter, Contains-from_filter}
 use Rattle.hj_event.specs.Windows.{arrival_no, is_expiry_of, live_rows}
@@ -50,6 +50,10 @@ arrival_no-expiry : (P : Type 0) (side other : Side) (at of : EventNo) → arriv
 arrival_no-expiry P side Left at of = refl
 arrival_no-expiry P side Right at of = refl
 
+arrival_no-quiet : (P : Type 0) (side other : Side) (at : EventNo) → arrival_no {P = P} other (Quiet at side) ≡ None
+arrival_no-quiet P side Left at = refl
+arrival_no-quiet P side Right at = refl
+
 arrived-none : {P : Type 0} (side : Side) (before : List (Event P)) (event : Event P) → arrival_no side event ≡ None → arrived side (before ++ event ∷ []) ≡ arrived side before
 arrived-none side before event e = filter_map-append (arrival_no side) before (event ∷ []) ∙ rw e (append-nil (arrived side before))
 
@@ -68,6 +72,10 @@ or-false false = refl
 pub has_expired-arrival : {P : Type 0} (before : List (Event P)) (at : EventNo) (side : Side) (row : P) (number : ℕ) → has_expired (before ++ Arrive at side row ∷ []) number ≡ has_expired before number
 has_expired-arrival before at side row number = has_expired-push before (Arrive at side row) number ∙ or-false (has_expired before number)
 
+-- nor is a quiet event
+pub has_expired-quiet : {P : Type 0} (before : List (Event P)) (at : EventNo) (side : Side) (number : ℕ) → has_expired (before ++ Quiet at side ∷ []) number ≡ has_expired before number
+has_expired-quiet before at side number = has_expired-push before (Quiet at side) number ∙ or-false (has_expired before number)
+
 -- a row that arrives comes last, where no earlier expiry has its number
 pub live_rows-arrival : {P : Type 0} (before : List (Event P)) (at : EventNo) (side : Side) (row : P) → has_expired before at.0 ≡ false → live_rows side (before ++ Arrive at side row ∷ []) ≡ live_rows side before ++ at.0 ∷ []
 live_rows-arrival before at side row fresh =
@@ -79,6 +87,12 @@ pub live_rows-other_arrival : {P : Type 0} (before : List (Event P)) (at : Event
 live_rows-other_arrival before at side other row differs =
     filter_agree _ (λ number. not (has_expired before number)) (λ number. ap not (has_expired-arrival before at side row number)) (arrived other (before ++ Arrive at side row ∷ []))
     ∙ ap (λ numbers. filter (λ number. not (has_expired before number)) numbers) (arrived-none other before (Arrive at side row) (arrival_no-other side other at row differs))
+
+-- a quiet event changes no live row
+pub live_rows-quiet : {P : Type 0} (before : List (Event P)) (at : EventNo) (side other : Side) → live_rows other (before ++ Quiet at side ∷ []) ≡ live_rows other before
+live_rows-quiet {P} before at side other =
+    filter_agree _ (λ number. not (has_expired before number)) (λ number. ap not (has_expired-quiet before at side number)) (arrived other (before ++ Quiet at side ∷ []))
+    ∙ ap (λ numbers. filter (λ number. not (has_expired before number)) numbers) (arrived-none other before (Quiet at side) (arrival_no-quiet P side other at))
 
 not-or : (one other : Bool) → not (one || other) ≡ (not one && not other)
 not-or true other = refl
@@ -126,6 +140,7 @@ expired-told events number at h = list_any_at (is_expiry_of number) events h.1.0
 told-expired : {P : Type 0} (events : List (Event P)) (number : ℕ) → has_expired events number ≡ true → (at : ℕ) × Expires events number at
 told-expired [] number h = absurd (false≢true h)
 told-expired (Arrive at side row ∷ events) number h = let found = told-expired events number h in (found.0, (found.1.0, Contains-cons _ _ events found.1.1))
+told-expired (Quiet at side ∷ events) number h = let found = told-expired events number h in (found.0, (found.1.0, Contains-cons _ _ events found.1.1))
 told-expired (Expire at side of ∷ events) number h = elim (or_cases (of.0 == number) (has_expired events number) h) [
   | inl e ↦ (at.0, (side, subst (λ n. Contains (Expire at side of ∷ events) (Expire at side (record { 0 = n }))) (eqb-true of.0 number e) (Contains-head (Expire at side of) events)))
   | inr k ↦ let found = told-expired events number k in (found.0, (found.1.0, Contains-cons _ _ events found.1.1))

@@ -16,7 +16,7 @@ use Rattle.hj_event.specs.declared.stop.Last.{Last}
 use Rattle.hj_event.specs.declared.stop.Last.TheVariants as last
 use Rattle.hj_event.specs.Arrivals.{Arrivals, arrivals_of, then_arrivals, clean, bad, unread}
 use Rattle.hj_event.specs.Arriving.{ArrivalLeads, TakesArrival, EndsBoth, fails}
-use Rattle.hj_event.specs.Events.{Numbered, numbered, none_live, up_to, all_events_of, events_of}
+use Rattle.hj_event.specs.Events.{Numbered, numbered, none_live, no_silence, up_to, all_events_of, events_of}
 use Rattle.hj_event.specs.Merger.{Merging, IsNew, NextLeads, Steps, IsAllRead, answer_of, next_of, fails_next, events_from}
 use Rattle.hj_event.specs.Numbering.{NumberingState, nothing_due, numbered_ahead, has_due, Gives}
 use Rattle.hj_event.specs.Roles.{IsReadOn, IsInStep}
@@ -105,8 +105,8 @@ steps_due answer sides over old new roles left right gives =
         ended = gives_all_read answer ahead behind some sides.left.reading.ended sides.right.reading.ended;
         stays = refl;
         due = λ e. ((refl, refl), (refl, refl));
-        left_needed = not_needed sides.left.head sides.left.reading (roles role.Left) (roles role.Left) refl;
-        right_needed = not_needed sides.right.head sides.right.reading (roles role.Right) (roles role.Right) refl;
+        left_needed = not_needed sides.left.head sides.left (roles role.Left) (roles role.Left) refl;
+        right_needed = not_needed sides.right.head sides.right (roles role.Right) (roles role.Right) refl;
       },
       refl,
     )
@@ -162,19 +162,20 @@ steps_arrival arrival answer old new over numbering with_row after before now no
 
 -- ---- a new merger
 
-begins : (query : Parts) (limit : ℕ) (left right : List Column) → left ≡ query.left.columns → right ≡ query.right.columns → (l r : Stream)
-    → events_from (record { sides = new_sides left right; numbering = record { live = none_live query; due = nothing_due; next = 0; limit = limit }; over = None }) l r ≡ events_of query l r limit
-begins query limit left right is are l r =
+begins : (query : Parts) (limit : ℕ) (left right : List Column) (slack : ℕ) → left ≡ query.left.columns → right ≡ query.right.columns → slack ≡ query.slack → (l r : Stream)
+    → events_from (record { sides = new_sides left right slack; numbering = record { live = none_live query; silence = no_silence; quiet = query.quiet; due = nothing_due; next = 0; limit = limit }; over = None }) l r ≡ events_of query l r limit
+begins query limit left right slack is are late l r =
     let all : limit - 0 ≡ limit = omega arith in
-    ap (λ (columns : List Column). up_to (limit - 0) (numbered 0 (none_live query) (arrivals_of (rows_of columns l) (rows_of right r)))) is
-    ∙ (ap (λ (columns : List Column). up_to (limit - 0) (numbered 0 (none_live query) (arrivals_of (rows_of query.left.columns l) (rows_of columns r)))) are
-    ∙ ap (λ (n : ℕ). up_to n (all_events_of query l r)) all)
+    ap (λ (columns : List Column). up_to (limit - 0) (numbered query.quiet 0 (none_live query) no_silence (arrivals_of (rows_of columns slack l) (rows_of right slack r)))) is
+    ∙ (ap (λ (columns : List Column). up_to (limit - 0) (numbered query.quiet 0 (none_live query) no_silence (arrivals_of (rows_of query.left.columns slack l) (rows_of columns slack r)))) are
+    ∙ (ap (λ (k : ℕ). up_to (limit - 0) (numbered query.quiet 0 (none_live query) no_silence (arrivals_of (rows_of query.left.columns k l) (rows_of query.right.columns k r)))) late
+    ∙ ap (λ (n : ℕ). up_to n (all_events_of query l r)) all))
 
-pub is_new : (query : Parts) (limit : ℕ) (left right : List Column) (merging : Merging) → left ≡ query.left.columns → right ≡ query.right.columns
-    → merging ≡ record { sides = new_sides left right; numbering = record { live = none_live query; due = nothing_due; next = 0; limit = limit }; over = None } → IsNew query limit merging
-is_new query limit left right merging is are same = subst (λ (m : Merging). IsNew query limit m) (sym same) (record {
+pub is_new : (query : Parts) (limit : ℕ) (left right : List Column) (slack : ℕ) (merging : Merging) → left ≡ query.left.columns → right ≡ query.right.columns → slack ≡ query.slack
+    → merging ≡ record { sides = new_sides left right slack; numbering = record { live = none_live query; silence = no_silence; quiet = query.quiet; due = nothing_due; next = 0; limit = limit }; over = None } → IsNew query limit merging
+is_new query limit left right slack merging is are late same = subst (λ (m : Merging). IsNew query limit m) (sym same) (record {
   left = refl;
   right = refl;
   over = refl;
-  events = begins query limit left right is are;
+  events = begins query limit left right slack is are late;
 })

@@ -7,14 +7,14 @@ use Rattle.hj_base.specs.declared.outside.Got.TheVariants as got
 use Rattle.hj_base.specs.Outside.{opened, RoleState, Reads, at_end}
 use Rattle.hj_value.specs.declared.field.Field.{Field}
 use Rattle.hj_event.specs.Roles.{IsInStep, IsReadOn, CountsFailure, name_of}
-use Rattle.hj_event.specs.Sides.{Reading}
+use Rattle.hj_event.specs.Sides.{SideState}
 use Rattle.hj_event.specs.Taking.{IsReadAsNeeded}
 
 -- Nothing is read.
 pub not_read : (ended : Bool) (role : RoleState) → IsInStep ended role → IsReadOn false [] ended ended role role
 not_read ended role step = record { came = Consumes-nil role.left; name = refl; in_step = step; no_more = λ e. (e, refl, refl); unended = λ e. cc; faults = refl }
 
-pub not_needed : (head : Option (List Field)) (side : Reading) (before now : RoleState) → now ≡ before → IsReadAsNeeded head side [] before now
+pub not_needed : (head : Option (List Field)) (side : SideState) (before now : RoleState) → now ≡ before → IsReadAsNeeded head side [] before now
 not_needed None side before now e = inl (refl, e)
 not_needed (Some row) side before now e = (refl, e)
 

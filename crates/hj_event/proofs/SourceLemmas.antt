@@ -1,166 +1,37 @@
--- The rows of a side, by what its bytes give and what a read brings.
-use Rattle.std.proofs.Common.{◌≡◌, ℕ, ◌+◌, ◌-◌, ◌≤◌, inl, inr, Bool, true, false, List, [], ◌++◌, length, drop, ℤ, Ok, Err, None, sym, refl, ap, subst, ◌∙◌, append_assoc, arith}
-use Rattle.std.specs.List.{slice_range}
-use Rattle.std.proofs.lemmas.List.{length-take, length-drop, nil_from_length}
+-- The rows of a side in order, by what its bytes give, which rows wait and what a read brings.
+use Rattle.std.proofs.Common.{◌≡◌, ℕ, ◌≤◌, inl, inr, Bool, true, false, List, [], ◌∷◌, ◌++◌, length, ℤ, Ok, Err, None, Some, sym, refl, ap, subst, ◌∙◌, append_assoc}
+use Rattle.std.specs.Prelude.{IsTrue}
+use Rattle.std.specs.List.{filter}
 use Rattle.std.specs.declared.option.Option.{Option}
 use Rattle.std.specs.declared.result.Result.{Result}
-use Rattle.hj_value.specs.declared.column.Column.{Column}
 use Rattle.hj_value.specs.declared.field.Field.{Field}
-use Rattle.hj_base.specs.declared.outside.Got.TheVariants as got
-use Rattle.hj_base.specs.Outside.{RoleState, Reads}
-use Rattle.hj_record.specs.declared.fault.PieceFault.{PieceFault}
-use Rattle.hj_record.specs.declared.cutter.Cut.TheVariants as cut
-use Rattle.hj_record.specs.declared.cutter.Fed.TheVariants as fed
-use Rattle.hj_record.specs.Cutter.{Cutting, cleared, Ends, LeadsAtEnd}
-use Rattle.hj_record.specs.Cuts.{Cuts, LeadsBy}
-use Rattle.hj_record.specs.Pieces.{Pieces, Stream, then_pieces}
+use Rattle.hj_base.specs.Outside.{RoleState}
+use Rattle.hj_record.specs.Pieces.{Stream}
 use Rattle.hj_event.specs.declared.fault.RecordFault.{RecordFault}
-use Rattle.hj_event.specs.declared.fault.RecordFault.TheVariants as fault
 use Rattle.hj_event.specs.declared.stop.Stop.{Stop}
 use Rattle.hj_event.specs.declared.stop.Stop.TheVariants as stop
 use Rattle.hj_event.specs.declared.stop.Found.{Found}
 use Rattle.hj_event.specs.declared.stop.Found.TheVariants as found
-use Rattle.hj_event.specs.Rows.{Rows, no_row, rows_in, unread}
-use Rattle.hj_event.specs.Sides.{Reading, in_front, at_its_end, cut_off, MayFollow, pieces_ahead, rows_ahead}
-use Rattle.hj_event.specs.Reads.{reading, Fills}
+use Rattle.hj_event.specs.Rows.{Rows, no_row, then_rows, put_in, is_sure, in_order, rows_in, unread}
+use Rattle.hj_event.specs.Sides.{Reading, SideState, in_front, at_its_end, cut_off, MayFollow, pieces_ahead, read_ahead, rows_ahead}
+use Rattle.hj_event.specs.Reads.{Fills}
 use Rattle.hj_event.specs.Roles.{IsReadOn, IsInStep}
-use Rattle.hj_event.specs.Taking.{IsNeeded, IsReadAsNeeded, ReadsPiece, Holds, FoundLeads, Advances, TakesRow, stop_of, unseen, has_failed}
-use Rattle.hj_event.proofs.Pieces.{range_rest, range_front, range_none, ahead_of, lent_within, piece_within, lent_ahead, piece_ahead, more_ahead, bad_ahead, last_ahead}
-use Rattle.hj_event.proofs.RowLemmas.{holds_leads, bad_leads, at_end_follows, holds_ended, holds_wants}
-use Rattle.hj_event.proofs.RoleLemmas.{not_read, read_more, reads_end, reads_failed}
-
--- ---- one piece
-
-part_within : (portion : List ℕ) (taken filled used : ℕ) → used ≤ length (slice_range portion taken filled) → used ≤ filled - taken
-part_within portion taken filled used le = omega (arith, le, length-take (filled - taken) (drop taken portion))
-
-holds_advances : (row : Result (Option (List Field)) RecordFault) (answer : Result Found Stop) (old mid new : Reading) (piece : List ℕ) → ReadsPiece row mid.columns mid.time piece → Holds row answer mid new → mid.ended ≡ old.ended
-    → ((stream : Stream) → MayFollow mid.ended stream → rows_ahead old stream ≡ rows_in mid.columns mid.record_no mid.time (then_pieces piece (pieces_ahead mid stream)))
-    → Advances answer old new
-holds_advances row answer old mid new piece reads holds same is =
-    let ends = holds_ended row answer mid new holds in
-    record {
-      ended = ends ∙ same;
-      leads = λ stream follows. holds_leads row answer mid new piece stream (rows_ahead old stream) reads holds (is stream (subst (λ (e : Bool). MayFollow e stream) ends follows));
-      wants = holds_wants row answer mid new holds;
-    }
-
-advances_behind : (answer : Result Found Stop) (old mid new : Reading) → ((stream : Stream) → rows_ahead old stream ≡ rows_ahead mid stream) → mid.ended ≡ old.ended → Advances answer mid new → Advances answer old new
-advances_behind answer old mid new is same advances = record {
-  ended = advances.ended ∙ same;
-  leads = λ stream follows. subst (λ (ahead : Rows). FoundLeads answer ahead (rows_ahead new stream)) (sym (is stream)) (advances.leads stream follows);
-  wants = advances.wants;
-}
-
-module _ (columns : List Column) (record_no : ℕ) (time : Option ℤ) (ended : Bool) (portion : List ℕ) (taken filled : ℕ) (old new : Cutting) where
-  pub lent_advances : (used : ℕ) (row : Result (Option (List Field)) RecordFault) (answer : Result Found Stop) (behind : Reading)
-      → Cuts (cut.Lent used) (slice_range portion taken filled) old new → (old.fault ≡ None → LeadsBy (cut.Lent used) (slice_range portion taken filled) old new)
-      → ReadsPiece row columns time (slice_range portion taken (taken + used))
-      → Holds row answer (reading columns new portion (taken + used) filled ended record_no time) behind
-      → Advances answer (reading columns old portion taken filled ended record_no time) behind
-  lent_advances used row answer behind cuts leads reads holds =
-      let within : used ≤ filled - taken = part_within portion taken filled used (lent_within old new (slice_range portion taken filled) used cuts) in
-      let mid = reading columns new portion (taken + used) filled ended record_no time in
-      holds_advances row answer (reading columns old portion taken filled ended record_no time) mid behind (slice_range portion taken (taken + used)) reads holds refl
-      (λ stream follows. ap (rows_in columns record_no time) (
-      lent_ahead old new (slice_range portion taken filled) used cuts leads stream.bytes stream.whole
-      ∙ ap (λ (piece : List ℕ). then_pieces piece (ahead_of new (drop used (slice_range portion taken filled) ++ stream.bytes) stream.whole)) (sym (range_front portion taken filled used within))
-      ∙ ap (λ (rest : List ℕ). then_pieces (slice_range portion taken (taken + used)) (ahead_of new (rest ++ stream.bytes) stream.whole)) (sym (range_rest portion taken filled used within))))
-
-  pub piece_advances : (used : ℕ) (row : Result (Option (List Field)) RecordFault) (answer : Result Found Stop) (behind : Reading)
-      → Cuts (cut.Piece used) (slice_range portion taken filled) old new → (old.fault ≡ None → LeadsBy (cut.Piece used) (slice_range portion taken filled) old new)
-      → ReadsPiece row columns time new.piece
-      → Holds row answer (reading columns (cleared new) portion (taken + used) filled ended record_no time) behind
-      → Advances answer (reading columns old portion taken filled ended record_no time) behind
-  piece_advances used row answer behind cuts leads reads holds =
-      let within : used ≤ filled - taken = part_within portion taken filled used (piece_within old new (slice_range portion taken filled) used cuts) in
-      let mid = reading columns (cleared new) portion (taken + used) filled ended record_no time in
-      holds_advances row answer (reading columns old portion taken filled ended record_no time) mid behind new.piece reads holds refl
-      (λ stream follows. ap (rows_in columns record_no time) (
-      piece_ahead old new (slice_range portion taken filled) used cuts leads stream.bytes stream.whole
-      ∙ ap (λ (rest : List ℕ). then_pieces new.piece (ahead_of (cleared new) (rest ++ stream.bytes) stream.whole)) (sym (range_rest portion taken filled used within))))
-
-  -- all bytes were looked at
-  all_taken : Cuts cut.More (slice_range portion taken filled) old new → (old.fault ≡ None → LeadsBy cut.More (slice_range portion taken filled) old new)
-      → (stream : Stream) → rows_ahead (reading columns old portion taken filled ended record_no time) stream ≡ rows_ahead (reading columns new portion filled filled ended record_no time) stream
-  all_taken cuts leads stream =
-      let goes = more_ahead old new (slice_range portion taken filled) cuts leads in
-      ap (rows_in columns record_no time) (
-      goes.ahead stream.bytes stream.whole
-      ∙ ap (λ (rest : List ℕ). ahead_of new (rest ++ stream.bytes) stream.whole) (sym (range_none portion filled)))
-
-  pub more_advances : ended ≡ false → Cuts cut.More (slice_range portion taken filled) old new → (old.fault ≡ None → LeadsBy cut.More (slice_range portion taken filled) old new)
-      → Advances (Ok found.More) (reading columns old portion taken filled ended record_no time) (reading columns new portion filled filled ended record_no time)
-  more_advances going cuts leads =
-      let goes = more_ahead old new (slice_range portion taken filled) cuts leads in
-      record {
-        ended = refl;
-        leads = λ stream follows. all_taken cuts leads stream;
-        wants = (
-          going,
-          range_none portion filled,
-          ap (rows_in columns record_no time) (ap (λ (rest : List ℕ). ahead_of new (rest ++ []) false) (range_none portion filled) ∙ goes.cut_off),
-        );
-      }
-
-  pub close_advances : (answer : Result Found Stop) (behind : Reading) → Cuts cut.More (slice_range portion taken filled) old new → (old.fault ≡ None → LeadsBy cut.More (slice_range portion taken filled) old new)
-      → Advances answer (reading columns new portion filled filled ended record_no time) behind
-      → Advances answer (reading columns old portion taken filled ended record_no time) behind
-  close_advances answer behind cuts leads advances =
-      advances_behind answer (reading columns old portion taken filled ended record_no time) (reading columns new portion filled filled ended record_no time) behind (all_taken cuts leads) refl advances
-
-  pub bad_advances : (why : PieceFault) → Cuts (cut.Bad why) (slice_range portion taken filled) old new → (old.fault ≡ None → LeadsBy (cut.Bad why) (slice_range portion taken filled) old new)
-      → Advances (Err (stop_of record_no (fault.Piece why))) (reading columns old portion taken filled ended record_no time) (reading columns new portion taken filled ended record_no time)
-  bad_advances why cuts leads =
-      record {
-        ended = refl;
-        leads = λ stream follows. bad_leads record_no why (rows_ahead (reading columns old portion taken filled ended record_no time) stream) (rows_ahead (reading columns new portion taken filled ended record_no time) stream)
-            (elim (bad_ahead old new (slice_range portion taken filled) why cuts leads) [ inl memory ↦ inl memory | inr is ↦ inr (ap (rows_in columns record_no time) (is stream.bytes stream.whole)) ]);
-        wants = tt;
-      }
-
--- ---- the last piece
-
--- at its end a side has the pieces that its cutter says
-ahead_at_end : (old : Reading) (cutting : Cutting) → old.room ≡ cutting.room → old.part ≡ cutting.piece → old.fault ≡ cutting.fault → old.rest ≡ [] → pieces_ahead old at_its_end ≡ ahead_of cutting [] true
-ahead_at_end old cutting room part fault rest =
-    ap (λ (r : List ℕ). pieces_ahead (record old { rest = r }) at_its_end) rest
-    ∙ ap (λ (k : ℕ). pieces_ahead (record old { rest = []; room = k }) at_its_end) room
-    ∙ ap (λ (p : List ℕ). pieces_ahead (record old { rest = []; room = cutting.room; part = p }) at_its_end) part
-    ∙ ap (λ (f : Option PieceFault). pieces_ahead (record old { rest = []; room = cutting.room; part = cutting.piece; fault = f }) at_its_end) fault
-
-rows_at_end : (old mid : Reading) (pieces : Pieces) (stream : Stream) → old.ended ≡ true → MayFollow old.ended stream → pieces_ahead old at_its_end ≡ pieces → rows_ahead old stream ≡ rows_in old.columns old.record_no old.time pieces
-rows_at_end old mid pieces stream ends follows is =
-    ap (rows_ahead old) (at_end_follows old.ended stream ends follows) ∙ ap (rows_in old.columns old.record_no old.time) is
-
-module _ (columns : List Column) (record_no : ℕ) (time : Option ℤ) (ended : Bool) (portion : List ℕ) (taken filled : ℕ) (old new : Cutting) (ends : ended ≡ true) (none : slice_range portion taken filled ≡ []) where
-  at_end : (cutting : Cutting) → pieces_ahead (reading columns cutting portion taken filled ended record_no time) at_its_end ≡ ahead_of cutting [] true
-  at_end cutting = ahead_at_end (reading columns cutting portion taken filled ended record_no time) cutting refl refl refl none
-
-  pub last_advances : (used : ℕ) (row : Result (Option (List Field)) RecordFault) (answer : Result Found Stop) (behind : Reading)
-      → Ends (fed.Piece used) old new → (old.fault ≡ None → LeadsAtEnd (fed.Piece used) old new)
-      → ReadsPiece row columns time new.piece
-      → Holds row answer (reading columns (cleared new) portion taken filled ended record_no time) behind
-      → Advances answer (reading columns old portion taken filled ended record_no time) behind
-  last_advances used row answer behind closes leads reads holds =
-      let before = reading columns old portion taken filled ended record_no time in
-      let mid = reading columns (cleared new) portion taken filled ended record_no time in
-      holds_advances row answer before mid behind new.piece reads holds refl
-      (λ stream follows. rows_at_end before mid (then_pieces new.piece (pieces_ahead mid stream)) stream ends follows
-      (at_end old ∙ (last_ahead old new used closes leads).0
-      ∙ ap (then_pieces new.piece) (sym (at_end (cleared new)) ∙ ap (pieces_ahead mid) (sym (at_end_follows ended stream ends follows)))))
+use Rattle.hj_event.specs.Taking.{IsNeeded, IsReadAsNeeded, FoundLeads, Wants, Advances, GoesOn, TakesRow, TellsRow, TellsNext, NoneWaits, unseen, has_failed}
+use Rattle.hj_event.specs.Waiting.{TakesSure, has_sure}
+use Rattle.hj_event.proofs.OrderLemmas.{as_read, sure_ahead}
+use Rattle.hj_event.proofs.RoleLemmas.{not_read, read_more}
 
 -- ---- row by row
 
 -- A side was read on from one state to another, and no row was taken.
-pub record SoFar (old now : Reading) (before after : RoleState) : Type 0 where
+pub record SoFar (old now : SideState) (before after : RoleState) : Type 0 where
   pub bytes : List ℕ
-  pub reads : IsReadOn false bytes old.ended now.ended before after
-  pub leads : (stream : Stream) → MayFollow now.ended stream → rows_ahead old (in_front bytes stream) ≡ rows_ahead now stream
-  pub needed : IsReadAsNeeded None old bytes before after
+  pub reads : IsReadOn false bytes old.reading.ended now.reading.ended before after
+  pub leads : (stream : Stream) → MayFollow now.reading.ended stream → rows_ahead old (in_front bytes stream) ≡ rows_ahead now stream
+  pub needed : IsReadAsNeeded None (unseen old) bytes before after
 
-pub so_far-none : (old : Reading) (role : RoleState) → IsInStep old.ended role → SoFar old old role role
-so_far-none old role step = record { bytes = []; reads = not_read old.ended role step; leads = λ stream follows. refl; needed = inl (refl, refl) }
+pub so_far-none : (old : SideState) (role : RoleState) → IsInStep old.reading.ended role → SoFar old old role role
+so_far-none old role step = record { bytes = []; reads = not_read old.reading.ended role step; leads = λ stream follows. refl; needed = inl (refl, refl) }
 
 read_as : (failed : Bool) (bytes : List ℕ) (was mid ended : Bool) (before after : RoleState) → ended ≡ mid → IsReadOn failed bytes was mid before after → IsReadOn failed bytes was ended before after
 read_as failed bytes was mid ended before after e reads = subst (λ (b : Bool). IsReadOn failed bytes was b before after) (sym e) reads
@@ -171,124 +42,255 @@ follows_as stream one other e follows = subst (λ (b : Bool). MayFollow b stream
 follows_going : (stream : Stream) (ended : Bool) → ended ≡ false → MayFollow ended stream
 follows_going stream ended e = subst (λ (b : Bool). MayFollow b stream) (sym e) tt
 
-module _ (old now new : Reading) (before after : RoleState) (so_far : SoFar old now before after) where
+module _ (old now new : SideState) (before after : RoleState) (so_far : SoFar old now before after) where
   -- where the bytes give something, from the rows of the first state
-  from_first : (answer : Result Found Stop) → Advances answer now new → (stream : Stream) → MayFollow new.ended stream → FoundLeads answer (rows_ahead old (in_front so_far.bytes stream)) (rows_ahead new stream)
-  from_first answer advances stream follows =
-      subst (λ (ahead : Rows). FoundLeads answer ahead (rows_ahead new stream)) (sym (so_far.leads stream (follows_as stream new.ended now.ended advances.ended follows))) (advances.leads stream follows)
+  from_first : (answer : Result Found Stop) → GoesOn answer now new → (stream : Stream) → MayFollow new.reading.ended stream → FoundLeads answer (rows_ahead old (in_front so_far.bytes stream)) (rows_ahead new stream)
+  from_first answer goes stream follows =
+      subst (λ (ahead : Rows). FoundLeads answer ahead (rows_ahead new stream)) (sym (so_far.leads stream (follows_as stream new.reading.ended now.reading.ended goes.ended follows))) (goes.leads stream follows)
 
-  reads_on : (answer : Result Found Stop) → Advances answer now new → IsReadOn false so_far.bytes old.ended new.ended before after
-  reads_on answer advances = read_as false so_far.bytes old.ended now.ended new.ended before after advances.ended so_far.reads
+  reads_on : (answer : Result Found Stop) → GoesOn answer now new → IsReadOn false so_far.bytes old.reading.ended new.reading.ended before after
+  reads_on answer goes = read_as false so_far.bytes old.reading.ended now.reading.ended new.reading.ended before after goes.ended so_far.reads
 
-  pub so_far-no_record : Advances (Ok found.NoRecord) now new → SoFar old new before after
-  so_far-no_record advances = record { bytes = so_far.bytes; reads = reads_on (Ok found.NoRecord) advances; leads = from_first (Ok found.NoRecord) advances; needed = so_far.needed }
+  pub so_far-no_record : GoesOn (Ok found.NoRecord) now new → SoFar old new before after
+  so_far-no_record goes = record { bytes = so_far.bytes; reads = reads_on (Ok found.NoRecord) goes; leads = from_first (Ok found.NoRecord) goes; needed = so_far.needed }
 
-  pub so_far-more : Advances (Ok found.More) now new → SoFar old new before after
-  so_far-more advances = record { bytes = so_far.bytes; reads = reads_on (Ok found.More) advances; leads = from_first (Ok found.More) advances; needed = so_far.needed }
+  pub so_far-more : GoesOn (Ok found.More) now new → SoFar old new before after
+  so_far-more goes = record { bytes = so_far.bytes; reads = reads_on (Ok found.More) goes; leads = from_first (Ok found.More) goes; needed = so_far.needed }
 
   some_follows : (ended : Bool) → (stream : Stream) × MayFollow ended stream
   some_follows true = (at_its_end, refl)
   some_follows false = (at_its_end, tt)
 
-  pub takes_stop : (why : Stop) → Advances (Err why) now new → TakesRow (Err why) (unseen old) (unseen new) before after
-  takes_stop (stop.Bad at why) advances = record { bytes = so_far.bytes; reads = reads_on (Err (stop.Bad at why)) advances; leads = from_first (Err (stop.Bad at why)) advances; ended = tt; needed = so_far.needed }
-  takes_stop stop.Failed advances = let some = some_follows new.ended in absurd (advances.leads some.0 some.1)
-  takes_stop stop.Memory advances = record { bytes = so_far.bytes; reads = reads_on (Err stop.Memory) advances; leads = λ stream follows. tt; ended = tt; needed = so_far.needed }
+  pub takes_stop : (why : Stop) → GoesOn (Err why) now new → TakesRow (Err why) (unseen old) (unseen new) before after
+  takes_stop (stop.Bad at why) goes = record { bytes = so_far.bytes; reads = reads_on (Err (stop.Bad at why)) goes; leads = from_first (Err (stop.Bad at why)) goes; ended = tt; needed = so_far.needed }
+  takes_stop stop.Failed goes = let some = some_follows new.reading.ended in absurd (goes.leads some.0 some.1)
+  takes_stop stop.Memory goes = record { bytes = so_far.bytes; reads = reads_on (Err stop.Memory) goes; leads = λ stream follows. tt; ended = tt; needed = so_far.needed }
 
 -- ---- a read
 
-module _ (old now new : Reading) (before between after : RoleState) (so_far : SoFar old now before between) (going : now.ended ≡ false) (none : now.rest ≡ []) where
+module _ (old now new : SideState) (before between after : RoleState) (so_far : SoFar old now before between) (going : now.reading.ended ≡ false) (none : now.reading.rest ≡ []) (same : new ≡ record now { reading = new.reading }) where
   -- the bytes of two reads, one behind the other
   both_behind : (xs ys : List ℕ) (stream : Stream) → rows_ahead old (in_front (xs ++ ys) stream) ≡ rows_ahead old (in_front xs (in_front ys stream))
   both_behind xs ys stream = ap (λ (bytes : List ℕ). rows_ahead old (record { bytes = bytes; whole = stream.whole })) (append_assoc xs ys stream.bytes)
 
-  filled : (ys : List ℕ) (stream : Stream) → new ≡ record now { rest = ys; ended = new.ended } → rows_ahead now (in_front ys stream) ≡ rows_ahead new stream
-  filled ys stream same =
-      ap (λ (rest : List ℕ). rows_ahead (record now { rest = rest }) (in_front ys stream)) none
-      ∙ ap (λ (r : Reading). rows_ahead r stream) (sym same)
+  filled : (ys : List ℕ) (stream : Stream) → new.reading ≡ record now.reading { rest = ys; ended = new.reading.ended } → rows_ahead now (in_front ys stream) ≡ rows_ahead new stream
+  filled ys stream fills =
+      ap (λ (rest : List ℕ). rows_ahead (record now { reading = record now.reading { rest = rest } }) (in_front ys stream)) none
+      ∙ (ap (λ (r : Reading). rows_ahead (record now { reading = r }) stream) (sym fills)
+      ∙ ap (λ (s : SideState). rows_ahead s stream) (sym same))
 
   -- a side that goes on went on before
-  went_on : (was : Bool) → IsReadOn false so_far.bytes was now.ended before between → was ≡ false
+  went_on : (was : Bool) → IsReadOn false so_far.bytes was now.reading.ended before between → was ≡ false
   went_on true reads = cc ((reads.no_more refl).0, going)
   went_on false reads = refl
 
   -- a read where the bytes gave no row
-  needed_read : (ys : List ℕ) → length ys ≤ 4096 → rows_ahead now cut_off ≡ no_row unread → IsNeeded old (so_far.bytes ++ ys)
+  needed_read : (ys : List ℕ) → length ys ≤ 4096 → rows_ahead now cut_off ≡ no_row unread → IsNeeded (unseen old) (so_far.bytes ++ ys)
   needed_read ys within missing = record {
-    going = went_on old.ended so_far.reads;
+    going = went_on old.reading.ended so_far.reads;
     earlier = so_far.bytes;
     last = ys;
     is = refl;
     one_read = within;
-    missing = so_far.leads cut_off (follows_going cut_off now.ended going) ∙ missing;
+    missing = so_far.leads cut_off (follows_going cut_off now.reading.ended going) ∙ missing;
   }
 
-  pub so_far-filled : {T : Type 0} (x : T) → rows_ahead now cut_off ≡ no_row unread → Fills (Ok x) now new between after → SoFar old new before after
+  pub so_far-filled : {T : Type 0} (x : T) → rows_ahead now cut_off ≡ no_row unread → Fills (Ok x) now.reading new.reading between after → SoFar old new before after
   so_far-filled x missing fills = record {
     bytes = so_far.bytes ++ fills.bytes;
-    reads = read_more false so_far.bytes fills.bytes old.ended now.ended new.ended before between after so_far.reads (subst (λ (was : Bool). IsReadOn false fills.bytes was new.ended between after) (sym going) fills.reads);
+    reads = read_more false so_far.bytes fills.bytes old.reading.ended now.reading.ended new.reading.ended before between after so_far.reads (subst (λ (was : Bool). IsReadOn false fills.bytes was new.reading.ended between after) (sym going) fills.reads);
     leads = λ stream follows.
         both_behind so_far.bytes fills.bytes stream
-        ∙ (so_far.leads (in_front fills.bytes stream) (follows_going (in_front fills.bytes stream) now.ended going)
+        ∙ (so_far.leads (in_front fills.bytes stream) (follows_going (in_front fills.bytes stream) now.reading.ended going)
         ∙ filled fills.bytes stream fills.same);
     needed = inr (needed_read fills.bytes fills.within missing);
   }
 
-  pub takes_failed : {T : Type 0} (why : Stop) → rows_ahead now cut_off ≡ no_row unread → Fills {T = T} (Err why) now new between after → TakesRow (Err why) (unseen old) (unseen new) before after
+  pub takes_failed : {T : Type 0} (why : Stop) → rows_ahead now cut_off ≡ no_row unread → Fills {T = T} (Err why) now.reading new.reading between after → TakesRow (Err why) (unseen old) (unseen new) before after
   takes_failed {T} why missing fills =
       subst (λ (w : Stop). TakesRow (Err w) (unseen old) (unseen new) before after) (sym fills.failed.0)
       (record {
         bytes = so_far.bytes ++ fills.bytes;
-        reads = read_more true so_far.bytes fills.bytes old.ended now.ended new.ended before between after so_far.reads
-            (subst (λ (was : Bool). IsReadOn true fills.bytes was new.ended between after) (sym going)
-            (subst (λ (w : Stop). IsReadOn (has_failed {T = T} (Err w)) fills.bytes false new.ended between after) fills.failed.0 fills.reads));
+        reads = read_more true so_far.bytes fills.bytes old.reading.ended now.reading.ended new.reading.ended before between after so_far.reads
+            (subst (λ (was : Bool). IsReadOn true fills.bytes was new.reading.ended between after) (sym going)
+            (subst (λ (w : Stop). IsReadOn (has_failed {T = T} (Err w)) fills.bytes false new.reading.ended between after) fills.failed.0 fills.reads));
         leads = λ stream follows.
             ap (λ (s : Stream). rows_ahead old (in_front (so_far.bytes ++ fills.bytes) s)) follows
             ∙ (both_behind so_far.bytes fills.bytes cut_off
-            ∙ (so_far.leads (in_front fills.bytes cut_off) (follows_going (in_front fills.bytes cut_off) now.ended going)
+            ∙ (so_far.leads (in_front fills.bytes cut_off) (follows_going (in_front fills.bytes cut_off) now.reading.ended going)
             ∙ (ap (λ (ys : List ℕ). rows_ahead now (in_front ys cut_off)) fills.failed.1 ∙ missing)));
         ended = tt;
         needed = inr (needed_read fills.bytes fills.within missing);
       })
 
--- A read that answered the end.
-pub fills_end : (old new : Reading) (before after : RoleState) (buf : List ℕ) → IsInStep false before → Reads got.End buf before after → old.rest ≡ [] → new ≡ record old { ended = true } → Fills {T = Unit {0}} (Ok (tt {0})) old new before after
-fills_end old new before after buf step reads none same =
-    let ends : new.ended ≡ true = ap (λ (r : Reading). r.ended) same in
+-- ---- a step of a side
+
+-- a side whose next row wasn't looked at, by what it keeps
+abbrev pub source : Reading → List (List Field) → Option (ℕ × RecordFault) → SideState
+source reading waiting refused = record { head = None; reading = reading; waiting = waiting; stop = refused }
+
+-- Without a slack the rows to come are those that are still to be read.
+pub rows_as_read : (reading : Reading) → reading.slack ≡ 0 → (stream : Stream) → rows_ahead (source reading [] None) stream ≡ read_ahead reading stream
+rows_as_read reading none stream =
+    let pieces = pieces_ahead reading stream in
+    subst (λ (slack : ℕ). in_order slack reading.time [] (rows_in reading.columns slack reading.record_no reading.time pieces) ≡ rows_in reading.columns slack reading.record_no reading.time pieces) (sym none)
+    (as_read reading.columns reading.record_no reading.time pieces)
+
+leads_as_read : (answer : Result Found Stop) (old new : Reading) → old.slack ≡ 0 → new.slack ≡ 0 → (stream : Stream) → FoundLeads answer (read_ahead old stream) (read_ahead new stream) → FoundLeads answer (rows_ahead (source old [] None) stream) (rows_ahead (source new [] None) stream)
+leads_as_read answer old new was is stream leads =
+    subst (λ (ahead : Rows). FoundLeads answer ahead (rows_ahead (source new [] None) stream)) (sym (rows_as_read old was stream))
+    (subst (λ (behind : Rows). FoundLeads answer (read_ahead old stream) behind) (sym (rows_as_read new is stream)) leads)
+
+wants_as_read : (answer : Result Found Stop) (new : Reading) → new.slack ≡ 0 → Wants answer new (read_ahead new) → Wants answer new (rows_ahead (source new [] None))
+wants_as_read (Ok found.More) new none wants = (wants.0, wants.1, rows_as_read new none cut_off ∙ wants.2)
+wants_as_read (Ok found.End) new none wants = wants
+wants_as_read (Ok found.NoRecord) new none wants = tt
+wants_as_read (Ok (found.Row row)) new none wants = tt
+wants_as_read (Err why) new none wants = tt
+
+-- A piece, where there is no slack.
+pub goes_on_as_read : (answer : Result Found Stop) (old new : Reading) → old.slack ≡ 0 → Advances answer old new → GoesOn answer (source old [] None) (source new [] None)
+goes_on_as_read answer old new none advances =
+    let still = advances.slack ∙ none in
     record {
-      bytes = [];
-      reads = subst (λ (e : Bool). IsReadOn false [] false e before after) (sym ends) (reads_end before after buf step reads);
-      same = same ∙ (ap (λ (rest : List ℕ). record old { rest = rest; ended = true }) none ∙ ap (λ (e : Bool). record old { rest = []; ended = e }) (sym ends));
-      within = omega arith;
-      failed = tt;
+      ended = advances.ended;
+      leads = λ stream follows. leads_as_read answer old new none still stream (advances.leads stream follows);
+      wants = wants_as_read answer new still advances.wants;
     }
 
--- A read that failed.
-pub fills_failed : (old new : Reading) (before after : RoleState) (buf : List ℕ) → IsInStep false before → Reads got.Failed buf before after → old.ended ≡ false → old.rest ≡ [] → new ≡ old → Fills {T = Unit {0}} (Err stop.Failed) old new before after
-fills_failed old new before after buf step reads going none same =
-    let goes : new.ended ≡ false = ap (λ (r : Reading). r.ended) same ∙ going in
-    record {
-      bytes = [];
-      reads = subst (λ (e : Bool). IsReadOn true [] false e before after) (sym goes) (reads_failed before after buf step reads);
-      same = same ∙ (ap (λ (rest : List ℕ). record old { rest = rest }) none ∙ ap (λ (e : Bool). record old { rest = []; ended = e }) (ap (λ (r : Reading). r.ended) (sym same)));
-      within = omega arith;
-      failed = (refl, refl);
-    }
+as_source : (reading : Reading) (waiting : List (List Field)) (refused : Option (ℕ × RecordFault)) → (waiting ≡ []) × (refused ≡ None) → source reading waiting refused ≡ source reading [] None
+as_source reading waiting refused none = ap (λ (rows : List (List Field)). source reading rows refused) none.0 ∙ ap (source reading []) none.1
 
-range_empty : (xs ys : List ℕ) (taken filled : ℕ) → length ys ≡ length xs → slice_range xs taken filled ≡ [] → slice_range ys taken filled ≡ []
-range_empty xs ys taken filled same none =
-    nil_from_length (slice_range ys taken filled)
-    (omega (arith, same, ap length none, length-take (filled - taken) (drop taken xs), length-take (filled - taken) (drop taken ys), length-drop taken xs, length-drop taken ys))
+pub goes_on_without : (answer : Result Found Stop) (old new : Reading) (waiting : List (List Field)) (refused : Option (ℕ × RecordFault)) → NoneWaits old.slack waiting refused → old.slack ≡ 0 → Advances answer old new
+    → GoesOn answer (source old waiting refused) (source new waiting refused)
+goes_on_without answer old new waiting refused waits none advances =
+    subst (λ (before : SideState). GoesOn answer before (source new waiting refused)) (sym (as_source old waiting refused (waits none)))
+    (subst (λ (after : SideState). GoesOn answer (source old [] None) after) (sym (as_source new waiting refused (waits none))) (goes_on_as_read answer old new none advances))
 
--- Where all bytes of a portion were looked at, the bytes of the next one aren't seen before they are counted.
-pub still_same : (columns : List Column) (cutting : Cutting) (portion buf : List ℕ) (taken filled : ℕ) (ended : Bool) (record_no : ℕ) (time : Option ℤ) (old : Reading) → reading columns cutting portion taken filled ended record_no time ≡ old → old.rest ≡ [] → length buf ≡ length portion
-    → reading columns cutting buf taken filled ended record_no time ≡ old
-still_same columns cutting portion buf taken filled ended record_no time old is rest same =
-    let none : slice_range portion taken filled ≡ [] = ap (λ (r : Reading). r.rest) is ∙ rest in
-    let still : slice_range buf taken filled ≡ slice_range portion taken filled = range_empty portion buf taken filled same none ∙ sym none in
-    ap (λ (bytes : List ℕ). record (reading columns cutting portion taken filled ended record_no time) { rest = bytes }) still ∙ is
+-- The rows that wait come before the record that was refused.
+pub gives_before_refused : (reading : Reading) (row : List Field) (waiting : List (List Field)) (refused : ℕ × RecordFault) → GoesOn (Ok (found.Row row)) (source reading (row ∷ waiting) (Some refused)) (source reading waiting (Some refused))
+gives_before_refused reading row waiting refused = record { ended = refl; leads = λ stream follows. refl; wants = tt }
 
-pub end_same : (columns : List Column) (cutting : Cutting) (portion buf : List ℕ) (taken filled : ℕ) (ended : Bool) (record_no : ℕ) (time : Option ℤ) (old : Reading) → reading columns cutting portion taken filled ended record_no time ≡ old → old.rest ≡ [] → length buf ≡ length portion
-    → reading columns cutting buf taken filled true record_no time ≡ record old { ended = true }
-end_same columns cutting portion buf taken filled ended record_no time old is rest same =
-    ap (λ (r : Reading). record r { ended = true }) (still_same columns cutting portion buf taken filled ended record_no time old is rest same)
+pub gives_refused : (reading : Reading) (at : ℕ) (why : RecordFault) → GoesOn (Err (stop.Bad at why)) (source reading [] (Some (at, why))) (source reading [] (Some (at, why)))
+gives_refused reading at why = record { ended = refl; leads = λ stream follows. refl; wants = tt }
+
+module _ (old new : Reading) (waiting : List (List Field)) where
+  as_late : (slack : ℕ) (time : Option ℤ) → new.slack ≡ slack → new.time ≡ time → (stream : Stream) → rows_ahead (source new waiting None) stream ≡ in_order slack time waiting (read_ahead new stream)
+  as_late slack time late great stream =
+      ap (λ (s : ℕ). in_order s new.time waiting (read_ahead new stream)) late ∙ ap (λ (t : Option ℤ). in_order slack t waiting (read_ahead new stream)) great
+
+  -- A row that was read is put among those that wait.
+  pub puts_row : (row : List Field) → Advances (Ok (found.Row row)) old new → GoesOn (Ok found.NoRecord) (source old waiting None) (source new (put_in row waiting) None)
+  puts_row row advances = record {
+    ended = advances.ended;
+    leads = λ stream follows.
+        ap (in_order old.slack old.time waiting) (advances.leads stream follows)
+        ∙ sym (ap (λ (s : ℕ). in_order s new.time (put_in row waiting) (read_ahead new stream)) advances.slack
+        ∙ ap (λ (t : Option ℤ). in_order old.slack t (put_in row waiting) (read_ahead new stream)) advances.time.1);
+    wants = tt;
+  }
+
+  pub puts_none : Advances (Ok found.NoRecord) old new → GoesOn (Ok found.NoRecord) (source old waiting None) (source new waiting None)
+  puts_none advances = record {
+    ended = advances.ended;
+    leads = λ stream follows. ap (in_order old.slack old.time waiting) (advances.leads stream follows) ∙ sym (as_late old.slack old.time advances.slack advances.time stream);
+    wants = tt;
+  }
+
+  -- No row is sure, so more bytes are wanted.
+  pub wants_more : filter (is_sure new.slack new.time) waiting ≡ [] → Advances (Ok found.More) old new → GoesOn (Ok found.More) (source old waiting None) (source new waiting None)
+  wants_more none advances = record {
+    ended = advances.ended;
+    leads = λ stream follows. ap (in_order old.slack old.time waiting) (advances.leads stream follows) ∙ sym (as_late old.slack old.time advances.slack advances.time stream);
+    wants = (
+      advances.wants.0,
+      advances.wants.1,
+      ap (in_order new.slack new.time waiting) advances.wants.2 ∙ ap no_more none,
+    );
+  }
+    where
+      no_more : List (List Field) → Rows
+      no_more rows = record { rows = rows; ending = unread }
+
+  -- The record that was read is refused: the rows that wait come first.
+  pub refuses : (at : ℕ) (why : RecordFault) → Advances (Err (stop.Bad at why)) old new → GoesOn (Ok found.NoRecord) (source old waiting None) (source new waiting (Some (at, why)))
+  refuses at why advances = record {
+    ended = advances.ended;
+    leads = λ stream follows. ap (in_order old.slack old.time waiting) (advances.leads stream follows);
+    wants = tt;
+  }
+
+  pub runs_out : (after : List (List Field)) → Advances (Err stop.Memory) old new → GoesOn (Err stop.Memory) (source old waiting None) (source new after None)
+  runs_out after advances = record { ended = advances.ended; leads = λ stream follows. tt; wants = tt }
+
+  -- memory ran out for a row
+  pub puts_nowhere : (row : List Field) (after : List (List Field)) → Advances (Ok (found.Row row)) old new → GoesOn (Err stop.Memory) (source old waiting None) (source new after None)
+  puts_nowhere row after advances = record { ended = advances.ended; leads = λ stream follows. tt; wants = tt }
+
+  -- The first row that waits is sure.
+  pub gives_sure : (row : List Field) → is_sure new.slack new.time row ≡ true → Advances (Ok found.More) old new → GoesOn (Ok (found.Row row)) (source old (row ∷ waiting) None) (source new waiting None)
+  gives_sure row sure advances = record {
+    ended = advances.ended;
+    leads = λ stream follows.
+        ap (in_order old.slack old.time (row ∷ waiting)) (advances.leads stream follows)
+        ∙ (sym (ap (λ (s : ℕ). in_order s new.time (row ∷ waiting) (read_ahead new stream)) advances.slack
+        ∙ ap (λ (t : Option ℤ). in_order old.slack t (row ∷ waiting) (read_ahead new stream)) advances.time)
+        ∙ sure_ahead new.columns new.slack row new.record_no new.time waiting (pieces_ahead new stream) sure);
+    wants = tt;
+  }
+
+  -- At the end of the stream each row that waits comes.
+  pub gives_last : (row : List Field) → Advances (Ok found.End) old new → GoesOn (Ok (found.Row row)) (source old (row ∷ waiting) None) (source new waiting None)
+  gives_last row advances = record {
+    ended = advances.ended;
+    leads = λ stream follows.
+        ap (in_order old.slack old.time (row ∷ waiting)) (advances.leads stream follows).0
+        ∙ ap (λ (read : Rows). then_rows row (in_order new.slack new.time waiting read)) (sym (advances.leads stream follows).1);
+    wants = tt;
+  }
+
+pub gives_end : (old new : Reading) → Advances (Ok found.End) old new → GoesOn (Ok found.End) (source old [] None) (source new [] None)
+gives_end old new advances = record {
+  ended = advances.ended;
+  leads = λ stream follows. (ap (in_order old.slack old.time []) (advances.leads stream follows).0, ap (in_order new.slack new.time []) (advances.leads stream follows).1);
+  wants = advances.wants;
+}
+
+-- ---- what is told
+
+pub tells_as_read : (reading : Reading) → reading.slack ≡ 0 → TellsRow reading → TellsNext (source reading [] None)
+tells_as_read reading none tells = λ e. tells (sym (rows_as_read reading none cut_off) ∙ e)
+
+pub tells_without : (reading : Reading) (waiting : List (List Field)) (refused : Option (ℕ × RecordFault)) → NoneWaits reading.slack waiting refused → reading.slack ≡ 0 → TellsRow reading → TellsNext (source reading waiting refused)
+tells_without reading waiting refused waits none tells = subst TellsNext (sym (as_source reading waiting refused (waits none))) (tells_as_read reading none tells)
+
+pub tells_refused : (reading : Reading) (waiting : List (List Field)) (refused : ℕ × RecordFault) → TellsNext (source reading waiting (Some refused))
+tells_refused reading waiting refused = λ e. let ends = ap (λ (rows : Rows). rows.ending) e in cc
+
+pub tells_sure : (reading : Reading) (waiting : List (List Field)) → has_sure reading.slack reading.time waiting ≡ true → TellsNext (source reading waiting None)
+tells_sure reading [] has = cc
+tells_sure reading (row ∷ waiting) has =
+    λ e. let rows = ap (λ (rows : Rows). rows.rows) (sym (sure_ahead reading.columns reading.slack row reading.record_no reading.time waiting (pieces_ahead reading cut_off) has) ∙ e) in cc
+
+-- A row that waits is told where it is sure, and else the fault, where it is known.
+pub tells_next : (reading : Reading) (waiting : List (List Field)) (refused : Option (ℕ × RecordFault)) (slack : ℕ) (greatest : Option ℤ) (sure : Bool) → slack ≡ reading.slack → greatest ≡ reading.time → sure ≡ has_sure slack greatest waiting → IsTrue sure
+    → TellsNext (source reading waiting refused)
+tells_next reading waiting (Some found) slack greatest sure late great is has = tells_refused reading waiting found
+tells_next reading waiting None slack greatest sure late great is has =
+    tells_sure reading waiting (sym (ap (λ (s : ℕ). has_sure s greatest waiting) late ∙ ap (λ (g : Option ℤ). has_sure reading.slack g waiting) great) ∙ (sym is ∙ has))
+
+-- Where no record is refused, the first row that waits is given if it is sure, and else more bytes are wanted.
+abbrev pub given_or_more : Option (List Field) → Result Found Stop
+given_or_more None = Ok found.More
+given_or_more (Some row) = Ok (found.Row row)
+
+pub gives_or_wants : (given : Option (List Field)) (old new : Reading) (waiting after : List (List Field)) (refused : Option (ℕ × RecordFault)) (slack : ℕ) (greatest : Option ℤ) → refused ≡ None → slack ≡ new.slack → greatest ≡ new.time
+    → TakesSure given slack greatest waiting after → Advances (Ok found.More) old new → GoesOn (given_or_more given) (source old waiting refused) (source new after refused)
+gives_or_wants (Some row) old new waiting after refused slack greatest none late great takes advances =
+    rw (none, takes.0) (gives_sure old new after row (sym (ap (λ (s : ℕ). is_sure s greatest row) late ∙ ap (λ (g : Option ℤ). is_sure new.slack g row) great) ∙ takes.1) advances)
+gives_or_wants None old new waiting after refused slack greatest none late great takes advances =
+    rw (none, takes.0) (wants_more old new waiting (sym (ap (λ (s : ℕ). filter (is_sure s greatest) waiting) late ∙ ap (λ (g : Option ℤ). filter (is_sure new.slack g) waiting) great) ∙ takes.1) advances)
+
+pub none_refused : (refused : Option (ℕ × RecordFault)) → ((found : ℕ × RecordFault) → refused ≡ Some found → ⊥) → refused ≡ None
+none_refused None not_some = refl
+none_refused (Some found) not_some = absurd (not_some found refl)

@@ -10,12 +10,12 @@ use Rattle.hj_base.specs.declared.numbers.EventNo.{EventNo}
 use Rattle.hj_base.specs.declared.numbers.Side.{Side}
 use Rattle.hj_base.specs.declared.numbers.Side.TheVariants.{Left, Right}
 use Rattle.hj_msg.specs.declared.event.Event.{Event}
-use Rattle.hj_msg.specs.declared.event.Event.TheVariants.{Arrive, Expire}
+use Rattle.hj_msg.specs.declared.event.Event.TheVariants.{Arrive, Expire, Quiet}
 use Rattle.hj_msg.specs.Event.{number, Arrives}
 use Rattle.hj_msg.proofs.Members.{Contains-nil, Ranked, Ranked-push, Ranked-filter, Contains-from_filter}
 use Rattle.hj_window.specs.LiveRows.{LiveRow, is_same_side, of_side}
 use Rattle.hj_event.specs.Windows.{live_rows}
-use Rattle.hj_event.proofs.LiveRows.{cases_side, filter_both, has_expired, has_expired-arrival, has_expired-cases, live_rows-arrival, live_rows-other_arrival, live_rows-expiry}
+use Rattle.hj_event.proofs.LiveRows.{cases_side, filter_both, has_expired, has_expired-arrival, has_expired-quiet, has_expired-cases, live_rows-arrival, live_rows-other_arrival, live_rows-quiet, live_rows-expiry}
 
 abbrev pub Events : Type 0
 Events = List (Event (List Field))
@@ -148,4 +148,18 @@ Stands-expiry before at side of rows earlier s = record {
   ];
   arrived = λ own came row h. let l = s.arrived own came row (past_expiry before (record { 0 = at }) of side own came row h) in omega arith;
   timed = λ own came row one h k is. s.timed own came row one (past_expiry before (record { 0 = at }) of side own came row h) (Contains-from_filter (λ (r : LiveRow). not (of.0 == r.no)) rows one k).0 is;
+}
+
+past_quiet : (before : Events) (at : EventNo) (side own : Side) (came : ℕ) (row : List Field) → Arrives (before ++ Quiet at side ∷ []) own came row → Arrives before own came row
+past_quiet before at side own came row h = elim (Contains-push_cases before (Quiet at side) (Arrive (record { 0 = came }) own row) h) [ inl k ↦ k | inr e ↦ cc ]
+
+pub Stands-quiet : (before : Events) (at : ℕ) (side : Side) (rows : List LiveRow) → Stands before at rows → Stands (before ++ Quiet (record { 0 = at }) side ∷ []) (at + 1) rows
+Stands-quiet before at side rows s = record {
+  count = omega (arith, length-append before (Quiet (record { 0 = at }) side ∷ []), s.count);
+  shown = λ own. live_rows-quiet before (record { 0 = at }) side own ∙ s.shown own;
+  below = λ row h. let l = s.below row h in omega arith;
+  rising = s.rising;
+  expired = λ gone h. let l = s.expired gone (sym (has_expired-quiet before (record { 0 = at }) side gone) ∙ h) in omega arith;
+  arrived = λ own came row h. let l = s.arrived own came row (past_quiet before (record { 0 = at }) side own came row h) in omega arith;
+  timed = λ own came row one h k is. s.timed own came row one (past_quiet before (record { 0 = at }) side own came row h) k is;
 }

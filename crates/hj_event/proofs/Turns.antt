@@ -3,6 +3,7 @@ use Rattle.std.proofs.Common.{◌≡◌, ℕ, suc, ◌+◌, ◌<◌, ◌≤◌, 
 use Rattle.std.specs.Prelude.{int_le, nat_lt}
 use Rattle.std.specs.List.{list_any}
 use Rattle.std.specs.Option.{option_to_list}
+use Rattle.std.specs.declared.option.Option.{Option}
 use Rattle.std.proofs.lemmas.Bool.{eq-eqb, eqb-true, ne_eqb, ltb-true, ltb-false, false≢true, false_from_ne_true, not-true}
 use Rattle.std.proofs.lemmas.List.{length-map}
 use Rattle.std.proofs.lemmas.List.Elements.{filter_agree}
@@ -14,17 +15,17 @@ use Rattle.hj_base.specs.declared.numbers.Side.{Side}
 use Rattle.hj_base.specs.declared.numbers.Side.TheVariants.{Left, Right}
 use Rattle.hj_base.specs.declared.numbers.Window.{Window}
 use Rattle.hj_base.specs.declared.numbers.Window.TheVariants.{Rows, Time}
-use Rattle.hj_msg.specs.declared.event.Event.TheVariants.{Arrive, Expire}
+use Rattle.hj_msg.specs.declared.event.Event.TheVariants.{Arrive, Expire, Quiet}
 use Rattle.hj_msg.specs.Event.{Arrives}
 use Rattle.hj_msg.proofs.Members.{Contains-nil, Contains-head, Contains-cons, Contains-cons_cases, Contains-map, Contains-from_map, Contains-filter, Contains-from_filter, Ranked, Ranked-filter, any_of, find}
 use Rattle.hj_query.specs.Parts.{Parts}
 use Rattle.hj_window.specs.LiveRows.{LiveRow, LiveRows, Arrived, window_of, is_same_side, of_side, is_gone_at, is_gone, one_too_many, without, arrive}
 use Rattle.hj_event.specs.Arrivals.{Arrival}
-use Rattle.hj_event.specs.Events.{expiries, events_at, number_from}
+use Rattle.hj_event.specs.Events.{Silence, no_silence, silence_at, quiet_side, silence_behind, quiet_event, expiries, events_at, number_from}
 use Rattle.hj_event.specs.Windows.{live_rows, ArrivesNext, window_at, is_aged}
 use Rattle.hj_event.proofs.LiveRows.{cases_side, filter_both}
 use Rattle.hj_event.proofs.Moments.{AtEach}
-use Rattle.hj_event.proofs.Stands.{Events, Stands, Stands-none, Stands-arrival, Stands-expiry, no_of, removed, filter_swap, same_self, same_other, of_side-push, of_side-other}
+use Rattle.hj_event.proofs.Stands.{Events, Stands, Stands-none, Stands-arrival, Stands-expiry, Stands-quiet, no_of, removed, filter_swap, same_self, same_other, of_side-push, of_side-other}
 
 -- No side has more live rows than its window of rows holds.
 abbrev pub Within : Parts → Events → Type 0
@@ -44,10 +45,16 @@ pub record AtExpiry (query : Parts) (before behind : Events) (at : EventNo) (sid
   pub counted : (count : ℕ) → window_at query side ≡ Rows count → (others : List ℕ) × (live_rows side before ≡ of.0 ∷ others) × (length others ≡ count)
   pub aged : (span : ℕ) (row : List Field) → window_at query side ≡ Time span → Arrives before side of.0 row → (later : List Field) × ArrivesNext behind later × (is_aged span row later ≡ true)
 
+-- A side has a quiet event next.
+pub record AtQuiet (query : Parts) (before : Events) (at : EventNo) : Type 0 where
+  pub numbered : at.0 ≡ length before
+  pub within : Within query before
+
 abbrev pub Moment : Parts → Events → Events → Type 0
 Moment query before [] = Within query before
 Moment query before (Arrive at side row ∷ behind) = AtArrival query before at row
 Moment query before (Expire at side of ∷ behind) = AtExpiry query before behind at side of
+Moment query before (Quiet at side ∷ behind) = AtQuiet query before at
 
 -- ---- rows by their numbers
 
@@ -328,35 +335,58 @@ module _ (query : Parts) where
   abbrev arrived_at : Arrival → ℕ → List LiveRow → Arrived
   arrived_at arrival at rows = came_of at arrival.side (time_of arrival.row) (aged_rows (time_of arrival.row) rows) (kept_rows (time_of arrival.row) rows) (window_at query arrival.side)
 
-  turn : (arrival : Arrival) (at : ℕ) (rows : List LiveRow) (before : Events) (rest : ℕ → List LiveRow → Events) → ((next : Events) (n : ℕ) (rows : List LiveRow) → Stands next n rows → Fit rows → AtEach (Moment query) next (rest n rows)) → Stands before at rows → Fit rows
-      → AtEach (Moment query) before (events_at at arrival (arrived_at arrival at rows) ++ rest (at + length (events_at at arrival (arrived_at arrival at rows))) (arrived_at arrival at rows).live.rows)
-  turn arrival at rows before rest goes s fit =
+  -- the quiet event of a side, in front of what goes on behind it
+  abbrev with_quiet : Option Side → (ℕ → List LiveRow → Events) → ℕ → List LiveRow → Events
+  with_quiet told rest n rows = quiet_event n told ++ rest (n + length (option_to_list told)) rows
+
+  goes_quiet : (told : Option Side) (rest : ℕ → List LiveRow → Events) → ((next : Events) (n : ℕ) (rows : List LiveRow) → Stands next n rows → Fit rows → AtEach (Moment query) next (rest n rows))
+      → (next : Events) (n : ℕ) (rows : List LiveRow) → Stands next n rows → Fit rows → AtEach (Moment query) next (with_quiet told rest n rows)
+  goes_quiet None rest goes next n rows s fit = goes next (n + 0) rows (subst (λ (k : ℕ). Stands next k rows) (omega arith) s) fit
+  goes_quiet (Some side) rest goes next n rows s fit = (
+    record { numbered = sym s.count; within = within_of next n rows s fit },
+    goes (next ++ Quiet (record { 0 = n }) side ∷ []) (n + 1) rows (Stands-quiet next n side rows s) fit,
+  )
+
+  length-quiet_event : (at : ℕ) (told : Option Side) → length (quiet_event at told) ≡ length (option_to_list told)
+  length-quiet_event at None = refl
+  length-quiet_event at (Some side) = refl
+
+  turn : (arrival : Arrival) (told : Option Side) (at : ℕ) (rows : List LiveRow) (before : Events) (rest : ℕ → List LiveRow → Events) → ((next : Events) (n : ℕ) (rows : List LiveRow) → Stands next n rows → Fit rows → AtEach (Moment query) next (rest n rows)) → Stands before at rows → Fit rows
+      → AtEach (Moment query) before (events_at at arrival (arrived_at arrival at rows) told ++ rest (at + length (events_at at arrival (arrived_at arrival at rows) told)) (arrived_at arrival at rows).live.rows)
+  turn arrival told at rows before rest goes s fit =
       let side = arrival.side in
       let row = arrival.row in
       let gone = aged_rows (time_of row) rows in
       let kept = kept_rows (time_of row) rows in
       let n = at + length gone in
       let came = arrived_at arrival at rows in
-      let behind = Arrive (record { 0 = n }) side row ∷ expiries (n + 1) (option_to_list came.after) in
-      let total = n + 1 + length (option_to_list came.after) in
+      let after = expiries (n + 1) (option_to_list came.after) in
+      let quiet = quiet_event (n + 1 + length (option_to_list came.after)) told in
+      let behind = Arrive (record { 0 = n }) side row ∷ (after ++ quiet) in
+      let total = n + 1 + length (option_to_list came.after) + length (option_to_list told) in
       let is : without_all gone rows ≡ kept = removes_all (aged_at (time_of row)) rows s.rising in
-      let count : total ≡ at + length (events_at at arrival came) = omega (arith, length-append (expiries at gone) behind, length-expiries at gone, length-expiries (n + 1) (option_to_list came.after)) in
-      let goes_on : AtEach (Moment query) before (expiries at gone ++ (behind ++ rest total came.live.rows)) =
-      age_out row gone at rows before (behind ++ rest total came.live.rows) s fit (λ one h. Contains-from_filter (aged_at (time_of row)) rows one h)
+      let count : total ≡ at + length (events_at at arrival came told) = omega (arith, length-append (expiries at gone) behind, length-append after quiet, length-expiries at gone, length-expiries (n + 1) (option_to_list came.after), length-quiet_event (n + 1 + length (option_to_list came.after)) told) in
+      let goes_on : AtEach (Moment query) before (expiries at gone ++ (Arrive (record { 0 = n }) side row ∷ (after ++ (quiet ++ rest total came.live.rows)))) =
+      age_out row gone at rows before (Arrive (record { 0 = n }) side row ∷ (after ++ (quiet ++ rest total came.live.rows))) s fit (λ one h. Contains-from_filter (aged_at (time_of row)) rows one h)
       (Ranked-filter (λ one other. one.no < other.no) (aged_at (time_of row)) rows s.rising) refl
-      (λ next m e t f. arrives side row rest goes next n kept
+      (λ next m e t f. arrives side row (with_quiet told rest) (goes_quiet told rest goes) next n kept
       (subst (λ (rs : List LiveRow). Stands next n rs) is (subst (λ (k : ℕ). Stands next k (without_all gone rows)) e t))
       (subst (λ (rs : List LiveRow). Fit rs) is f)
       (λ one h. not-true (aged_at (time_of row) one) (Contains-from_filter (λ (r : LiveRow). not (aged_at (time_of row) r)) rows one h).1)) in
-      subst (λ (k : ℕ). AtEach (Moment query) before (events_at at arrival came ++ rest k came.live.rows)) count
-      (subst (λ (events : Events). AtEach (Moment query) before events) (sym (append_assoc (expiries at gone) behind (rest total came.live.rows))) goes_on)
+      let grouped : expiries at gone ++ (Arrive (record { 0 = n }) side row ∷ (after ++ (quiet ++ rest total came.live.rows))) ≡ events_at at arrival came told ++ rest total came.live.rows =
+      ap (λ (events : Events). expiries at gone ++ (Arrive (record { 0 = n }) side row ∷ events)) (sym (append_assoc after quiet (rest total came.live.rows)))
+      ∙ sym (append_assoc (expiries at gone) behind (rest total came.live.rows)) in
+      subst (λ (k : ℕ). AtEach (Moment query) before (events_at at arrival came told ++ rest k came.live.rows)) count
+      (subst (λ (events : Events). AtEach (Moment query) before events) grouped goes_on)
 
-  turns_from : (at : ℕ) (rows : List LiveRow) (arrivals : List Arrival) (before : Events) → Stands before at rows → Fit rows → AtEach (Moment query) before (number_from at (lives rows) arrivals)
-  turns_from at rows [] before s fit = within_of before at rows s fit
-  turns_from at rows (arrival ∷ arrivals) before s fit =
-      subst (λ (came : Arrived). AtEach (Moment query) before (events_at at arrival came ++ number_from (at + length (events_at at arrival came)) came.live arrivals)) (sym (arrive_is rows arrival.side (time_of arrival.row) at))
-      (turn arrival at rows before (λ n rs. number_from n (lives rs) arrivals) (λ next n rs t f. turns_from n rs arrivals next t f) s fit)
+  turns_from : (quiet at : ℕ) (rows : List LiveRow) (silence : Silence) (arrivals : List Arrival) (before : Events) → Stands before at rows → Fit rows → AtEach (Moment query) before (number_from quiet at (lives rows) silence arrivals)
+  turns_from quiet at rows silence [] before s fit = within_of before at rows s fit
+  turns_from quiet at rows silence (arrival ∷ arrivals) before s fit =
+      let told = quiet_side quiet (silence_at silence arrival.side) in
+      let silent = silence_behind told (silence_at silence arrival.side) in
+      subst (λ (came : Arrived). AtEach (Moment query) before (events_at at arrival came told ++ number_from quiet (at + length (events_at at arrival came told)) came.live silent arrivals)) (sym (arrive_is rows arrival.side (time_of arrival.row) at))
+      (turn arrival told at rows before (λ n rs. number_from quiet n (lives rs) silent arrivals) (λ next n rs t f. turns_from quiet n rs silent arrivals next t f) s fit)
 
   -- the events of any arrivals, at each moment
-  pub turns : (arrivals : List Arrival) → AtEach (Moment query) [] (number_from 0 (record { left = query.left_window; right = query.right_window; rows = [] }) arrivals)
-  turns arrivals = turns_from 0 [] arrivals [] Stands-none (λ side count e. omega arith)
+  pub turns : (quiet : ℕ) (arrivals : List Arrival) → AtEach (Moment query) [] (number_from quiet 0 (record { left = query.left_window; right = query.right_window; rows = [] }) no_silence arrivals)
+  turns quiet arrivals = turns_from quiet 0 [] no_silence arrivals [] Stands-none (λ side count e. omega arith)

@@ -57,5 +57,5 @@ pub record TakesArrival (answer : Result (Side × List Field) Last) (old new : S
   pub query : now role.Query ≡ before role.Query
   pub leads : (l r : Stream) → Follows (fails answer Left) new.left.reading.ended l → Follows (fails answer Right) new.right.reading.ended r → ArrivalLeads answer (arrivals_ahead old (in_front left_bytes l) (in_front right_bytes r)) (arrivals_ahead new l r)
   pub ended : EndsBoth answer new.left.reading.ended new.right.reading.ended
-  pub left_needed : IsReadAsNeeded old.left.head old.left.reading left_bytes (before role.Left) (now role.Left)
-  pub right_needed : IsReadAsNeeded old.right.head old.right.reading right_bytes (before role.Right) (now role.Right)
+  pub left_needed : IsReadAsNeeded old.left.head old.left left_bytes (before role.Left) (now role.Left)
+  pub right_needed : IsReadAsNeeded old.right.head old.right right_bytes (before role.Right) (now role.Right)

@@ -9,5 +9,7 @@ pub mod Reads
 pub mod Roles
 pub mod Rows
 pub mod Sides
+pub mod Silences
 pub mod Taking
+pub mod Waiting
 pub mod Windows

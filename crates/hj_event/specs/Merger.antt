@@ -82,8 +82,8 @@ pub record TakesNext (answer : Next) (old new : Merging) (before now : Role → 
   -- where an event is due, nothing is read
   pub due : has_due old.numbering.due ≡ true → IsUnread left_bytes (before role.Left) (now role.Left) × IsUnread right_bytes (before role.Right) (now role.Right)
   -- no role is read ahead
-  pub left_needed : IsReadAsNeeded old.sides.left.head old.sides.left.reading left_bytes (before role.Left) (now role.Left)
-  pub right_needed : IsReadAsNeeded old.sides.right.head old.sides.right.reading right_bytes (before role.Right) (now role.Right)
+  pub left_needed : IsReadAsNeeded old.sides.left.head old.sides.left left_bytes (before role.Left) (now role.Left)
+  pub right_needed : IsReadAsNeeded old.sides.right.head old.sides.right right_bytes (before role.Right) (now role.Right)
 
 -- the answer to a step
 abbrev pub next_of : Result (Event (List Field)) Last → Next

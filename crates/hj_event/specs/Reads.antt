@@ -11,9 +11,10 @@ use Rattle.hj_event.specs.Sides.{Reading}
 use Rattle.hj_event.specs.Roles.{IsReadOn}
 use Rattle.hj_event.specs.Taking.{has_failed}
 
-abbrev pub reading : List Column → Cutting → List ℕ → ℕ → ℕ → Bool → ℕ → Option ℤ → Reading
-reading columns cutting portion taken filled ended record_no time = record {
+abbrev pub reading : List Column → ℕ → Cutting → List ℕ → ℕ → ℕ → Bool → ℕ → Option ℤ → Reading
+reading columns slack cutting portion taken filled ended record_no time = record {
   columns = columns;
+  slack = slack;
   room = cutting.room;
   part = cutting.piece;
   rest = slice_range portion taken filled;

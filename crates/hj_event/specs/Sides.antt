@@ -5,11 +5,14 @@ use Rattle.hj_value.specs.declared.column.Column.{Column}
 use Rattle.hj_value.specs.declared.field.Field.{Field}
 use Rattle.hj_record.specs.declared.fault.PieceFault.{PieceFault}
 use Rattle.hj_record.specs.Pieces.{Stream, Pieces, pieces_of, ended, bad}
-use Rattle.hj_event.specs.Rows.{Rows, then_rows, rows_in, most_in_stream}
+use Rattle.hj_event.specs.declared.fault.RecordFault.{RecordFault}
+use Rattle.hj_event.specs.Rows.{Rows, no_row, then_rows, rows_in, in_order, most_in_stream, bad as rows_bad}
 use Rattle.hj_event.specs.Arrivals.{Arrivals, arrivals_of}
 
+-- The bytes of a side as far as they were looked at.
 pub record Reading : Type 0 where
   pub columns : List Column
+  pub slack : ℕ
   -- how many bytes the stream may still have, from the first of the current piece on
   pub room : ℕ
   -- the bytes of the current piece that were looked at
@@ -22,27 +25,31 @@ pub record Reading : Type 0 where
   pub ended : Bool
   -- the number that the next record has
   pub record_no : ℕ
-  -- the time of the row before
+  -- the greatest time of the rows before
   pub time : Option ℤ
 
--- A side, with the row that it is at, where that was looked at.
+-- A side: the row that it is at, where that was looked at, and what was read behind it.
 pub record SideState : Type 0 where
   pub head : Option (List Field)
   pub reading : Reading
+  -- the rows that were read and not looked at, in order
+  pub waiting : List (List Field)
+  -- the number of the record that was refused behind them, and why
+  pub stop : Option (ℕ × RecordFault)
 
 pub record Sides : Type 0 where
   pub left : SideState
   pub right : SideState
 
 -- a side of which nothing was read
-abbrev pub new_reading : List Column → Reading
-new_reading columns = record { columns = columns; room = most_in_stream; part = []; rest = []; fault = None; ended = false; record_no = 1; time = None }
+abbrev pub new_reading : List Column → ℕ → Reading
+new_reading columns slack = record { columns = columns; slack = slack; room = most_in_stream; part = []; rest = []; fault = None; ended = false; record_no = 1; time = None }
 
-abbrev pub new_side : List Column → SideState
-new_side columns = record { head = None; reading = new_reading columns }
+abbrev pub new_side : List Column → ℕ → SideState
+new_side columns slack = record { head = None; reading = new_reading columns slack; waiting = []; stop = None }
 
-abbrev pub new_sides : List Column → List Column → Sides
-new_sides left right = record { left = new_side left; right = new_side right }
+abbrev pub new_sides : List Column → List Column → ℕ → Sides
+new_sides left right slack = record { left = new_side left slack; right = new_side right slack }
 
 -- a stream with these bytes in front
 abbrev pub in_front : List ℕ → Stream → Stream
@@ -75,16 +82,25 @@ abbrev pub pieces_ahead : Reading → Stream → Pieces
 pieces_ahead side stream =
     unless_refused side.fault (pieces_of side.room (record { bytes = side.part ++ (side.rest ++ stream.bytes); whole = stream.whole }))
 
--- the rows to come
-abbrev pub rows_ahead : Reading → Stream → Rows
-rows_ahead side stream = rows_in side.columns side.record_no side.time (pieces_ahead side stream)
+-- the rows that are still to be read
+abbrev pub read_ahead : Reading → Stream → Rows
+read_ahead side stream = rows_in side.columns side.slack side.record_no side.time (pieces_ahead side stream)
+
+-- behind a record that was refused no row comes
+abbrev pub unless_stopped : Option (ℕ × RecordFault) → Rows → Rows
+unless_stopped None rows = rows
+unless_stopped (Some stop) rows = no_row (rows_bad stop.0 stop.1)
+
+-- the rows to come behind the one that the side is at
+abbrev pub rows_ahead : SideState → Stream → Rows
+rows_ahead side stream = in_order side.reading.slack side.reading.time side.waiting (unless_stopped side.stop (read_ahead side.reading stream))
 
 abbrev pub with_head : Option (List Field) → Rows → Rows
 with_head None rows = rows
 with_head (Some row) rows = then_rows row rows
 
 abbrev pub side_ahead : SideState → Stream → Rows
-side_ahead side stream = with_head side.head (rows_ahead side.reading stream)
+side_ahead side stream = with_head side.head (rows_ahead side stream)
 
 -- the arrivals to come, where these streams come
 abbrev pub arrivals_ahead : Sides → Stream → Stream → Arrivals

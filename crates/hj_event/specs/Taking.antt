@@ -15,22 +15,22 @@ use Rattle.hj_event.specs.declared.stop.Stop.{Stop}
 use Rattle.hj_event.specs.declared.stop.Stop.TheVariants as stop
 use Rattle.hj_event.specs.declared.stop.Found.{Found}
 use Rattle.hj_event.specs.declared.stop.Found.TheVariants as found
-use Rattle.hj_event.specs.Rows.{Rows, no_row, then_rows, row_at, in_time, clean, bad, unread}
-use Rattle.hj_event.specs.Sides.{Reading, SideState, in_front, cut_off, MayFollow, Follows, rows_ahead, side_ahead}
+use Rattle.hj_event.specs.Rows.{Rows, no_row, then_rows, row_at, in_time, with_time, clean, bad, unread}
+use Rattle.hj_event.specs.Sides.{Reading, SideState, in_front, cut_off, MayFollow, Follows, read_ahead, rows_ahead, side_ahead}
 use Rattle.hj_event.specs.Roles.{IsReadOn, IsUnread}
 
--- The row of a piece, behind a row of this time, unless memory ran out.
-abbrev pub ReadsPiece : Result (Option (List Field)) RecordFault → List Column → Option ℤ → List ℕ → Type 0
-ReadsPiece (Ok row) columns before piece = row_at columns before piece ≡ Ok row
-ReadsPiece (Err (fault.Piece piece_fault.Memory)) columns before piece = Unit {0}
-ReadsPiece (Err (fault.Row row_fault.Memory)) columns before piece = Unit {0}
-ReadsPiece (Err why) columns before piece = row_at columns before piece ≡ Err why
+-- The row of a piece, behind rows of which the greatest time is this, unless memory ran out.
+abbrev pub ReadsPiece : Result (Option (List Field)) RecordFault → List Column → ℕ → Option ℤ → List ℕ → Type 0
+ReadsPiece (Ok row) columns slack greatest piece = row_at columns slack greatest piece ≡ Ok row
+ReadsPiece (Err (fault.Piece piece_fault.Memory)) columns slack greatest piece = Unit {0}
+ReadsPiece (Err (fault.Row row_fault.Memory)) columns slack greatest piece = Unit {0}
+ReadsPiece (Err why) columns slack greatest piece = row_at columns slack greatest piece ≡ Err why
 
--- A row behind one of this time.
-abbrev pub InTime : Result (List Field) RecordFault → Option ℤ → List Field → Type 0
-InTime (Ok same) before row = (same ≡ row) × (in_time before row ≡ Ok (Some row))
-InTime (Err (fault.TimeBack above below)) before row = in_time before row ≡ Err (fault.TimeBack above below)
-InTime (Err why) before row = ⊥
+-- A row behind rows of which the greatest time is this.
+abbrev pub InTime : Result (List Field) RecordFault → ℕ → Option ℤ → List Field → Type 0
+InTime (Ok same) slack greatest row = (same ≡ row) × (in_time slack greatest row ≡ Ok (Some row))
+InTime (Err (fault.TimeBack above below)) slack greatest row = in_time slack greatest row ≡ Err (fault.TimeBack above below)
+InTime (Err why) slack greatest row = ⊥
 
 -- why the stream stops at the record of this number
 abbrev pub stop_of : ℕ → RecordFault → Stop
@@ -40,7 +40,7 @@ stop_of at why = stop.Bad at why
 
 -- the side behind a row
 abbrev pub counted : List Field → Reading → Reading
-counted row side = record side { record_no = side.record_no + 1; time = Some (time_of row) }
+counted row side = record side { record_no = side.record_no + 1; time = Some (with_time side.time (time_of row)) }
 
 -- What a piece that was read holds.
 abbrev pub Holds : Result (Option (List Field)) RecordFault → Result Found Stop → Reading → Reading → Type 0
@@ -60,15 +60,29 @@ FoundLeads (Err stop.Failed) ahead behind = ⊥
 FoundLeads (Err stop.Memory) ahead behind = Unit {0}
 
 -- More bytes are wanted only before the end: nothing is left to look at, and a stream that is cut off here has no more rows.
-abbrev pub Wants : Result Found Stop → Reading → Type 0
-Wants (Ok found.More) side = (side.ended ≡ false) × (side.rest ≡ []) × (rows_ahead side cut_off ≡ no_row unread)
-Wants (Ok found.End) side = side.ended ≡ true
-Wants answer side = Unit {0}
+abbrev pub Wants : Result Found Stop → Reading → (Stream → Rows) → Type 0
+Wants (Ok found.More) side ahead = (side.ended ≡ false) × (side.rest ≡ []) × (ahead cut_off ≡ no_row unread)
+Wants (Ok found.End) side ahead = side.ended ≡ true
+Wants answer side ahead = Unit {0}
 
+-- The greatest time goes on with a row, which is in time.
+abbrev pub TimeGoes : Result Found Stop → ℕ → Option ℤ → Option ℤ → Type 0
+TimeGoes (Ok (found.Row row)) slack before after = (in_time slack before row ≡ Ok (Some row)) × (after ≡ Some (with_time before (time_of row)))
+TimeGoes answer slack before after = after ≡ before
+
+-- The bytes of a side are looked at up to the end of a piece.
 pub record Advances (answer : Result Found Stop) (old new : Reading) : Type 0 where
   pub ended : new.ended ≡ old.ended
-  pub leads : (stream : Stream) → MayFollow new.ended stream → FoundLeads answer (rows_ahead old stream) (rows_ahead new stream)
-  pub wants : Wants answer new
+  pub slack : new.slack ≡ old.slack
+  pub time : TimeGoes answer old.slack old.time new.time
+  pub leads : (stream : Stream) → MayFollow new.ended stream → FoundLeads answer (read_ahead old stream) (read_ahead new stream)
+  pub wants : Wants answer new (read_ahead new)
+
+-- A side goes on by a piece, or by a row that waited.
+pub record GoesOn (answer : Result Found Stop) (old new : SideState) : Type 0 where
+  pub ended : new.reading.ended ≡ old.reading.ended
+  pub leads : (stream : Stream) → MayFollow new.reading.ended stream → FoundLeads answer (rows_ahead old stream) (rows_ahead new stream)
+  pub wants : Wants answer new.reading (rows_ahead new)
 
 -- Taking the next row, or coming to the end.
 abbrev pub RowLeads : Result (Option (List Field)) Stop → Rows → Rows → Type 0
@@ -88,9 +102,13 @@ abbrev pub EndsSide : Result (Option (List Field)) Stop → Bool → Type 0
 EndsSide (Ok None) ended = ended ≡ true
 EndsSide answer ended = Unit {0}
 
+-- Without a slack no row waits, and no record is kept as refused.
+abbrev pub NoneWaits : ℕ → List (List Field) → Option (ℕ × RecordFault) → Type 0
+NoneWaits slack waiting stop = slack ≡ 0 → (waiting ≡ []) × (stop ≡ None)
+
 -- These bytes were needed: the side hadn't ended, and without the last ones, of at most one read, what was read of it gives no row.
-pub record IsNeeded (side : Reading) (bytes : List ℕ) : Type 0 where
-  pub going : side.ended ≡ false
+pub record IsNeeded (side : SideState) (bytes : List ℕ) : Type 0 where
+  pub going : side.reading.ended ≡ false
   pub earlier : List ℕ
   pub last : List ℕ
   pub is : bytes ≡ earlier ++ last
@@ -98,25 +116,29 @@ pub record IsNeeded (side : Reading) (bytes : List ℕ) : Type 0 where
   pub missing : rows_ahead side (in_front earlier cut_off) ≡ no_row unread
 
 -- A side whose head is known isn't read. Else it is read only as far as the next row needs it.
-abbrev pub IsReadAsNeeded : Option (List Field) → Reading → List ℕ → RoleState → RoleState → Type 0
+abbrev pub IsReadAsNeeded : Option (List Field) → SideState → List ℕ → RoleState → RoleState → Type 0
 IsReadAsNeeded (Some row) side bytes before now = IsUnread bytes before now
 IsReadAsNeeded None side bytes before now = IsUnread bytes before now ⊎ IsNeeded side bytes
 
--- What was read of a side tells its next row, or the fault in place of it.
+-- What was read of a side tells a row, or the fault in place of it.
 abbrev pub TellsRow : Reading → Type 0
-TellsRow side = ¬ (rows_ahead side cut_off ≡ no_row unread)
+TellsRow side = ¬ (read_ahead side cut_off ≡ no_row unread)
+
+-- What was read of a side tells its next row, or the fault in place of it.
+abbrev pub TellsNext : SideState → Type 0
+TellsNext side = ¬ (rows_ahead side cut_off ≡ no_row unread)
 
 -- What comes next of a side is told without a read: its head is known, or its end, or what was read tells it.
 abbrev pub IsTold : SideState → Type 0
-IsTold side = IsSome side.head ⊎ (side.reading.ended ≡ true) ⊎ TellsRow side.reading
+IsTold side = IsSome side.head ⊎ (side.reading.ended ≡ true) ⊎ TellsNext side
 
 pub record TakesRow (answer : Result (Option (List Field)) Stop) (old new : SideState) (before now : RoleState) : Type 0 where
   pub bytes : List ℕ
   pub reads : IsReadOn (has_failed answer) bytes old.reading.ended new.reading.ended before now
   pub leads : (stream : Stream) → Follows (has_failed answer) new.reading.ended stream → RowLeads answer (side_ahead old (in_front bytes stream)) (side_ahead new stream)
   pub ended : EndsSide answer new.reading.ended
-  pub needed : IsReadAsNeeded old.head old.reading bytes before now
+  pub needed : IsReadAsNeeded old.head old bytes before now
 
--- a side of which no row was looked at
-abbrev pub unseen : Reading → SideState
-unseen reading = record { head = None; reading = reading }
+-- a side whose next row wasn't looked at
+abbrev pub unseen : SideState → SideState
+unseen side = record side { head = None }

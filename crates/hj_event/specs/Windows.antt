@@ -10,7 +10,7 @@ use Rattle.hj_base.specs.declared.numbers.Side.TheVariants.{Left, Right}
 use Rattle.hj_base.specs.declared.numbers.Window.{Window}
 use Rattle.hj_base.specs.declared.numbers.Window.TheVariants.{Rows, Time}
 use Rattle.hj_msg.specs.declared.event.Event.{Event}
-use Rattle.hj_msg.specs.declared.event.Event.TheVariants.{Arrive, Expire}
+use Rattle.hj_msg.specs.declared.event.Event.TheVariants.{Arrive, Expire, Quiet}
 use Rattle.hj_msg.specs.Event.{Arrives, Expires}
 use Rattle.hj_query.specs.Parts.{Parts}
 
@@ -24,6 +24,7 @@ arrival_no side event = None
 abbrev pub is_expiry_of : {P : Type 0} → ℕ → Event P → Bool
 is_expiry_of number (Arrive at side row) = false
 is_expiry_of number (Expire at side of) = of.0 == number
+is_expiry_of number (Quiet at side) = false
 
 -- The numbers of a side's live rows, the oldest first: those of the rows that arrived and haven't expired.
 abbrev pub live_rows : {P : Type 0} → Side → List (Event P) → List ℕ
@@ -34,12 +35,14 @@ abbrev pub ExpiresNext : {P : Type 0} → Side → List (Event P) → Type 0
 ExpiresNext side [] = ⊥
 ExpiresNext side (Arrive at other row ∷ events) = ⊥
 ExpiresNext side (Expire at other of ∷ events) = other ≡ side
+ExpiresNext side (Quiet at other ∷ events) = ⊥
 
 -- This row arrives next, and nothing but expiries comes before it.
 abbrev pub ArrivesNext : {P : Type 0} → List (Event P) → P → Type 0
 ArrivesNext [] row = ⊥
 ArrivesNext (Arrive at side next ∷ events) row = next ≡ row
 ArrivesNext (Expire at side of ∷ events) row = ArrivesNext events row
+ArrivesNext (Quiet at side ∷ events) row = ⊥
 
 -- the window of a side
 abbrev pub window_at : Parts → Side → Window

@@ -25,15 +25,15 @@ impl Model for Rows {
 
     ghost Value = { SideState };
 
-    ghost view = { λ r. record { head = r.head; reading = r.source } };
+    ghost view = { λ r. record r.source { head = r.head } };
 }
 
 impl Rows {
-    fn new(alloc: Global, schema: Schema) -> Self
-        ensures { result ≡ new_side schema.columns }
+    fn new(alloc: Global, schema: Schema, slack: u64) -> Self
+        ensures { result ≡ new_side schema.columns slack }
     {
         Rows {
-            source: Source::new(alloc, schema),
+            source: Source::new(alloc, schema, slack),
             head: None,
         }
     }
@@ -86,13 +86,13 @@ impl Model for Arrivals {
 }
 
 impl Arrivals {
-    /// The arrivals of two streams of which nothing was read, with rows by these schemas.
-    pub(crate) fn new(alloc: Global, left: Schema, right: Schema) -> Self
-        ensures { result ≡ new_sides left.columns right.columns }
+    /// The arrivals of two streams of which nothing was read, with rows by these schemas, which may be late by the slack.
+    pub(crate) fn new(alloc: Global, left: Schema, right: Schema, slack: u64) -> Self
+        ensures { result ≡ new_sides left.columns right.columns slack }
     {
         Arrivals {
-            left: Rows::new(alloc, left),
-            right: Rows::new(alloc, right),
+            left: Rows::new(alloc, left, slack),
+            right: Rows::new(alloc, right, slack),
         }
     }
 

@@ -17,6 +17,8 @@ pub(crate) struct Due {
     arrival: Option<(Side, SharedRow)>,
     /// The row that expires after it.
     after: Option<(Side, EventNo)>,
+    /// The side that has a quiet event behind these.
+    quiet: Option<Side>,
 }
 
 impl Model for Due {
@@ -25,7 +27,7 @@ impl Model for Due {
 
     ghost Value = { DueState };
 
-    ghost view = { λ d. record { before = drop d.given d.before; arrival = d.arrival; after = d.after } };
+    ghost view = { λ d. record { before = drop d.given d.before; arrival = d.arrival; after = d.after; quiet = d.quiet } };
 }
 
 impl Due {
@@ -38,19 +40,26 @@ impl Due {
             given: 0,
             arrival: None,
             after: None,
+            quiet: None,
         }
     }
 
-    /// What comes of the arrival of a row by which these rows expire.
+    /// What comes of the arrival of a row by which these rows expire and this side has a quiet event.
     #[inline(always)]
-    pub(crate) fn of_arrival(side: Side, row: SharedRow, expired: Expired) -> Self
-        ensures { result ≡ due_of side row expired.before expired.after }
+    pub(crate) fn of_arrival(
+        side: Side,
+        row: SharedRow,
+        expired: Expired,
+        quiet: Option<Side>,
+    ) -> Self
+        ensures { result ≡ due_of side row expired.before expired.after quiet }
     {
         Due {
             before: expired.before,
             given: 0,
             arrival: Some((side, row)),
             after: expired.after.map(|of| (side, of)),
+            quiet,
         }
     }
 
@@ -59,7 +68,10 @@ impl Due {
     pub(crate) fn is_some(&self) -> bool
         ensures { result ≡ has_due self.now }
     {
-        self.given < self.before.len() || self.arrival.is_some() || self.after.is_some()
+        self.given < self.before.len()
+            || self.arrival.is_some()
+            || self.after.is_some()
+            || self.quiet.is_some()
     }
 
     /// Takes the first event that is due, under the number `no`.
@@ -77,7 +89,10 @@ impl Due {
         if let Some((side, row)) = self.arrival.take() {
             return Some(Event::Arrive { no, side, row });
         }
-        let (side, of) = self.after.take()?;
-        Some(Event::Expire { no, side, of })
+        if let Some((side, of)) = self.after.take() {
+            return Some(Event::Expire { no, side, of });
+        }
+        let side = self.quiet.take()?;
+        Some(Event::Quiet { no, side })
     }
 }

@@ -1,4 +1,5 @@
-ghost use Rattle.std.specs.Prelude.{◌≡◌, ◌⊎◌, ℕ, List, [], ◌∷◌, ◌++◌};
+ghost use Rattle.std.specs.Prelude.{◌≡◌, ◌≤◌, ◌⊎◌, ℕ, ℤ, List, [], ◌∷◌, ◌++◌};
+ghost use Rattle.std.specs.List.{filter};
 ghost use Rattle.hj_base.specs.declared.numbers.Side.{Side};
 ghost use Rattle.hj_base.specs.declared.numbers.Side.TheVariants.{Left, Right};
 ghost use Rattle.hj_base.specs.declared.outside.Role.{Role};
@@ -6,18 +7,31 @@ ghost use Rattle.hj_base.specs.Journals.{IsPrefix};
 ghost use Rattle.hj_base.specs.Outside.{RoleState};
 ghost use Rattle.hj_msg.specs.declared.event.Event.{Event};
 ghost use Rattle.hj_msg.specs.Event.{IsWellFormed};
+ghost use Rattle.hj_msg.specs.Quiet.{IsQuietWithin};
 ghost use Rattle.hj_event.specs.Merger.{Merging, IsNew, TakesNext, fails_next};
 ghost use Rattle.hj_event.specs.Sides.{in_front, Follows};
 ghost use Rattle.hj_event.specs.declared.merger.Next.{Next};
 ghost use Rattle.hj_event.specs.declared.merger.Next.TheVariants as next;
 ghost use Rattle.hj_query.specs.Parts.{Parts};
+ghost use Rattle.hj_value.specs.declared.column.Column.{Column};
 ghost use Rattle.hj_value.specs.declared.field.Field.{Field};
 ghost use Rattle.hj_record.specs.Pieces.{Stream};
 ghost use Rattle.hj_event.specs.Arrivals.{unread};
 ghost use Rattle.hj_event.specs.Calls.{HasGiven, GivesAll};
 ghost use Rattle.hj_event.specs.Cut.{IsCutOf};
 ghost use Rattle.hj_event.specs.Events.{all_events_of, events_of};
+ghost use Rattle.hj_event.specs.Rows.{put_all, read_of, rows_of};
+ghost use Rattle.hj_event.specs.Silences.{IsQuietOnlyAfter};
+ghost use Rattle.hj_event.specs.Waiting.{is_of_time, AreInOrder};
 ghost use Rattle.hj_event.specs.Windows.{RowsExpireInTurn};
+
+/// The rows of any stream are in order of time, and rows of equal time in the order in which they were read. Without a slack
+/// all are in the order in which they were read.
+pub fn rows_are_in_order()
+    ensures in_order { (columns : List Column) (slack : ℕ) (stream : Stream) → AreInOrder (rows_of columns slack stream).rows }
+    ensures ties { (rows : List (List Field)) (time : ℤ) → filter (is_of_time time) (put_all [] rows) ≡ filter (is_of_time time) rows }
+    ensures without { (columns : List Column) (stream : Stream) → rows_of columns 0 stream ≡ read_of columns 0 stream }
+{}
 
 /// The events of any two streams are numbered from 0, one after another, and each expiry names a live row of its side.
 pub fn events_are_well_formed()
@@ -29,6 +43,13 @@ pub fn events_are_well_formed()
 /// more above its own, and expires only before such an arrival.
 pub fn rows_expire_in_turn()
     ensures { (query : Parts) (left right : Stream) → RowsExpireInTurn query (all_events_of query left right).events }
+{}
+
+/// Where the quiet number of a query is at least 1, no more rows of a side than it says arrive between two arrivals or quiet events
+/// of the other side. A quiet event comes only where so many did, so none comes where the number is 0.
+pub fn silence_is_told()
+    ensures within { (query : Parts) (left right : Stream) (limit : ℕ) → 1 ≤ query.quiet → IsQuietWithin query.quiet (events_of query left right limit).events }
+    ensures only_after { (query : Parts) (left right : Stream) (limit : ℕ) → IsQuietOnlyAfter query.quiet (events_of query left right limit).events }
 {}
 
 /// Streams that were cut off, one of them or both, give the first of the events of the whole ones: all of them, with

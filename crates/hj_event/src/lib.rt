@@ -7,14 +7,18 @@ mod fault;
 mod laws;
 mod merger;
 mod numbering;
+mod reader;
 mod record;
+mod silence;
 mod source;
 mod stop;
+mod waiting;
 
 pub use fault::RecordFault;
 pub use hj_msg::{Event, Pair};
 pub use hj_schema::RowFault;
 pub use laws::{
-    calls_give_events, cut_stream_gives_prefix, events_are_well_formed, rows_expire_in_turn,
+    calls_give_events, cut_stream_gives_prefix, events_are_well_formed, rows_are_in_order,
+    rows_expire_in_turn, silence_is_told,
 };
 pub use merger::{Merger, Next};

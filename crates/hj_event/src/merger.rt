@@ -36,7 +36,7 @@ pub enum Next {
 }
 
 /// Merges the two streams of a query as it reads them, and numbers their events. It keeps the numbers of the live rows, and of
-/// each side what was read and isn't cut yet, and at most one row.
+/// each side what was read and isn't cut yet, and the rows that aren't given yet: at most one where the query has no slack.
 #[derive(Drop)]
 pub struct Merger {
     arrivals: Arrivals,
@@ -54,7 +54,7 @@ impl Model for Merger {
 }
 
 impl Merger {
-    /// A merger of the streams of `query`, by its schemas and windows, that gives at most `limit` events.
+    /// A merger of the streams of `query`, by its schemas, windows and quiet number, that gives at most `limit` events.
     pub fn new(alloc: Global, query: &Query, limit: u64) -> Result<Merger, Memory>
         ensures { IfOk result (λ merger. IsNew query.now limit merger) }
     {
@@ -62,8 +62,8 @@ impl Merger {
         let right = query.schema(Side::Right).copy(alloc)?;
         let windows = (query.window(Side::Left), query.window(Side::Right));
         Ok(Merger {
-            arrivals: Arrivals::new(alloc, left, right),
-            numbering: Numbering::new(alloc, windows.0, windows.1, limit),
+            arrivals: Arrivals::new(alloc, left, right, query.slack()),
+            numbering: Numbering::new(alloc, windows.0, windows.1, query.quiet(), limit),
             over: None,
         })
     }

@@ -1,9 +1,11 @@
 ghost use Rattle.std.specs.Prelude.{◌≡◌, OnOk, IfErr, true, false, []};
 ghost use Rattle.hj_event.specs.declared.stop.Last.TheVariants as last;
 ghost use Rattle.hj_event.specs.Arrivals.{Arrivals, then_arrivals};
+ghost use Rattle.hj_event.specs.Events.{no_silence};
 ghost use Rattle.hj_event.specs.Numbering.{nothing_due, has_due, numbered_ahead, Gives};
 
 use crate::due::Due;
+use crate::silence::Silence;
 use crate::stop::Last;
 use hj_base::{EventNo, Side, Window};
 use hj_msg::Event;
@@ -19,6 +21,9 @@ const MOST_NUMBERS: u64 = 1 << 63;
 #[derive(Drop)]
 pub(crate) struct Numbering {
     live: Live,
+    silence: Silence,
+    /// After how many rows of one side the other one, where it is silent, has a quiet event; 0: never.
+    quiet: u32,
     due: Due,
     /// The number of the next event.
     next: u64,
@@ -30,18 +35,20 @@ impl Model for Numbering {
 
     ghost Value = { NumberingState };
 
-    ghost view = { λ n. record { live = n.live; due = n.due; next = n.next; limit = n.limit } };
+    ghost view = { λ n. record { live = n.live; silence = n.silence; quiet = n.quiet; due = n.due; next = n.next; limit = n.limit } };
 
-    ghost invariant = { λ n. IsCounted n.live n.due n.next n.limit };
+    ghost invariant = { λ n. IsCounted n.live n.silence n.due n.next n.limit };
 }
 
 impl Numbering {
     /// A numbering that has given nothing, of at most `limit` events.
-    pub(crate) fn new(alloc: Global, left: Window, right: Window, limit: u64) -> Self
-        ensures { result ≡ record { live = record { left = left; right = right; rows = [] }; due = nothing_due; next = 0; limit = limit } }
+    pub(crate) fn new(alloc: Global, left: Window, right: Window, quiet: u32, limit: u64) -> Self
+        ensures { result ≡ record { live = record { left = left; right = right; rows = [] }; silence = no_silence; quiet = quiet; due = nothing_due; next = 0; limit = limit } }
     {
         Numbering {
             live: Live::new(alloc, left, right),
+            silence: Silence::new(),
+            quiet,
             due: Due::new(alloc),
             next: 0,
             limit,
@@ -69,7 +76,8 @@ impl Numbering {
         }
         let time = row.row().time();
         let expired = self.live.arrive(side, time, EventNo(self.next))?;
-        self.due = Due::of_arrival(side, row, expired);
+        let quiet = self.silence.arrive(side, self.quiet);
+        self.due = Due::of_arrival(side, row, expired, quiet);
         Ok(())
     }
 

@@ -1,4 +1,4 @@
-ghost use Rattle.std.specs.Prelude.{◌≤◌, length};
+ghost use Rattle.std.specs.Prelude.{◌≡◌, ◌≤◌, ◌-ℤ◌, int_lt, length, pos};
 ghost use Rattle.hj_event.specs.Taking.{ReadsPiece, InTime};
 
 use crate::RecordFault;
@@ -7,32 +7,44 @@ use hj_schema::read_row;
 use hj_value::{Row, Schema};
 use std::alloc::Global;
 
-/// Reads the row of a piece by a schema, behind a row of the time `before`; None where the piece holds no record. The fields
-/// of the record go into `fields`.
+/// Reads the row of a piece by a schema, behind rows of which the greatest time is `greatest`; None where the piece holds no
+/// record. The fields of the record go into `fields`.
 pub(crate) fn read_record(
     alloc: Global,
     schema: &Schema,
-    before: Option<i64>,
+    slack: u64,
+    greatest: Option<i64>,
     piece: &[u8],
     fields: &mut Fields,
 ) -> Result<Option<Row>, RecordFault>
     requires { length piece.now ≤ 65536 }
-    ensures { ReadsPiece result schema.now.columns before piece.now }
+    ensures { ReadsPiece result schema.now.columns slack greatest piece.now }
 {
     if !read_piece_into(piece, fields)? {
         return Ok(None);
     }
     let row = read_row(alloc, schema, fields)?;
-    Ok(Some(in_time(before, row)?))
+    Ok(Some(in_time(slack, greatest, row)?))
 }
 
-/// The row, unless its time is below that of the row before.
-fn in_time(before: Option<i64>, row: Row) -> Result<Row, RecordFault>
-    ensures { InTime result before row }
+/// The row, unless its time is below the greatest time before it less the slack.
+#[inline(always)]
+fn in_time(slack: u64, greatest: Option<i64>, row: Row) -> Result<Row, RecordFault>
+    ensures { InTime result slack greatest row }
 {
     let time = row.time();
-    match before {
-        Some(before) if time < before => Err(RecordFault::TimeBack(before, time)),
+    match greatest {
+        Some(greatest) if is_late(slack, greatest, time) => {
+            Err(RecordFault::TimeBack(greatest, time))
+        }
         _ => Ok(row),
     }
+}
+
+/// Whether a time is below the greatest one less the slack.
+#[inline(always)]
+fn is_late(slack: u64, greatest: i64, time: i64) -> bool
+    ensures { result ≡ int_lt time (greatest -ℤ pos slack) }
+{
+    time < greatest && i128::from(time) < i128::from(greatest) - i128::from(slack)
 }

@@ -1,0 +1,313 @@
+ghost use Rattle.std.specs.Prelude.{◌≡◌, ◌≢◌, ◌==◌, ◌-◌, ◌<◌, ◌≤◌, List, ℕ, [], true, false, not, length, slice_index, position, All, IsTrue};
+ghost use Rattle.std.specs.List.{list_any};
+ghost use Rattle.hj_base.specs.Outside.{role_of, ChangesOnly};
+ghost use Rattle.hj_record.specs.Blank.{is_blank};
+ghost use Rattle.hj_record.specs.Cutter.{cleared};
+ghost use Rattle.hj_event.specs.Roles.{IsInStep};
+ghost use Rattle.hj_event.specs.Reads.{Fills};
+ghost use Rattle.hj_event.specs.Rows.{with_time};
+ghost use Rattle.hj_event.specs.Sides.{new_reading};
+ghost use Rattle.hj_event.specs.Taking.{stop_of, ReadsPiece, Holds, Advances, TellsRow};
+
+use crate::record::read_record;
+use crate::stop::{Found, Stop};
+use crate::{RecordFault, RowFault};
+use hj_base::{Got, Outside, Side};
+use hj_record::{CARRIAGE_RETURN, Cut, Cutter, Fed, Fields, LINE_FEED, PieceFault, QUOTE};
+use hj_value::{Row, Schema, SharedRow};
+use std::alloc::Global;
+use std::marker::Model;
+
+/// How many bytes one read asks for.
+const MOST_IN_READ: usize = 4_096;
+
+/// How many bytes a stream may have.
+const MOST_IN_STREAM: u64 = 1 << 62;
+
+/// The rows of a side as they are read, one after another.
+#[derive(Drop)]
+pub(crate) struct Reader {
+    alloc: Global,
+    schema: Schema,
+    /// How late a row may be.
+    slack: u64,
+    /// What the last read gave: of its first `filled` bytes the first `taken` were looked at.
+    portion: [u8; MOST_IN_READ],
+    taken: usize,
+    filled: usize,
+    /// A record that begins in the portion before this place has its end there.
+    lines_end: usize,
+    /// A read answered the end.
+    ended: bool,
+    cutter: Cutter,
+    /// The fields of the record that was read last.
+    fields: Fields,
+    /// The number that the next record has.
+    record_no: u64,
+    /// The greatest time of the rows before.
+    greatest: Option<i64>,
+}
+
+impl Model for Reader {
+    ghost use Rattle.hj_event.specs.Sides.{Reading};
+    ghost use Rattle.hj_event.specs.Reads.{reading, IsReadable};
+
+    ghost Value = { Reading };
+
+    ghost view = { λ s. reading s.schema.columns s.slack s.cutter s.portion s.taken s.filled s.ended s.record_no s.greatest };
+
+    ghost invariant = { λ s. IsReadable s.cutter s.portion s.taken s.filled s.lines_end };
+}
+
+impl Reader {
+    /// A side of which nothing was read.
+    pub(crate) fn new(alloc: Global, schema: Schema, slack: u64) -> Self
+        ensures { result ≡ new_reading schema.columns slack }
+    {
+        Reader {
+            alloc,
+            schema,
+            slack,
+            portion: [0; MOST_IN_READ],
+            taken: 0,
+            filled: 0,
+            lines_end: 0,
+            ended: false,
+            cutter: Cutter::new(alloc, MOST_IN_STREAM),
+            fields: Fields::new(alloc),
+            record_no: 1,
+            greatest: None,
+        }
+    }
+
+    /// How late a row may be.
+    #[inline(always)]
+    pub(crate) fn slack(&self) -> u64
+        ensures { result ≡ self.now.slack }
+    {
+        self.slack
+    }
+
+    /// The greatest time of the rows that were read.
+    #[inline(always)]
+    pub(crate) fn greatest(&self) -> Option<i64>
+        ensures { result ≡ self.now.time }
+    {
+        self.greatest
+    }
+
+    /// Whether a read answered the end.
+    #[inline(always)]
+    pub(crate) fn has_ended(&self) -> bool
+        ensures { result ≡ self.now.ended }
+    {
+        self.ended
+    }
+
+    /// Whether the line that comes next, or a later one where this one is empty, has its end in the bytes that were read.
+    #[inline(always)]
+    pub(crate) fn has_line(&self) -> bool
+        ensures { IsTrue result → TellsRow self.now }
+    {
+        let unread = &self.portion[self.taken..self.filled];
+        match self.cutter.piece().first() {
+            Some(&first) => !is_blank(first) && self.cutter.has_end(unread),
+            None => match first_written(unread) {
+                Some(first) => {
+                    self.taken + first < self.lines_end || self.cutter.has_end(&unread[first..])
+                }
+                None => false,
+            },
+        }
+    }
+
+    /// Reads the next bytes, once all that were read are looked at.
+    pub(crate) fn fill<O: Outside>(&mut self, side: Side, outside: &mut O) -> Result<(), Stop>
+        requires in_step { IsInStep false (O.state outside.old (role_of side)) }
+        requires going { self.old.ended ≡ false }
+        requires rest { self.old.rest ≡ [] }
+        ensures fills { Fills result self.old self.new (O.state outside.old (role_of side)) (O.state outside.new (role_of side)) }
+        ensures others { ChangesOnly (role_of side) (O.state outside.old) (O.state outside.new) }
+        ensures names { (name : List ℕ) → O.under outside.new name ≡ O.under outside.old name }
+    {
+        match outside.read(side.role(), &mut self.portion) {
+            Got::Bytes(count) => {
+                self.taken = 0;
+                self.filled = count;
+                self.lines_end = lines_end(&self.portion[..count]);
+                Ok(())
+            }
+            Got::End => {
+                self.ended = true;
+                Ok(())
+            }
+            Got::Failed => Err(Stop::Failed),
+        }
+    }
+
+    /// Goes on to the end of the next piece in the bytes that were read.
+    #[inline(always)]
+    pub(crate) fn advance(&mut self) -> Result<Found, Stop>
+        ensures { Advances result self.old self.new }
+    {
+        let portion: &[u8] = &self.portion;
+        match self.cutter.cut(&portion[self.taken..self.filled]) {
+            Cut::Lent(used) => {
+                let piece = &portion[self.taken..self.taken + used];
+                let row = read_record(
+                    self.alloc,
+                    &self.schema,
+                    self.slack,
+                    self.greatest,
+                    piece,
+                    &mut self.fields,
+                );
+                self.taken += used;
+                self.hold(row)
+            }
+            Cut::Piece(used) => {
+                self.taken += used;
+                let row = read_kept(
+                    self.alloc,
+                    &self.schema,
+                    self.slack,
+                    self.greatest,
+                    &mut self.cutter,
+                    &mut self.fields,
+                );
+                self.hold(row)
+            }
+            Cut::More => {
+                self.taken = self.filled;
+                if self.ended {
+                    self.close()
+                } else {
+                    Ok(Found::More)
+                }
+            }
+            Cut::Bad(fault) => Err(stop(self.record_no, RecordFault::Piece(fault))),
+        }
+    }
+
+    /// Comes to the end of the stream, once all its bytes were looked at.
+    fn close(&mut self) -> Result<Found, Stop>
+        requires ended { self.old.ended ≡ true }
+        requires rest { self.old.rest ≡ [] }
+        ensures { Advances result self.old self.new }
+    {
+        match self.cutter.end() {
+            Fed::Piece(_) => {
+                let row = read_kept(
+                    self.alloc,
+                    &self.schema,
+                    self.slack,
+                    self.greatest,
+                    &mut self.cutter,
+                    &mut self.fields,
+                );
+                self.hold(row)
+            }
+            Fed::More => Ok(Found::End),
+            Fed::Bad(fault) => Err(stop(self.record_no, RecordFault::Piece(fault))),
+        }
+    }
+
+    /// Counts the row of a piece, and gives it to be shared.
+    #[inline(always)]
+    fn hold(&mut self, row: Result<Option<Row>, RecordFault>) -> Result<Found, Stop>
+        ensures { Holds row result self.old self.new }
+    {
+        let row = match row {
+            Ok(Some(row)) => row,
+            Ok(None) => return Ok(Found::NoRecord),
+            Err(fault) => return Err(stop(self.record_no, fault)),
+        };
+        let time = row.time();
+        let shared = SharedRow::new(self.alloc, row)?;
+        self.record_no = self.record_no.checked_add(1).ok_or(Stop::Memory)?;
+        self.greatest = Some(later(self.greatest, time));
+        Ok(Found::Row(shared))
+    }
+}
+
+/// Whether a line may have this byte and be empty: one of a line's end, or of a byte order mark.
+#[inline(always)]
+fn is_blank(byte: u8) -> bool
+    ensures { result ≡ is_blank byte }
+{
+    matches!(byte, CARRIAGE_RETURN | LINE_FEED | 0xEF | 0xBB | 0xBF)
+}
+
+/// The place of the first byte that no empty line has.
+#[inline(always)]
+fn first_written(bytes: &[u8]) -> Option<usize>
+    ensures { result ≡ position (λ byte. not (is_blank byte)) bytes.now }
+{
+    bytes.iter().position(|&byte| !is_blank(byte))
+}
+
+/// The place behind the last line feed of some bytes; 0 where they have a quote, so that a line feed may be a field's.
+fn lines_end(bytes: &[u8]) -> usize
+    ensures within { result ≤ length bytes.now }
+    ensures line_feed { 0 < result → slice_index bytes.now (result - 1) ≡ 10 }
+    ensures unquoted { 0 < result → All (λ byte. byte ≢ 34) bytes.now }
+{
+    if has_quote(bytes) {
+        return 0;
+    }
+    for at in (0..bytes.len()).rev() {
+        if bytes[at] == LINE_FEED {
+            return at + 1;
+        }
+    }
+    0
+}
+
+/// Whether there is a quote among some bytes. It looks at all of them, several at a time.
+fn has_quote(bytes: &[u8]) -> bool
+    ensures { result ≡ list_any (λ byte. byte == 34) bytes.now }
+{
+    let mut found = false;
+    for &byte in bytes {
+        found |= byte == QUOTE;
+    }
+    found
+}
+
+/// The greatest time, with one more.
+#[inline(always)]
+fn later(greatest: Option<i64>, time: i64) -> i64
+    ensures { result ≡ with_time greatest time }
+{
+    match greatest {
+        Some(greatest) if time < greatest => greatest,
+        _ => time,
+    }
+}
+
+/// Reads the row of the piece that a cutter keeps, and makes the cutter ready for the next one.
+fn read_kept(
+    alloc: Global,
+    schema: &Schema,
+    slack: u64,
+    greatest: Option<i64>,
+    cutter: &mut Cutter,
+    fields: &mut Fields,
+) -> Result<Option<Row>, RecordFault>
+    ensures row { ReadsPiece result schema.now.columns slack greatest cutter.old.piece }
+    ensures cleared { cutter.new ≡ cleared cutter.old }
+{
+    let row = read_record(alloc, schema, slack, greatest, cutter.piece(), fields);
+    cutter.clear();
+    row
+}
+
+/// Why the stream stops at the record of this number.
+fn stop(at: u64, fault: RecordFault) -> Stop
+    ensures { result ≡ stop_of at fault }
+{
+    match fault {
+        RecordFault::Piece(PieceFault::Memory) | RecordFault::Row(RowFault::Memory) => Stop::Memory,
+        _ => Stop::Bad { at, fault },
+    }
+}
