@@ -4,6 +4,7 @@ pub mod CutRows
 pub mod Pieces
 pub mod OrderLemmas
 pub mod OrderLaws
+pub mod LateLemmas
 pub mod WaitingLemmas
 pub mod RowLemmas
 pub mod RoleLemmas

@@ -140,11 +140,11 @@ expired-told events number at h = list_any_at (is_expiry_of number) events h.1.0
 told-expired : {P : Type 0} (events : List (Event P)) (number : ℕ) → has_expired events number ≡ true → (at : ℕ) × Expires events number at
 told-expired [] number h = absurd (false≢true h)
 told-expired (Arrive at side row ∷ events) number h = let found = told-expired events number h in (found.0, (found.1.0, Contains-cons _ _ events found.1.1))
-told-expired (Quiet at side ∷ events) number h = let found = told-expired events number h in (found.0, (found.1.0, Contains-cons _ _ events found.1.1))
 told-expired (Expire at side of ∷ events) number h = elim (or_cases (of.0 == number) (has_expired events number) h) [
   | inl e ↦ (at.0, (side, subst (λ n. Contains (Expire at side of ∷ events) (Expire at side (record { 0 = n }))) (eqb-true of.0 number e) (Contains-head (Expire at side of) events)))
   | inr k ↦ let found = told-expired events number k in (found.0, (found.1.0, Contains-cons _ _ events found.1.1))
 ]
+told-expired (Quiet at side ∷ events) number h = let found = told-expired events number h in (found.0, (found.1.0, Contains-cons _ _ events found.1.1))
 
 -- a live row arrived, and hasn't expired
 pub live_rows-live : {P : Type 0} (side : Side) (events : List (Event P)) (number : ℕ) → Contains (live_rows side events) number → ((row : P) × Arrives events side number row) × ((at : ℕ) → ¬ (Expires events number at))

@@ -13,7 +13,7 @@ use Rattle.hj_value.specs.Row.{time_of}
 use Rattle.hj_record.specs.Pieces.{Stream, pieces_of}
 use Rattle.hj_event.specs.Rows.{RowsEnd, put_in, put_all, greatest_of, is_sure, staying, most_in_stream, read_of, rows_of, clean, bad, unread}
 use Rattle.hj_event.specs.Waiting.{NoneBefore, AreInOrder, is_of_time}
-use Rattle.hj_event.proofs.OrderLemmas.{as_read, put_in-in_order, swapped}
+use Rattle.hj_event.proofs.OrderLemmas.{as_read, put_all-in_order, put_in-in_order, swapped}
 
 -- ---- times never fall
 
@@ -32,10 +32,6 @@ filter-in_order test (row ∷ rows) ordered = by_test (test row) (filter-in_orde
     by_test : (keep : Bool) → AreInOrder (filter test rows) → AreInOrder (cond keep (row ∷ filter test rows) (filter test rows))
     by_test true behind = (filter-none_before test row rows ordered.0, behind)
     by_test false behind = behind
-
-put_all-in_order : (waiting rows : List (List Field)) → AreInOrder waiting → AreInOrder (put_all waiting rows)
-put_all-in_order waiting [] ordered = ordered
-put_all-in_order waiting (row ∷ rows) ordered = put_all-in_order (put_in row waiting) rows (put_in-in_order row waiting ordered)
 
 staying-in_order : (ending : RowsEnd) (slack : ℕ) (greatest : Option ℤ) (rows : List (List Field)) → AreInOrder rows → AreInOrder (staying ending slack greatest rows)
 staying-in_order clean slack greatest rows ordered = ordered

@@ -86,7 +86,7 @@ row_at_in_time columns slack greatest piece row e = record_in_time columns slack
 
 -- ---- a row that is sure comes first
 
-put_in-behind : (row other : List Field) (others : List (List Field)) → int_lt (time_of row) (time_of other) ≡ false → put_in row (other ∷ others) ≡ other ∷ put_in row others
+pub put_in-behind : (row other : List Field) (others : List (List Field)) → int_lt (time_of row) (time_of other) ≡ false → put_in row (other ∷ others) ≡ other ∷ put_in row others
 put_in-behind row other others e = ap (λ (t : Bool). cond t (row ∷ other ∷ others) (other ∷ put_in row others)) e
 
 sure_put : (slack : ℕ) (row : List Field) (record_no : ℕ) (greatest : ℤ) (waiting : List (List Field)) (found : Result (Option (List Field)) RecordFault) (behind : ℕ → Option ℤ → Rows)
@@ -189,6 +189,10 @@ put_in-in_order row (other ∷ others) ordered = by_test (int_lt (time_of row) (
     by_test : (test : Bool) → int_lt (time_of row) (time_of other) ≡ test → AreInOrder (put_in row others) → AreInOrder (cond test (row ∷ other ∷ others) (other ∷ put_in row others))
     by_test true lt behind = ((swapped (time_of row) (time_of other) lt, none_before-past row other others lt ordered.0), ordered)
     by_test false ge behind = (none_before-put row other others ge ordered.0, behind)
+
+pub put_all-in_order : (waiting rows : List (List Field)) → AreInOrder waiting → AreInOrder (put_all waiting rows)
+put_all-in_order waiting [] ordered = ordered
+put_all-in_order waiting (row ∷ rows) ordered = put_all-in_order (put_in row waiting) rows (put_in-in_order row waiting ordered)
 
 -- ---- some rows behind others
 

@@ -12,13 +12,15 @@ use Rattle.hj_event.specs.declared.stop.Stop.{Stop}
 use Rattle.hj_event.specs.declared.stop.Stop.TheVariants as stop
 use Rattle.hj_event.specs.declared.stop.Found.{Found}
 use Rattle.hj_event.specs.declared.stop.Found.TheVariants as found
-use Rattle.hj_event.specs.Rows.{Rows, no_row, then_rows, put_in, is_sure, in_order, rows_in, unread}
+use Rattle.hj_event.specs.Rows.{Rows, no_row, then_rows, put_in, is_sure, in_order, rows_in, clean, unread}
 use Rattle.hj_event.specs.Sides.{Reading, SideState, in_front, at_its_end, cut_off, MayFollow, pieces_ahead, read_ahead, rows_ahead}
 use Rattle.hj_event.specs.Reads.{Fills}
 use Rattle.hj_event.specs.Roles.{IsReadOn, IsInStep}
-use Rattle.hj_event.specs.Taking.{IsNeeded, IsReadAsNeeded, FoundLeads, Wants, Advances, GoesOn, TakesRow, TellsRow, TellsNext, NoneWaits, unseen, has_failed}
-use Rattle.hj_event.specs.Waiting.{TakesSure, has_sure}
+use Rattle.hj_event.specs.Taking.{IsNeeded, IsReadAsNeeded, FoundLeads, Wants, Advances, GoesOn, TakesRow, TellsRow, TellsNext, IsOver, IsKept, unseen, has_failed}
+use Rattle.hj_event.specs.Waiting.{AreInOrder, has_sure}
 use Rattle.hj_event.proofs.OrderLemmas.{as_read, sure_ahead}
+use Rattle.hj_event.proofs.WaitingLemmas.{none_first}
+use Rattle.hj_event.proofs.RowLemmas.{at_end_follows}
 use Rattle.hj_event.proofs.RoleLemmas.{not_read, read_more}
 
 -- ---- row by row
@@ -158,21 +160,14 @@ goes_on_as_read answer old new none advances =
       wants = wants_as_read answer new still advances.wants;
     }
 
-as_source : (reading : Reading) (waiting : List (List Field)) (refused : Option (ℕ × RecordFault)) → (waiting ≡ []) × (refused ≡ None) → source reading waiting refused ≡ source reading [] None
-as_source reading waiting refused none = ap (λ (rows : List (List Field)). source reading rows refused) none.0 ∙ ap (source reading []) none.1
+as_source : (reading : Reading) (waiting : List (List Field)) (refused : Option (ℕ × RecordFault)) (over : Bool) → (waiting ≡ []) × (refused ≡ None) × (over ≡ false) → source reading waiting refused ≡ source reading [] None
+as_source reading waiting refused over none = ap (λ (rows : List (List Field)). source reading rows refused) none.0 ∙ ap (source reading []) none.1
 
-pub goes_on_without : (answer : Result Found Stop) (old new : Reading) (waiting : List (List Field)) (refused : Option (ℕ × RecordFault)) → NoneWaits old.slack waiting refused → old.slack ≡ 0 → Advances answer old new
+pub goes_on_without : (answer : Result Found Stop) (old new : Reading) (waiting : List (List Field)) (refused : Option (ℕ × RecordFault)) (over : Bool) → IsKept old waiting refused over → old.slack ≡ 0 → Advances answer old new
     → GoesOn answer (source old waiting refused) (source new waiting refused)
-goes_on_without answer old new waiting refused waits none advances =
-    subst (λ (before : SideState). GoesOn answer before (source new waiting refused)) (sym (as_source old waiting refused (waits none)))
-    (subst (λ (after : SideState). GoesOn answer (source old [] None) after) (sym (as_source new waiting refused (waits none))) (goes_on_as_read answer old new none advances))
-
--- The rows that wait come before the record that was refused.
-pub gives_before_refused : (reading : Reading) (row : List Field) (waiting : List (List Field)) (refused : ℕ × RecordFault) → GoesOn (Ok (found.Row row)) (source reading (row ∷ waiting) (Some refused)) (source reading waiting (Some refused))
-gives_before_refused reading row waiting refused = record { ended = refl; leads = λ stream follows. refl; wants = tt }
-
-pub gives_refused : (reading : Reading) (at : ℕ) (why : RecordFault) → GoesOn (Err (stop.Bad at why)) (source reading [] (Some (at, why))) (source reading [] (Some (at, why)))
-gives_refused reading at why = record { ended = refl; leads = λ stream follows. refl; wants = tt }
+goes_on_without answer old new waiting refused over kept none advances =
+    subst (λ (before : SideState). GoesOn answer before (source new waiting refused)) (sym (as_source old waiting refused over (kept.without none)))
+    (subst (λ (after : SideState). GoesOn answer (source old [] None) after) (sym (as_source new waiting refused over (kept.without none))) (goes_on_as_read answer old new none advances))
 
 module _ (old new : Reading) (waiting : List (List Field)) where
   as_late : (slack : ℕ) (time : Option ℤ) → new.slack ≡ slack → new.time ≡ time → (stream : Stream) → rows_ahead (source new waiting None) stream ≡ in_order slack time waiting (read_ahead new stream)
@@ -227,18 +222,6 @@ module _ (old new : Reading) (waiting : List (List Field)) where
   pub puts_nowhere : (row : List Field) (after : List (List Field)) → Advances (Ok (found.Row row)) old new → GoesOn (Err stop.Memory) (source old waiting None) (source new after None)
   puts_nowhere row after advances = record { ended = advances.ended; leads = λ stream follows. tt; wants = tt }
 
-  -- The first row that waits is sure.
-  pub gives_sure : (row : List Field) → is_sure new.slack new.time row ≡ true → Advances (Ok found.More) old new → GoesOn (Ok (found.Row row)) (source old (row ∷ waiting) None) (source new waiting None)
-  gives_sure row sure advances = record {
-    ended = advances.ended;
-    leads = λ stream follows.
-        ap (in_order old.slack old.time (row ∷ waiting)) (advances.leads stream follows)
-        ∙ (sym (ap (λ (s : ℕ). in_order s new.time (row ∷ waiting) (read_ahead new stream)) advances.slack
-        ∙ ap (λ (t : Option ℤ). in_order old.slack t (row ∷ waiting) (read_ahead new stream)) advances.time)
-        ∙ sure_ahead new.columns new.slack row new.record_no new.time waiting (pieces_ahead new stream) sure);
-    wants = tt;
-  }
-
   -- At the end of the stream each row that waits comes.
   pub gives_last : (row : List Field) → Advances (Ok found.End) old new → GoesOn (Ok (found.Row row)) (source old (row ∷ waiting) None) (source new waiting None)
   gives_last row advances = record {
@@ -261,8 +244,8 @@ gives_end old new advances = record {
 pub tells_as_read : (reading : Reading) → reading.slack ≡ 0 → TellsRow reading → TellsNext (source reading [] None)
 tells_as_read reading none tells = λ e. tells (sym (rows_as_read reading none cut_off) ∙ e)
 
-pub tells_without : (reading : Reading) (waiting : List (List Field)) (refused : Option (ℕ × RecordFault)) → NoneWaits reading.slack waiting refused → reading.slack ≡ 0 → TellsRow reading → TellsNext (source reading waiting refused)
-tells_without reading waiting refused waits none tells = subst TellsNext (sym (as_source reading waiting refused (waits none))) (tells_as_read reading none tells)
+pub tells_without : (reading : Reading) (waiting : List (List Field)) (refused : Option (ℕ × RecordFault)) (over : Bool) → IsKept reading waiting refused over → reading.slack ≡ 0 → TellsRow reading → TellsNext (source reading waiting refused)
+tells_without reading waiting refused over kept none tells = subst TellsNext (sym (as_source reading waiting refused over (kept.without none))) (tells_as_read reading none tells)
 
 pub tells_refused : (reading : Reading) (waiting : List (List Field)) (refused : ℕ × RecordFault) → TellsNext (source reading waiting (Some refused))
 tells_refused reading waiting refused = λ e. let ends = ap (λ (rows : Rows). rows.ending) e in cc
@@ -273,23 +256,72 @@ tells_sure reading (row ∷ waiting) has =
     λ e. let rows = ap (λ (rows : Rows). rows.rows) (sym (sure_ahead reading.columns reading.slack row reading.record_no reading.time waiting (pieces_ahead reading cut_off) has) ∙ e) in cc
 
 -- A row that waits is told where it is sure, and else the fault, where it is known.
-pub tells_next : (reading : Reading) (waiting : List (List Field)) (refused : Option (ℕ × RecordFault)) (slack : ℕ) (greatest : Option ℤ) (sure : Bool) → slack ≡ reading.slack → greatest ≡ reading.time → sure ≡ has_sure slack greatest waiting → IsTrue sure
-    → TellsNext (source reading waiting refused)
-tells_next reading waiting (Some found) slack greatest sure late great is has = tells_refused reading waiting found
-tells_next reading waiting None slack greatest sure late great is has =
-    tells_sure reading waiting (sym (ap (λ (s : ℕ). has_sure s greatest waiting) late ∙ ap (λ (g : Option ℤ). has_sure reading.slack g waiting) great) ∙ (sym is ∙ has))
+pub tells_next : (reading : Reading) (waiting : List (List Field)) (refused : Option (ℕ × RecordFault)) → has_sure reading.slack reading.time waiting ≡ true → TellsNext (source reading waiting refused)
+tells_next reading waiting (Some found) has = tells_refused reading waiting found
+tells_next reading waiting None has = tells_sure reading waiting has
 
--- Where no record is refused, the first row that waits is given if it is sure, and else more bytes are wanted.
-abbrev pub given_or_more : Option (List Field) → Result Found Stop
-given_or_more None = Ok found.More
-given_or_more (Some row) = Ok (found.Row row)
+-- The first row that waits is given where it is sure.
+pub gives_first : (reading : Reading) (row : List Field) (waiting after : List (List Field)) (refused : Option (ℕ × RecordFault)) → refused ≡ None → has_sure reading.slack reading.time waiting ≡ true → waiting ≡ row ∷ after
+    → GoesOn (Ok (found.Row row)) (source reading waiting refused) (source reading after refused)
+gives_first reading row waiting after refused none sure is =
+    rw (none, is) (gives_sure_row (subst (λ (rows : List (List Field)). has_sure reading.slack reading.time rows ≡ true) is sure))
+  where
+    gives_sure_row : is_sure reading.slack reading.time row ≡ true → GoesOn (Ok (found.Row row)) (source reading (row ∷ after) None) (source reading after None)
+    gives_sure_row sure = record { ended = refl; leads = λ stream follows. sure_ahead reading.columns reading.slack row reading.record_no reading.time after (pieces_ahead reading stream) sure; wants = tt }
 
-pub gives_or_wants : (given : Option (List Field)) (old new : Reading) (waiting after : List (List Field)) (refused : Option (ℕ × RecordFault)) (slack : ℕ) (greatest : Option ℤ) → refused ≡ None → slack ≡ new.slack → greatest ≡ new.time
-    → TakesSure given slack greatest waiting after → Advances (Ok found.More) old new → GoesOn (given_or_more given) (source old waiting refused) (source new after refused)
-gives_or_wants (Some row) old new waiting after refused slack greatest none late great takes advances =
-    rw (none, takes.0) (gives_sure old new after row (sym (ap (λ (s : ℕ). is_sure s greatest row) late ∙ ap (λ (g : Option ℤ). is_sure new.slack g row) great) ∙ takes.1) advances)
-gives_or_wants None old new waiting after refused slack greatest none late great takes advances =
-    rw (none, takes.0) (wants_more old new waiting (sym (ap (λ (s : ℕ). filter (is_sure s greatest) waiting) late ∙ ap (λ (g : Option ℤ). filter (is_sure new.slack g) waiting) great) ∙ takes.1) advances)
+-- No row waits, and nothing is given.
+pub gives_none : (reading : Reading) (waiting after : List (List Field)) (refused : Option (ℕ × RecordFault)) → (waiting ≡ []) × (after ≡ []) → GoesOn (Ok found.NoRecord) (source reading waiting refused) (source reading after refused)
+gives_none reading waiting after refused none = rw (none.0, none.1) (record { ended = refl; leads = λ stream follows. refl; wants = tt })
+
+-- All that was read is looked at: a row that waits is sure, or more bytes are wanted.
+pub looked_at : (old new : Reading) (waiting : List (List Field)) (refused : Option (ℕ × RecordFault)) → refused ≡ None → Advances (Ok found.More) old new → GoesOn (Ok found.NoRecord) (source old waiting refused) (source new waiting refused)
+looked_at old new waiting refused none advances = rw none (record {
+  ended = advances.ended;
+  leads = λ stream follows. ap (in_order old.slack old.time waiting) (advances.leads stream follows) ∙ sym (as_late old new waiting old.slack old.time advances.slack advances.time stream);
+  wants = tt;
+})
+
+pub wants_bytes : (old new : Reading) (waiting : List (List Field)) (refused : Option (ℕ × RecordFault)) → refused ≡ None → AreInOrder waiting → has_sure new.slack new.time waiting ≡ false → Advances (Ok found.More) old new
+    → GoesOn (Ok found.More) (source old waiting refused) (source new waiting refused)
+wants_bytes old new waiting refused none ordered unsure advances = rw none (wants_more old new waiting (none_first new.slack new.time waiting ordered unsure) advances)
+
+-- Where all was read, the rows that wait come, and then the end.
+over_ahead : (reading : Reading) (waiting : List (List Field)) (refused : Option (ℕ × RecordFault)) → IsOver reading → refused ≡ None → (stream : Stream) → MayFollow reading.ended stream → rows_ahead (source reading waiting refused) stream ≡ record { rows = waiting; ending = clean }
+over_ahead reading waiting refused over none stream follows =
+    ap (λ (r : Option (ℕ × RecordFault)). rows_ahead (source reading waiting r) stream) none
+    ∙ (ap (rows_ahead (source reading waiting None)) (at_end_follows reading.ended stream over.0 follows) ∙ ap (in_order reading.slack reading.time waiting) over.1)
+
+pub gives_over : (reading : Reading) (row : List Field) (waiting after : List (List Field)) (refused : Option (ℕ × RecordFault)) → IsOver reading → refused ≡ None → waiting ≡ row ∷ after → GoesOn (Ok (found.Row row)) (source reading waiting refused) (source reading after refused)
+gives_over reading row waiting after refused over none is = record {
+  ended = refl;
+  leads = λ stream follows. over_ahead reading waiting refused over none stream follows ∙ (ap (λ (rows : List (List Field)). record { rows = rows; ending = clean }) is ∙ ap (then_rows row) (sym (over_ahead reading after refused over none stream follows)));
+  wants = tt;
+}
+
+pub ends_over : (reading : Reading) (waiting after : List (List Field)) (refused : Option (ℕ × RecordFault)) → IsOver reading → refused ≡ None → (waiting ≡ []) × (after ≡ []) → GoesOn (Ok found.End) (source reading waiting refused) (source reading after refused)
+ends_over reading waiting after refused over none is = record {
+  ended = refl;
+  leads = λ stream follows. (
+    over_ahead reading waiting refused over none stream follows ∙ ap (λ (rows : List (List Field)). record { rows = rows; ending = clean }) is.0,
+    over_ahead reading after refused over none stream follows ∙ ap (λ (rows : List (List Field)). record { rows = rows; ending = clean }) is.1,
+  );
+  wants = over.0;
+}
+
+-- All was read.
+pub comes_to_end : (old new : Reading) (waiting : List (List Field)) (refused : Option (ℕ × RecordFault)) → refused ≡ None → Advances (Ok found.End) old new → GoesOn (Ok found.NoRecord) (source old waiting refused) (source new waiting refused)
+comes_to_end old new waiting refused none advances = rw none (record {
+  ended = advances.ended;
+  leads = λ stream follows. ap (in_order old.slack old.time waiting) (advances.leads stream follows).0 ∙ sym (ap (in_order new.slack new.time waiting) (advances.leads stream follows).1);
+  wants = tt;
+})
+
+is_over : (old new : Reading) → Advances (Ok found.End) old new → IsOver new
+is_over old new advances = (advances.wants, (advances.leads at_its_end (subst (λ (ended : Bool). MayFollow ended at_its_end) (sym advances.wants) refl)).1)
+
+-- What is kept once all was read.
+pub kept_at_end : (old new : Reading) (waiting : List (List Field)) (refused : Option (ℕ × RecordFault)) → (old.slack ≡ 0 → ⊥) → Advances (Ok found.End) old new → IsKept new waiting refused true
+kept_at_end old new waiting refused late advances = record { without = λ none. absurd (late (sym advances.slack ∙ none)); at_end = λ ends. is_over old new advances }
 
 pub none_refused : (refused : Option (ℕ × RecordFault)) → ((found : ℕ × RecordFault) → refused ≡ Some found → ⊥) → refused ≡ None
 none_refused None not_some = refl

@@ -65,11 +65,11 @@ module _ (query : Parts) (events : Events) (h : AtEach (Moment query) [] events)
     most : (before behind : Events) → Moment query before behind → length (live_rows side before) ≤ count + 1
     most before [] m = omega (arith, m side count is)
     most before (Arrive at other row ∷ behind) m = omega (arith, m.within side count is)
-    most before (Quiet at other ∷ behind) m = omega (arith, m.within side count is)
     most before (Expire at other of ∷ behind) m = elim (cases_side side other) [
       | inl e ↦ omega (arith, full before behind at of (subst (λ (s : Side). AtExpiry query before behind at s of) (sym e) m))
       | inr differs ↦ omega (arith, m.rest side count differs is)
     ]
+    most before (Quiet at other ∷ behind) m = omega (arith, m.within side count is)
 
     within : (before behind : Events) → Moment query before behind → ¬ (ExpiresNext side behind) → length (live_rows side before) ≤ count
     within before [] m stays = m side count is

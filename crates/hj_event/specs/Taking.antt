@@ -16,7 +16,7 @@ use Rattle.hj_event.specs.declared.stop.Stop.TheVariants as stop
 use Rattle.hj_event.specs.declared.stop.Found.{Found}
 use Rattle.hj_event.specs.declared.stop.Found.TheVariants as found
 use Rattle.hj_event.specs.Rows.{Rows, no_row, then_rows, row_at, in_time, with_time, clean, bad, unread}
-use Rattle.hj_event.specs.Sides.{Reading, SideState, in_front, cut_off, MayFollow, Follows, read_ahead, rows_ahead, side_ahead}
+use Rattle.hj_event.specs.Sides.{Reading, SideState, in_front, at_its_end, cut_off, MayFollow, Follows, read_ahead, rows_ahead, side_ahead}
 use Rattle.hj_event.specs.Roles.{IsReadOn, IsUnread}
 
 -- The row of a piece, behind rows of which the greatest time is this, unless memory ran out.
@@ -102,9 +102,14 @@ abbrev pub EndsSide : Result (Option (List Field)) Stop → Bool → Type 0
 EndsSide (Ok None) ended = ended ≡ true
 EndsSide answer ended = Unit {0}
 
--- Without a slack no row waits, and no record is kept as refused.
-abbrev pub NoneWaits : ℕ → List (List Field) → Option (ℕ × RecordFault) → Type 0
-NoneWaits slack waiting stop = slack ≡ 0 → (waiting ≡ []) × (stop ≡ None)
+-- A side has ended, and no row is still to be read.
+abbrev pub IsOver : Reading → Type 0
+IsOver side = (side.ended ≡ true) × (read_ahead side at_its_end ≡ no_row clean)
+
+-- What a side keeps behind its reader. Without a slack no row waits, and nothing is known of what comes behind those that do.
+pub record IsKept (side : Reading) (waiting : List (List Field)) (refused : Option (ℕ × RecordFault)) (over : Bool) : Type 0 where
+  pub without : side.slack ≡ 0 → (waiting ≡ []) × (refused ≡ None) × (over ≡ false)
+  pub at_end : over ≡ true → IsOver side
 
 -- These bytes were needed: the side hadn't ended, and without the last ones, of at most one read, what was read of it gives no row.
 pub record IsNeeded (side : SideState) (bytes : List ℕ) : Type 0 where

@@ -1,8 +1,6 @@
--- Rows that wait in order, each at its time and the number under which it came.
+-- Rows that wait in order: those that came in order, and those that came late.
 use Rattle.std.specs.Prelude.{◌≡◌, ◌<◌, ℕ, ℤ, Bool, true, false, List, [], ◌∷◌, int_lt, None, Some}
 use Rattle.std.specs.declared.option.Option.{Option}
-use Rattle.std.specs.Map.{values_of}
-use Rattle.std.specs.List.{filter}
 use Rattle.std.specs.Ordering.{int_eq}
 use Rattle.hj_value.specs.declared.field.Field.{Field}
 use Rattle.hj_value.specs.Row.{time_of}
@@ -31,14 +29,31 @@ abbrev pub ArePlaced : ℕ → List (Place × List Field) → Type 0
 ArePlaced next [] = Unit {0}
 ArePlaced next (entry ∷ entries) = (entry.0.0 ≡ time_of entry.1) × (entry.0.1 < next) × ArePlaced next entries
 
-pub record AreWaiting (next : ℕ) (entries : List (Place × List Field)) : Type 0 where
-  pub placed : ArePlaced next entries
-  pub in_order : AreInOrder (values_of entries)
+abbrev pub first_time : List (List Field) → Option ℤ
+first_time [] = None
+first_time (row ∷ rows) = Some (time_of row)
 
--- The first row is taken where it is sure; else no row is sure.
-abbrev pub TakesSure : Option (List Field) → ℕ → Option ℤ → List (List Field) → List (List Field) → Type 0
-TakesSure (Some row) slack greatest old new = (old ≡ row ∷ new) × (is_sure slack greatest row ≡ true)
-TakesSure None slack greatest old new = (new ≡ old) × (filter (is_sure slack greatest) old ≡ [])
+abbrev pub last_time : List (List Field) → Option ℤ
+last_time [] = None
+last_time (row ∷ []) = Some (time_of row)
+last_time (row ∷ other ∷ rows) = last_time (other ∷ rows)
+
+-- whether there are two times, the first one below the second
+abbrev pub is_before : Option ℤ → Option ℤ → Bool
+is_before None other = false
+is_before (Some time) None = false
+is_before (Some time) (Some other) = int_lt time other
+
+-- each of these rows is earlier than this time
+abbrev pub AreBefore : Option ℤ → List (List Field) → Type 0
+AreBefore time [] = Unit {0}
+AreBefore time (row ∷ rows) = (is_before (Some (time_of row)) time ≡ true) × AreBefore time rows
+
+-- Rows that came in order, and rows that came late, each behind a later one of these.
+pub record AreWaiting (queue late : List (List Field)) : Type 0 where
+  pub queue_in_order : AreInOrder queue
+  pub late_in_order : AreInOrder late
+  pub before : AreBefore (last_time queue) late
 
 -- The first row is taken, where there is one.
 abbrev pub TakesFirst : Option (List Field) → List (List Field) → List (List Field) → Type 0

@@ -4,6 +4,7 @@
 mod arrivals;
 mod due;
 mod fault;
+mod late;
 mod laws;
 mod merger;
 mod numbering;

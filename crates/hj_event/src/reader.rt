@@ -80,6 +80,14 @@ impl Reader {
         }
     }
 
+    /// Whether there are bytes that were read and not looked at.
+    #[inline(always)]
+    pub(crate) fn has_rest(&self) -> bool
+        ensures { result ≡ false → self.now.rest ≡ [] }
+    {
+        self.taken < self.filled
+    }
+
     /// How late a row may be.
     #[inline(always)]
     pub(crate) fn slack(&self) -> u64

@@ -3,6 +3,7 @@ ghost use Rattle.hj_base.specs.Outside.{role_of, ChangesOnly};
 ghost use Rattle.hj_event.specs.Roles.{IsInStep};
 ghost use Rattle.hj_event.specs.Reads.{Fills};
 ghost use Rattle.hj_event.specs.Sides.{new_side};
+ghost use Rattle.hj_event.specs.Waiting.{has_sure, AreInOrder};
 ghost use Rattle.hj_event.specs.Taking.{unseen, GoesOn, TakesRow, IsTold, TellsNext};
 
 use crate::RecordFault;
@@ -24,18 +25,20 @@ pub(crate) struct Source {
     waiting: Waiting,
     /// The number of the record that was refused behind them, and why.
     refused: Option<(u64, RecordFault)>,
+    /// No row comes behind them.
+    over: bool,
 }
 
 impl Model for Source {
     ghost use Rattle.std.specs.Prelude.{None};
     ghost use Rattle.hj_event.specs.Sides.{SideState};
-    ghost use Rattle.hj_event.specs.Taking.{NoneWaits};
+    ghost use Rattle.hj_event.specs.Taking.{IsKept};
 
     ghost Value = { SideState };
 
     ghost view = { λ s. record { head = None; reading = s.reader; waiting = s.waiting; stop = s.refused } };
 
-    ghost invariant = { λ s. NoneWaits s.reader.slack s.waiting s.refused };
+    ghost invariant = { λ s. IsKept s.reader s.waiting s.refused s.over };
 }
 
 impl Source {
@@ -47,6 +50,7 @@ impl Source {
             reader: Reader::new(alloc, schema, slack),
             waiting: Waiting::new(alloc),
             refused: None,
+            over: false,
         }
     }
 
@@ -103,10 +107,18 @@ impl Source {
     fn has_next(&self) -> bool
         ensures { IsTrue result → TellsNext self.now }
     {
-        self.refused.is_some()
-            || self
-                .waiting
-                .has_sure(self.reader.slack(), self.reader.greatest())
+        self.refused.is_some() || self.has_sure()
+    }
+
+    /// Whether the first row that waits is sure.
+    #[inline(always)]
+    fn has_sure(&self) -> bool
+        ensures sure { result ≡ has_sure self.now.reading.slack self.now.reading.time self.now.waiting }
+        ensures in_order { AreInOrder self.now.waiting }
+    {
+        let slack = self.reader.slack();
+        let greatest = self.reader.greatest();
+        self.waiting.has_sure(slack, greatest)
     }
 
     /// Goes on by a piece of what was read, or by a row that waits.
@@ -132,6 +144,18 @@ impl Source {
                 None => Err(Stop::Bad { at, fault }),
             };
         }
+        if self.over {
+            return match self.waiting.take() {
+                Some(row) => Ok(Found::Row(row)),
+                None => Ok(Found::End),
+            };
+        }
+        if !self.reader.has_rest() && self.has_sure() {
+            return match self.waiting.take() {
+                Some(row) => Ok(Found::Row(row)),
+                None => Ok(Found::NoRecord),
+            };
+        }
         match self.reader.advance() {
             Ok(Found::Row(row)) => {
                 self.waiting.put(row)?;
@@ -139,18 +163,16 @@ impl Source {
             }
             Ok(Found::NoRecord) => Ok(Found::NoRecord),
             Ok(Found::More) => {
-                match self
-                    .waiting
-                    .take_sure(self.reader.slack(), self.reader.greatest())
-                {
-                    Some(row) => Ok(Found::Row(row)),
-                    None => Ok(Found::More),
+                if self.has_sure() {
+                    Ok(Found::NoRecord)
+                } else {
+                    Ok(Found::More)
                 }
             }
-            Ok(Found::End) => match self.waiting.take() {
-                Some(row) => Ok(Found::Row(row)),
-                None => Ok(Found::End),
-            },
+            Ok(Found::End) => {
+                self.over = true;
+                Ok(Found::NoRecord)
+            }
             Err(Stop::Bad { at, fault }) => {
                 self.refused = Some((at, fault));
                 Ok(Found::NoRecord)

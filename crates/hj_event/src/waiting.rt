@@ -1,34 +1,34 @@
-ghost use Rattle.std.specs.Prelude.{◌≡◌, ◌-ℤ◌, [], OnOk, int_le, option_map, pos, slice_get};
-ghost use Rattle.hj_value.specs.Row.{time_of};
+ghost use Rattle.std.specs.Prelude.{◌≡◌, ◌-ℤ◌, [], OnOk, int_le, pos};
 ghost use Rattle.hj_event.specs.Rows.{put_in};
-ghost use Rattle.hj_event.specs.Waiting.{AreInOrder, TakesSure, TakesFirst, has_sure};
+ghost use Rattle.hj_event.specs.Waiting.{first_time, last_time, is_before, has_sure, AreInOrder, TakesFirst};
 
+use crate::late::Late;
 use hj_base::Memory;
 use hj_value::SharedRow;
 use std::alloc::Global;
-use std::collections::BTreeMap;
+use std::collections::VecDeque;
 use std::marker::Model;
 
 /// Rows in order of time, rows of equal time in the order in which they came.
 #[derive(Drop)]
 pub(crate) struct Waiting {
-    /// By a row's time and the number under which it came.
-    rows: BTreeMap<(i64, u64), SharedRow>,
-    /// The number of the next row that comes.
-    next: u64,
+    /// The rows that came in order.
+    queue: VecDeque<SharedRow>,
+    /// The rows that came late: each is earlier than the last row of the queue.
+    late: Late,
 }
 
 impl Model for Waiting {
     ghost use Rattle.std.specs.Prelude.{List};
-    ghost use Rattle.std.specs.Map.{values_of};
     ghost use Rattle.hj_value.specs.declared.field.Field.{Field};
+    ghost use Rattle.hj_event.specs.Rows.{put_all};
     ghost use Rattle.hj_event.specs.Waiting.{AreWaiting};
 
     ghost Value = { List (List Field) };
 
-    ghost view = { λ w. values_of w.rows.entries };
+    ghost view = { λ w. put_all w.queue.items w.late };
 
-    ghost invariant = { λ w. AreWaiting w.next w.rows.entries };
+    ghost invariant = { λ w. AreWaiting w.queue.items w.late };
 }
 
 impl Waiting {
@@ -37,8 +37,8 @@ impl Waiting {
         ensures { result ≡ [] }
     {
         Waiting {
-            rows: BTreeMap::new(alloc),
-            next: 0,
+            queue: VecDeque::new(alloc),
+            late: Late::new(alloc),
         }
     }
 
@@ -47,28 +47,23 @@ impl Waiting {
         ensures { OnOk result (self.new ≡ put_in row self.old) }
     {
         let time = row.row().time();
-        let next = self.next.checked_add(1).ok_or(Memory)?;
-        self.rows.insert((time, self.next), row)?;
-        self.next = next;
-        Ok(())
-    }
-
-    /// Takes the first row, if it is sure.
-    pub(crate) fn take_sure(&mut self, slack: u64, greatest: Option<i64>) -> Option<SharedRow>
-        ensures { TakesSure result slack greatest self.old self.new }
-    {
-        if !self.has_sure(slack, greatest) {
-            return None;
+        if is_before(Some(time), last_time(&self.queue)) {
+            self.late.put(row)
+        } else {
+            self.queue.push_back(row)?;
+            Ok(())
         }
-        self.take()
     }
 
     /// Takes the first row.
     pub(crate) fn take(&mut self) -> Option<SharedRow>
         ensures { TakesFirst result self.old self.new }
     {
-        let (_, row) = self.rows.pop_first()?;
-        Some(row)
+        if is_before(self.late.first_time(), first_time(&self.queue)) {
+            self.late.take()
+        } else {
+            self.queue.pop_front()
+        }
     }
 
     /// Whether the first row is sure: its time is at most the greatest one less the slack.
@@ -87,11 +82,38 @@ impl Waiting {
 
     /// The time of the first row.
     fn first_time(&self) -> Option<i64>
-        ensures time { result ≡ option_map time_of (slice_get self.now 0) }
+        ensures time { result ≡ first_time self.now }
         ensures in_order { AreInOrder self.now }
     {
-        let (&(time, _), _) = self.rows.first_key_value()?;
-        Some(time)
+        let queue = first_time(&self.queue);
+        let late = self.late.first_time();
+        if is_before(late, queue) { late } else { queue }
+    }
+}
+
+/// The time of the first row.
+fn first_time(rows: &VecDeque<SharedRow>) -> Option<i64>
+    ensures { result ≡ first_time rows.now.items }
+{
+    let row = rows.front()?;
+    Some(row.row().time())
+}
+
+/// The time of the last row.
+fn last_time(rows: &VecDeque<SharedRow>) -> Option<i64>
+    ensures { result ≡ last_time rows.now.items }
+{
+    let row = rows.back()?;
+    Some(row.row().time())
+}
+
+/// Whether there are two times, the first one below the second.
+fn is_before(time: Option<i64>, other: Option<i64>) -> bool
+    ensures { result ≡ is_before time other }
+{
+    match (time, other) {
+        (Some(time), Some(other)) => time < other,
+        _ => false,
     }
 }
 

@@ -1,10 +1,21 @@
-use Rattle.std.proofs.Common.{FitsSigned, Some, ap, rules, w64, ◌∙◌}
-use Rattle.std.proofs.lemmas.Int.{to_z-of_z}
-use Rattle.hj_event.proofs.WaitingLemmas.{first_time}
+use Rattle.std.proofs.Common.{Bool, ap, cond, sym, ◌∙◌}
+use Rattle.hj_event.proofs.WaitingLemmas.{first_result, in_order_all}
 use Rattle.hj_event.proofs.waiting.Waiting.first_time.Goals as goal
 
-pub returns-clause-time : goal.returns-clause-time
-returns-clause-time c =
-    let fits : FitsSigned w64 c.in_ok-time.field-0-0.now.0 = search rules in
+pub returns-then-is_before-clause-time : goal.returns-then-is_before-clause-time
+returns-then-is_before-clause-time c =
     rw (← c.self.view_is)
-    (ap Some (to_z-of_z w64 c.in_ok-time.field-0-0.now.0 fits) ∙ first_time c.self.inside.next c.in_ok-time.field-0-0.now c.in_ok-time.field-0-1.now c.self.inside.rows.entries c.self.invariant.placed c.in_ok-time.ensures.first)
+    (ap (λ (test : Bool). cond test c.first_time-late.result c.first_time-queue.result) (sym c.if-is_before.true)
+    ∙ first_result c.self.inside.queue.items c.self.inside.late c.first_time-late.result c.first_time-queue.result c.is_before.result c.self.invariant c.first_time-late.ensures c.first_time-queue.ensures c.is_before.ensures)
+
+pub returns-else-is_before-clause-time : goal.returns-else-is_before-clause-time
+returns-else-is_before-clause-time c =
+    rw (← c.self.view_is)
+    (ap (λ (test : Bool). cond test c.first_time-late.result c.first_time-queue.result) (sym c.if-is_before.false)
+    ∙ first_result c.self.inside.queue.items c.self.inside.late c.first_time-late.result c.first_time-queue.result c.is_before.result c.self.invariant c.first_time-late.ensures c.first_time-queue.ensures c.is_before.ensures)
+
+pub returns-then-is_before-clause-in_order : goal.returns-then-is_before-clause-in_order
+returns-then-is_before-clause-in_order c = rw (← c.self.view_is) (in_order_all c.self.inside.queue.items c.self.inside.late c.self.invariant)
+
+pub returns-else-is_before-clause-in_order : goal.returns-else-is_before-clause-in_order
+returns-else-is_before-clause-in_order c = rw (← c.self.view_is) (in_order_all c.self.inside.queue.items c.self.inside.late c.self.invariant)

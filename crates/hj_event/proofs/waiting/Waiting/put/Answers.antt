@@ -1,24 +1,30 @@
-use Rattle.std.proofs.Common.{◌≡◌, ◌+◌, FitsSigned, ap, rules, w64, ◌∙◌}
-use Rattle.std.specs.BTreeMap.{insert_entry}
-use Rattle.std.specs.Map.{values_of}
-use Rattle.std.specs.Prelude.{ℤ}
+use Rattle.std.proofs.Common.{◌≡◌, ◌∷◌, ◌++◌, [], FitsSigned, List, Some, ap, rules, subst, sym, w64, ◌∙◌}
 use Rattle.std.proofs.lemmas.Int.{to_z-of_z}
+use Rattle.hj_value.specs.declared.field.Field.{Field}
 use Rattle.hj_value.specs.Row.{time_of}
-use Rattle.hj_event.specs.Rows.{put_in}
-use Rattle.hj_event.proofs.WaitingLemmas.{place_cmp, values-insert, waiting-put}
+use Rattle.hj_event.specs.Rows.{put_all, put_in}
+use Rattle.hj_event.specs.Waiting.{AreWaiting, is_before, last_time}
+use Rattle.hj_event.proofs.WaitingLemmas.{push_last, push_waiting, puts_late, puts_late_row, test_is}
 use Rattle.hj_event.proofs.waiting.Waiting.put.Goals as goal
 
--- what the map holds then
-entries : (c : goal.After-self-1) → c.insert.new.self.entries ≡ insert_entry place_cmp c.self.inside.rows.entries (time_of c.args.row, c.self.inside.next) c.args.row
-entries c =
+pub invariant_of-self : goal.invariant_of-self
+invariant_of-self c =
     let fits : FitsSigned w64 c.time-time.result = search rules in
-    c.in_ok-insert.ensures.entries
-    ∙ ap (λ (time : ℤ). insert_entry place_cmp c.self.inside.rows.entries (time, c.self.inside.next) c.args.row) (to_z-of_z w64 c.time-time.result fits ∙ (c.time-time.ensures ∙ ap time_of c.row-2.ensures))
+    let test = test_is _ c.last_time.result c.is_before.result (Some (time_of c.args.row)) (last_time c.self.inside.queue.items) (ap Some (to_z-of_z w64 c.time-time.result fits ∙ (c.time-time.ensures ∙ ap time_of c.row.ensures))) c.last_time.ensures c.is_before.ensures in
+    puts_late c.put.result c.args.row c.self.inside.queue.items c.self.inside.late c.put.new.self c.self.invariant (test ∙ c.if-is_before.true) c.put.ensures.ok c.put.ensures.err
 
-pub invariant_of-self-2 : goal.invariant_of-self-2
-invariant_of-self-2 c =
-    let next : c.in_ok-next.next ≡ c.self.inside.next + 1 = search rules in
-    rw (next, entries c) (waiting-put c.self.inside.next c.args.row c.self.inside.rows.entries c.self.invariant)
+pub invariant_of-self-else-is_before : goal.invariant_of-self-else-is_before
+invariant_of-self-else-is_before c =
+    let fits : FitsSigned w64 c.time-time.result = search rules in
+    let test = test_is _ c.last_time.result c.is_before.result (Some (time_of c.args.row)) (last_time c.self.inside.queue.items) (ap Some (to_z-of_z w64 c.time-time.result fits ∙ (c.time-time.ensures ∙ ap time_of c.row.ensures))) c.last_time.ensures c.is_before.ensures in
+    subst (λ (queue : List (List Field)). AreWaiting queue c.self.inside.late) (sym c.in_ok-push_back.ensures.items) (push_waiting c.self.inside.queue.items c.self.inside.late c.args.row c.self.invariant (test ∙ c.if-is_before.false))
 
-pub returns : goal.returns
-returns c = ap values_of (entries c) ∙ (values-insert c.self.inside.next c.args.row c.self.inside.rows.entries c.self.invariant.placed ∙ ap (put_in c.args.row) c.self.view_is)
+pub returns-then-is_before : goal.returns-then-is_before
+returns-then-is_before c = puts_late_row c.put.result c.args.row c.self.inside.queue.items c.self.inside.late c.put.new.self c.args.self.now c.self.invariant c.self.view_is c.put.ensures.ok
+
+pub returns-in_ok-push_back : goal.returns-in_ok-push_back
+returns-in_ok-push_back c =
+    let fits : FitsSigned w64 c.time-time.result = search rules in
+    let test = test_is _ c.last_time.result c.is_before.result (Some (time_of c.args.row)) (last_time c.self.inside.queue.items) (ap Some (to_z-of_z w64 c.time-time.result fits ∙ (c.time-time.ensures ∙ ap time_of c.row.ensures))) c.last_time.ensures c.is_before.ensures in
+    ap (λ (queue : List (List Field)). put_all queue c.self.inside.late) c.in_ok-push_back.ensures.items
+    ∙ (push_last c.self.inside.queue.items c.self.inside.late c.args.row c.self.invariant (test ∙ c.if-is_before.false) ∙ ap (put_in c.args.row) c.self.view_is)
