@@ -1,6 +1,6 @@
-# Makes random streams and queries, and the text of their joins. For each case it writes the files N.query, N.left,
-# N.right and N.wanted to `folder`. A condition is a tree that is kept in prefix order: condition() returns what the
-# query says, and holds() evaluates it.
+# Random streams and queries, and the text of their joins. For each case it writes the files N.query, N.left, N.right and N.wanted to
+# `folder`. A query may have a quiet number, of which the join of this script knows nothing, since no text depends on it. A condition
+# is a tree that is kept in prefix order: `words` are what the query says, and holds() evaluates them.
 
 function draw(below) {
     state = (state * 16807) % 2147483647
@@ -18,7 +18,7 @@ function field_of(text,    quoted) {
 
 function column(side) { return side "." (draw(2) ? "k" : "q") }
 
-# Returns a random condition, at most this deep, in the query's words; its tree goes after `size`.
+# A condition, at most this deep, in the query's words; its tree goes behind `size`.
 function condition(depth,    kind, at, first) {
     kind = depth > 0 ? draw(7) : 3 + draw(4)
     at = ++size
@@ -49,7 +49,7 @@ function value(name, left, right,    row, side) {
     return plain[side, row] ""
 }
 
-# Returns whether the tree from `next_node` on holds for two rows; `next_node` is then after it.
+# Whether the tree from `next_node` on holds for two rows; `next_node` is then behind it.
 function holds(left, right,    at, a, b) {
     at = next_node++
     if (node[at] == "not") return !holds(left, right)
@@ -76,24 +76,40 @@ function window(side,    kind) {
     return kind " " sizes[side]
 }
 
-function stream(side, file,    rows, at, time) {
+# A line with a quiet number, or none.
+function quiet() { return draw(2) ? "" : "quiet " draw(5) "\n" }
+
+# Rows as they are read, each late by at most the slack. They are kept in order of time, a row behind all that aren't later.
+function stream(side, file,    rows, at, place, latest, time, key, count, text, written) {
     rows = draw(20)
-    time = draw(5) - 3
+    latest = draw(5) - 3
     for (at = 0; at < rows; at++) {
-        time += draw(4)
-        times[side, at] = time
-        keys[side, at] = draw(4) - 1
-        counts[side, at] = draw(5)
-        plain[side, at] = text_at(draw(text_count))
-        line[side, at] = time "," keys[side, at] "," counts[side, at] "," field_of(plain[side, at])
-        print line[side, at] > file
+        latest += draw(4)
+        time = latest - draw(slack + 1)
+        key = draw(4) - 1
+        count = draw(5)
+        text = text_at(draw(text_count))
+        written = time "," key "," count "," field_of(text)
+        print written > file
+        for (place = at; place > 0 && times[side, place - 1] > time; place--) {
+            times[side, place] = times[side, place - 1]
+            keys[side, place] = keys[side, place - 1]
+            counts[side, place] = counts[side, place - 1]
+            plain[side, place] = plain[side, place - 1]
+            line[side, place] = line[side, place - 1]
+        }
+        times[side, place] = time
+        keys[side, place] = key
+        counts[side, place] = count
+        plain[side, place] = text
+        line[side, place] = written
     }
     printf "" > file
     close(file)
     return rows
 }
 
-# Removes the rows of a side that are too old when a row comes at this time.
+# Rows that are too old when a row comes at this time.
 function expire(side, now) {
     if (kinds[side] == "time")
         while (oldest[side] < newest[side] && now - times[side, oldest[side]] >= sizes[side]) oldest[side]++
@@ -137,7 +153,10 @@ BEGIN {
         columns = "(ts int, k int, q int, t text)"
         left_window = window("l")
         right_window = window("r")
-        printf "left %s right %s\nwindow left %s\nwindow right %s\non %s\n", columns, columns, left_window, right_window, condition(3) > (name ".query")
+        slack = draw(2) ? draw(9) : 0
+        slack_line = slack || draw(2) ? "slack " slack "\n" : ""
+        quiet_line = quiet()
+        printf "left %s right %s\nwindow left %s\nwindow right %s\n%s%son %s\n", columns, columns, left_window, right_window, slack_line, quiet_line, condition(3) > (name ".query")
         close(name ".query")
         lefts = stream("l", name ".left")
         rights = stream("r", name ".right")

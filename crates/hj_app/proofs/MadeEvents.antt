@@ -1,5 +1,5 @@
 -- Streams that are made end well: their rows are rows, in time, and give few events.
-use Rattle.std.proofs.Common.{◌≡◌, ℕ, zero, suc, ◌+◌, ◌*◌, ◌%◌, ◌<◌, ◌≤◌, ◌^◌, ℤ, ◌-ℤ◌, Bool, true, false, cond, int_le, List, [], ◌∷◌, length, filter, Some, None, Option, refl, sym, ap, ap₂, subst, ◌∙◌, arith, length-append}
+use Rattle.std.proofs.Common.{◌≡◌, ℕ, zero, suc, ◌+◌, ◌*◌, ◌%◌, ◌<◌, ◌≤◌, ◌^◌, ℤ, ◌-ℤ◌, Bool, true, false, cond, int_le, List, [], ◌∷◌, ◌++◌, length, filter, Some, None, Option, refl, sym, ap, ap₂, subst, ◌∙◌, arith, length-append}
 use Rattle.std.proofs.lemmas.Bool.{le-ltb}
 use Rattle.std.proofs.lemmas.List.{length-map}
 use Rattle.std.proofs.Math.Nat.{mod-lt}
@@ -9,7 +9,7 @@ use Rattle.hj_base.specs.declared.numbers.Side.TheVariants.{Left, Right}
 use Rattle.hj_base.specs.declared.numbers.Window.TheVariants.{Rows}
 use Rattle.hj_base.specs.Lcg.{next, drawn}
 use Rattle.hj_event.specs.Arrivals.{Arrival, Arrivals, arrivals_of, clean, left_among, merge, right_only, then_arrivals}
-use Rattle.hj_event.specs.Events.{Numbered, all_events_of, events_at, expiries, none_live, number_from, up_to}
+use Rattle.hj_event.specs.Events.{Numbered, Silence, no_silence, silence_at, quiet_side, silence_behind, quiet_event, all_events_of, events_at, expiries, none_live, number_from, up_to}
 use Rattle.hj_event.specs.Rows.{rows_of, clean as rows_clean}
 use Rattle.hj_event.specs.Rows as event_rows
 use Rattle.hj_gen.specs.Streams.{draws_of, right_seed, rows_of as made_rows, stream_of}
@@ -48,7 +48,7 @@ pub record AreRows (n : ℕ) (rows : event_rows.Rows) : Type 0 where
   pub ending : rows.ending ≡ rows_clean
   pub count : length rows.rows ≡ n
 
-pub rows_of-stream : (n keys seed : ℕ) → n ≤ 100000 → 0 < keys → keys ≤ 2 ^ 32 → AreRows n (rows_of keyed_columns (whole (stream_of n keys seed)))
+pub rows_of-stream : (n keys seed : ℕ) → n ≤ 100000 → 0 < keys → keys ≤ 2 ^ 32 → AreRows n (rows_of keyed_columns 0 (whole (stream_of n keys seed)))
 rows_of-stream n keys seed few some few_keys =
     let rows = made_rows 0 keys (draws_of seed (2 * n)) in
     let count : length rows ≡ n = length-made n 0 keys seed in
@@ -113,24 +113,35 @@ at_most_one : (at : ℕ) (after : Option LiveRow) → length (expiries at (optio
 at_most_one at None = omega arith
 at_most_one at (Some row) = omega arith
 
-two_a_row : (window at : ℕ) (live : LiveRows) (rows : List Arrival) → HasRows window live → length (number_from at live rows) ≤ 2 * length rows
-two_a_row window at live [] has = omega arith
-two_a_row window at live (arrival ∷ rows) has =
+at_most_one_quiet : (at : ℕ) (told : Option Side) → length (quiet_event at told) ≤ 1
+at_most_one_quiet at None = omega arith
+at_most_one_quiet at (Some side) = omega arith
+
+three_a_row : (window quiet at : ℕ) (live : LiveRows) (silence : Silence) (rows : List Arrival) → HasRows window live → length (number_from quiet at live silence rows) ≤ 3 * length rows
+three_a_row window quiet at live silence [] has = omega arith
+three_a_row window quiet at live silence (arrival ∷ rows) has =
     let came = arrive live arrival.side (time_of arrival.row) at in
-    let events = events_at at arrival came in
+    let told = quiet_side quiet (silence_at silence arrival.side) in
+    let silent = silence_behind told (silence_at silence arrival.side) in
+    let events = events_at at arrival came told in
+    let no = at + length came.before in
+    let after = expiries (no + 1) (option_to_list came.after) in
+    let quiet_one = quiet_event (no + 1 + length (option_to_list came.after)) told in
     let before : came.before ≡ [] = gone_by_none (is_gone live (time_of arrival.row)) live.rows (never_gone window live (time_of arrival.row) has) in
     let first : length (expiries at came.before) ≡ 0 = ap (λ (gone : List LiveRow). length (expiries at gone)) before in
-    let last = at_most_one (at + length came.before + 1) came.after in
-    let here = length-append (expiries at came.before) (Arrive (record { 0 = at + length came.before }) arrival.side arrival.row ∷ expiries (at + length came.before + 1) (option_to_list came.after)) in
-    let all = length-append events (number_from (at + length events) came.live rows) in
-    let others = two_a_row window (at + length events) came.live rows has in
-    omega (arith, first, last, here, all, others)
+    let last = at_most_one (no + 1) came.after in
+    let told_one = at_most_one_quiet (no + 1 + length (option_to_list came.after)) told in
+    let here = length-append (expiries at came.before) (Arrive (record { 0 = no }) arrival.side arrival.row ∷ (after ++ quiet_one)) in
+    let behind = length-append after quiet_one in
+    let all = length-append events (number_from quiet (at + length events) came.live silent rows) in
+    let others = three_a_row window quiet (at + length events) came.live silent rows has in
+    omega (arith, first, last, told_one, here, behind, all, others)
 
 within : (limit : ℕ) (all : Numbered) → length all.events ≤ limit → up_to limit all ≡ all
 within limit all few = rw (le-ltb limit (length all.events) few) refl
 
-few_enough : (events arrivals rows : ℕ) → events ≤ 2 * arrivals → arrivals ≡ rows + rows → rows ≤ 100000 → events ≤ 4294967295
-few_enough events arrivals rows two sum few = omega (arith, two, sum, few)
+few_enough : (events arrivals rows : ℕ) → events ≤ 3 * arrivals → arrivals ≡ rows + rows → rows ≤ 100000 → events ≤ 4294967295
+few_enough events arrivals rows three sum few = omega (arith, three, sum, few)
 
 -- The events of both streams end with them.
 pub ends_clean : (recipe : Recipe) (query : Parts) → recipe.rows ≤ 100000 → 0 < recipe.keys → recipe.keys ≤ 2 ^ 32 → IsKeyed recipe.window query → (join_made recipe query most_events).ending ≡ clean
@@ -138,10 +149,12 @@ unfolding most_events
 ends_clean recipe query few some few_keys keyed =
     let left = rows_of-stream recipe.rows recipe.keys recipe.seed few some few_keys in
     let right = rows_of-stream recipe.rows recipe.keys (right_seed recipe.seed) few some few_keys in
-    let left_rows : AreRows recipe.rows (rows_of query.left.columns (left_stream recipe)) = subst (λ (columns : List Column). AreRows recipe.rows (rows_of columns (left_stream recipe))) (sym keyed.left) left in
-    let right_rows : AreRows recipe.rows (rows_of query.right.columns (right_stream recipe)) = subst (λ (columns : List Column). AreRows recipe.rows (rows_of columns (right_stream recipe))) (sym keyed.right) right in
-    let arrivals = arrivals_of (rows_of query.left.columns (left_stream recipe)) (rows_of query.right.columns (right_stream recipe)) in
+    let left_rows : AreRows recipe.rows (rows_of query.left.columns query.slack (left_stream recipe)) =
+    subst (λ (slack : ℕ). AreRows recipe.rows (rows_of query.left.columns slack (left_stream recipe))) (sym keyed.slack) (subst (λ (columns : List Column). AreRows recipe.rows (rows_of columns 0 (left_stream recipe))) (sym keyed.left) left) in
+    let right_rows : AreRows recipe.rows (rows_of query.right.columns query.slack (right_stream recipe)) =
+    subst (λ (slack : ℕ). AreRows recipe.rows (rows_of query.right.columns slack (right_stream recipe))) (sym keyed.slack) (subst (λ (columns : List Column). AreRows recipe.rows (rows_of columns 0 (right_stream recipe))) (sym keyed.right) right) in
+    let arrivals = arrivals_of (rows_of query.left.columns query.slack (left_stream recipe)) (rows_of query.right.columns query.slack (right_stream recipe)) in
     let are : AreArrivals (recipe.rows + recipe.rows) arrivals = arrivals_from _ _ recipe.rows recipe.rows left_rows right_rows in
-    let events = two_a_row recipe.window 0 (none_live query) arrivals.rows (keyed.left_window, keyed.right_window) in
+    let events = three_a_row recipe.window query.quiet 0 (none_live query) no_silence arrivals.rows (keyed.left_window, keyed.right_window) in
     let count : length arrivals.rows ≡ recipe.rows + recipe.rows = are.count in
     ap (λ (all : Numbered). all.ending) (within 4294967295 (all_events_of query (left_stream recipe) (right_stream recipe)) (few_enough (length (all_events_of query (left_stream recipe) (right_stream recipe)).events) (length arrivals.rows) recipe.rows events count few)) ∙ are.ending

@@ -1,5 +1,6 @@
 -- The lines of rows that are made: each is one piece, whose record is the row of its two numbers.
-use Rattle.std.proofs.Common.{◌≡◌, ℕ, ◌+◌, ◌*◌, ◌<◌, ◌≤◌, ◌^◌, ◌==◌, ℤ, pos, true, false, cond, List, [], ◌∷◌, ◌++◌, length, codes, map, Ok, Some, None, Option, refl, sym, ap, ap₂, subst, ◌∙◌, arith, append_assoc, append-nil, length-append}
+use Rattle.std.proofs.Common.{◌≡◌, ℕ, ◌+◌, ◌*◌, ◌<◌, ◌≤◌, ◌^◌, ◌==◌, ℤ, pos, ◌-ℤ◌, int_lt, true, false, cond, List, [], ◌∷◌, ◌++◌, length, codes, map, Ok, Some, None, Option, refl, sym, ap, ap₂, subst, ◌∙◌, arith, append_assoc, append-nil, length-append}
+use Rattle.std.proofs.lemmas.Int.{ints}
 use Rattle.std.proofs.lemmas.Bool.{le-ltb, and_from, and_left, and_parts}
 use Rattle.std.proofs.lemmas.Bool.Decides.{nat_tests}
 use Rattle.std.proofs.lemmas.Fmt.{decimal_nonempty, digits_decimal, digits_value-decimal, length-decimal-le}
@@ -14,7 +15,8 @@ use Rattle.csv.specs.Reading.{default_config}
 use Rattle.csv.specs.declared.parser.Action.TheVariants as act
 use Rattle.csv.specs.declared.parser.State.{State}
 use Rattle.csv.specs.declared.parser.State.TheVariants as st
-use Rattle.hj_event.specs.Rows.{Rows, put_row, row_at, rows_from, rows_in, rows_of, most_in_stream, then_rows, in_time, clean as rows_clean}
+use Rattle.hj_event.specs.Rows.{Rows, put_row, row_at, rows_from, rows_in, rows_of, most_in_stream, then_rows, in_time, with_time, clean as rows_clean}
+use Rattle.hj_event.proofs.OrderLemmas.{as_read}
 use Rattle.hj_gen.specs.Streams.{Row, row_line}
 use Rattle.hj_lex.proofs.Fronts.{int_of-digits}
 use Rattle.hj_lex.specs.Tokens.{is_digits}
@@ -235,7 +237,7 @@ unfolding fields_of
 row_of-line row time key =
     ap₂ (λ a b. put_value (int_field 1 a) (put_value (int_field 2 b) (Ok []))) (int_of-decimal row.time time) (int_of-decimal row.key key)
 
-row_at-line : (before : Option ℤ) (row : Row) → row.time < 2 ^ 32 → row.key < 2 ^ 32 → row_at keyed_columns before (row_line row) ≡ in_time before (fields_of row)
+row_at-line : (before : Option ℤ) (row : Row) → row.time < 2 ^ 32 → row.key < 2 ^ 32 → row_at keyed_columns 0 before (row_line row) ≡ in_time 0 before (fields_of row)
 row_at-line before row time key = rw (record_of-line row time key) (rw (row_of-line row time key) refl)
 
 -- the time before isn't above this one
@@ -243,20 +245,29 @@ abbrev IsNoLater : Option ℤ → ℕ → Type 0
 IsNoLater None from = Unit {0}
 IsNoLater (Some before) from = before ≡ pos from
 
-in_time-made : (before : Option ℤ) (from : ℕ) (row : Row) → IsNoLater before from → from ≤ row.time → in_time before (fields_of row) ≡ Ok (Some (fields_of row))
+not_below : (time from : ℕ) → from ≤ time → int_lt (pos time) (pos from -ℤ pos 0) ≡ false
+not_below time from later = grind (arith, ints)
+
+in_time-made : (before : Option ℤ) (from : ℕ) (row : Row) → IsNoLater before from → from ≤ row.time → in_time 0 before (fields_of row) ≡ Ok (Some (fields_of row))
 unfolding fields_of
 in_time-made None from row no_later later = refl
-in_time-made (Some before) from row no_later later = rw (no_later) (rw (le-ltb row.time from later) refl)
+in_time-made (Some before) from row no_later later = rw (no_later) (rw (not_below row.time from later) refl)
 
-rows_from-lines : (record_no : ℕ) (before : Option ℤ) (from : ℕ) (rows : List Row) → IsNoLater before from → AreMade from rows → rows_from keyed_columns record_no before (map row_line rows) pieces_clean ≡ record { rows = map fields_of rows; ending = rows_clean }
+with_time-made : (before : Option ℤ) (from : ℕ) (row : Row) → IsNoLater before from → from ≤ row.time → with_time before (pos row.time) ≡ pos row.time
+with_time-made None from row no_later later = refl
+with_time-made (Some before) from row no_later later = rw (no_later) (rw (le-ltb row.time from later) refl)
+
+rows_from-lines : (record_no : ℕ) (before : Option ℤ) (from : ℕ) (rows : List Row) → IsNoLater before from → AreMade from rows → rows_from keyed_columns 0 record_no before (map row_line rows) pieces_clean ≡ record { rows = map fields_of rows; ending = rows_clean }
 unfolding fields_of
 rows_from-lines record_no before from [] no_later made = refl
 rows_from-lines record_no before from (row ∷ rows) no_later made =
-    ap (λ found. put_row record_no before found (λ next time. rows_from keyed_columns next time (map row_line rows) pieces_clean))
+    ap (λ found. put_row record_no before found (λ next time. rows_from keyed_columns 0 next time (map row_line rows) pieces_clean))
     (row_at-line before row made.1 made.2 ∙ in_time-made before from row no_later made.0)
+    ∙ ap (λ (time : ℤ). then_rows (fields_of row) (rows_from keyed_columns 0 (record_no + 1) (Some time) (map row_line rows) pieces_clean)) (with_time-made before from row no_later made.0)
     ∙ ap (λ (others : Rows). then_rows (fields_of row) others) (rows_from-lines (record_no + 1) (Some (pos row.time)) row.time rows refl made.3)
 
-pub rows_of-lines : (rows : List Row) → AreMade 0 rows → 22 * length rows ≤ 2 ^ 62 → rows_of keyed_columns (whole (flat_map row_line rows)) ≡ record { rows = map fields_of rows; ending = rows_clean }
+pub rows_of-lines : (rows : List Row) → AreMade 0 rows → 22 * length rows ≤ 2 ^ 62 → rows_of keyed_columns 0 (whole (flat_map row_line rows)) ≡ record { rows = map fields_of rows; ending = rows_clean }
 rows_of-lines rows made few =
-    ap (λ (cut : Pieces). rows_in keyed_columns 1 None cut) (pieces-lines most_in_stream 0 rows made (omega (arith, length-lines 0 rows made, few)))
+    as_read keyed_columns 1 None (pieces_of most_in_stream (whole (flat_map row_line rows)))
+    ∙ ap (λ (cut : Pieces). rows_in keyed_columns 0 1 None cut) (pieces-lines most_in_stream 0 rows made (omega (arith, length-lines 0 rows made, few)))
     ∙ rows_from-lines 1 None 0 rows tt made

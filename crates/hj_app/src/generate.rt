@@ -24,6 +24,7 @@ use hj_value::SharedRow;
 use std::alloc::Global;
 use std::sync::Wait;
 use std::thread::Threads;
+use std::time::Clock;
 
 /// The line that sums up a join, and the run that made the join.
 #[derive(Drop)]
@@ -35,7 +36,7 @@ struct Summary {
 /// Makes the two streams of a recipe, joins them in memory on threads, which `rt` starts, and writes the line that sums up their
 /// join to `out`. The gate is passed before each turn of a core. The note of the ending says why that couldn't be done: the sink,
 /// or memory.
-pub fn generate<T: Threads + Wait + Sync, K: Sink, G: Gate + Sync>(
+pub fn generate<T: Threads + Wait + Clock + Sync, K: Sink, G: Gate + Sync>(
     rt: &T,
     alloc: Global,
     recipe: Recipe,
@@ -64,7 +65,7 @@ pub fn generate<T: Threads + Wait + Sync, K: Sink, G: Gate + Sync>(
 }
 
 /// Joins the two streams of a recipe in memory, and sums their join up.
-fn sum_up<T: Threads + Wait + Sync, G: Gate + Sync>(
+fn sum_up<T: Threads + Wait + Clock + Sync, G: Gate + Sync>(
     rt: &T,
     alloc: Global,
     recipe: Recipe,

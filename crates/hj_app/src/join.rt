@@ -19,6 +19,7 @@ use hj_query::Query;
 use std::alloc::Global;
 use std::sync::Wait;
 use std::thread::Threads;
+use std::time::Clock;
 
 /// Gets the query of a join, opens its streams, and joins them on the calling thread alone. The gate is passed before each step of
 /// a core. The error is the note that says why that wasn't done: the query, a stream, a record, the number of events, the sink,
@@ -53,7 +54,7 @@ pub fn join_alone<O: Outside, K: Sink, G: Gate>(
 
 /// Gets the query of a join, opens its streams, and joins them on threads, which `rt` starts. The gate is passed before each turn
 /// of a core.
-pub fn join_on_threads<T: Threads + Wait + Sync, O: Outside, K: Sink, G: Gate + Sync>(
+pub fn join_on_threads<T: Threads + Wait + Clock + Sync, O: Outside, K: Sink, G: Gate + Sync>(
     rt: &T,
     alloc: Global,
     join: JoinOrder<'_>,

@@ -29,6 +29,7 @@ use std::io::ErrorKind;
 use std::process::ExitCode;
 use std::sync::Wait;
 use std::thread::Threads;
+use std::time::Clock;
 
 /// Serves the words after the program's name, over files, standard output and standard error.
 fn main(rt: HostRuntime) -> ExitCode {
@@ -44,7 +45,7 @@ fn main(rt: HostRuntime) -> ExitCode {
 }
 
 /// Serves the words and hands on the output; the status, or a note that wasn't written yet. `threads` may start threads.
-fn run<T: Threads + Wait + Sync>(rt: HostRuntime, threads: &T) -> Result<u8, Note> {
+fn run<T: Threads + Wait + Clock + Sync>(rt: HostRuntime, threads: &T) -> Result<u8, Note> {
     let alloc = rt.alloc();
     let words = words_after_name(&rt)?;
     let output = Output::new(alloc, rt.stdout())?;

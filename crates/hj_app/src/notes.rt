@@ -175,6 +175,8 @@ fn query_parts(fault: QueryFault) -> [Part; 2]
         QueryFault::Types(_) => "Types",
         QueryFault::FirstColumn(_) => "FirstColumn",
         QueryFault::WindowRange(_) => "WindowRange",
+        QueryFault::SlackRange(_) => "SlackRange",
+        QueryFault::QuietRange(_) => "QuietRange",
         QueryFault::TooDeep(_) => "TooDeep",
         QueryFault::TooManyColumns(_) => "TooManyColumns",
         QueryFault::TooLong => "TooLong",
@@ -230,6 +232,8 @@ fn query_place(fault: QueryFault) -> Option<usize>
         | QueryFault::Types(place)
         | QueryFault::FirstColumn(place)
         | QueryFault::WindowRange(place)
+        | QueryFault::SlackRange(place)
+        | QueryFault::QuietRange(place)
         | QueryFault::TooDeep(place)
         | QueryFault::TooManyColumns(place) => Some(place),
         QueryFault::TooLong | QueryFault::Memory => None,

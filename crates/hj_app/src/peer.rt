@@ -11,6 +11,7 @@ use std::process::Abort;
 use std::rt::Files;
 use std::sync::Wait;
 use std::thread::{self, Threads};
+use std::time::Clock;
 
 const PORT: u16 = 47_811;
 
@@ -27,7 +28,7 @@ fn send(net: &impl Net, bytes: &[u8]) -> io::Result<()> {
 
 /// Serves a join over the real edge, and compares what is written.
 fn joins(
-    rt: &(impl Abort + Threads + Wait + Sync),
+    rt: &(impl Abort + Threads + Wait + Clock + Sync),
     edge: impl Files + Net + Drop,
     alloc: Global,
     words: &[String],

@@ -27,6 +27,7 @@ use hj_words::{Order, Usage, read_words};
 use std::alloc::Global;
 use std::sync::Wait;
 use std::thread::Threads;
+use std::time::Clock;
 
 /// What `serve` answers.
 #[derive(Drop)]
@@ -51,7 +52,7 @@ pub struct Served {
 /// out, 7 more events than the limit. The lines are those of the pairs of the sequential sliding-window join (Kang, Naughton and
 /// Viglas, ICDE 2003) over the streams' numbered events, each once, in its order, whatever the options. The call waits for the
 /// threads that it starts; a check, and a join with no threads, is done by `serve_serial`.
-pub fn serve<T: Threads + Wait + Sync, O: Outside, K: Sink, N: Sink, G: Gate + Sync>(
+pub fn serve<T: Threads + Wait + Clock + Sync, O: Outside, K: Sink, N: Sink, G: Gate + Sync>(
     rt: &T,
     alloc: Global,
     words: &[String],
@@ -82,7 +83,7 @@ pub fn serve<T: Threads + Wait + Sync, O: Outside, K: Sink, N: Sink, G: Gate + S
 }
 
 /// Does what an order says: on threads, or by the calling thread alone where none turns a core.
-fn serve_order<T: Threads + Wait + Sync, O: Outside, K: Sink, N: Sink, G: Gate + Sync>(
+fn serve_order<T: Threads + Wait + Clock + Sync, O: Outside, K: Sink, N: Sink, G: Gate + Sync>(
     rt: &T,
     alloc: Global,
     order: &Order,
@@ -116,7 +117,7 @@ fn serve_order<T: Threads + Wait + Sync, O: Outside, K: Sink, N: Sink, G: Gate +
 }
 
 /// Runs an order whose chain threads turn.
-fn run_on_threads<T: Threads + Wait + Sync, O: Outside, K: Sink, G: Gate + Sync>(
+fn run_on_threads<T: Threads + Wait + Clock + Sync, O: Outside, K: Sink, G: Gate + Sync>(
     rt: &T,
     alloc: Global,
     order: &Order,

@@ -16,6 +16,7 @@ use std::sync::Wait;
 use std::sync::atomic::{AtomicBool, AtomicU64, Ordering};
 use std::test::Fail;
 use std::thread::{self, Threads};
+use std::time::Clock;
 
 const EQUI: &str = "equi 10 left right";
 
@@ -160,7 +161,7 @@ impl World {
     /// Serves words, and answers the status.
     fn serve(
         &mut self,
-        rt: &(impl Threads + Wait + Sync),
+        rt: &(impl Threads + Wait + Clock + Sync),
         alloc: Global,
         words: &[String],
         gate: &(impl Gate + Sync),
@@ -212,7 +213,7 @@ fn assert_written(rt: &impl Abort, alloc: Global, found: &[u8], wanted: &str, li
 
 /// Serves the words of a command over the outside of a case, and compares what comes of it.
 fn run(
-    rt: &(impl Abort + Threads + Wait + Sync),
+    rt: &(impl Abort + Threads + Wait + Clock + Sync),
     alloc: Global,
     command: &str,
     line: &str,
@@ -230,7 +231,7 @@ fn run(
 
 /// Runs each case of a table by some commands, in small portions and in large ones.
 fn run_all(
-    rt: &(impl Abort + Threads + Wait + Sync),
+    rt: &(impl Abort + Threads + Wait + Clock + Sync),
     alloc: Global,
     commands: &[&str],
     table: &str,
@@ -256,7 +257,7 @@ const SHORT: Chunks = Chunks {
 
 /// Runs each case of a table by some commands, with short reads.
 fn run_once(
-    rt: &(impl Abort + Threads + Wait + Sync),
+    rt: &(impl Abort + Threads + Wait + Clock + Sync),
     alloc: Global,
     commands: &[&str],
     table: &str,
@@ -551,6 +552,8 @@ query: Expected CloseParen at 80/;2
 ;left (ts int) right (ts int) window left rows 1 window right rows 1 on l.ts = 1 );?;?;;query: Expected End at 80/;2
 ;left (ts int) right (ts int) window left rows 1 window right rows 1 on l.ts = 'a;?;?;;query: OpenText at 78/;2
 ;left (ts int) right (ts int) window left rows 0;?;?;;query: WindowRange at 46/;2
+;left (ts int) right (ts int) window left rows 1 window right rows 1 slack 4611686018427387905;?;?;;query: SlackRange at 74/;2
+;left (ts int) right (ts int) window left rows 1 window right rows 1 quiet 1000001;?;?;;query: QuietRange at 74/;2
 ;99999999999999999999;?;?;;query: NumberRange at 0/;2";
 
 #[test]
@@ -630,7 +633,7 @@ fn sums_up_streams_that_it_makes(rt: HostRuntime) {
 
 /// What a command writes over a query and two streams; it ends well.
 fn written(
-    rt: &(impl Abort + Threads + Wait + Sync),
+    rt: &(impl Abort + Threads + Wait + Clock + Sync),
     alloc: Global,
     command: &str,
     query: &[u8],

@@ -119,7 +119,7 @@ fn actors(rt: &impl Abort, alloc: Global, lines: &str) -> Vec<Actor> {
 }
 
 /// Makes the steps of a table. A line is an actor, and the answer of its step.
-fn step_all<
+pub(crate) fn step_all<
     P: Share + Drop,
     J: Join<P> + Drop,
     L: Store<P, J> + Drop,
@@ -161,7 +161,7 @@ fn run_to_end(chain: &mut RowChain, feed: &mut TwoRows)
 }
 
 /// The numbers of the left row and of the right one.
-fn numbers(pair: Option<Pair<Row>>) -> Option<(u64, u64)> {
+pub(crate) fn numbers(pair: Option<Pair<Row>>) -> Option<(u64, u64)> {
     pair.map(|pair| (pair.left_no.0, pair.right_no.0))
 }
 

@@ -11,6 +11,7 @@ use std::test::Fail;
 #[derive(Clone, Copy)]
 enum Told {
     Arrival(u64, Side),
+    Quiet(u64, Side),
     Ended,
     NoMemory,
 }
@@ -22,6 +23,10 @@ fn report_of(alloc: Global, told: Told) -> Report<Row> {
             side,
             row: Row(no),
             partners: Partners::new(alloc),
+        },
+        Told::Quiet(no, side) => Report::Quiet {
+            no: EventNo(no),
+            side,
         },
         Told::Ended => Report::Ended,
         Told::NoMemory => Report::NoMemory,
@@ -41,9 +46,11 @@ fn punctuation_is_the_least_mark(rt: HostRuntime) -> Result<(), Fail> {
             Told::Arrival(1, Side::Right),
             Some(Mark::UpTo(EventNo(0))),
         ),
-        (1, Told::NoMemory, Some(Mark::UpTo(EventNo(0)))),
-        (0, Told::NoMemory, Some(Mark::UpTo(EventNo(0)))),
-        (0, Told::Ended, Some(Mark::UpTo(EventNo(0)))),
+        (0, Told::Quiet(2, Side::Left), Some(Mark::UpTo(EventNo(0)))),
+        (1, Told::Quiet(2, Side::Left), Some(Mark::UpTo(EventNo(1)))),
+        (1, Told::NoMemory, Some(Mark::UpTo(EventNo(1)))),
+        (0, Told::NoMemory, Some(Mark::UpTo(EventNo(1)))),
+        (0, Told::Ended, Some(Mark::UpTo(EventNo(1)))),
         (1, Told::Ended, Some(Mark::All)),
     ] {
         assert!(rt; core < 2 && !collector.ended());

@@ -55,8 +55,9 @@ Some(Handled { no: EventNo(1), side: Right, row: Row(8), partners: Partners { fo
 R 0 7: Some(EndR(EventNo(0))) / Some(R { no: EventNo(0), row: Row(7) }) None / \
 Some(Handled { no: EventNo(0), side: Left, row: Row(7), partners: Partners { found: [Partner { no: EventNo(1), row: Row(8) }] } })
 AckS 1: None / None None / None
-R 2 7: Some(EndR(EventNo(2))) / Some(R { no: EventNo(2), row: Row(7) }) None / \
-Some(Handled { no: EventNo(2), side: Left, row: Row(7), partners: Partners { found: [] } })";
+QuietR 2: Some(QuietR(EventNo(2))) / None None / Some(Quiet { no: EventNo(2), side: Right })
+R 3 7: Some(EndR(EventNo(3))) / Some(R { no: EventNo(3), row: Row(7) }) None / \
+Some(Handled { no: EventNo(3), side: Left, row: Row(7), partners: Partners { found: [] } })";
 
 /// At the left core the left row isn't settled before its end.
 const LEFT_FIRST_AT_0: &str = "\
@@ -65,6 +66,7 @@ Some(Handled { no: EventNo(0), side: Left, row: Row(7), partners: Partners { fou
 S 1 8: Some(S { no: EventNo(1), row: Row(8) }) / Some(AckS(EventNo(1))) Some(EndS(EventNo(1))) / \
 Some(Handled { no: EventNo(1), side: Right, row: Row(8), partners: Partners { found: [] } })
 EndR 0: Some(EndR(EventNo(0))) / None None / None
+QuietL 2: None / Some(QuietL(EventNo(2))) None / Some(Quiet { no: EventNo(2), side: Left })
 S 3 8: Some(S { no: EventNo(3), row: Row(8) }) / Some(AckS(EventNo(3))) Some(EndS(EventNo(3))) / \
 Some(Handled { no: EventNo(3), side: Right, row: Row(8), partners: Partners { found: [Partner { no: EventNo(0), row: Row(7) }] } })";
 

@@ -6,7 +6,7 @@ use hj_msg::{Join, Msg};
 use std::process::Abort;
 
 /// The number of the row that can't be shared.
-const UNSHARED: u64 = 13;
+pub(crate) const UNSHARED: u64 = 13;
 
 /// A row of one number.
 #[derive(Debug, Drop)]
@@ -53,6 +53,8 @@ pub(crate) fn message(rt: &impl Abort, line: &str) -> Msg<Row> {
         "EndR" => Msg::EndR(no),
         "ExpR" => Msg::ExpR(no),
         "ExpS" => Msg::ExpS(no),
+        "QuietL" => Msg::QuietL(no),
+        "QuietR" => Msg::QuietR(no),
         "CloseL" => Msg::CloseL,
         "CloseR" => Msg::CloseR,
         _ => panic!(rt; "no message: {line}"),

@@ -3,22 +3,26 @@ ghost use Rattle.hj_base.specs.declared.numbers.Side.TheVariants.{Left, Right};
 ghost use Rattle.hj_rows.specs.ListStore.{resting_rows};
 ghost use Rattle.hj_chain_samples.specs.Rounds.{rounds_given};
 
-use crate::rows::{Cross, Row};
+use crate::rows::{Cross, Row, UNSHARED};
 use hj_base::{CoreNo, EventNo, Gate, Memory, OpenGate, Setup, Side};
 use hj_crew::run_threads;
 use hj_msg::{Drain, Drained, Event, Feed, Fin, Given, Pair};
 use hj_rows::ListStore;
 use std::alloc::Global;
+use std::hint::spin_loop;
 use std::process::Abort;
 use std::sync::Wait;
 use std::test::Fail;
-use std::thread::{Threads, yield_now};
+use std::thread::Threads;
+use std::time::Clock;
 
 /// Rounds of four events: a left row and a right row come, and then both expire. Answers are there always, or never before they
 /// are asked for.
 #[derive(Drop)]
 struct Rounds {
     ready: bool,
+    /// The number of every row.
+    row: u64,
     /// The live row of each side.
     left: Option<EventNo>,
     right: Option<EventNo>,
@@ -28,14 +32,15 @@ struct Rounds {
 }
 
 impl Rounds {
-    /// So many events of rounds.
-    fn new(most: u64, ready: bool) -> Self
+    /// So many events of rounds, with rows of this number.
+    fn new(most: u64, ready: bool, row: u64) -> Self
         ensures given { result.given ≡ 0 }
         ensures none_left { result.left ≡ None }
         ensures none_right { result.right ≡ None }
     {
         Rounds {
             ready,
+            row,
             left: None,
             right: None,
             given: 0,
@@ -62,11 +67,11 @@ impl Feed<Row> for Rounds {
         match (self.left, self.right) {
             (None, None) => {
                 self.left = Some(no);
-                arrival(no, Side::Left)
+                arrival(no, Side::Left, self.row)
             }
             (Some(_), None) => {
                 self.right = Some(no);
-                arrival(no, Side::Right)
+                arrival(no, Side::Right, self.row)
             }
             (Some(of), Some(_)) => {
                 self.left = None;
@@ -84,13 +89,13 @@ impl Feed<Row> for Rounds {
     }
 }
 
-fn arrival(no: EventNo, side: Side) -> Given<Row>
-    ensures { result ≡ Given.Event (Event.Arrive no side (record { 0 = 7 })) }
+fn arrival(no: EventNo, side: Side, row: u64) -> Given<Row>
+    ensures { result ≡ Given.Event (Event.Arrive no side (record { 0 = row })) }
 {
     Given::Event(Event::Arrive {
         no,
         side,
-        row: Row(7),
+        row: Row(row),
     })
 }
 
@@ -100,9 +105,11 @@ fn expiry(no: EventNo, side: Side, of: EventNo) -> Given<Row>
     Given::Event(Event::Expire { no, side, of })
 }
 
-/// Counts the pairs, and those that aren't the next ones: the rows of round k have the numbers 4 k and 4 k + 1.
+/// Counts the pairs, and those that aren't the next ones: the rows of round k have the numbers 4 k and 4 k + 1. It spins so often
+/// at each pair.
 #[derive(Drop)]
 struct InTurn {
+    spins: u32,
     pairs: u64,
     astray: u64,
 }
@@ -118,6 +125,9 @@ impl Drain<Row> for InTurn {
         ensures takes { Unit {0} }
         ensures refusals { CountsRefused result 0 0 }
     {
+        for _spin in 0..self.spins {
+            spin_loop();
+        }
         let left = self.pairs.saturating_mul(4);
         if pair.left_no.0 != left || pair.right_no.0 != left.saturating_add(1) {
             self.astray = self.astray.saturating_add(1);
@@ -127,22 +137,22 @@ impl Drain<Row> for InTurn {
     }
 }
 
-/// Lets the calls of one core wait now and then.
+/// Holds up the calls of one core now and then.
 #[derive(Drop)]
-struct SlowCore(u16);
+pub(crate) struct SlowCore(pub(crate) u16);
 
 impl Gate for SlowCore {
     fn pass(&self, core: CoreNo, call: u64) {
         if core.0 == self.0 && call % 7 == 3 {
-            for _wait in 0..call % 50 {
-                yield_now();
+            for _wait in 0..call % 50 * 100 {
+                spin_loop();
             }
         }
     }
 }
 
 /// An empty store for each core.
-fn stores(alloc: Global, cores: u16) -> Result<Vec<ListStore<Row>>, Memory>
+pub(crate) fn stores(alloc: Global, cores: u16) -> Result<Vec<ListStore<Row>>, Memory>
     ensures many { IfOk result (λ stores. length stores.items ≡ cores) }
     ensures empty { IfOk result (λ stores. All (λ store. resting_rows store ≡ []) stores.items) }
 {
@@ -153,12 +163,40 @@ fn stores(alloc: Global, cores: u16) -> Result<Vec<ListStore<Row>>, Memory>
     Ok(stores)
 }
 
-/// Runs so many events of rounds on threads, and looks whether each pair came in its turn.
-fn run<T: Abort + Threads + Wait + Sync, G: Gate + Sync>(
+/// Runs rounds on threads, with a drain that spins so often at each pair.
+fn run<T: Abort + Threads + Wait + Clock + Sync, G: Gate + Sync>(
     rt: &T,
     alloc: Global,
     setup: Setup,
     rounds: Rounds,
+    spins: u32,
+    gate: &G,
+) -> Result<(Fin, Rounds, InTurn), Memory>
+    requires cores { (1 ≤ setup.cores) × (setup.cores ≤ 64) }
+    requires threads { 1 ≤ setup.threads }
+    requires flight { (1 ≤ setup.flight) × (setup.flight ≤ 256) }
+    requires fresh { (rounds.given ≡ 0) × (rounds.left ≡ None) × (rounds.right ≡ None) }
+{
+    let left = stores(alloc, setup.cores)?;
+    let right = stores(alloc, setup.cores)?;
+    let drain = InTurn {
+        spins,
+        pairs: 0,
+        astray: 0,
+    };
+    let (ran, feed, drain) = run_threads(
+        rt, alloc, setup, &Cross, left, right, rounds, drain, gate,
+    );
+    Ok((ran?.fin(), feed, drain))
+}
+
+/// Runs so many events of rounds on threads, and looks whether each pair came in its turn.
+fn run_whole<T: Abort + Threads + Wait + Clock + Sync, G: Gate + Sync>(
+    rt: &T,
+    alloc: Global,
+    setup: Setup,
+    rounds: Rounds,
+    spins: u32,
     gate: &G,
 ) -> Result<(), Memory>
     requires cores { (1 ≤ setup.cores) × (setup.cores ≤ 64) }
@@ -167,16 +205,8 @@ fn run<T: Abort + Threads + Wait + Sync, G: Gate + Sync>(
     requires fresh { (rounds.given ≡ 0) × (rounds.left ≡ None) × (rounds.right ≡ None) }
 {
     let pairs = rounds.most / 4;
-    let left = stores(alloc, setup.cores)?;
-    let right = stores(alloc, setup.cores)?;
-    let drain = InTurn {
-        pairs: 0,
-        astray: 0,
-    };
-    let (ran, feed, drain) = run_threads(
-        rt, alloc, setup, &Cross, left, right, rounds, drain, gate,
-    );
-    assert_eq!(rt; ran?.fin(), Fin::Done);
+    let (fin, feed, drain) = run(rt, alloc, setup, rounds, spins, gate)?;
+    assert_eq!(rt; fin, Fin::Done);
     assert!(rt; feed.stopped);
     assert_eq!(rt; (drain.pairs, drain.astray), (pairs, 0));
     Ok(())
@@ -191,14 +221,69 @@ fn pairs_come_in_turn(rt: HostRuntime) -> Result<(), Fail> {
                 threads,
                 flight: 32,
             };
-            run(&rt, rt.alloc(), setup, Rounds::new(400, true), &OpenGate)?;
-            run(
+            run_whole(
                 &rt,
                 rt.alloc(),
                 setup,
-                Rounds::new(40, false),
+                Rounds::new(400, true, 7),
+                0,
+                &OpenGate,
+            )?;
+            run_whole(
+                &rt,
+                rt.alloc(),
+                setup,
+                Rounds::new(40, false, 7),
+                0,
                 &SlowCore(cores / 2),
             )?;
+        }
+    }
+    Ok(())
+}
+
+/// Threads sleep and are woken at every size of a run, also while the calling thread is slow. A test that hangs fails by its limit.
+#[test]
+fn threads_wake_each_other(rt: HostRuntime) -> Result<(), Fail> {
+    for cores in [1, 4, 64] {
+        for threads in 1..5 {
+            for flight in [1, 2, 32, 256] {
+                let setup = Setup {
+                    cores,
+                    threads,
+                    flight,
+                };
+                let spins = if flight == 2 { 10_000 } else { 0 };
+                run_whole(
+                    &rt,
+                    rt.alloc(),
+                    setup,
+                    Rounds::new(40, true, 7),
+                    spins,
+                    &OpenGate,
+                )?;
+            }
+        }
+    }
+    Ok(())
+}
+
+/// Memory runs out at the first row, and every thread comes back.
+#[test]
+fn threads_come_back_for_want_of_memory(rt: HostRuntime) -> Result<(), Fail> {
+    for cores in [1, 4, 64] {
+        for threads in 1..5 {
+            for flight in [1, 32] {
+                let setup = Setup {
+                    cores,
+                    threads,
+                    flight,
+                };
+                let rounds = Rounds::new(400, true, UNSHARED);
+                let (fin, _, drain) = run(&rt, rt.alloc(), setup, rounds, 0, &OpenGate)?;
+                assert_eq!(&rt; fin, Fin::Memory);
+                assert_eq!(&rt; (drain.pairs, drain.astray), (0, 0));
+            }
         }
     }
     Ok(())

@@ -1,5 +1,5 @@
 -- A crew stays one: its desk is still at the ends of its links and queues, and so are the workers that came back.
-use Rattle.std.proofs.Common.{◌≡◌, ℕ, zero, suc, ◌+◌, ◌*◌, ◌<◌, List, [], ◌∷◌, ◌++◌, All, length, map, ap, sym, ◌∙◌, subst, arith}
+use Rattle.std.proofs.Common.{◌≡◌, ℕ, zero, suc, ◌+◌, ◌*◌, List, [], ◌∷◌, ◌++◌, All, map, ap, sym, ◌∙◌, subst, arith, refl}
 use Rattle.std.specs.List.{AllZip}
 use Rattle.std.proofs.lemmas.List.Elements.{All-cons}
 use Rattle.std.proofs.lemmas.Slice.Zip.{AllZip-long, all_zipped_more}
@@ -12,11 +12,11 @@ use Rattle.hj_desk.specs.declared.desk.Desk.{Desk}
 use Rattle.hj_crew.specs.declared.team.Team.{Team}
 use Rattle.hj_desk.specs.Caller.{KeepsQueues}
 use Rattle.hj_crew.specs.Cores.{AreCores, AreCrew, left_of, reports_of, right_of}
-use Rattle.hj_crew.specs.Deal.{dealt}
+use Rattle.hj_crew.specs.Deal.{gathered}
 use Rattle.hj_crew.specs.Ends.{FormChain}
 use Rattle.hj_desk.specs.Ports.{KeepsLinks}
 use Rattle.hj_crew.specs.Teams.{TeamStays, workers_in}
-use Rattle.hj_crew.proofs.Dealing.{dealt_related}
+use Rattle.hj_crew.proofs.Dealing.{related-gathered}
 
 -- ---- lists whose items are related
 
@@ -115,15 +115,16 @@ module _ {P J : Type 0} (old new : Desk P) (workers others : List (WorkerSeen P 
 
 -- a desk and the teams that came back
 pub stays-crew : {P J L R : Type 0} (join : J) (n in_flight : ℕ) (old new : Desk P) (teams back : List (Team P J L R)) → AreCrew join n in_flight old teams → KeepsLinks old.ports new.ports
-    → KeepsQueues old.reports.items new.reports.items → new.driver.flight ≡ old.driver.flight → 0 < length teams → AllZip TeamStays teams back → AreCrew join n in_flight new back
-stays-crew {P} {J} {L} {R} join n in_flight old new teams back crew ports queues flight some same =
+    → KeepsQueues old.reports.items new.reports.items → new.driver.flight ≡ old.driver.flight → AllZip TeamStays teams back → AreCrew join n in_flight new back
+stays-crew {P} {J} {L} {R} join n in_flight old new teams back crew ports queues flight same =
     let hands : AllZip (AllZip StaysItself) (workers_in teams) (workers_in back) = related-map (λ (t : Team P J L R). t.workers.items) (AllZip StaysItself) teams back same in
-    let those = dealt_related StaysItself (length teams) 0 crew.workers (workers_in back) some (subst (λ (l : List (List (WorkerSeen P J))). AllZip (AllZip StaysItself) l (workers_in back)) crew.dealt_out hands) in
+    let others = gathered (workers_in back) in
+    let those : AllZip StaysItself crew.workers others = subst (λ (l : List (WorkerSeen P J)). AllZip StaysItself l others) crew.dealt_out (related-gathered StaysItself (workers_in teams) (workers_in back) hands) in
     record {
-      workers = those.others;
-      many = AllZip-long StaysItself crew.workers those.others those.related ∙ crew.many;
-      cores = stay-cores join n 0 crew.workers those.others crew.cores those.related;
-      dealt_out = those.dealt_out ∙ ap (λ (k : ℕ). dealt k 0 those.others) (sym (AllZip-long TeamStays teams back same));
-      chain = stays-chain old new crew.workers those.others crew.chain ports queues flight those.related;
+      workers = others;
+      many = AllZip-long StaysItself crew.workers others those ∙ crew.many;
+      cores = stay-cores join n 0 crew.workers others crew.cores those;
+      dealt_out = refl;
+      chain = stays-chain old new crew.workers others crew.chain ports queues flight those;
       flight = flight ∙ crew.flight;
     }

@@ -1,6 +1,7 @@
 -- Workers that are made one after another, from the last core to the first.
-use Rattle.std.proofs.Common.{◌≡◌, ℕ, ◌+◌, List, [], ◌∷◌, ◌++◌, All, length, get_or, ap, sym, ◌∙◌, subst, arith, append-nil, append_assoc, length-append, refl}
-use Rattle.std.proofs.lemmas.List.{get_or_append_left, get_or_at, length-map}
+use Rattle.std.proofs.Common.{◌≡◌, ℕ, ◌+◌, ◌*◌, ◌/◌, ◌<◌, replicate, take, List, [], ◌∷◌, ◌++◌, All, length, get_or, ap, sym, ◌∙◌, subst, arith, append-nil, append_assoc, length-append, refl}
+use Rattle.std.proofs.Math.Nat.{mul-div_cancel_left}
+use Rattle.std.proofs.lemmas.List.{get_or_append_left, get_or_at, length-map, length-replicate, take_all}
 use Rattle.hj_msg.specs.declared.message.Msg.{Msg}
 use Rattle.hj_msg.specs.declared.message.Report.{Report}
 use Rattle.hj_link.specs.Seen.{EndSeen, SenderSeen}
@@ -8,8 +9,9 @@ use Rattle.hj_worker.specs.Seen.{WorkerSeen}
 use Rattle.hj_crew.specs.declared.ends.ChainEnds.{ChainEnds}
 use Rattle.hj_crew.specs.declared.team.Team.{Team}
 use Rattle.hj_crew.specs.Cores.{AreCores, AreEndsFor, AreUnused, GivesEnds, MakesTeams, left_of, reports_of, right_of}
-use Rattle.hj_crew.specs.Deal.{dealt}
+use Rattle.hj_crew.specs.Deal.{AreEmpty, gathered}
 use Rattle.hj_crew.specs.Teams.{workers_in}
+use Rattle.hj_crew.proofs.Dealing.{fewer-empty, none-gathered}
 
 -- what is so of all of a list is so of its first items
 pub all-front : {X : Type 0} (P : X → Type 0) (xs front back : List X) → xs ≡ front ++ back → All P xs → All P front
@@ -44,23 +46,26 @@ gives-more {P} worker workers first old new before given = record {
   receivers = given.receivers ∙ before.receivers;
 }
 
-pub makes-none : {P J L R : Type 0} (join : J) (n : ℕ) (ends : ChainEnds P) (teams : List (Team P J L R)) → workers_in teams ≡ dealt (length teams) n [] → MakesTeams join n n ends ends teams
-makes-none join n ends teams none = record {
+pub makes-none : {P J L R : Type 0} (join : J) (n : ℕ) (ends : ChainEnds P) (teams : List (Team P J L R)) → 0 < n → workers_in teams ≡ replicate (length teams) [] → MakesTeams join n n ends ends teams
+makes-none {P} {J} join n ends teams some none = record {
   workers = [];
   many = omega arith;
   cores = tt;
   ends = record { left = sym (append-nil ends.left.items); right = sym (append-nil ends.right.items); senders = sym (append-nil ends.senders.items); receivers = refl };
-  dealt_out = none;
+  dealt_out = ap (λ (hands : List (List (WorkerSeen P J))). gathered hands) none ∙ none-gathered (length teams);
+  empty =
+      fewer-empty (n * length teams / n) (length teams) (workers_in teams) (omega (arith, mul-div_cancel_left (length teams) {n = n} some))
+      (ap (take (length teams)) none ∙ take_all (length teams) (replicate {A = List (WorkerSeen P J)} (length teams) []) (omega (arith, length-replicate {A = List (WorkerSeen P J)} (length teams) [])));
 }
 
 pub makes-more : {P J L R : Type 0} (join : J) (n place next : ℕ) (first old new : ChainEnds P) (before after : List (Team P J L R)) (worker : WorkerSeen P J) → next ≡ place + 1 → MakesTeams join n next first old before
-    → worker.join ≡ join → worker.place ≡ place → worker.cores ≡ n → GivesEnds (worker ∷ []) old new → length after ≡ length before
-    → ((later : List (WorkerSeen P J)) → workers_in before ≡ dealt (length before) (place + 1) later → workers_in after ≡ dealt (length before) place (worker ∷ later)) → MakesTeams join n place first new after
-makes-more {P} {J} join n place next first old new before after worker is made joined at of given as_many deals = record {
+    → worker.join ≡ join → worker.place ≡ place → worker.cores ≡ n → GivesEnds (worker ∷ []) old new → gathered (workers_in after) ≡ worker ∷ gathered (workers_in before) → AreEmpty (place * length after / n) (workers_in after)
+    → MakesTeams join n place first new after
+makes-more {P} {J} join n place next first old new before after worker is made joined at of given dealt empty = record {
   workers = worker ∷ made.workers;
   many = omega (arith, made.many, is);
   cores = (joined, at, of, subst (λ (k : ℕ). AreCores join n k made.workers) is made.cores);
   ends = gives-more worker made.workers first old new made.ends given;
-  dealt_out =
-      deals made.workers (made.dealt_out ∙ ap (λ (k : ℕ). dealt (length before) k made.workers) is) ∙ ap (λ (k : ℕ). dealt k place (worker ∷ made.workers)) (sym as_many);
+  dealt_out = dealt ∙ ap (λ (workers : List (WorkerSeen P J)). worker ∷ workers) made.dealt_out;
+  empty = empty;
 }

@@ -2,7 +2,6 @@
 use Rattle.std.proofs.Common.{◌≡◌, ℕ, zero, suc, ◌+◌, ◌<◌, ◌≤◌, Bool, List, [], ◌∷◌, ◌++◌, length, map, get_or, All, sym, ◌∙◌, subst, arith}
 use Rattle.std.specs.List.{AllZip}
 use Rattle.std.proofs.lemmas.List.{length-map}
-use Rattle.std.proofs.lemmas.Slice.Zip.{AllZip-long}
 use Rattle.hj_base.specs.Link.{Agrees, AgreesOneWay}
 use Rattle.hj_msg.specs.declared.drain.Drained.{Drained}
 use Rattle.hj_msg.specs.declared.event.Pair.{Pair}
@@ -61,12 +60,9 @@ pub as-many_cores : {P J L R : Type 0} (join : J) (n in_flight : ℕ) (desk : De
 as-many_cores {P} {J} join n in_flight desk teams crew = sym crew.chain.cores ∙ length-map crew.workers (λ (w : WorkerSeen P J). w.ends.left) ∙ crew.many
 
 module _ {P J L R F D : Type 0} (gives : F → Given P → F → Type 0) (state : F → FeedState) (takes : D → Pair P → Drained → D → Type 0) (join : J) (n in_flight : ℕ) (old new : Caller P F D) (ended : Fin)
-    (ends : Ends gives state takes ended old new) (teams back : List (Team P J L R)) (crew : AreCrew join n in_flight old.desk teams) (some : 0 < length teams) (same : AllZip TeamStays teams back) where
+    (ends : Ends gives state takes ended old new) (teams back : List (Team P J L R)) (crew : AreCrew join n in_flight old.desk teams) (same : AllZip TeamStays teams back) where
   pub crew-back : AreCrew join n in_flight new.desk back
-  crew-back = stays-crew join n in_flight old.desk new.desk teams back crew ends.goes.links ends.goes.queues ends.goes.flight some same
-
-  pub some-back : 0 < length back
-  some-back = omega (arith, some, AllZip-long TeamStays teams back same)
+  crew-back = stays-crew join n in_flight old.desk new.desk teams back crew ends.goes.links ends.goes.queues ends.goes.flight same
 
   -- where it was closed
   module _ (predicate : J → P → P → Bool) (ran : RanSeen P) (stood : StandsFor old.desk (state old.feed) nothing_happened) (some_core : 1 ≤ n) (closed : AreClosed predicate new.desk crew-back.workers ran)

@@ -1,5 +1,5 @@
 -- The workers of the cores of a chain.
-use Rattle.std.specs.Prelude.{◌≡◌, ℕ, ◌+◌, Bool, List, [], ◌∷◌, ◌++◌, All, Contains, length, map, None}
+use Rattle.std.specs.Prelude.{◌≡◌, ℕ, ◌+◌, ◌*◌, ◌/◌, Bool, List, [], ◌∷◌, ◌++◌, All, Contains, length, map, None}
 use Rattle.hj_base.specs.Journals.{puts}
 use Rattle.hj_base.specs.Link.{Agrees, AgreesOneWay}
 use Rattle.hj_msg.specs.declared.message.Msg.{Msg}
@@ -11,7 +11,7 @@ use Rattle.hj_worker.specs.Seen.{WorkerSeen}
 use Rattle.hj_crew.specs.declared.ends.ChainEnds.{ChainEnds}
 use Rattle.hj_crew.specs.declared.team.Team.{Team}
 use Rattle.hj_desk.specs.declared.desk.Desk.{Desk}
-use Rattle.hj_crew.specs.Deal.{dealt}
+use Rattle.hj_crew.specs.Deal.{AreEmpty, gathered}
 use Rattle.hj_crew.specs.Ends.{FormChain}
 use Rattle.hj_crew.specs.Links.{closed_links, closed_queues}
 use Rattle.hj_crew.specs.Ran.{RanSeen}
@@ -52,13 +52,15 @@ pub record AreEndsFor {P : Type 0} (cores : ℕ) (ends : ChainEnds P) : Type 0 w
   pub right : length ends.right.items ≡ cores
   pub senders : length ends.senders.items ≡ cores
 
--- The workers of the cores from a place on are made, and dealt to teams.
+-- The workers of the cores from a place on are made, and dealt to teams. Those of the cores before it go to the teams up to one, before
+-- which no team has a worker.
 pub record MakesTeams {P J L R : Type 0} (join : J) (n place : ℕ) (old new : ChainEnds P) (teams : List (Team P J L R)) : Type 0 where
   pub workers : List (WorkerSeen P J)
   pub many : place + length workers ≡ n
   pub cores : AreCores join n place workers
   pub ends : GivesEnds workers old new
-  pub dealt_out : workers_in teams ≡ dealt (length teams) place workers
+  pub dealt_out : gathered (workers_in teams) ≡ workers
+  pub empty : AreEmpty (place * length teams / n) (workers_in teams)
 
 -- A desk and the workers of these teams are the crew of a chain: each core of n has its worker, which has this join, and what
 -- they have are the ends of the chain, on which so many events may be outstanding.
@@ -66,7 +68,7 @@ pub record AreCrew {P J L R : Type 0} (join : J) (n in_flight : ℕ) (desk : Des
   pub workers : List (WorkerSeen P J)
   pub many : length workers ≡ n
   pub cores : AreCores join n 0 workers
-  pub dealt_out : workers_in teams ≡ dealt (length teams) 0 workers
+  pub dealt_out : gathered (workers_in teams) ≡ workers
   pub chain : FormChain desk (left_of workers) (right_of workers) (reports_of workers)
   pub flight : desk.driver.flight ≡ in_flight
 

@@ -1,12 +1,12 @@
 -- Items that are dealt to hands.
-use Rattle.std.specs.Prelude.{ℕ, ◌+◌, ◌%◌, List, [], ◌∷◌, ◌++◌, replicate, slice_index_or, slice_set}
+use Rattle.std.specs.Prelude.{◌≡◌, ℕ, List, [], replicate, reverse, take}
+use Rattle.std.specs.List.{flat_map}
 
--- the lists with one more item behind those of the list at a place
-abbrev pub with_behind : {A : Type 0} → ℕ → A → List (List A) → List (List A)
-with_behind at item lists = slice_set lists at (slice_index_or lists at [] ++ item ∷ [])
+-- All that hands hold, in order. Each hand has a run of neighbours: the first hand has the first ones, from the last of them to the
+-- first, and so on.
+abbrev pub gathered : {A : Type 0} → List (List A) → List A
+gathered hands = flat_map reverse hands
 
--- Items dealt to so many hands, the first of them under this number: each goes to the hand of its number modulo the number of
--- hands. A hand has its items from the last one to the first.
-abbrev pub dealt : {A : Type 0} → ℕ → ℕ → List A → List (List A)
-dealt hands number [] = replicate hands []
-dealt hands number (item ∷ later) = with_behind (number % hands) item (dealt hands (number + 1) later)
+-- So many hands, from the first one on, hold nothing.
+abbrev pub AreEmpty : {A : Type 0} → ℕ → List (List A) → Type 0
+AreEmpty count hands = take count hands ≡ replicate count []

@@ -1,5 +1,5 @@
 //! The end of a run: what the desk and the workers had is closed. It takes no memory.
-ghost use Rattle.std.specs.Prelude.{◌≡◌, ℕ, ◌+◌, ◌<◌, length};
+ghost use Rattle.std.specs.Prelude.{◌≡◌, ℕ, ◌+◌, length};
 ghost use Rattle.hj_crew.specs.Cores.{AreClosed, AreCrew, TakesIn, TakesItsTurns, left_of, reports_of, right_of};
 ghost use Rattle.hj_crew.specs.Ends.{FormChain};
 ghost use Rattle.hj_crew.specs.Room.{HasEndRoom, IsChainRoomFor, IsRoomFor};
@@ -29,7 +29,6 @@ pub(crate) fn close_crew<
     room: Room<P, J, L, R>,
 ) -> Ran<P>
     requires crew { (join : J) × AreCrew join cores flight desk teams.items }
-    requires some_team { 0 < length teams.items }
     requires room { IsRoomFor cores room }
     ensures closed { (join : J) → (crew : AreCrew join cores flight desk teams.items)
         → AreClosed J.predicate desk crew.workers result }
@@ -37,7 +36,7 @@ pub(crate) fn close_crew<
     ensures ended { result.ended ≡ ended }
 {
     let Room { workers, chain } = room;
-    let workers = gather(teams, usize::from(cores), workers);
+    let workers = gather(teams, workers);
     close_run(desk, workers, flight, ended, chain)
 }
 

@@ -1,7 +1,6 @@
 //! Workers dealt to teams, and gathered again.
-ghost use Rattle.std.specs.Prelude.{◌≡◌, ◌+◌, ◌<◌, List, length, replicate, [], ◌∷◌, IfOk, OnOk};
-ghost use Rattle.hj_worker.specs.Seen.{WorkerSeen};
-ghost use Rattle.hj_crew.specs.Deal.{dealt};
+ghost use Rattle.std.specs.Prelude.{◌≡◌, ◌+◌, ◌*◌, ◌/◌, ◌<◌, ◌≤◌, ◌++◌, length, replicate, reverse, vec_capacity, vec_len, [], ◌∷◌, IfOk, OnOk};
+ghost use Rattle.hj_crew.specs.Deal.{AreEmpty, gathered};
 ghost use Rattle.hj_crew.specs.Room.{IsRoomOf};
 ghost use Rattle.hj_crew.specs.Teams.{workers_in};
 
@@ -27,44 +26,58 @@ pub(crate) fn empty_teams<P: Drop, J: Join<P> + Drop, L: Store<P, J> + Drop, R: 
     Ok(teams)
 }
 
-/// Deals the worker of a place, behind those of all later places: it goes to the team of its place
-/// modulo the number of teams. So each team has its workers from the last one to the first, and the
-/// first one comes off by `pop`.
+/// The team, of so many, that turns the core at a place of so many. So each team turns a run of neighbours.
+pub(crate) fn team_of(place: usize, cores: usize, teams: usize) -> usize
+    requires place { place < cores }
+    requires few { cores ≤ 64 }
+    requires teams { teams ≤ 64 }
+    ensures { result ≡ place * teams / cores }
+{
+    place * teams / cores
+}
+
+/// Deals a worker to a team, behind those that it has. So each team has its workers from the last one to the first, and the first
+/// one comes off by `pop`. The workers of later places were dealt, and none to an earlier team.
 pub(crate) fn deal<P: Drop, J: Join<P> + Drop, L: Store<P, J> + Drop, R: Store<P, J> + Drop>(
     teams: &mut [Team<P, J, L, R>],
-    place: usize,
+    team: usize,
     worker: Worker<P, J, L, R>,
 ) -> Result<(), Memory>
-    requires { 0 < length teams.old }
-    ensures { OnOk result ((later : List (WorkerSeen P J))
-        → workers_in teams.old ≡ dealt (length teams.old) (place + 1) later
-        → workers_in teams.new ≡ dealt (length teams.old) place (worker ∷ later)) }
+    requires in_range { team < length teams.old }
+    requires empty { AreEmpty team (workers_in teams.old) }
+    ensures dealt { OnOk result (gathered (workers_in teams.new) ≡ worker ∷ gathered (workers_in teams.old)) }
+    ensures empty { OnOk result (AreEmpty team (workers_in teams.new)) }
 {
-    let team = place % teams.len();
     teams[team].workers.push(worker)?;
     Ok(())
 }
 
 /// Gathers the workers that were dealt to teams, in the order of their places, into a list that has
-/// room for them. There are `count` of them.
+/// room for them.
 pub(crate) fn gather<P: Drop, J: Join<P> + Drop, L: Store<P, J> + Drop, R: Store<P, J> + Drop>(
-    mut teams: Vec<Team<P, J, L, R>>,
-    count: usize,
-    mut gathered: Vec<Worker<P, J, L, R>>,
+    teams: Vec<Team<P, J, L, R>>,
+    mut workers: Vec<Worker<P, J, L, R>>,
 ) -> Vec<Worker<P, J, L, R>>
-    requires dealt { (workers : List (WorkerSeen P J)) × (length workers ≡ count)
-        × (workers_in teams.items ≡ dealt (length teams.items) 0 workers) }
-    requires some_team { 0 < length teams.items }
-    requires room { IsRoomOf count gathered }
-    ensures { (workers : List (WorkerSeen P J)) → length workers ≡ count
-        → workers_in teams.items ≡ dealt (length teams.items) 0 workers → result.items ≡ workers }
+    requires { IsRoomOf (length (gathered (workers_in teams.items))) workers }
+    ensures { result.items ≡ gathered (workers_in teams.items) }
 {
-    for place in 0..count {
-        let team = place % teams.len();
-        let Some(worker) = teams[team].workers.pop() else {
-            unreachable!()
-        };
-        gathered.push_reserved(worker);
+    for team in teams {
+        take_over(team, &mut workers);
     }
-    gathered
+    workers
+}
+
+/// Takes over the workers of a team, from the first to the last one, into a list that has room for them.
+fn take_over<P: Drop, J: Join<P> + Drop, L: Store<P, J> + Drop, R: Store<P, J> + Drop>(
+    team: Team<P, J, L, R>,
+    workers: &mut Vec<Worker<P, J, L, R>>,
+)
+    requires { vec_len workers.old + length team.workers.items ≤ vec_capacity workers.old }
+    ensures workers { workers.new.items ≡ workers.old.items ++ reverse team.workers.items }
+    ensures capacity { vec_capacity workers.new ≡ vec_capacity workers.old }
+{
+    let mut team = team;
+    while let Some(worker) = team.workers.pop() {
+        workers.push_reserved(worker);
+    }
 }

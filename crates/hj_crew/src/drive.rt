@@ -5,16 +5,19 @@ ghost use Rattle.hj_desk.specs.Caller.{Ends, GoesRound};
 ghost use Rattle.hj_desk.specs.Desk.{Stands};
 ghost use Rattle.hj_crew.specs.Teams.{TeamStays};
 
-use crate::pause::{Bell, Pause};
+use crate::bell::{Awaits, Bell};
+use crate::pause::Pause;
 use crate::team::{Progress, Signals, Team};
 use hj_base::{Gate, Share};
 use hj_desk::{Caller, Round};
 use hj_msg::{Drain, Feed, Fin, Join, Store};
 use std::sync::Wait;
 use std::sync::atomic::{AtomicBool, Ordering};
+use std::time::Clock;
 
 /// Makes rounds until the run has ended, and tells how. Between them it turns the teams of its `own`. After a round that got on it
-/// wakes the threads that get these signals. Once the run has ended, the flag `stop` is set.
+/// rings the threads that get these signals, where they may wait for what it did. It waits at its own bell. Once the run has ended,
+/// the flag `stop` is set, and every thread is woken.
 pub(crate) fn drive<
     P: Share + Drop,
     J: Join<P> + Drop,
@@ -23,12 +26,13 @@ pub(crate) fn drive<
     F: Feed<P>,
     D: Drain<P>,
     G: Gate,
-    T: Wait,
+    T: Wait + Clock,
 >(
     rt: &T,
     caller: &mut Caller<P, F, D>,
     own: &mut [Team<P, J, L, R>],
     stop: &AtomicBool,
+    bell: &Bell,
     signals: &[Signals],
     gate: &G,
 ) -> Fin
@@ -37,29 +41,40 @@ pub(crate) fn drive<
     ensures ends { Ends F.gives F.state D.takes result caller.old caller.new }
     ensures own { AllZip TeamStays own.old own.new }
 {
-    let bell = Bell::new();
-    let mut pause = Pause::new(&bell);
+    let mut pause = Pause::new(bell);
     for _ in rt.forever() {
         match round_of_all(caller, own, gate) {
             Round::Over(fin) => {
                 stop.store(true, Ordering::SeqCst);
-                ring_all(signals);
+                wake_all(signals);
                 return fin;
             }
             Round::GotOn => {
-                ring_all(signals);
+                ring_teams(signals, !own.is_empty());
                 pause.reset();
             }
-            Round::Waits => pause.wait(rt),
+            Round::Waits => pause.wait(rt, Awaits::Message),
         }
     }
     unreachable!()
 }
 
-/// Wakes each thread that sleeps.
-fn ring_all(signals: &[Signals]) {
+/// Wakes each thread.
+fn wake_all(signals: &[Signals]) {
     for signals in signals {
-        signals.bell.ring();
+        signals.bell.wake();
+    }
+}
+
+/// Rings the threads after a round of the calling thread: it may have put messages for the first and the last team, and made
+/// room for the reports of all. Where it turned teams of its own, these may have put messages for any.
+fn ring_teams(signals: &[Signals], has_own: bool) {
+    for (place, signals_of_team) in signals.iter().enumerate() {
+        if has_own || place == 0 || place == signals.len() - 1 {
+            signals_of_team.bell.ring();
+        } else {
+            signals_of_team.bell.ring_for_room();
+        }
     }
 }
 
@@ -106,7 +121,7 @@ fn turn_all<
 {
     let mut got_on = false;
     for team in teams.iter_mut() {
-        if team.round(gate) == Progress::GotOn {
+        if matches!(team.round(gate), Progress::GotOn | Progress::NoMemory) {
             got_on = true;
         }
     }

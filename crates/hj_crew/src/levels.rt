@@ -5,6 +5,7 @@ ghost use Rattle.hj_desk.specs.Caller.{Ends};
 ghost use Rattle.hj_desk.specs.Desk.{Stands};
 ghost use Rattle.hj_crew.specs.Teams.{AppendsTeams, TeamStays};
 
+use crate::bell::{Bell, Neighbours};
 use crate::drive::drive;
 use crate::team::{Signals, Team, work};
 use hj_base::{Gate, Share};
@@ -14,6 +15,7 @@ use std::snapshot::Snapshot;
 use std::sync::Wait;
 use std::sync::atomic::{AtomicBool, Ordering};
 use std::thread::{Promise, PromisedHandle, Scope, Threads};
+use std::time::Clock;
 
 /// The promise of a thread: it hands back the team that it was given.
 #[derive(Drop)]
@@ -34,6 +36,8 @@ pub(crate) struct Shared<'s, G, T> {
     pub(crate) stop: &'s AtomicBool,
     /// What the thread of each team is told.
     pub(crate) signals: &'s [Signals],
+    /// The bell of the calling thread.
+    pub(crate) bell: &'s Bell,
     pub(crate) gate: &'s G,
 }
 
@@ -50,7 +54,7 @@ pub(crate) fn levels<
     F: Feed<P>,
     D: Drain<P>,
     G: Gate + Sync + 's,
-    T: Threads + Wait + Sync + 's,
+    T: Threads + Wait + Clock + Sync + 's,
 >(
     scope: &'s Scope<'s, E>,
     shared: &Shared<'s, G, T>,
@@ -77,6 +81,7 @@ pub(crate) fn levels<
             caller,
             own.as_mut_slice(),
             shared.stop,
+            shared.bell,
             shared.signals,
             shared.gate,
         );
@@ -99,6 +104,26 @@ pub(crate) fn levels<
     }
 }
 
+/// The neighbours of the team at a place.
+fn neighbours_of<'s, G, T>(shared: &Shared<'s, G, T>, place: usize) -> Neighbours<'s>
+    requires { place < length shared.now.signals.now }
+{
+    let left = if place == 0 {
+        shared.bell
+    } else {
+        &shared.signals[place - 1].bell
+    };
+    let right = match shared.signals.get(place + 1) {
+        Some(signals) => &signals.bell,
+        None => shared.bell,
+    };
+    Neighbours {
+        left,
+        right,
+        caller: shared.bell,
+    }
+}
+
 /// Starts the thread of a team, which gets the signals at a place. Where none can be made, the team
 /// comes back at once.
 fn start<
@@ -109,7 +134,7 @@ fn start<
     L: Store<P, J> + Send + Drop + 's,
     R: Store<P, J> + Send + Drop + 's,
     G: Gate + Sync + 's,
-    T: Threads + Wait + Sync + 's,
+    T: Threads + Wait + Clock + Sync + 's,
 >(
     scope: &'s Scope<'s, E>,
     shared: &Shared<'s, G, T>,
@@ -123,11 +148,12 @@ fn start<
     let rt = shared.rt;
     let stop = shared.stop;
     let signals = &shared.signals[place];
+    let neighbours = neighbours_of(shared, place);
     let gate = shared.gate;
     let promise = SameTeam(Snapshot::of(&team));
     let turning = move || -> Team<P, J, L, R>
         ensures { TeamStays team result }
-    { work(rt, stop, signals, team, gate) };
+    { work(rt, stop, signals, neighbours, team, gate) };
     match scope.spawn_with(promise, turning) {
         Ok(child) => Ok(child),
         Err(refused) => {

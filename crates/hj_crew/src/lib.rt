@@ -1,6 +1,7 @@
 //! A run of the chain of cores on threads.
 #![tactic(auto)]
 
+mod bell;
 mod closing;
 mod deal;
 mod drive;

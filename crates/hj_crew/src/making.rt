@@ -8,7 +8,7 @@ ghost use Rattle.hj_desk.specs.Desk.{StandsFor, nothing_happened};
 ghost use Rattle.hj_crew.specs.Cores.{AreCrew, AreEndsFor, AreUnused, GivesEnds, MakesTeams};
 ghost use Rattle.hj_crew.specs.Room.{IsRoomOf};
 
-use crate::deal::{deal, empty_teams};
+use crate::deal::{deal, empty_teams, team_of};
 use crate::ends::ChainEnds;
 use crate::team::{Signals, Team};
 use hj_base::{CoreNo, Memory, Setup, Share};
@@ -109,7 +109,7 @@ fn desk_and_teams<P: Share + Drop, J: Join<P> + Drop, L: Store<P, J> + Drop, R: 
 ) -> Result<(Desk<P>, Vec<Team<P, J, L, R>>), Memory>
     requires cores { (1 ≤ setup.cores) × (setup.cores ≤ 64) × (length left.items ≡ setup.cores)
         × (length right.items ≡ setup.cores) }
-    requires some_team { 0 < count }
+    requires teams { (0 < count) × (count ≤ 64) }
     requires flight { (1 ≤ setup.flight) × (setup.flight ≤ 256) }
     requires left_empty { All (λ store. L.entries store ≡ []) left.items }
     requires right_empty { All (λ store. R.entries store ≡ []) right.items }
@@ -176,7 +176,7 @@ pub(crate) fn make_teams<
     ends: &mut ChainEnds<P>,
     count: usize,
 ) -> Result<Vec<Team<P, J, L, R>>, Memory>
-    requires few { length left.items ≤ 64 }
+    requires cores { (1 ≤ length left.items) × (length left.items ≤ 64) }
     requires same { length right.items ≡ length left.items }
     requires left_empty { All (λ store. L.entries store ≡ []) left.items }
     requires right_empty { All (λ store. R.entries store ≡ []) right.items }
@@ -184,20 +184,21 @@ pub(crate) fn make_teams<
     requires right_suits { All (λ store. R.suits store Right join.now) right.items }
     requires unused { AreUnused ends.old }
     requires ends { AreEndsFor (length left.items) ends.old }
-    requires some_team { 0 < count }
+    requires teams { (0 < count) × (count ≤ 64) }
     ensures count { IfOk result (λ teams. length teams.items ≡ count) }
     ensures teams { IfOk result (λ teams.
         MakesTeams join.now (length left.items) 0 ends.old ends.new teams.items) }
 {
-    let cores = left.len() as u16;
+    let cores = left.len();
     let mut teams = empty_teams(alloc, count)?;
     while let Some(left_store) = left.pop() {
         let Some(right_store) = right.pop() else {
             unreachable!()
         };
         let place = left.len();
-        let core = make_core(alloc, join, left_store, right_store, place, cores)?;
-        deal(teams.as_mut_slice(), place, last_worker(core, ends))?;
+        let core = make_core(alloc, join, left_store, right_store, place, cores as u16)?;
+        let team = team_of(place, cores, count);
+        deal(teams.as_mut_slice(), team, last_worker(core, ends))?;
     }
     Ok(teams)
 }

@@ -10,6 +10,7 @@ ghost use Rattle.hj_crew.specs.Ran.{RunsOnThreads};
 ghost use Rattle.hj_crew.specs.Room.{IsRoomFor, IsRoomOf};
 ghost use Rattle.hj_crew.specs.Teams.{TeamStays};
 
+use crate::bell::Bell;
 use crate::closing::close_crew;
 use crate::levels::{Shared, levels};
 use crate::making::Crew;
@@ -24,6 +25,7 @@ use std::sync::Wait;
 use std::sync::atomic::AtomicBool;
 use std::thread;
 use std::thread::{Scope, Threads};
+use std::time::Clock;
 
 /// Runs a chain of cores between a feed and a drain, on threads. The calling thread drives the
 /// chain at its two ends, and up to `setup.threads` threads, no more than there are cores, turn its
@@ -59,7 +61,7 @@ pub fn run_threads<
     F: Feed<P> + Drop,
     D: Drain<P> + Drop,
     G: Gate + Sync,
-    T: Threads + Wait + Sync,
+    T: Threads + Wait + Clock + Sync,
 >(
     rt: &T,
     alloc: Global,
@@ -103,7 +105,7 @@ fn run_and_close<
     F: Feed<P> + Drop,
     D: Drain<P> + Drop,
     G: Gate + Sync,
-    T: Threads + Wait + Sync,
+    T: Threads + Wait + Clock + Sync,
 >(
     rt: &T,
     setup: Setup,
@@ -158,7 +160,7 @@ fn run_crew<
     F: Feed<P> + Drop,
     D: Drain<P> + Drop,
     G: Gate + Sync,
-    T: Threads + Wait + Sync,
+    T: Threads + Wait + Clock + Sync,
 >(rt: &T, crew: Crew<P, J, L, R>, feed: F, drain: D, gate: &G) -> Returned<P, J, L, R, F, D>
     requires stands { Stands crew.desk (F.state feed) }
     requires cores { length crew.desk.reports.items ≤ 64 }
@@ -201,7 +203,7 @@ fn run_in_scope<
     F: Feed<P> + Drop,
     D: Drain<P> + Drop,
     G: Gate + Sync,
-    T: Threads + Wait + Sync,
+    T: Threads + Wait + Clock + Sync,
 >(
     rt: &T,
     signals: &[Signals],
@@ -212,10 +214,12 @@ fn run_in_scope<
     ensures { HasRun F.gives F.state D.takes begun result }
 {
     let stop = AtomicBool::new(false);
+    let bell = Bell::new();
     let shared = Shared {
         rt,
         stop: &stop,
         signals,
+        bell: &bell,
         gate,
     };
     thread::scope(
@@ -239,7 +243,7 @@ fn all_levels<
     F: Feed<P>,
     D: Drain<P>,
     G: Gate + Sync + 's,
-    T: Threads + Wait + Sync + 's,
+    T: Threads + Wait + Clock + Sync + 's,
 >(
     scope: &'s Scope<'s, E>,
     shared: &Shared<'s, G, T>,

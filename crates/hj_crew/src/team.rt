@@ -2,12 +2,14 @@
 ghost use Rattle.std.specs.List.{AllZip};
 ghost use Rattle.hj_worker.specs.Turning.{StaysItself};
 
-use crate::pause::{Bell, Pause};
+use crate::bell::{Awaits, Bell, Neighbours};
+use crate::pause::Pause;
 use hj_base::{Gate, Share};
 use hj_msg::{Join, Store};
-use hj_worker::{Turn, Worker};
+use hj_worker::{Place, Turn, Worker};
 use std::sync::Wait;
 use std::sync::atomic::{AtomicBool, Ordering};
+use std::time::Clock;
 
 /// So many turns a worker makes at most before the next one of its team is turned.
 const TURNS: u32 = 32;
@@ -21,10 +23,12 @@ pub(crate) struct Team<P: Drop, J: Join<P>, L: Store<P, J>, R: Store<P, J>> {
 /// How far a round of turns came.
 #[derive(Clone, Copy, Debug, PartialEq, Eq)]
 pub(crate) enum Progress {
-    /// There may be more to do at once.
+    /// Something may have been put, and there may be more to do at once.
     GotOn,
-    /// There is nothing to do now.
-    Waits,
+    /// Memory ran out at a core, which reported it. There is nothing to do now.
+    NoMemory,
+    /// There is nothing to do until this comes.
+    Waits(Awaits),
     /// There is nothing to do any more.
     Over,
 }
@@ -34,7 +38,9 @@ impl Progress {
     pub(crate) fn and(self, other: Progress) -> Progress {
         match (self, other) {
             (Progress::GotOn, _) | (_, Progress::GotOn) => Progress::GotOn,
-            (Progress::Waits, _) | (_, Progress::Waits) => Progress::Waits,
+            (Progress::NoMemory, _) | (_, Progress::NoMemory) => Progress::NoMemory,
+            (Progress::Waits(Awaits::Message), Progress::Waits(other)) => Progress::Waits(other),
+            (Progress::Waits(awaits), _) | (_, Progress::Waits(awaits)) => Progress::Waits(awaits),
             (Progress::Over, Progress::Over) => Progress::Over,
         }
     }
@@ -70,16 +76,24 @@ fn turn_on<
 {
     for turns in 0..TURNS {
         if worker.spent() {
-            return Progress::Over;
+            return after(turns, Progress::Over);
         }
         match worker.turn(gate) {
             Turn::Did => (),
-            Turn::Idle | Turn::Blocked(_) if turns > 0 => return Progress::GotOn,
-            Turn::Idle | Turn::Blocked(_) => return Progress::Waits,
-            Turn::Ended | Turn::NoMemory => return Progress::Over,
+            Turn::Idle => return after(turns, Progress::Waits(Awaits::Message)),
+            Turn::Blocked(Place::Reports) => return after(turns, Progress::Waits(Awaits::Room)),
+            // links have room for all that may be outstanding
+            Turn::Blocked(Place::Link(_)) => return Progress::GotOn,
+            Turn::Ended => return after(turns, Progress::Over),
+            Turn::NoMemory => return after(turns, Progress::NoMemory),
         }
     }
     Progress::GotOn
+}
+
+/// How far a worker came in so many turns and a last one, in which it put nothing.
+fn after(turns: u32, last: Progress) -> Progress {
+    if turns > 0 { Progress::GotOn } else { last }
 }
 
 /// What a started thread is told.
@@ -101,18 +115,20 @@ impl Signals {
     }
 }
 
-/// Turns a team until it is over, or is to stop or to leave. It is what a started thread does.
+/// Turns a team until it is over, or is to stop or to leave. It is what a started thread does. After a round that got on it rings
+/// its neighbours, which may wait for what was put. So nothing that was put waits for a ring when it sleeps or ends.
 pub(crate) fn work<
     P: Share + Drop,
     J: Join<P> + Drop,
     L: Store<P, J> + Drop,
     R: Store<P, J> + Drop,
     G: Gate,
-    T: Wait,
+    T: Wait + Clock,
 >(
     rt: &T,
     stop: &AtomicBool,
     signals: &Signals,
+    neighbours: Neighbours<'_>,
     team: Team<P, J, L, R>,
     gate: &G,
 ) -> Team<P, J, L, R>
@@ -125,8 +141,15 @@ pub(crate) fn work<
             return team;
         }
         match team.round(gate) {
-            Progress::GotOn => pause.reset(),
-            Progress::Waits => pause.wait(rt),
+            Progress::GotOn => {
+                neighbours.ring();
+                pause.reset();
+            }
+            Progress::NoMemory => {
+                neighbours.caller.ring();
+                pause.wait(rt, Awaits::Message);
+            }
+            Progress::Waits(awaits) => pause.wait(rt, awaits),
             Progress::Over => return team,
         }
     }

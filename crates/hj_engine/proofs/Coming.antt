@@ -7,7 +7,7 @@ use Rattle.hj_base.specs.declared.numbers.EventNo.{EventNo}
 use Rattle.hj_base.specs.declared.numbers.Side.{Side}
 use Rattle.hj_base.specs.declared.numbers.Side.TheVariants.{Left, Right}
 use Rattle.hj_msg.specs.declared.event.Event.{Event}
-use Rattle.hj_msg.specs.declared.event.Event.TheVariants.{Arrive, Expire}
+use Rattle.hj_msg.specs.declared.event.Event.TheVariants.{Arrive, Expire, Quiet}
 use Rattle.hj_msg.specs.Event.{number, Arrives, Expires, NamesLive, IsWellFormed}
 use Rattle.hj_msg.specs.Feed.{GivesEvent, NamesLiveNumber, Numbering, first_numbering, numbering_after, numbering_of}
 use Rattle.hj_msg.proofs.Members.{Contains-nil, Contains-head, Contains-cons, Contains-cons_cases, Contains-filter, any_of, find}
@@ -24,6 +24,7 @@ next-after numbering (Arrive at Left row) = refl
 next-after numbering (Arrive at Right row) = refl
 next-after numbering (Expire at Left of) = refl
 next-after numbering (Expire at Right of) = refl
+next-after numbering (Quiet at side) = refl
 
 next-fold : {P : Type 0} (events : List (Event P)) (numbering : Numbering) → (fold numbering_after numbering events).next ≡ numbering.next + length events
 next-fold [] numbering = omega arith
@@ -52,6 +53,8 @@ module _ {P : Type 0} (of : ℕ) where
   stays-after Right (Arrive at Right row) events numbering stays live = Contains-append_left numbering.live_right (at.0 ∷ []) of live
   stays-after Left (Expire at Left named) events numbering stays live = Contains-filter (λ n. not (n == named.0)) numbering.live_left of live (ap not (ne_eqb of named.0 (other at Left named events stays)))
   stays-after Right (Expire at Left named) events numbering stays live = live
+  stays-after Left (Quiet at side) events numbering stays live = live
+  stays-after Right (Quiet at side) events numbering stays live = live
   stays-after Left (Expire at Right named) events numbering stays live = live
   stays-after Right (Expire at Right named) events numbering stays live = Contains-filter (λ n. not (n == named.0)) numbering.live_right of live (ap not (ne_eqb of named.0 (other at Right named events stays)))
 
@@ -74,6 +77,7 @@ module _ {P : Type 0} (of : ℕ) where
 
 names-live : {P : Type 0} (before : List (Event P)) (event : Event P) → NamesLive before event → names_live (numbering_of before) event ≡ true
 names-live before (Arrive at side row) live = refl
+names-live before (Quiet at side) live = refl
 names-live before (Expire at Left of) live = any_of (λ n. n == of.0) (numbering_of before).live_left of.0 (is-live of.0 Left live.0.0 before first_numbering live.1 live.0.1) (eq-eqb of.0 of.0 refl)
 names-live before (Expire at Right of) live = any_of (λ n. n == of.0) (numbering_of before).live_right of.0 (is-live of.0 Right live.0.0 before first_numbering live.1 live.0.1) (eq-eqb of.0 of.0 refl)
 
@@ -92,6 +96,7 @@ may-come {P} before (event ∷ events) well =
 -- of what may come, the first event
 live-number : {P : Type 0} (numbering : Numbering) (event : Event P) → names_live numbering event ≡ true → NamesLiveNumber numbering event
 live-number numbering (Arrive at side row) h = tt
+live-number numbering (Quiet at side) h = tt
 live-number numbering (Expire at Left of) h = let found = find (λ n. n == of.0) numbering.live_left h in subst (Contains numbering.live_left) (eqb-true found.one of.0 found.passes) found.is
 live-number numbering (Expire at Right of) h = let found = find (λ n. n == of.0) numbering.live_right h in subst (Contains numbering.live_right) (eqb-true found.one of.0 found.passes) found.is
 

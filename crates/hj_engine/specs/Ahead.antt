@@ -4,7 +4,7 @@ use Rattle.std.specs.List.{list_any}
 use Rattle.hj_value.specs.declared.field.Field.{Field}
 use Rattle.hj_base.specs.declared.numbers.Side.TheVariants.{Left, Right}
 use Rattle.hj_msg.specs.declared.event.Event.{Event}
-use Rattle.hj_msg.specs.declared.event.Event.TheVariants.{Arrive, Expire}
+use Rattle.hj_msg.specs.declared.event.Event.TheVariants.{Arrive, Expire, Quiet}
 use Rattle.hj_msg.specs.Event.{number}
 use Rattle.hj_msg.specs.Feed.{Numbering, numbering_after, numbering_of}
 use Rattle.hj_record.specs.Pieces.{Stream}
@@ -19,6 +19,7 @@ abbrev pub names_live : {P : Type 0} → Numbering → Event P → Bool
 names_live numbering (Arrive at side row) = true
 names_live numbering (Expire at Left of) = has_number of.0 numbering.live_left
 names_live numbering (Expire at Right of) = has_number of.0 numbering.live_right
+names_live numbering (Quiet at side) = true
 
 -- whether these events may come one after another, behind this numbering
 abbrev pub may_come : {P : Type 0} → Numbering → List (Event P) → Bool

@@ -13,6 +13,7 @@ use hj_value::SharedRow;
 use std::alloc::Global;
 use std::sync::Wait;
 use std::thread::Threads;
+use std::time::Clock;
 
 /// How a join is run on threads.
 #[derive(Drop)]
@@ -34,7 +35,7 @@ pub(crate) struct CrewPlan<'r, T, G> {
 /// Runs a new chain on threads, with stores of the kind that the query's condition asks for, between a feed that gave no event
 /// yet and a drain. Both are handed back. Where memory runs out before a thread is started, neither was asked.
 pub(crate) fn run_crew<
-    T: Threads + Wait + Sync,
+    T: Threads + Wait + Clock + Sync,
     F: Feed<SharedRow> + Drop,
     D: Drain<SharedRow> + Drop,
     G: Gate + Sync,

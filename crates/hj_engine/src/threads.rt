@@ -18,6 +18,7 @@ use hj_value::SharedRow;
 use std::alloc::Global;
 use std::sync::Wait;
 use std::thread::Threads;
+use std::time::Clock;
 
 /// Joins the streams Left and Right of `outside` under a query, as `join_serial` does, and writes the same text to `out`; but the
 /// cores of the chain are turned by threads. The call waits for them.
@@ -30,7 +31,7 @@ use std::thread::Threads;
 ///
 /// `Outcome` says why the join ended. Beside it stands the run, whose journals show that it made the join; there is none only where
 /// memory ran out before a thread was started.
-pub fn join_threads<T: Threads + Wait + Sync, O: Outside, K: Sink, G: Gate + Sync>(
+pub fn join_threads<T: Threads + Wait + Clock + Sync, O: Outside, K: Sink, G: Gate + Sync>(
     rt: &T,
     alloc: Global,
     query: &Query,
@@ -64,7 +65,7 @@ pub fn join_threads<T: Threads + Wait + Sync, O: Outside, K: Sink, G: Gate + Syn
 }
 
 /// Joins the events of a new merger.
-fn join_merged<T: Threads + Wait + Sync, O: Outside, K: Sink, G: Gate + Sync>(
+fn join_merged<T: Threads + Wait + Clock + Sync, O: Outside, K: Sink, G: Gate + Sync>(
     alloc: Global,
     query: &Query,
     plan: &CrewPlan<'_, T, G>,
@@ -100,7 +101,7 @@ struct Joined<'f, 'd, O: Outside, K: Sink> {
 /// Joins the events of a feed that gave none yet, writes the line of each pair, and leaves the run in `ran`.
 // The run stands apart, since what the feed and the drain leave behind their references is known only where nothing that owns
 // memory is dropped with them.
-fn join_feed<'f, 'd, T: Threads + Wait + Sync, O: Outside, K: Sink, G: Gate + Sync>(
+fn join_feed<'f, 'd, T: Threads + Wait + Clock + Sync, O: Outside, K: Sink, G: Gate + Sync>(
     alloc: Global,
     query: &Query,
     plan: &CrewPlan<'_, T, G>,

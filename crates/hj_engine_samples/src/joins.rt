@@ -17,6 +17,7 @@ use std::sync::Wait;
 use std::sync::atomic::{AtomicBool, AtomicU64, Ordering};
 use std::test::Fail;
 use std::thread::{self, Threads};
+use std::time::Clock;
 
 const TEN: &str =
     "left (ts int, k int) right (ts int, k int) window left rows 10 window right rows 10 on l.k = r.k";
@@ -420,7 +421,7 @@ fn turns_each_core_in_a_thread_of_its_own(rt: HostRuntime) -> Result<(), Fail> {
 }
 
 /// How a join on threads of streams in memory ends, and its run, and the sink that it writes to; None where it can't begin.
-fn joined_on_threads<R: Threads + Wait + Sync, G: Gate + Sync>(
+fn joined_on_threads<R: Threads + Wait + Clock + Sync, G: Gate + Sync>(
     rt: &R,
     alloc: Global,
     setup: Setup,

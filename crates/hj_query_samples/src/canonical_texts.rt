@@ -82,6 +82,38 @@ on l.sym = r.l and l.px within 10 of r.left and not l.qty < r.left
     prints(&rt, rt.alloc(), lone, lone);
 }
 
+// A column may have the name of a setting.
+const NAMED: &str =
+    "left (ts int, slack int)\nright (ts int, quiet int)\nwindow left rows 1\nwindow right rows 1\n";
+
+/// Slack and quiet before a condition, and the lines that they are printed as, with `/` for a line feed.
+const SETTINGS: &str = "\
+slack 5 quiet 3 | slack 5/quiet 3/on l.slack = r.quiet/
+slack 05 | slack 5/on l.slack = r.quiet/
+quiet 3 | quiet 3/on l.slack = r.quiet/
+slack 0 quiet 3 | quiet 3/on l.slack = r.quiet/
+slack 5 quiet 0 | slack 5/on l.slack = r.quiet/
+slack 0 quiet 00 | on l.slack = r.quiet/
+slack 4611686018427387904 quiet 1000000 | slack 4611686018427387904/quiet 1000000/on l.slack = r.quiet/";
+
+/// Prints the query with settings, and the query that the canonical text spells.
+fn prints_settings(rt: &impl Abort, alloc: Global, settings: &str, lines: &str) {
+    let lines = lines.replace(alloc, '/', "\n").expect(rt, "memory");
+    let text = [NAMED, settings, " on l.slack = r.quiet"].concat(alloc);
+    let text = text.expect(rt, "memory");
+    let want = [NAMED, &lines].concat(alloc).expect(rt, "memory");
+    prints(rt, alloc, &text, &want);
+    prints(rt, alloc, &want, &want);
+}
+
+#[test]
+fn prints_slack_and_quiet(rt: HostRuntime) {
+    for line in SETTINGS.lines() {
+        let (settings, lines) = line.split_once(" | ").expect(&rt, "a case");
+        prints_settings(&rt, rt.alloc(), settings, lines);
+    }
+}
+
 /// Prints the query that a long text spells.
 fn is_printed(rt: &impl Abort, alloc: Global, text: &str, want: &str) {
     let found = printed(rt, alloc, text);

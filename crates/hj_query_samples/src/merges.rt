@@ -36,6 +36,37 @@ window left rows 9 window right rows 9 | 100 |  | 5,7/4,7/ | \
 Right 0: 5; Right record 2: time 4 after 5; Right record 2: time 4 after 5;
 window left rows 9 window right rows 9 | 100 | x | x | Left record 1: 1 fields; Left record 1: 1 fields;";
 
+/// Rows that are late by at most the slack are put in their place, rows of equal time as they were read. A bad record comes behind
+/// the rows that wait.
+const LATE_CASES: &str = "\
+window left rows 9 window right rows 9 slack 2 | 100 | 1,7/4,7/2,7/ | 3,7/ | \
+Left 0: 1; Left 1: 2; Right 2: 3; Left 3: 4; done; done;
+window left rows 9 window right rows 9 slack 2 | 100 | 5,7/2,7/ |  | \
+Left 0: 5; Left record 2: time 2 after 5; Left record 2: time 2 after 5;
+window left rows 9 window right rows 9 slack 2 | 100 | 5,7/3,7/ |  | Left 0: 3; Left 1: 5; done; done;
+window left rows 9 window right rows 9 slack 2 | 100 |  | 4,1/6,2/4,3/5,4/6,5/x/1,7/ | \
+Right 0: 4; Right 1: 4; Right 2: 5; Right 3: 6; Right 4: 6; Right record 6: 1 fields; Right record 6: 1 fields;
+window left rows 9 window right rows 9 slack 4611686018427387904 | 100 | -4611686018427387904,7/0,7/-4611686018427387904,7/ |  | \
+Left 0: -4611686018427387904; Left 1: -4611686018427387904; Left 2: 0; done; done;";
+
+/// A side is quiet behind every so many rows of the other one in its silence, which a row of its own ends; the row's expiry comes
+/// before that. A quiet event counts for the limit.
+const QUIET_CASES: &str = "\
+window left rows 9 window right rows 9 quiet 2 | 7 | 1,7/2,7/3,7/4,7/ | 0,7/ | \
+Right 0: 0; Left 1: 1; Left 2: 2; Right 3: quiet; Left 4: 3; Left 5: 4; Right 6: quiet; done; done;
+window left rows 9 window right rows 9 quiet 2 | 6 | 1,7/2,7/3,7/4,7/ | 0,7/ | \
+Right 0: 0; Left 1: 1; Left 2: 2; Right 3: quiet; Left 4: 3; Left 5: 4; too many; too many;
+window left rows 9 window right rows 9 quiet 2 | 5 | 1,7/2,7/3,7/4,7/ | 0,7/ | \
+Right 0: 0; Left 1: 1; Left 2: 2; Right 3: quiet; Left 4: 3; too many; too many;
+window left rows 9 window right rows 9 quiet 2 | 100 | 1,7/3,7/4,7/ | 2,7/5,7/ | \
+Left 0: 1; Right 1: 2; Left 2: 3; Left 3: 4; Right 4: quiet; Right 5: 5; done; done;
+window left rows 1 window right time 2 quiet 2 | 100 | 1,7/2,7/3,7/ | 0,7/ | Right 0: 0; Left 1: 1; Right 2: 0 expires; \
+Left 3: 2; Left 4: 1 expires; Right 5: quiet; Left 6: 3; Left 7: 3 expires; done; done;
+window left rows 9 window right rows 9 quiet 1 | 100 | 1,7/ | 2,7/3,7/ | \
+Left 0: 1; Right 1: quiet; Right 2: 2; Left 3: quiet; Right 4: 3; Left 5: quiet; done; done;
+window left rows 9 window right rows 9 quiet 3 | 100 | 1,7/2,7/x | 9,7/ | \
+Left 0: 1; Left 1: 2; Left record 3: 1 fields; Left record 3: 1 fields;";
+
 fn case_of<'a>(rt: &impl Abort, alloc: Global, line: &'a str) -> Case<'a> {
     let mut fields = line.split(" | ");
     let windows = fields.next().expect(rt, "the windows");
@@ -181,25 +212,44 @@ fn merges(rt: &impl Abort, alloc: Global, case: &Case<'_>, chunk: usize)
     answers(rt, alloc, case, &mut outside, case.want);
 }
 
-#[test]
-fn merges_two_streams(rt: HostRuntime) {
-    for line in CASES.lines() {
-        let case = case_of(&rt, rt.alloc(), line);
+/// Merges the streams of each case, read in small, middling and large portions.
+fn merges_all(rt: &impl Abort, alloc: Global, cases: &str) {
+    for line in cases.lines() {
+        let case = case_of(rt, alloc, line);
         for chunk in [1, 3, 4_096] {
-            merges(&rt, rt.alloc(), &case, chunk);
+            merges(rt, alloc, &case, chunk);
         }
     }
+}
+
+#[test]
+fn merges_two_streams(rt: HostRuntime) {
+    merges_all(&rt, rt.alloc(), CASES);
+}
+
+#[test]
+fn puts_late_rows_in_their_place(rt: HostRuntime) {
+    merges_all(&rt, rt.alloc(), LATE_CASES);
+}
+
+#[test]
+fn tells_of_quiet_sides(rt: HostRuntime) {
+    merges_all(&rt, rt.alloc(), QUIET_CASES);
 }
 
 const TWO_A_SIDE: &str =
     "window left rows 9 window right rows 9 | 100 | 1,7/2,7/ | 0,7/5,7/ | what was read before a failed read";
 
-/// Merges two rows a side, where one read of a role fails.
-fn fails_to_read(rt: &impl Abort, alloc: Global, role: Role, nth: u64, want: &str)
+/// The left row of the time 4 isn't sure before its third read.
+const LATE_ON_THE_LEFT: &str =
+    "window left rows 9 window right rows 9 slack 2 | 100 | 1,7/4,7/2,7/ | 0,7/ | what was sure before a failed read";
+
+/// Merges the streams of a case, of which a read gives four bytes, where one read of a role fails.
+fn fails_to_read(rt: &impl Abort, alloc: Global, line: &str, role: Role, nth: u64, want: &str)
     requires first { 1 ≤ nth }
     requires last { nth ≤ 9 }
 {
-    let case = case_of(rt, alloc, TWO_A_SIDE);
+    let case = case_of(rt, alloc, line);
     let mut outside = contents(rt, alloc, &case, 4);
     fails(rt, &mut outside, role, nth);
     answers(rt, alloc, &case, &mut outside, want);
@@ -208,11 +258,13 @@ fn fails_to_read(rt: &impl Abort, alloc: Global, role: Role, nth: u64, want: &st
 #[test]
 fn gives_what_was_read_before_a_failed_read(rt: HostRuntime) {
     let want = "Left failed; Left failed;";
-    fails_to_read(&rt, rt.alloc(), Role::Left, 1, want);
+    fails_to_read(&rt, rt.alloc(), TWO_A_SIDE, Role::Left, 1, want);
     let want = "Right 0: 0; Right failed; Right failed;";
-    fails_to_read(&rt, rt.alloc(), Role::Right, 2, want);
+    fails_to_read(&rt, rt.alloc(), TWO_A_SIDE, Role::Right, 2, want);
     let want = "Right 0: 0; Left 1: 1; Left 2: 2; Left failed; Left failed;";
-    fails_to_read(&rt, rt.alloc(), Role::Left, 3, want);
+    fails_to_read(&rt, rt.alloc(), TWO_A_SIDE, Role::Left, 3, want);
+    let want = "Right 0: 0; Left 1: 1; Left failed; Left failed;";
+    fails_to_read(&rt, rt.alloc(), LATE_ON_THE_LEFT, Role::Left, 3, want);
 }
 
 const FOUR_A_SIDE: &str =
@@ -265,6 +317,10 @@ fn put_event(text: &mut String, event: Event<SharedRow>) -> Result<(), AllocErro
             let no = no.0;
             let of = of.0;
             write!(text, "{side:?} {no}: {of} expires; ")
+        }
+        Event::Quiet { no, side } => {
+            let no = no.0;
+            write!(text, "{side:?} {no}: quiet; ")
         }
     }
 }

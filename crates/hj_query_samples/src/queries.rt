@@ -261,6 +261,38 @@ fn bounds_the_numbers(rt: HostRuntime) {
     );
 }
 
+const SETTINGS: &str = "\
+slack 5 quiet 3 on l.k = r.k | a query
+slack 5 on l.k = r.k | a query
+quiet 3 on l.k = r.k | a query
+slack 0 quiet 00 on l.k = r.k | a query
+slack 4611686018427387904 quiet 1000000 on l.k = r.k | a query
+slack 4611686018427387905 on l.k = r.k | slack out of range at 88
+slack 4611686018427387905 quiet 1000001 | slack out of range at 88
+slack 9223372036854775807 | slack out of range at 88
+slack 9223372036854775808 | number out of range at 88
+quiet 1000001 on l.k = r.k | quiet out of range at 88
+slack 1000001 quiet 1000001 on l.k = r.k | quiet out of range at 102
+quiet 3 slack 5 on l.k = r.k | expected OnWord at 90
+slack 5 slack 5 on l.k = r.k | expected OnWord at 90
+quiet 3 quiet 3 on l.k = r.k | expected OnWord at 90
+slack 5 quiet 3 slack 5 on l.k = r.k | expected OnWord at 98
+Slack 5 on l.k = r.k | expected OnWord at 82
+slack on l.k = r.k | expected Number at 88
+slack quiet 3 on l.k = r.k | expected Number at 88
+slack -1 on l.k = r.k | expected Number at 88
+quiet 'a' on l.k = r.k | expected Number at 88
+slack | expected Number at 87
+slack 5 | expected OnWord at 89
+slack 5 quiet | expected Number at 95
+slack 5 quiet 3 | expected OnWord at 97
+on l.k = r.k slack 5 | expected End at 95";
+
+#[test]
+fn judges_settings(rt: HostRuntime) {
+    judge_all(&rt, rt.alloc(), HEAD, SETTINGS);
+}
+
 /// What opens and closes around a condition, how often, and what the text is.
 const DEPTHS: &str = "\
 ( | ) | 64 | a query
@@ -500,6 +532,20 @@ fn keeps_schemas_and_windows(rt: HostRuntime) {
     is_whole(&rt, &query_of(&rt, rt.alloc(), &[WHOLE]));
 }
 
+/// Looks at how late a row may be, and how long a side may be silent.
+fn is_set(rt: &impl Abort, query: &Query, slack: u64, quiet: u32) {
+    assert_eq!(rt; query.slack(), slack);
+    assert_eq!(rt; query.quiet(), quiet);
+}
+
+#[test]
+fn keeps_slack_and_quiet(rt: HostRuntime) {
+    let both = query_of(&rt, rt.alloc(), &[HEAD, "slack 5 quiet 3 on l.k = r.k"]);
+    is_set(&rt, &both, 5, 3);
+    let neither = query_of(&rt, rt.alloc(), &[HEAD, "on l.k = r.k"]);
+    is_set(&rt, &neither, 0, 0);
+}
+
 /// Looks at a side of the query of equal keys in windows of seven rows.
 fn is_keyed(rt: &impl Abort, query: &Query, side: Side) {
     is_side(rt, query, side, Window::Rows(7), 2);
@@ -511,6 +557,7 @@ fn makes_the_query_of_equal_keys(rt: HostRuntime) {
     let query = equi(rt.alloc(), 7).expect(&rt, "memory");
     is_keyed(&rt, &query, Side::Left);
     is_keyed(&rt, &query, Side::Right);
+    is_set(&rt, &query, 0, 0);
     assert!(rt; matches!(query.pred(), Pred::Compare(Op::Eq, _, _)));
     crosses(query);
 }

@@ -1,23 +1,12 @@
-use Rattle.std.proofs.Common.{◌≡◌, ◌≤◌, List, drop, length, take, vec_capacity, vec_len}
-use Rattle.hj_worker.specs.Seen.{WorkerSeen}
-use Rattle.hj_crew.specs.Deal.{dealt}
+use Rattle.std.proofs.Common.{◌≡◌, ◌+◌, ◌++◌, ◌≤◌, length, vec_capacity, vec_len}
+use Rattle.std.specs.Vec.Iter.{into_iter_items}
+use Rattle.hj_crew.specs.Deal.{gathered}
 use Rattle.hj_crew.specs.Teams.{workers_in}
 use Rattle.hj_crew.proofs.deal.gather.Given as goal
 
--- The teams are dealt what was not gathered yet, from its place on.
-abbrev pub invariant-loop-place : goal.invariant-loop-place
-invariant-loop-place g l = record {
-  as_many : length l.teams.items ≡ length l.fn.teams.items;
-  left :
-      (workers : List (WorkerSeen g.row.P.Denot g.row.J.Denot))
-      → length workers ≡ l.fn.count
-      → workers_in l.fn.teams.items ≡ dealt (length l.fn.teams.items) 0 workers
-      → workers_in l.teams.items ≡ dealt (length l.fn.teams.items) l.place (drop l.place workers);
-  gathered :
-      (workers : List (WorkerSeen g.row.P.Denot g.row.J.Denot))
-      → length workers ≡ l.fn.count
-      → workers_in l.fn.teams.items ≡ dealt (length l.fn.teams.items) 0 workers
-      → l.gathered.items ≡ take l.place workers;
-  so_many : vec_len l.gathered ≡ l.place;
-  room : l.count ≤ vec_capacity l.gathered;
+-- What was gathered, and then what the teams have that are left, is all; and there is room for it.
+abbrev pub invariant-loop-team : goal.invariant-loop-team
+invariant-loop-team g l = record {
+  all : l.workers.items ++ gathered (workers_in (into_iter_items l.team-iterator)) ≡ gathered (workers_in l.fn.teams.items);
+  room : vec_len l.workers + length (gathered (workers_in (into_iter_items l.team-iterator))) ≤ vec_capacity l.workers;
 }

@@ -1,7 +1,7 @@
-use Rattle.std.proofs.Common.{◌<◌, length, arith}
+use Rattle.std.proofs.Common.{arith}
 use Rattle.hj_desk.specs.declared.caller.Caller.{Caller}
 use Rattle.hj_desk.specs.Desk.{nothing_happened}
-use Rattle.hj_crew.proofs.Running.{as-many_cores, crew-back, shows-run, some-back}
+use Rattle.hj_crew.proofs.Running.{as-many_cores, crew-back, shows-run}
 use Rattle.hj_crew.proofs.run.run_and_close.Goals as goal
 
 pub run_crew-caller-requires-clause-stands : goal.run_crew-caller-requires-clause-stands
@@ -21,26 +21,17 @@ close_crew-ran-requires-clause-crew g c =
       c.requires.crew.0,
       crew-back g.F.Feed.gives g.F.Feed.state g.D.Drain.takes c.requires.crew.0 c.args.setup.cores c.args.setup.flight
           (record { desk = c.args.crew.desk; feed = c.args.feed; drain = c.args.drain; awaited = 0 }) back.caller back.fin c.run_crew-caller.ensures.ends c.args.crew.teams.items back.teams.items manned.chain
-          (omega (arith, manned.teams, c.requires.cores.0, c.requires.threads)) c.run_crew-caller.ensures.teams,
+          c.run_crew-caller.ensures.teams,
     )
-
-pub close_crew-ran-requires-clause-some_team : goal.close_crew-ran-requires-clause-some_team
-close_crew-ran-requires-clause-some_team g c =
-    let back = c.run_crew-caller.result in
-    let manned = c.requires.crew.1 in
-    some-back g.F.Feed.gives g.F.Feed.state g.D.Drain.takes c.requires.crew.0 c.args.setup.cores c.args.setup.flight
-    (record { desk = c.args.crew.desk; feed = c.args.feed; drain = c.args.drain; awaited = 0 }) back.caller back.fin c.run_crew-caller.ensures.ends c.args.crew.teams.items back.teams.items manned.chain
-    (omega (arith, manned.teams, c.requires.cores.0, c.requires.threads)) c.run_crew-caller.ensures.teams
 
 pub returns : goal.returns
 returns g c = λ join manned.
     let begun : Caller g.row.P.Denot g.row.F.Denot g.row.D.Denot = record { desk = c.args.crew.desk; feed = c.args.feed; drain = c.args.drain; awaited = 0 } in
     let back = c.run_crew-caller.result in
-    let some : 0 < length c.args.crew.teams.items = omega (arith, manned.teams, c.requires.cores.0, c.requires.threads) in
     let crew =
-    crew-back g.F.Feed.gives g.F.Feed.state g.D.Drain.takes join c.args.setup.cores c.args.setup.flight begun back.caller back.fin c.run_crew-caller.ensures.ends c.args.crew.teams.items back.teams.items manned.chain some
+    crew-back g.F.Feed.gives g.F.Feed.state g.D.Drain.takes join c.args.setup.cores c.args.setup.flight begun back.caller back.fin c.run_crew-caller.ensures.ends c.args.crew.teams.items back.teams.items manned.chain
     c.run_crew-caller.ensures.teams
     in
-    shows-run g.F.Feed.gives g.F.Feed.state g.D.Drain.takes join c.args.setup.cores c.args.setup.flight begun back.caller back.fin c.run_crew-caller.ensures.ends c.args.crew.teams.items back.teams.items manned.chain some
+    shows-run g.F.Feed.gives g.F.Feed.state g.D.Drain.takes join c.args.setup.cores c.args.setup.flight begun back.caller back.fin c.run_crew-caller.ensures.ends c.args.crew.teams.items back.teams.items manned.chain
     c.run_crew-caller.ensures.teams g.J.Join.predicate c.close_crew-ran.result (manned.stands (g.F.Feed.state c.args.feed) c.requires.fresh) c.requires.cores.0 (c.close_crew-ran.ensures.closed join crew)
     c.close_crew-ran.ensures.flight c.close_crew-ran.ensures.ended

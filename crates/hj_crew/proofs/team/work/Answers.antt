@@ -11,5 +11,8 @@ loop-preserved g c = related-trans StaysItself stays-on c.args.team.workers.item
 pub loop-preserved-in-GotOn : goal.loop-preserved-in-GotOn
 loop-preserved-in-GotOn g c = related-trans StaysItself stays-on c.args.team.workers.items c.loop.team.workers.items c.round.new.self.workers.items c.loop.invariant c.round.ensures
 
+pub loop-preserved-in-NoMemory : goal.loop-preserved-in-NoMemory
+loop-preserved-in-NoMemory g c = related-trans StaysItself stays-on c.args.team.workers.items c.loop.team.workers.items c.round.new.self.workers.items c.loop.invariant c.round.ensures
+
 pub returns-in-Over : goal.returns-in-Over
 returns-in-Over g c = related-trans StaysItself stays-on c.args.team.workers.items c.loop.team.workers.items c.round.new.self.workers.items c.loop.invariant c.round.ensures
