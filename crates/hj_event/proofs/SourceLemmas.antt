@@ -1,6 +1,5 @@
 -- The rows of a side in order, by what its bytes give, which rows wait and what a read brings.
 use Rattle.std.proofs.Common.{◌≡◌, ℕ, ◌≤◌, inl, inr, Bool, true, false, List, [], ◌∷◌, ◌++◌, length, ℤ, Ok, Err, None, Some, sym, refl, ap, subst, ◌∙◌, append_assoc}
-use Rattle.std.specs.Prelude.{IsTrue}
 use Rattle.std.specs.List.{filter}
 use Rattle.std.specs.declared.option.Option.{Option}
 use Rattle.std.specs.declared.result.Result.{Result}

@@ -1,4 +1,4 @@
-use Rattle.std.proofs.Common.{◌≡◌, Ok, subst, sym, true, false, ◌∙◌}
+use Rattle.std.proofs.Common.{Ok, subst, sym, ◌∙◌}
 use Rattle.hj_event.specs.declared.stop.Found.{Found}
 use Rattle.hj_event.specs.declared.stop.Found.TheVariants as found
 use Rattle.hj_event.specs.Taking.{Advances}

@@ -1,9 +1,9 @@
-use Rattle.std.proofs.Common.{◌≡◌, ◌∷◌, ◌++◌, [], FitsSigned, List, Some, ap, rules, subst, sym, w64, ◌∙◌}
+use Rattle.std.proofs.Common.{FitsSigned, List, Some, ap, rules, subst, sym, w64, ◌∙◌}
 use Rattle.std.proofs.lemmas.Int.{to_z-of_z}
 use Rattle.hj_value.specs.declared.field.Field.{Field}
 use Rattle.hj_value.specs.Row.{time_of}
 use Rattle.hj_event.specs.Rows.{put_all, put_in}
-use Rattle.hj_event.specs.Waiting.{AreWaiting, is_before, last_time}
+use Rattle.hj_event.specs.Waiting.{AreWaiting, last_time}
 use Rattle.hj_event.proofs.WaitingLemmas.{push_last, push_waiting, puts_late, puts_late_row, test_is}
 use Rattle.hj_event.proofs.waiting.Waiting.put.Goals as goal
 
