@@ -13,14 +13,14 @@ pub enum Actor {
     PortLeft,
     /// The driver takes the first message that comes out at the right end of the chain.
     PortRight,
-    /// A core handles the first message that comes in at one of its ends.
+    /// Lets a core handle the first message that comes in at one of its ends.
     Core(CoreNo, Side),
     /// The first of a core's reports is taken.
     Collect(CoreNo),
 }
 
 impl Actor {
-    /// How many actors a chain of so many cores has.
+    /// Returns how many actors a chain of this many cores has.
     #[inline(always)]
     pub(crate) fn count(cores: usize) -> usize
         requires { cores ≤ 64 }
@@ -29,8 +29,8 @@ impl Actor {
         3 * cores + 3
     }
 
-    /// The actor at a place among those of a chain of so many cores: first the driver's put and its ports, then the ends of each
-    /// core, and then the collection of each core's reports.
+    /// Returns the actor at a place among those of a chain of this many cores: first the driver's put and its ports,
+    /// then the ends of each core, and then the collection of each core's reports.
     #[inline(always)]
     pub(crate) fn at(place: usize, cores: usize) -> Self
         requires few { cores ≤ 64 }
@@ -55,7 +55,7 @@ impl Actor {
         }
     }
 
-    /// The place behind this actor, among those of a chain of so many cores.
+    /// Returns the place after this actor's, among those of a chain of this many cores.
     #[inline(always)]
     pub(crate) fn place_behind(self, cores: usize) -> usize
         requires { cores ≤ 64 }
@@ -77,7 +77,7 @@ impl Actor {
 pub enum NotNow {
     /// The next event waits, for this reason.
     Waits(Why),
-    /// The closes wait until so many outstanding events have left.
+    /// The closes wait until this many outstanding events have left.
     Drains(u32),
     /// The closes were sent.
     Closed,

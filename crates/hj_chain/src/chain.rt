@@ -85,8 +85,9 @@ impl<P: Share + Drop, J: Join<P> + Drop, L: Store<P, J> + Drop, R: Store<P, J> +
     ghost use Rattle.hj_msg.specs.declared.feed.Given.{Given};
     ghost use Rattle.hj_chain.specs.Chain.{Contents};
 
-    /// The empty chain of as many cores as there are stores of each stream, with at most `flight` events outstanding, from 1 to
-    /// 256. It asks the feed for the first event. Where memory runs out the feed was not asked.
+    /// Makes the empty chain of as many cores as there are stores of each stream, with at most `flight` events
+    /// outstanding, from 1 to 256. It asks the feed for the first event. Where memory runs out the feed was not
+    /// asked.
     pub fn new<F: Feed<P>>(
         alloc: Global,
         join: J,
@@ -110,7 +111,7 @@ impl<P: Share + Drop, J: Join<P> + Drop, L: Store<P, J> + Drop, R: Store<P, J> +
         Self::of_cores(alloc, join, cores, flight, feed)
     }
 
-    /// The same of cores that hold nothing, each at its place.
+    /// Makes the same of cores that hold nothing, each at its place.
     fn of_cores<F: Feed<P>>(
         alloc: Global,
         join: J,
@@ -210,8 +211,8 @@ impl<P: Share + Drop, J: Join<P> + Drop, L: Store<P, J> + Drop, R: Store<P, J> +
         self.kept.release(mark)
     }
 
-    /// Whether the chain is done: the driver took both closes, and of each core the report of its end was collected. The run
-    /// is complete then, and where no pair is to be given, all pairs of the sequential join were.
+    /// Returns whether the chain is done: the driver took both closes, and of each core the report of its end was
+    /// collected. The run is complete then, and where no pair is to be given, all pairs of the sequential join were.
     pub fn done(&self) -> bool
         requires { (feed : FeedState) × GoesWith J.predicate self.now feed }
         ensures { (result ≡ true) ↔ IsDone self.now.state }
@@ -219,7 +220,7 @@ impl<P: Share + Drop, J: Join<P> + Drop, L: Store<P, J> + Drop, R: Store<P, J> +
         self.driver.finished() && self.collector.ended()
     }
 
-    /// The driver asks the feed where no answer is known, or puts the next event, or the closes.
+    /// Makes the driver's step: it asks the feed where no answer is known, or puts the next event, or the closes.
     #[inline(always)]
     fn admit<F: Feed<P>>(&mut self, feed: &mut F) -> Stepped
         requires goes { GoesWith J.predicate self.old (F.state feed.old) }
@@ -252,7 +253,7 @@ impl<P: Share + Drop, J: Join<P> + Drop, L: Store<P, J> + Drop, R: Store<P, J> +
         Stepped::Did
     }
 
-    /// The driver puts the closes.
+    /// Makes the driver's step that puts the closes.
     fn close(&mut self) -> Stepped
         requires going { IsGoing J.predicate self.old }
         requires last { self.old.state.next ≡ Some Given.Stop }
@@ -271,7 +272,7 @@ impl<P: Share + Drop, J: Join<P> + Drop, L: Store<P, J> + Drop, R: Store<P, J> +
         }
     }
 
-    /// The driver takes a message out at a port.
+    /// Makes the driver's step that takes a message out at a port.
     #[inline(always)]
     fn receive(&mut self, port: Side) -> Stepped
         requires { IsGoing J.predicate self.old }
@@ -287,7 +288,7 @@ impl<P: Share + Drop, J: Join<P> + Drop, L: Store<P, J> + Drop, R: Store<P, J> +
         }
     }
 
-    /// A core handles the first message that comes in at one of its ends.
+    /// Lets a core handle the first message that comes in at one of its ends.
     #[inline(always)]
     fn turn(&mut self, core: CoreNo, end: Side) -> Stepped
         requires { IsGoing J.predicate self.old }
@@ -317,7 +318,7 @@ impl<P: Share + Drop, J: Join<P> + Drop, L: Store<P, J> + Drop, R: Store<P, J> +
         Stepped::Did
     }
 
-    /// A core's first report is taken. The queue gives it up only once there is room for its pairs.
+    /// Takes a core's first report. The queue gives it up only once there is room for its pairs.
     #[inline(always)]
     fn collect(&mut self, core: CoreNo) -> Stepped
         requires { IsGoing J.predicate self.old }
@@ -346,7 +347,7 @@ impl<P: Share + Drop, J: Join<P> + Drop, L: Store<P, J> + Drop, R: Store<P, J> +
     }
 }
 
-/// The feed's next answer, if it is there.
+/// Asks the feed for its next answer, if it is there.
 #[inline(always)]
 fn next_if_there<P, F: Feed<P>>(feed: &mut F) -> Option<Given<P>>
     ensures { (answer : FeedAnswer P) × (result ≡ if_there answer) × Tells F.gives F.ready F.state feed.old answer feed.new }
@@ -376,8 +377,8 @@ fn put_sends<P: Drop>(links: &mut Links<P>, reports: &mut Reports<P>, place: usi
     reports.put(place, sends.entry);
 }
 
-/// A core for each two stores, each at its place. Stores are taken from the ends of their lists, so the last core is made
-/// first.
+/// Makes a core for each two stores, each at its place. Stores are taken from the ends of their lists, so the last
+/// core is made first.
 fn placed_cores<P: Share + Drop, J: Join<P> + Drop, L: Store<P, J> + Drop, R: Store<P, J> + Drop>(
     alloc: Global,
     join: &J,
@@ -407,7 +408,7 @@ fn placed_cores<P: Share + Drop, J: Join<P> + Drop, L: Store<P, J> + Drop, R: St
     Ok(cores)
 }
 
-/// The core at a place, with these stores.
+/// Makes the core at a place, with these stores.
 fn placed_core<P: Share + Drop, J: Join<P> + Drop, L: Store<P, J> + Drop, R: Store<P, J> + Drop>(
     alloc: Global,
     join: &J,

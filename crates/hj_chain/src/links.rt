@@ -28,7 +28,8 @@ impl<P> Model for Links<P> {
 }
 
 impl<P: Drop> Links<P> {
-    /// The links of so many cores, with nothing under way and with room for `capacity` messages in each direction.
+    /// Makes the links of this many cores, with nothing under way and with room for `capacity` messages in each
+    /// direction.
     pub fn new(alloc: Global, cores: usize, capacity: usize) -> Result<Self, Memory>
         requires { cores ≤ 64 }
         ensures { IfOk result (λ links. links ≡ replicate (cores + 1) (no_messages capacity)) }
@@ -40,7 +41,8 @@ impl<P: Drop> Links<P> {
         Ok(Links { links })
     }
 
-    /// The first message that comes in at an end of a core; None exactly where there is none, as past the last link.
+    /// Returns the first message that comes in at an end of a core; None exactly where there is none, as past the
+    /// last link.
     #[inline(always)]
     pub fn incoming(&self, core: usize, end: Side) -> Option<&Msg<P>>
         requires { core < 2 ^ 16 }
@@ -52,8 +54,8 @@ impl<P: Drop> Links<P> {
         }
     }
 
-    /// The first message that comes out at a port of a chain of so many cores; None exactly where there is none, as past the
-    /// last link.
+    /// Returns the first message that comes out at a port of a chain of this many cores; None exactly where there is
+    /// none, as past the last link.
     #[inline(always)]
     pub fn outgoing(&self, port: Side, cores: usize) -> Option<&Msg<P>>
         ensures { option_copied result ≡ first (at_port port cores self.now) }
@@ -105,7 +107,7 @@ impl<P: Drop> Links<P> {
         }
     }
 
-    /// Puts a message in at a port of a chain of so many cores.
+    /// Puts a message in at a port of a chain of this many cores.
     #[inline(always)]
     pub fn put_in(&mut self, port: Side, cores: usize, msg: Msg<P>)
         requires in_range { cores < length self.old }
@@ -118,7 +120,7 @@ impl<P: Drop> Links<P> {
         }
     }
 
-    /// Takes the first message that comes out at a port of a chain of so many cores.
+    /// Takes the first message that comes out at a port of a chain of this many cores.
     #[inline(always)]
     pub fn take_out(&mut self, port: Side, cores: usize) -> Option<Msg<P>>
         requires { cores < length self.old }

@@ -29,7 +29,7 @@ impl<P> Model for Reports<P> {
 }
 
 impl<P: Drop> Reports<P> {
-    /// The queues of so many cores, with no reports and with room for `capacity` in each.
+    /// Makes the queues of this many cores, with no reports and with room for `capacity` in each.
     pub fn new(alloc: Global, cores: usize, capacity: usize) -> Result<Self, Memory>
         ensures { IfOk result (λ reports. reports ≡ no_reports cores capacity) }
     {
@@ -40,7 +40,7 @@ impl<P: Drop> Reports<P> {
         Ok(Reports { queues, capacity })
     }
 
-    /// A core's first report; None exactly where it has none, as where there is no such core.
+    /// Returns a core's first report; None exactly where it has none, as where there is no such core.
     #[inline(always)]
     pub fn first(&self, core: usize) -> Option<&Report<P>>
         ensures { option_copied result ≡ first (queue_at self.now.queues core) }
@@ -48,7 +48,7 @@ impl<P: Drop> Reports<P> {
         self.queues.get(core)?.front()
     }
 
-    /// Whether a core has as many reports as a queue holds. One that isn't there has none.
+    /// Returns whether a core has as many reports as a queue holds. One that isn't there has none.
     #[inline(always)]
     pub fn is_full(&self, core: usize) -> bool
         ensures { result ≡ (length (queue_at self.now.queues core) == self.now.capacity) }
@@ -59,7 +59,7 @@ impl<P: Drop> Reports<P> {
         }
     }
 
-    /// Puts a core's report behind its others, if there is one.
+    /// Puts a core's report after its others, if there is one.
     #[inline(always)]
     pub fn put(&mut self, core: usize, report: Option<Report<P>>)
         requires in_range { core < length self.old.queues }

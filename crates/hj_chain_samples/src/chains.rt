@@ -85,7 +85,7 @@ fn from(side: Side) -> TwoRows
     }
 }
 
-/// The same, where no answer is there before it is asked for.
+/// Makes the same, where no answer is there before it is asked for.
 fn late_from(side: Side) -> TwoRows
     ensures { result.given ≡ 0 }
 {
@@ -94,7 +94,7 @@ fn late_from(side: Side) -> TwoRows
     rows
 }
 
-/// The actor of a word, and behind it the place of a core.
+/// Reads the actor of a word, and after it the place of a core.
 fn actor(rt: &impl Abort, text: &str) -> Actor {
     let (name, place) = text.split_once(' ').unwrap_or((text, "0"));
     let core = CoreNo(place.parse::<u16>().expect(rt, "a place"));
@@ -109,7 +109,7 @@ fn actor(rt: &impl Abort, text: &str) -> Actor {
     }
 }
 
-/// The actors of lines.
+/// Reads the actors of lines.
 fn actors(rt: &impl Abort, alloc: Global, lines: &str) -> Vec<Actor> {
     let mut actors = Vec::new(alloc);
     for line in lines.lines() {
@@ -160,7 +160,7 @@ fn run_to_end(chain: &mut RowChain, feed: &mut TwoRows)
     }
 }
 
-/// The numbers of the left row and of the right one.
+/// Returns the numbers of the left row and of the right one.
 pub(crate) fn numbers(pair: Option<Pair<Row>>) -> Option<(u64, u64)> {
     pair.map(|pair| (pair.left_no.0, pair.right_no.0))
 }
@@ -324,7 +324,7 @@ impl Drain<Row> for LastPair {
     }
 }
 
-/// No pairs yet, and room for so many.
+/// Makes a list of no pairs yet, with room for this many.
 fn room_for(room: u64) -> LastPair {
     LastPair {
         last: None,
@@ -360,8 +360,8 @@ fn no_steps() -> Counts {
     }
 }
 
-/// The rows meet once, whatever the rule: one takes 2 + 1 steps of the cores where it is a left one, and 1 + 3 where it is a right
-/// one, and the closes 2 + 2.
+/// Shows that the rows meet once, whatever the rule: one takes 2 + 1 steps of the cores where it is a left one, and 1
+/// + 3 where it is a right one, and the closes 2 + 2.
 fn runs_serially(rt: &impl Abort, alloc: Global, rows: TwoRows, chooser: Chooser, pair: (u64, u64))
     requires { rows.given ≡ 0 }
 {

@@ -10,7 +10,7 @@ use std::process::Abort;
 
 type RowCore = Core<Row, Cross, ListStore<Row>, ListStore<Row>>;
 
-/// One of two cores.
+/// Makes one of two cores.
 fn core_at(place: u16, alloc: Global) -> RowCore
     requires { place < 2 }
 {
@@ -24,7 +24,7 @@ fn core_at(place: u16, alloc: Global) -> RowCore
     )
 }
 
-/// What a core sends for a message, to the left, to the right and then to the right, and what it reports.
+/// Tells what a core sends for a message, to the left, to the right and then to the right, and what it reports.
 fn handled(alloc: Global, core: &mut RowCore, msg: Msg<Row>) -> Result<String, Memory> {
     let prepared = core.prepare(&msg)?;
     let sends = core.commit(msg, prepared);
@@ -35,7 +35,7 @@ fn handled(alloc: Global, core: &mut RowCore, msg: Msg<Row>) -> Result<String, M
     Ok(text)
 }
 
-/// A core of two that handled messages: a line is a message, and what it sent and reported for it.
+/// Makes a core of two that handled messages: a line is a message, and what it sent and reported for it.
 fn run(rt: &impl Abort, alloc: Global, place: u16, steps: &str) -> RowCore
     requires { place < 2 }
 {
@@ -100,7 +100,7 @@ fn right_row_comes_first(rt: HostRuntime) {
     assert_eq!(rt; core.place(), CoreNo(0));
 }
 
-/// A core goes to another thread where its rows, its join and its stores do.
+/// Shows that a core goes to another thread where its rows, its join and its stores do.
 fn sent_core<P: Send, J: Join<P> + Send, L: Store<P, J> + Send, R: Store<P, J> + Send>(
     core: Core<P, J, L, R>,
 ) -> Core<P, J, L, R> {

@@ -48,7 +48,7 @@ fn remove<S: Store<Row, Tenth>>(store: &mut S, no: u64) -> bool {
     store.remove(EventNo(no))
 }
 
-/// The numbers of the rows of a side that a row finds.
+/// Returns the numbers of the rows of a side that a row finds.
 fn found<S: Store<Row, Tenth>>(
     alloc: Global,
     store: &S,
@@ -76,7 +76,7 @@ fn answers(rt: &impl Abort, step: &str, answer: bool, want: &str) {
     assert_eq!(rt; answer, want, "{step}");
 }
 
-/// A row finds right rows with these numbers.
+/// Shows that a row finds right rows with these numbers.
 fn finds(rt: &impl Abort, alloc: Global, store: &ListStore<Row>, row: u64, want: &str) {
     let numbers = found(alloc, store, Side::Right, row).expect(rt, "memory");
     let numbers = format!(in alloc; "{numbers:?}").expect(rt, "memory");
@@ -153,7 +153,7 @@ fn rows_stay_through_sweeps(rt: HostRuntime) -> Result<(), Fail> {
     Ok(())
 }
 
-/// A store goes to another thread where its rows do.
+/// Shows that a store goes to another thread where its rows do.
 fn sent_store<P: Send>(store: ListStore<P>) -> ListStore<P> {
     sent(store)
 }

@@ -6,7 +6,7 @@ use std::alloc::Global;
 use std::process::Abort;
 use std::test::Fail;
 
-/// The message that a put hands back, if it does.
+/// Returns the message that a put hands back, if it does.
 fn refused(answer: Result<(), Full<char>>) -> Option<char> {
     match answer {
         Ok(()) => None,
@@ -62,7 +62,7 @@ fn one_message_each_way(rt: HostRuntime) {
     }
 }
 
-/// A link goes to another thread where its messages do.
+/// Shows that a link goes to another thread where its messages do.
 fn sent_between_threads<M: Send>(link: PlainLink<M>, refused: Full<M>) -> (PlainLink<M>, Full<M>) {
     (sent(link), sent(refused))
 }

@@ -11,7 +11,7 @@ fn number(rt: &impl Abort, text: &str) -> u64 {
     text.parse::<u64>().expect(rt, "a number")
 }
 
-/// A left row and a right one, each row being its own number.
+/// Makes a left row and a right one, each row being its own number.
 fn pair_of(rt: &impl Abort, text: &str) -> Pair<u64> {
     let (left, right) = text.split_once(' ').expect(rt, "a right row");
     let (left, right) = (number(rt, left), number(rt, right));

@@ -40,7 +40,7 @@ impl Join<Row> for Cross {
     }
 }
 
-/// The message of a line: its name, the number of its event, and behind that the number of its row.
+/// Reads the message of a line: its name, the number of its event, and after that the number of its row.
 pub(crate) fn message(rt: &impl Abort, line: &str) -> Msg<Row> {
     let mut words = line.split(' ');
     let name = words.next().expect(rt, "a name");

@@ -32,7 +32,7 @@ struct Rounds {
 }
 
 impl Rounds {
-    /// So many events of rounds, with rows of this number.
+    /// Makes this many events of rounds, with rows of this number.
     fn new(most: u64, ready: bool, row: u64) -> Self
         ensures given { result.given ≡ 0 }
         ensures none_left { result.left ≡ None }
@@ -151,7 +151,7 @@ impl Gate for SlowCore {
     }
 }
 
-/// An empty store for each core.
+/// Makes an empty store for each core.
 pub(crate) fn stores(alloc: Global, cores: u16) -> Result<Vec<ListStore<Row>>, Memory>
     ensures many { IfOk result (λ stores. length stores.items ≡ cores) }
     ensures empty { IfOk result (λ stores. All (λ store. resting_rows store ≡ []) stores.items) }
@@ -190,7 +190,7 @@ fn run<T: Abort + Threads + Wait + Clock + Sync, G: Gate + Sync>(
     Ok((ran?.fin(), feed, drain))
 }
 
-/// Runs so many events of rounds on threads, and looks whether each pair came in its turn.
+/// Runs this many events of rounds on threads, and looks whether each pair came in its turn.
 fn run_whole<T: Abort + Threads + Wait + Clock + Sync, G: Gate + Sync>(
     rt: &T,
     alloc: Global,
@@ -268,7 +268,7 @@ fn threads_wake_each_other(rt: HostRuntime) -> Result<(), Fail> {
     Ok(())
 }
 
-/// Memory runs out at the first row, and every thread comes back.
+/// Shows that memory runs out at the first row, and every thread comes back.
 #[test]
 fn threads_come_back_for_want_of_memory(rt: HostRuntime) -> Result<(), Fail> {
     for cores in [1, 4, 64] {

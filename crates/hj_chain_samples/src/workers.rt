@@ -60,12 +60,12 @@ fn made(rt: &impl Abort, alloc: Global, bench: &mut Bench, step: &str, what: &st
     text.expect(rt, "memory")
 }
 
-/// The message that was put, where there was room for it.
+/// Returns the message that was put, where there was room for it.
 fn told(alloc: Global, put: bool, msg: &str) -> Result<String, AllocError> {
     String::from_str(alloc, if put { msg } else { "no room" })
 }
 
-/// What the worker answers its call.
+/// Tells what the worker answers its call.
 fn turned(rt: &impl Abort, alloc: Global, bench: &mut Bench) -> Result<String, AllocError> {
     assert!(rt; !bench.worker.spent());
     format!(in alloc; "{:?}", bench.worker.turn(&OpenGate))
@@ -206,7 +206,7 @@ fn passes_the_gate_in_each_call(rt: HostRuntime) -> Result<(), Fail> {
     Ok(())
 }
 
-/// A worker goes to another thread where its rows, its join and its stores do.
+/// Shows that a worker goes to another thread where its rows, its join and its stores do.
 fn sent_worker<
     P: Send + Sync + Drop,
     J: Join<P> + Send,

@@ -26,7 +26,7 @@ pub(crate) struct Bell {
 }
 
 impl Bell {
-    /// That of a thread that is awake.
+    /// Makes the bell of a thread that is awake.
     pub(crate) fn new() -> Self {
         Bell {
             parker: Parker::new(),

@@ -14,7 +14,7 @@ use hj_desk::Desk;
 use hj_msg::{Fin, Join, Store};
 use hj_worker::Worker;
 
-/// The run of a crew that came back: `cores` workers, and at most `flight` events outstanding.
+/// Returns the run of a crew that came back: `cores` workers, and at most `flight` events outstanding.
 pub(crate) fn close_crew<
     P: Share + Drop,
     J: Join<P> + Drop,
@@ -40,7 +40,7 @@ pub(crate) fn close_crew<
     close_run(desk, workers, flight, ended, chain)
 }
 
-/// The run of a desk and workers, in the order of their cores.
+/// Returns the run of a desk and workers, in the order of their cores.
 fn close_run<P: Share + Drop, J: Join<P> + Drop, L: Store<P, J> + Drop, R: Store<P, J> + Drop>(
     desk: Desk<P>,
     workers: Vec<Worker<P, J, L, R>>,
@@ -77,8 +77,7 @@ fn close_run<P: Share + Drop, J: Join<P> + Drop, L: Store<P, J> + Drop, R: Store
     ends.close(flight, ended, links, queues)
 }
 
-/// Hands in the ends of a worker, behind those of the cores before it, into lists that have room
-/// for them.
+/// Hands in the ends of a worker, after those of the cores before it, into lists that have room for them.
 fn hand_in<P: Share + Drop, J: Join<P> + Drop, L: Store<P, J> + Drop, R: Store<P, J> + Drop>(
     ends: &mut ChainEnds<P>,
     worker: Worker<P, J, L, R>,

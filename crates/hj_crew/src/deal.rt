@@ -10,7 +10,7 @@ use hj_msg::{Join, Store};
 use hj_worker::Worker;
 use std::alloc::Global;
 
-/// So many teams without workers.
+/// Makes this many teams without workers.
 pub(crate) fn empty_teams<P: Drop, J: Join<P> + Drop, L: Store<P, J> + Drop, R: Store<P, J> + Drop>(
     alloc: Global,
     count: usize,
@@ -26,7 +26,8 @@ pub(crate) fn empty_teams<P: Drop, J: Join<P> + Drop, L: Store<P, J> + Drop, R: 
     Ok(teams)
 }
 
-/// The team, of so many, that turns the core at a place of so many. So each team turns a run of neighbours.
+/// Returns the team, by its place, that turns the core at a place, of this many teams and cores. So each team turns a
+/// run of neighbours.
 pub(crate) fn team_of(place: usize, cores: usize, teams: usize) -> usize
     requires place { place < cores }
     requires few { cores ≤ 64 }
@@ -36,8 +37,8 @@ pub(crate) fn team_of(place: usize, cores: usize, teams: usize) -> usize
     place * teams / cores
 }
 
-/// Deals a worker to a team, behind those that it has. So each team has its workers from the last one to the first, and the first
-/// one comes off by `pop`. The workers of later places were dealt, and none to an earlier team.
+/// Deals a worker to a team, after those that it has. So each team has its workers from the last one to the first,
+/// and the first one comes off by `pop`. The workers of later places were dealt, and none to an earlier team.
 pub(crate) fn deal<P: Drop, J: Join<P> + Drop, L: Store<P, J> + Drop, R: Store<P, J> + Drop>(
     teams: &mut [Team<P, J, L, R>],
     team: usize,

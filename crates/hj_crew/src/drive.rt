@@ -78,7 +78,7 @@ fn ring_teams(signals: &[Signals], has_own: bool) {
     }
 }
 
-/// One round of the calling thread, and then one of each team, where the run goes on.
+/// Does one round of the calling thread, and then one of each team, where the run goes on.
 fn round_of_all<
     P: Share + Drop,
     J: Join<P> + Drop,
@@ -109,7 +109,7 @@ fn round_of_all<
     }
 }
 
-/// A round of each team. It answers whether one got on.
+/// Does a round of each team, and returns whether one got on.
 fn turn_all<
     P: Share + Drop,
     J: Join<P> + Drop,

@@ -24,8 +24,8 @@ pub(crate) struct ChainEnds<P: Drop> {
 impl<P: Drop> ChainEnds<P> {
     ghost use Rattle.hj_crew.specs.Ends.{AreNew};
 
-    /// The ends of new links and queues for so many cores, with room for what a chain puts that has
-    /// at most `flight` events outstanding.
+    /// Makes the ends of new links and queues for this many cores, with room for what a chain puts that has at most
+    /// `flight` events outstanding.
     pub(crate) fn new(alloc: Global, cores: u16, flight: u16) -> Result<Self, Memory>
         requires { (0 < flight) × (flight ≤ 256) }
         ensures { IfOk result (AreNew cores (2 * flight + 2)) }

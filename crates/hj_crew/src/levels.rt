@@ -41,9 +41,9 @@ pub(crate) struct Shared<'s, G, T> {
     pub(crate) gate: &'s G,
 }
 
-/// Starts a thread for the last of these teams, does so for the others, and lets the calling thread run once no team is left.
-/// Then it joins its thread, whose team goes behind those that are `done`. Where no thread can be made, the team goes among the calling
-/// thread's `own` until the run is over.
+/// Starts a thread for the last of these teams, does so for the others, and lets the calling thread run once no team
+/// is left. Then it joins its thread, whose team goes after those that are `done`. Where no thread can be made, the
+/// team goes among the calling thread's `own` until the run is over.
 pub(crate) fn levels<
     's,
     E,
@@ -104,7 +104,7 @@ pub(crate) fn levels<
     }
 }
 
-/// The neighbours of the team at a place.
+/// Returns the neighbours of the team at a place.
 fn neighbours_of<'s, G, T>(shared: &Shared<'s, G, T>, place: usize) -> Neighbours<'s>
     requires { place < length shared.now.signals.now }
 {

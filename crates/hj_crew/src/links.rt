@@ -10,8 +10,8 @@ use hj_link::{
 };
 use std::alloc::Global;
 
-/// So many new links, with room for `capacity` messages in each direction: their left ends, and
-/// their right ones in the same order.
+/// Makes this many new links, with room for `capacity` messages in each direction: their left ends, and their right
+/// ones in the same order.
 pub(crate) fn make_links<M: Drop>(
     alloc: Global,
     count: usize,
@@ -35,8 +35,8 @@ pub(crate) fn make_links<M: Drop>(
     Ok((left_ends, right_ends))
 }
 
-/// So many new queues, with room for `capacity` messages: their senders, and their receivers in the
-/// same order.
+/// Makes this many new queues, with room for `capacity` messages: their senders, and their receivers in the same
+/// order.
 pub(crate) fn make_queues<M: Drop>(
     alloc: Global,
     count: usize,

@@ -39,8 +39,8 @@ impl<P: Share + Drop, J: Join<P> + Drop, L: Store<P, J> + Drop, R: Store<P, J> +
 > {
     ghost use Rattle.hj_crew.specs.Begun.{IsManned};
 
-    /// The crew of a chain of as many cores as there are stores of each stream, in as many teams as
-    /// there are threads and cores.
+    /// Makes the crew of a chain of as many cores as there are stores of each stream, in as many teams as there are
+    /// threads and cores.
     pub(crate) fn new(
         alloc: Global,
         setup: Setup,
@@ -71,8 +71,8 @@ impl<P: Share + Drop, J: Join<P> + Drop, L: Store<P, J> + Drop, R: Store<P, J> +
     }
 }
 
-/// What so many threads are told, and room for their teams: for those that the calling thread turns
-/// itself, and for those that came back.
+/// Makes what this many threads are told, and room for their teams: for those that the calling thread turns itself,
+/// and for those that came back.
 fn signals_and_room<T: Drop>(
     alloc: Global,
     count: usize,
@@ -87,7 +87,7 @@ fn signals_and_room<T: Drop>(
     Ok((signals, own, done))
 }
 
-/// The signals of so many threads.
+/// Makes the signals of this many threads.
 fn make_signals(alloc: Global, count: usize) -> Result<Vec<Signals>, Memory>
     ensures { IfOk result (λ signals. length signals.items ≡ count) }
 {
@@ -98,7 +98,7 @@ fn make_signals(alloc: Global, count: usize) -> Result<Vec<Signals>, Memory>
     Ok(signals)
 }
 
-/// The desk of a chain, and its workers in so many teams.
+/// Makes the desk of a chain, and its workers in this many teams.
 fn desk_and_teams<P: Share + Drop, J: Join<P> + Drop, L: Store<P, J> + Drop, R: Store<P, J> + Drop>(
     alloc: Global,
     setup: Setup,
@@ -130,8 +130,8 @@ fn desk_and_teams<P: Share + Drop, J: Join<P> + Drop, L: Store<P, J> + Drop, R: 
     Ok((desk, teams))
 }
 
-/// The desk of a chain with at most `flight` events outstanding, at the one left end that its workers
-/// left, and at the last right end.
+/// Makes the desk of a chain with at most `flight` events outstanding, at the one left end that its workers left, and
+/// at the last right end.
 fn desk_at<P: Share + Drop>(
     alloc: Global,
     flight: u16,
@@ -161,8 +161,8 @@ fn desk_at<P: Share + Drop>(
     Desk::new(alloc, flight, first, last, receivers)
 }
 
-/// The workers of a chain, each with its core and its ends, dealt to so many teams. The last core
-/// gets the last ends, and the first left end is left.
+/// Makes the workers of a chain, each with its core and its ends, dealt to this many teams. The last core gets the
+/// last ends, and the first left end is left.
 pub(crate) fn make_teams<
     P: Share + Drop,
     J: Join<P> + Drop,
@@ -203,7 +203,7 @@ pub(crate) fn make_teams<
     Ok(teams)
 }
 
-/// The core at a place of so many, over these stores. It gets a share of the join.
+/// Makes the core at a place of this many, over these stores. It gets a share of the join.
 fn make_core<P: Share + Drop, J: Join<P> + Drop, L: Store<P, J> + Drop, R: Store<P, J> + Drop>(
     alloc: Global,
     join: &J,
@@ -223,7 +223,7 @@ fn make_core<P: Share + Drop, J: Join<P> + Drop, L: Store<P, J> + Drop, R: Store
     Ok(Core::new(join.share()?, left, right, at, cores, alloc))
 }
 
-/// The worker of a core, which gets the last ones of the ends.
+/// Makes the worker of a core, which gets the last ones of the ends.
 fn last_worker<P: Share + Drop, J: Join<P> + Drop, L: Store<P, J> + Drop, R: Store<P, J> + Drop>(
     core: Core<P, J, L, R>,
     ends: &mut ChainEnds<P>,

@@ -25,7 +25,7 @@ impl<P: Drop> Model for Ran<P> {
 }
 
 impl<P: Drop> Ran<P> {
-    /// How the run ended.
+    /// Returns how the run ended.
     pub fn fin(&self) -> Fin
         ensures { result ≡ self.now.ended }
     {

@@ -24,7 +24,7 @@ impl<P: Share + Drop, J: Join<P> + Drop, L: Store<P, J> + Drop, R: Store<P, J> +
 > {
     ghost use Rattle.hj_crew.specs.Room.{IsRoomFor};
 
-    /// Room for a chain of so many cores.
+    /// Makes room for a chain of this many cores.
     pub(crate) fn new(alloc: Global, cores: u16) -> Result<Self, Memory>
         ensures { IfOk result (IsRoomFor cores) }
     {
@@ -49,7 +49,7 @@ pub(crate) struct ChainRoom<P: Drop> {
 impl<P: Drop> ChainRoom<P> {
     ghost use Rattle.hj_crew.specs.Room.{IsChainRoomFor};
 
-    /// Room for a chain of so many cores.
+    /// Makes room for a chain of this many cores.
     pub(crate) fn new(alloc: Global, cores: u16) -> Result<Self, Memory>
         ensures { IfOk result (IsChainRoomFor cores) }
     {

@@ -11,7 +11,7 @@ use std::sync::Wait;
 use std::sync::atomic::{AtomicBool, Ordering};
 use std::time::Clock;
 
-/// So many turns a worker makes at most before the next one of its team is turned.
+/// How many turns a worker makes at most before the next one of its team is turned.
 const TURNS: u32 = 32;
 
 /// The workers that one thread turns, one after another.
@@ -34,7 +34,7 @@ pub(crate) enum Progress {
 }
 
 impl Progress {
-    /// That of two parts together.
+    /// Returns the progress of two parts together.
     pub(crate) fn and(self, other: Progress) -> Progress {
         match (self, other) {
             (Progress::GotOn, _) | (_, Progress::GotOn) => Progress::GotOn,
@@ -91,7 +91,8 @@ fn turn_on<
     Progress::GotOn
 }
 
-/// How far a worker came in so many turns and a last one, in which it put nothing.
+/// Turns a worker this many times and a last time, and returns how far it came; the last turn is one in which it put
+/// nothing.
 fn after(turns: u32, last: Progress) -> Progress {
     if turns > 0 { Progress::GotOn } else { last }
 }
@@ -106,7 +107,7 @@ pub(crate) struct Signals {
 }
 
 impl Signals {
-    /// None was given yet.
+    /// Makes a pile to which none was given yet.
     pub(crate) fn new() -> Self {
         Signals {
             leave: AtomicBool::new(false),

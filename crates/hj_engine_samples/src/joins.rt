@@ -39,7 +39,7 @@ struct Engine {
     chooser: Chooser,
 }
 
-/// Rows at 1, 3, .. and at 2, 4, .., of which each is joined with the one before it and the one behind it.
+/// Rows at 1, 3, .. and at 2, 4, .., of which each is joined with the one before it and the one after it.
 const NEIGHBOURS: Streams = Streams {
     query: "left (ts int, k int) right (ts int, k int) window left rows 1 window right rows 1 on l.k = r.k",
     limit: 100,
@@ -181,7 +181,7 @@ fn passes_the_gate_before_each_step_of_a_core(rt: HostRuntime) -> Result<(), Fai
     Ok(())
 }
 
-/// How a join of streams in memory ends, and the sink that it writes to; None where it can't begin.
+/// Tells how a join of streams in memory ends, and the sink that it writes to; None where it can't begin.
 fn joined<G: Gate>(
     alloc: Global,
     engine: Engine,
@@ -197,7 +197,7 @@ fn joined<G: Gate>(
     Ok((ended, sink))
 }
 
-/// The two streams in memory, under the names `l` and `r`.
+/// Makes the two streams in memory, under the names `l` and `r`.
 fn stored(alloc: Global, streams: Streams) -> Result<MemOutside, Memory>
     ensures left { IfOk result (λ outside. (role_at outside role.Left).phase ≡ unbegun) }
     ensures right { IfOk result (λ outside. (role_at outside role.Right).phase ≡ unbegun) }
@@ -208,7 +208,7 @@ fn stored(alloc: Global, streams: Streams) -> Result<MemOutside, Memory>
     Ok(outside)
 }
 
-/// How a join of the streams under the names `l` and `r` ends; None where it can't begin.
+/// Tells how a join of the streams under the names `l` and `r` ends; None where it can't begin.
 fn join_named<O: Outside, K: Sink, G: Gate>(
     alloc: Global,
     engine: Engine,
@@ -285,7 +285,7 @@ impl Outside for WatchedStreams<'_> {
     }
 }
 
-/// How a join of three rows and two ends, and what its streams noted.
+/// Tells how a join of three rows and two ends, and what its streams noted.
 fn watched<'a>(
     alloc: Global,
     lines: &'a Cell<u64>,
@@ -314,8 +314,8 @@ fn watched<'a>(
     Ok((ended, outside))
 }
 
-/// A read gives one row. The streams are read in turn, and a pair is written as soon as of both of them a row is taken that isn't
-/// before the later row of the pair.
+/// Shows that, where a read gives one row, the streams are read in turn, and a pair is written as soon as of both of
+/// them a row is taken that isn't before the later row of the pair.
 #[test]
 fn writes_what_is_due_before_it_reads_on(rt: HostRuntime) -> Result<(), Fail> {
     let lines = Cell::new(0);
@@ -368,7 +368,7 @@ fn joins_trades_with_quotes_on_three_threads(rt: HostRuntime) -> Result<(), Fail
     Ok(())
 }
 
-/// Holds the first turn of each core until so many cores have come to theirs, for so many tries.
+/// Holds the first turn of each core until a number of cores have come to theirs, for a number of tries.
 #[derive(Drop)]
 struct MeetingGate {
     cores: u64,
@@ -392,7 +392,7 @@ impl Gate for MeetingGate {
     }
 }
 
-/// Each core has a thread of its own, else no first turn would end before that of another.
+/// Shows that each core has a thread of its own, else no first turn would end before that of another.
 #[test]
 fn turns_each_core_in_a_thread_of_its_own(rt: HostRuntime) -> Result<(), Fail> {
     let streams = Streams {
@@ -420,7 +420,8 @@ fn turns_each_core_in_a_thread_of_its_own(rt: HostRuntime) -> Result<(), Fail> {
     Ok(())
 }
 
-/// How a join on threads of streams in memory ends, and its run, and the sink that it writes to; None where it can't begin.
+/// Tells how a join on threads of streams in memory ends, and its run, and the sink that it writes to; None where it
+/// can't begin.
 fn joined_on_threads<R: Threads + Wait + Clock + Sync, G: Gate + Sync>(
     rt: &R,
     alloc: Global,

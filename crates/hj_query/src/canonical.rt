@@ -17,11 +17,12 @@ use nodes::push_pred;
 use pieces::{push_bytes, push_count};
 use std::alloc::Global;
 
-/// The canonical text of a query: a line for each schema, each window and each of slack and quiet that isn't 0, and one for the
-/// condition, with one blank between words, signs and numbers, and parentheses only where the tree needs them.
+/// Returns the canonical text of a query: a line for each schema, each window and each of slack and quiet that isn't
+/// 0, and one for the condition, with one blank between words, signs and numbers, and parentheses only where the tree
+/// needs them.
 ///
-/// Where it has at most 65,536 bytes it spells this query, so that `parse` reads it again. It may have more where the query's own
-/// text has nearly as many. The one refusal is want of memory.
+/// Where it has at most 65,536 bytes it spells this query, so that `parse` reads it again. It may have more where the
+/// query's own text has nearly as many. The one refusal is that memory ran out.
 pub fn print(alloc: Global, query: &Query) -> Result<QueryText, Memory>
     ensures text { IfOk result (λ text. text ≡ canonical query.now) }
     ensures again { IfOk result (λ text. length text ≤ most_bytes → Spells text query.now) }
@@ -83,7 +84,7 @@ fn push_column(text: &mut Vec<u8>, column: &Column) -> Result<(), Memory>
     push_bytes(text, kind_word(column.kind))
 }
 
-/// The word of a type.
+/// Returns the word of a type.
 fn kind_word(kind: ColumnType) -> &'static [u8]
     ensures { result.now ≡ kind_word kind }
 {

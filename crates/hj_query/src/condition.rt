@@ -35,7 +35,7 @@ pub fn condition(
     Ok(pred)
 }
 
-/// Reads a condition inside so many `not` and `(`.
+/// Reads a condition inside this many `not` and `(`.
 #[cycle(pred)]
 fn pred(
     alloc: Global,
@@ -111,7 +111,7 @@ fn unary(
     atom(alloc, schemas, cursor)
 }
 
-/// The depth inside a `not` or `(` that is the next token.
+/// Returns the depth inside a `not` or `(` that is the next token.
 fn deeper(cursor: &Cursor<'_>, depth: u8) -> Result<u8, QueryFault>
     ensures { MatchResult result
         (λ inside. (inside ≡ depth + 1) × (depth < most_depth))
@@ -139,7 +139,7 @@ fn atom(alloc: Global, schemas: &Schemas, cursor: &mut Cursor<'_>) -> Result<Pre
     }
 }
 
-/// Reads on from `within`, behind the first sum of a distance that begins at this place.
+/// Reads on from `within`, after the first sum of a distance that begins at this place.
 fn distance(
     alloc: Global,
     schemas: &Schemas,
@@ -163,7 +163,7 @@ fn distance(
     Ok(Pred::Within(distance, left, right))
 }
 
-/// Reads on behind the first sum of a comparison that begins at this place.
+/// Reads on after the first sum of a comparison that begins at this place.
 fn comparison(
     alloc: Global,
     schemas: &Schemas,
@@ -188,7 +188,7 @@ fn comparison(
     Ok(Pred::Compare(op, left, right))
 }
 
-/// The operator of a comparison that is the next token; None where there is none.
+/// Returns the operator of a comparison that is the next token; None where there is none.
 fn operator(cursor: &Cursor<'_>) -> Option<Op>
     ensures { MatchOption result
         ((op : Op) → LacksSign (op_sign op) cursor.now)

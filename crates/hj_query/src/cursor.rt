@@ -42,7 +42,7 @@ impl<'a> Model for Cursor<'a> {
 }
 
 impl<'a> Cursor<'a> {
-    /// At the first token of a text.
+    /// Makes a cursor at the first token of a text.
     pub fn new(text: &'a [u8], tokens: &'a Tokens) -> Self
         requires { AreTokens text.now tokens.now }
         ensures { result ≡ lexemes text.now tokens.now }
@@ -54,7 +54,7 @@ impl<'a> Cursor<'a> {
         }
     }
 
-    /// The next token, or the end of the text.
+    /// Returns the next token, or the end of the text.
     fn peek(&self) -> Lexeme<'a>
         ensures next { self.now ≡ lexeme result.place result.kind result.bytes.now ∷ behind self.now }
         ensures suits { Suits result.kind result.bytes.now }
@@ -73,14 +73,14 @@ impl<'a> Cursor<'a> {
         }
     }
 
-    /// The place of the next token.
+    /// Returns the place of the next token.
     pub fn place(&self) -> usize
         ensures { result ≡ place self.now }
     {
         self.peek().place
     }
 
-    /// Whether the next token is of this kind and has these bytes.
+    /// Returns whether the next token is of this kind and has these bytes.
     fn is(&self, kind: TokenKind, bytes: &[u8]) -> bool
         ensures { result ≡ next_is kind bytes.now self.now }
     {
@@ -88,7 +88,7 @@ impl<'a> Cursor<'a> {
         is_kind(next.kind, kind) && next.bytes == bytes
     }
 
-    /// Whether the next token is this word.
+    /// Returns whether the next token is this word.
     pub fn is_word(&self, word: &[u8]) -> bool
         ensures is { result ≡ next_is kinds.Name word.now self.now }
         ensures not_end { IsTrue result → LacksSign [] self.now }
@@ -96,7 +96,7 @@ impl<'a> Cursor<'a> {
         self.is(TokenKind::Name, word)
     }
 
-    /// Whether the next token is this sign; no bytes stand for the end.
+    /// Returns whether the next token is this sign; no bytes stand for the end.
     pub fn is_sign(&self, sign: &[u8]) -> bool
         ensures is { result ≡ next_is kinds.Sign sign.now self.now }
         ensures not_end { 0 < length sign.now → IsTrue result → LacksSign [] self.now }
@@ -104,14 +104,14 @@ impl<'a> Cursor<'a> {
         self.is(TokenKind::Sign, sign)
     }
 
-    /// Whether the next token is a number.
+    /// Returns whether the next token is a number.
     pub fn is_number(&self) -> bool
         ensures { result ≡ next_has kinds.Number self.now }
     {
         is_kind(self.peek().kind, TokenKind::Number)
     }
 
-    /// Goes behind the next token.
+    /// Goes past the next token.
     pub fn skip(&mut self)
         requires { LacksSign [] self.old }
         ensures behind { self.new ≡ behind self.old }
@@ -120,7 +120,7 @@ impl<'a> Cursor<'a> {
         self.at += 1;
     }
 
-    /// The fault of a next token that isn't what is wanted.
+    /// Returns the fault of a next token that isn't what is wanted.
     pub fn expected(&self, wanted: Wanted) -> QueryFault
         ensures { IsExpected wanted self.now result }
     {
@@ -205,14 +205,14 @@ impl<'a> Cursor<'a> {
     }
 }
 
-/// Whether two kinds of tokens are the same.
+/// Returns whether two kinds of tokens are the same.
 fn is_kind(found: TokenKind, kind: TokenKind) -> bool
     ensures { result ≡ is_same_kind found kind }
 {
     found == kind
 }
 
-/// The bytes of a token.
+/// Returns the bytes of a token.
 fn bytes_of<'a>(text: &'a [u8], token: &Token) -> &'a [u8]
     requires black { token.now.from < token.now.to }
     requires inside { token.now.to ≤ length text.now }

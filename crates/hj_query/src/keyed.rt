@@ -9,7 +9,7 @@ use hj_base::{Memory, Side, Window};
 use hj_value::{Column, ColumnType, Columns, Schema, TextBytes};
 use std::alloc::Global;
 
-/// The query that joins rows of equal keys, over windows of this many rows, 1 to 1,000,000:
+/// Makes the query that joins rows of equal keys, over windows of this many rows, 1 to 1,000,000:
 /// `left (ts int, key int) right (ts int, key int) window left rows W window right rows W on l.key = r.key`.
 /// The one refusal is want of memory.
 pub fn equi(alloc: Global, rows: u32) -> Result<Query, Memory>
@@ -36,7 +36,7 @@ pub fn equi(alloc: Global, rows: u32) -> Result<Query, Memory>
     Ok(Query::new(schemas, window, window, 0, 0, pred))
 }
 
-/// `ts int, key int`.
+/// Makes the schema `ts int, key int`.
 fn keyed_schema(alloc: Global) -> Result<Schema, Memory>
     ensures { IfOk result (λ schema. schema.columns ≡ keyed_columns) }
 {
@@ -46,7 +46,7 @@ fn keyed_schema(alloc: Global) -> Result<Schema, Memory>
     Ok(Schema { columns })
 }
 
-/// A column of numbers.
+/// Makes a column of numbers.
 fn int_column(alloc: Global, name: &str) -> Result<Column, Memory>
     ensures { IfOk result (λ column. column ≡ record { name = name.now; kind = types.Int }) }
 {

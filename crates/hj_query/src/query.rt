@@ -52,7 +52,7 @@ impl Model for Query {
 }
 
 impl Query {
-    /// The query with these parts.
+    /// Makes the query with these parts.
     pub(crate) fn new(
         schemas: Schemas,
         left_window: Window,
@@ -90,7 +90,7 @@ impl Query {
         }
     }
 
-    /// How long the rows of a side live: so many rows, or so many of the stream's own time units.
+    /// Returns how long the rows of a side live: a number of rows, or of the stream's own time units.
     pub fn window(&self, side: Side) -> Window
         ensures { result ≡ by_side self.now.left_window self.now.right_window side }
     {
@@ -100,7 +100,8 @@ impl Query {
         }
     }
 
-    /// How much a row's time may be below the greatest time of the rows before it on its side: 0 to 2^62, in the stream's own time units.
+    /// Returns how much a row's time may be below the greatest time of the rows before it on its side: 0 to 2^62, in
+    /// the stream's own time units.
     pub fn slack(&self) -> u64
         ensures slack { result ≡ self.now.slack }
         ensures range { result ≤ most_slack }
@@ -108,8 +109,8 @@ impl Query {
         self.slack
     }
 
-    /// After how many arrivals of one side, with none of the other, the other one is taken for silent: 0 to 1,000,000, where 0
-    /// stands for never.
+    /// Returns after how many arrivals of one side, with none of the other, the other one is taken for silent: 0 to
+    /// 1,000,000, where 0 stands for never.
     pub fn quiet(&self) -> u32
         ensures quiet { result ≡ self.now.quiet }
         ensures range { result ≤ most_quiet }
@@ -117,15 +118,15 @@ impl Query {
         self.quiet
     }
 
-    /// The columns of a side's rows, in their order.
+    /// Returns the columns of a side's rows, in their order.
     pub fn schema(&self, side: Side) -> &Schema
         ensures { result.now ≡ by_side self.now.left self.now.right side }
     {
         self.schemas.of(side)
     }
 
-    /// The condition on a left and a right row. The query is one that some tokens read as, so a column in it has a place
-    /// in the schema of its side, and the types of both sides of a comparison agree.
+    /// Returns the condition on a left and a right row. The query is one that some tokens read as, so a column in it
+    /// has a place in the schema of its side, and the types of both sides of a comparison agree.
     pub fn pred(&self) -> &Pred
         ensures pred { result.now ≡ self.now.pred }
         ensures readable { IsReadable self.now }

@@ -13,7 +13,7 @@ use std::alloc::Global;
 
 const MOST_COLUMNS: usize = 256;
 
-/// The place of the column with a name.
+/// Returns the place of the column with a name.
 pub fn place_of_name(columns: &Columns, name: &[u8]) -> Option<u16>
     requires { length columns.now ≤ most_columns }
     ensures { result ≡ place_of_name name.now columns.now }
@@ -28,7 +28,7 @@ pub fn place_of_name(columns: &Columns, name: &[u8]) -> Option<u16>
     None
 }
 
-/// Reads the schema behind the word of its side.
+/// Reads the schema that follows the word of its side.
 pub fn schema(
     alloc: Global,
     cursor: &mut Cursor<'_>,
@@ -77,14 +77,14 @@ fn first_column(alloc: Global, cursor: &mut Cursor<'_>) -> Result<Column, QueryF
     Ok(first)
 }
 
-/// Whether a column is `ts int`.
+/// Returns whether a column is `ts int`.
 fn is_time(column: &Column) -> bool
     ensures { result ≡ starts_with_time (column.now ∷ []) }
 {
     column.name.bytes() == b"ts".as_slice() && column.kind == ColumnType::Int
 }
 
-/// Whether a column has this name.
+/// Returns whether a column has this name.
 fn has_column(columns: &Columns, name: &[u8]) -> bool
     requires { length columns.now ≤ most_columns }
     ensures { result ≡ has_column name.now columns.now }
@@ -92,7 +92,7 @@ fn has_column(columns: &Columns, name: &[u8]) -> bool
     place_of_name(columns, name).is_some()
 }
 
-/// Reads a column behind others.
+/// Reads a column that follows others.
 fn next_column(
     alloc: Global,
     cursor: &mut Cursor<'_>,

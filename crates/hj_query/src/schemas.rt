@@ -12,7 +12,7 @@ pub struct Schemas {
 }
 
 impl Schemas {
-    /// The schema of a side.
+    /// Returns the schema of a side.
     pub fn of(&self, side: Side) -> &Schema
         ensures { result.now ≡ by_side self.now.left self.now.right side }
     {

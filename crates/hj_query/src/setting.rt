@@ -26,7 +26,7 @@ impl Setting {
         }
     }
 
-    /// The largest number that is in range.
+    /// Returns the largest number that is in range.
     fn most(self) -> u64
         ensures { result ≡ most_of self }
     {
@@ -36,7 +36,7 @@ impl Setting {
         }
     }
 
-    /// The fault of a number outside the range.
+    /// Returns the fault of a number outside the range.
     fn range_fault(self, place: usize) -> QueryFault
         ensures { result ≡ range_fault self place }
     {

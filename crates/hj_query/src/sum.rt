@@ -23,7 +23,7 @@ pub struct Part {
     pub term: Term,
 }
 
-/// The terms of a sum behind its first, seen as the list of them.
+/// The terms of a sum after its first, seen as the list of them.
 #[derive(Debug, Drop)]
 pub struct Rest {
     parts: Vec<Part>,
@@ -39,7 +39,7 @@ impl Model for Rest {
 }
 
 impl Rest {
-    /// No terms.
+    /// Makes a list of no terms.
     pub fn new(alloc: Global) -> Self
         ensures { result ≡ [] }
     {
@@ -48,14 +48,14 @@ impl Rest {
         }
     }
 
-    /// How many terms there are.
+    /// Returns how many terms there are.
     pub fn len(&self) -> usize
         ensures { result ≡ length self.now }
     {
         self.parts.len()
     }
 
-    /// The term at a place, counted from 0; None exactly at or past the length.
+    /// Returns the term at a place, counted from 0; None exactly at or past the length.
     pub fn get(&self, at: usize) -> Option<&Part>
         ensures { option_copied result ≡ slice_get self.now at }
     {

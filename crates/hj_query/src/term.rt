@@ -30,7 +30,7 @@ pub fn sum(alloc: Global, schemas: &Schemas, cursor: &mut Cursor<'_>) -> Result<
     Ok(Sum { first, rest })
 }
 
-/// Whether the next token adds a term to a sum or takes one off; None where it does neither.
+/// Returns whether the next token adds a term to a sum or takes one off; None where it does neither.
 fn part_sign(cursor: &Cursor<'_>) -> Option<bool>
     ensures { MatchOption result
         (EndsSum cursor.now)

@@ -17,11 +17,12 @@ use std::alloc::Global;
 /// How many bytes the text of a query may have.
 pub const MOST_BYTES: usize = 65_536;
 
-/// The query that a text spells by the grammar of queries, or the text's first fault.
+/// Returns the query that a text spells by the grammar of queries, or the text's first fault.
 ///
-/// `text` is the whole text, which is a query's only where it has at most 65,536 bytes. Its length is looked at first, then its
-/// tokens, then the grammar; the place of a fault counts the bytes before it. `Memory` is the answer for want of memory. The
-/// grammar is this project's own: `IsQuery` states it, and `FaultsQuery` the first fault of each other text.
+/// `text` is the whole text, which is a query's only where it has at most 65,536 bytes. Its length is looked at
+/// first, then its tokens, then the grammar; the place of a fault counts the bytes before it. The answer is `Memory`
+/// where memory ran out. The grammar is this project's own: `IsQuery` states it, and `FaultsQuery` the first fault of
+/// each other text.
 pub fn parse(alloc: Global, text: &[u8]) -> Result<Query, QueryFault>
     ensures reads { MatchResult result (Spells text.now) (λ fault. Unless fault (IsFirst text.now)) }
 

@@ -6,21 +6,21 @@ use crate::schemas::Schemas;
 use crate::{Sum, Term};
 use hj_value::ColumnType;
 
-/// Whether two sums compare: both are numbers, or both are texts.
+/// Returns whether two sums compare: both are numbers, or both are texts.
 pub fn can_compare(schemas: &Schemas, left: &Sum, right: &Sum) -> bool
     ensures { result ≡ can_compare (columns_in schemas.now) left.now right.now }
 {
     can_subtract(schemas, left, right) || is_text_sum(schemas, left) && is_text_sum(schemas, right)
 }
 
-/// Whether two sums have a distance: both are numbers.
+/// Returns whether two sums have a distance: both are numbers.
 pub fn can_subtract(schemas: &Schemas, left: &Sum, right: &Sum) -> bool
     ensures { result ≡ can_subtract (columns_in schemas.now) left.now right.now }
 {
     is_int_sum(schemas, left) && is_int_sum(schemas, right)
 }
 
-/// Whether a sum is one of numbers.
+/// Returns whether a sum is one of numbers.
 fn is_int_sum(schemas: &Schemas, sum: &Sum) -> bool
     ensures { result ≡ is_int_sum (columns_in schemas.now) sum.now }
 {
@@ -38,14 +38,14 @@ fn is_int_sum(schemas: &Schemas, sum: &Sum) -> bool
     true
 }
 
-/// Whether a sum is one text.
+/// Returns whether a sum is one text.
 fn is_text_sum(schemas: &Schemas, sum: &Sum) -> bool
     ensures { result ≡ is_text_sum (columns_in schemas.now) sum.now }
 {
     is_text(schemas, &sum.first) && sum.rest.len() == 0
 }
 
-/// Whether a term is a text.
+/// Returns whether a term is a text.
 fn is_text(schemas: &Schemas, term: &Term) -> bool
     ensures { result ≡ is_text (columns_in schemas.now) term.now }
 {

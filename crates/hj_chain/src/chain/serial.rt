@@ -18,7 +18,7 @@ impl<P: Share + Drop, J: Join<P> + Drop, L: Store<P, J> + Drop, R: Store<P, J> +
     L,
     R,
 > {
-    /// How many actors are enabled.
+    /// Returns how many actors are enabled.
     pub fn enabled(&self) -> u32
         ensures { result ≡ length (enabled self.now.state) }
     {
@@ -32,9 +32,9 @@ impl<P: Share + Drop, J: Join<P> + Drop, L: Store<P, J> + Drop, R: Store<P, J> +
         count
     }
 
-    /// The enabled actor at a place, counted from 0 in the order of all actors: the driver's put, its left port, its right port,
-    /// the left end and then the right end of each core, and then the collection of each core's reports. None exactly at or past
-    /// the number of enabled ones.
+    /// Returns the enabled actor at a place, counted from 0 in the order of all actors: the driver's put, its left
+    /// port, its right port, the left end and then the right end of each core, and then the collection of each core's
+    /// reports. None exactly at or past the number of enabled ones.
     pub fn nth(&self, at: u32) -> Option<Actor>
         ensures { result ≡ slice_get (enabled self.now.state) at }
     {
@@ -105,7 +105,7 @@ impl<P: Share + Drop, J: Join<P> + Drop, L: Store<P, J> + Drop, R: Store<P, J> +
         Drained::Kept
     }
 
-    /// Whether an actor is enabled.
+    /// Returns whether an actor is enabled.
     #[inline(always)]
     fn is_enabled(&self, actor: Actor) -> bool
         ensures { result ≡ is_enabled self.now.state actor }
@@ -131,7 +131,7 @@ impl<P: Share + Drop, J: Join<P> + Drop, L: Store<P, J> + Drop, R: Store<P, J> +
         }
     }
 
-    /// Whether the driver would wait for the feed.
+    /// Returns whether the driver would wait for the feed.
     #[inline(always)]
     fn would_wait<F: Feed<P>>(&self, feed: &F) -> bool
         ensures { result ≡ would_wait (F.ready feed.now) self.now.state }
@@ -139,7 +139,8 @@ impl<P: Share + Drop, J: Join<P> + Drop, L: Store<P, J> + Drop, R: Store<P, J> +
         self.next.is_none() && !feed.is_ready()
     }
 
-    /// Whether the driver may put the next event, or the closes where none is to come, or ask the feed which it is.
+    /// Returns whether the driver may put the next event, or the closes where none is to come, or ask the feed which
+    /// it is.
     #[inline(always)]
     fn may_put(&self) -> bool
         ensures { result ≡ is_none (admit_cause self.now.state.driver self.now.state.next) }
@@ -151,7 +152,8 @@ impl<P: Share + Drop, J: Join<P> + Drop, L: Store<P, J> + Drop, R: Store<P, J> +
         }
     }
 
-    /// The enabled actor that a number draws; not the driver's put where it would wait, if there is another.
+    /// Returns the enabled actor that a random number names; not the driver's put where it would wait, if there is
+    /// another.
     fn drawn(&self, draw: u64, waits: bool) -> Option<Actor>
         ensures { (ready : Bool) → waits ≡ would_wait ready self.now.state → result ≡ slice_get (drawn_from ready self.now.state) (draw % length (drawn_from ready self.now.state)) }
     {
@@ -165,7 +167,8 @@ impl<P: Share + Drop, J: Join<P> + Drop, L: Store<P, J> + Drop, R: Store<P, J> +
         self.nth((draw % u64::from(enabled)) as u32)
     }
 
-    /// The first enabled actor from this place on, all the way round; the driver's put comes last where it would wait.
+    /// Returns the first enabled actor from this place on, all the way round; the driver's put comes last where it
+    /// would wait.
     #[inline(always)]
     fn first_from(&self, place: usize, waits: bool) -> Option<Actor>
         requires { place ≤ length (actors (length self.now.state.cores)) }
@@ -180,7 +183,7 @@ impl<P: Share + Drop, J: Join<P> + Drop, L: Store<P, J> + Drop, R: Store<P, J> +
         }
     }
 
-    /// The first enabled actor from this place on, all the way round, without the first `passed` actors.
+    /// Returns the first enabled actor from this place on, all the way round, without the first `passed` actors.
     #[inline(always)]
     fn first_round(&self, place: usize, passed: usize) -> Option<Actor>
         requires { place ≤ length (actors (length self.now.state.cores)) }
@@ -192,7 +195,7 @@ impl<P: Share + Drop, J: Join<P> + Drop, L: Store<P, J> + Drop, R: Store<P, J> +
         }
     }
 
-    /// The first enabled actor among those from this place on and before that one.
+    /// Returns the first enabled actor among those from this place on and before that one.
     #[inline(always)]
     fn first_enabled(&self, from: usize, to: usize) -> Option<Actor>
         requires { to ≤ length (actors (length self.now.state.cores)) }
@@ -209,7 +212,7 @@ impl<P: Share + Drop, J: Join<P> + Drop, L: Store<P, J> + Drop, R: Store<P, J> +
     }
 }
 
-/// Before a step of a core the gate is passed.
+/// Passes the gate before a step of a core.
 #[inline(always)]
 fn pass<G: Gate>(gate: &G, actor: Actor, made: u64) {
     if let Actor::Core(core, _) = actor {
@@ -222,7 +225,7 @@ fn pass<G: Gate>(gate: &G, actor: Actor, made: u64) {
 enum Rule {
     /// The one at this place; then all others, all the way round.
     InTurn(usize),
-    /// The one that is drawn.
+    /// The one that the generator names.
     Seeded(Lcg),
 }
 
@@ -236,7 +239,8 @@ impl Rule {
         }
     }
 
-    /// The enabled actor that makes the next step, where the driver's put would wait or not; None where none is enabled.
+    /// Returns the enabled actor that makes the next step, where the driver's put would wait or not; None where none
+    /// is enabled.
     #[inline(always)]
     fn next<P: Share + Drop, J: Join<P> + Drop, L: Store<P, J> + Drop, R: Store<P, J> + Drop>(
         &mut self,

@@ -38,7 +38,7 @@ pub fn push_pred(
     Ok(())
 }
 
-/// Adds the front of a piece to a text, and puts what is behind it on the pieces.
+/// Adds the beginning of a piece to a text, and puts what follows it on the pieces.
 fn push_piece<'a>(
     text: &mut Vec<u8>,
     todo: &mut Vec<Piece<'a>>,
@@ -61,7 +61,7 @@ fn push_piece<'a>(
     }
 }
 
-/// Adds the front of a condition to a text, and puts what is behind it on the pieces.
+/// Adds the beginning of a condition to a text, and puts what follows it on the pieces.
 fn push_node<'a>(
     text: &mut Vec<u8>,
     todo: &mut Vec<Piece<'a>>,
@@ -95,7 +95,7 @@ fn push_node<'a>(
     }
 }
 
-/// A condition, in parentheses where they are needed.
+/// Makes the piece of a condition, in parentheses where they are needed.
 fn operand(pred: &Pred, needed: bool) -> Piece<'_>
     ensures text { (columns : Side → List Column) → piece_text columns result ≡ enclosed_if needed (pred_text columns pred.now) }
     ensures turns { piece_turns result ≤ pred_turns pred.now + 2 }
@@ -107,14 +107,14 @@ fn operand(pred: &Pred, needed: bool) -> Piece<'_>
     }
 }
 
-/// Whether a condition is an `or`.
+/// Returns whether a condition is an `or`.
 fn is_or(pred: &Pred) -> bool
     ensures { result ≡ is_or pred.now }
 {
     matches!(pred, Pred::Or(_, _))
 }
 
-/// Whether a condition is an `or` or an `and`.
+/// Returns whether a condition is an `or` or an `and`.
 fn is_joined(pred: &Pred) -> bool
     ensures { result ≡ (is_or pred.now || is_and pred.now) }
 {
@@ -138,7 +138,7 @@ fn push_comparison(
     push_sum(text, query, right)
 }
 
-/// The sign of a comparison.
+/// Returns the sign of a comparison.
 fn op_sign(op: Op) -> &'static [u8]
     ensures { result.now ≡ op_sign op }
 {

@@ -21,7 +21,7 @@ pub fn push_sum(text: &mut Vec<u8>, query: &Query, sum: &Sum) -> Result<(), Memo
     Ok(())
 }
 
-/// Adds a sign and a term behind other terms.
+/// Adds a sign and a term after other terms.
 fn push_part(text: &mut Vec<u8>, query: &Query, part: &Part) -> Result<(), Memory>
     ensures { OnOk result (text.new.items ≡ text.old.items ++ part_text (columns_of query.now) part.now) }
 {
@@ -31,7 +31,7 @@ fn push_part(text: &mut Vec<u8>, query: &Query, part: &Part) -> Result<(), Memor
     push_term(text, query, &part.term)
 }
 
-/// The sign of a term behind others.
+/// Returns the sign of a term that comes after others.
 fn part_sign(plus: bool) -> &'static [u8]
     ensures { result.now ≡ part_sign plus }
 {
@@ -61,7 +61,7 @@ fn push_column(text: &mut Vec<u8>, query: &Query, side: Side, at: u16) -> Result
     }
 }
 
-/// The word of a side.
+/// Returns the word of a side.
 fn side_word(side: Side) -> &'static [u8]
     ensures { result.now ≡ side_word side }
 {
