@@ -12,6 +12,12 @@ left_of in_file in_stream (File file) = in_file file
 left_of in_file in_stream (Listening listener) = None
 left_of in_file in_stream (Connected stream) = in_stream stream
 
+-- A file is open, or a peer has connected: nothing is waited for but bytes.
+abbrev pub IsConnected : {F L S : Type 0} → Channel F L S → Type 0
+IsConnected (File file) = Unit {0}
+IsConnected (Listening listener) = ⊥
+IsConnected (Connected stream) = Unit {0}
+
 -- A file is opened for the address of a file, and a listener for that of a port; nothing is for a name with no address.
 abbrev pub IsOpenedFor : {F L S : Type 0} → Option Address → Channel F L S → Type 0
 IsOpenedFor (Some address.File) (File file) = Unit {0}

@@ -1,6 +1,10 @@
-ghost use Rattle.std.specs.Prelude.{◌≡◌};
+ghost use Rattle.std.specs.Prelude.{◌≡◌, [], ◌∷◌};
+ghost use Rattle.std.specs.Net.Addr.{ipv4_octets};
+ghost use Rattle.std.specs.Net.Socket.{v4_ip, v4_port};
 ghost use Rattle.std.specs.Str.{all_ascii_digits};
 ghost use Rattle.hj_net.specs.Address.{address_of, port_of};
+
+use std::net::{Ipv4Addr, SocketAddrV4};
 
 const LISTEN: &str = "listen:";
 
@@ -21,6 +25,14 @@ pub fn address_of(name: &str) -> Option<Address>
         Some(digits) => read_port(digits).map(Address::Port),
         None => Some(Address::File),
     }
+}
+
+/// Gives the address at which a port of this machine is listened to: 127.0.0.1, which no other machine reaches.
+pub fn socket_of(port: u16) -> SocketAddrV4
+    ensures this_machine { ipv4_octets (v4_ip result) ≡ 127 ∷ 0 ∷ 0 ∷ 1 ∷ [] }
+    ensures port { v4_port result ≡ port }
+{
+    SocketAddrV4::new(Ipv4Addr::LOCALHOST, port)
 }
 
 /// Reads the port from 1 to 65535 that digits spell.

@@ -1,11 +1,13 @@
-ghost use Rattle.std.specs.Prelude.{IfSome};
+ghost use Rattle.std.specs.Prelude.{IfSome, OnOk};
+ghost use Rattle.std.specs.Io.{ReadsAtMost};
+ghost use Rattle.std.specs.Io.KnownBytes.{ReadConsumes};
 ghost use Rattle.hj_net.specs.Address.{address_of};
 ghost use Rattle.hj_net.specs.Channel.{IsOpenedFor};
 
-use crate::address::{Address, address_of};
+use crate::address::{Address, address_of, socket_of};
 use std::fs::OpenFile;
 use std::io::Read;
-use std::net::{Ipv4Addr, Net, OpenListener, TcpListener};
+use std::net::{Net, OpenListener, TcpListener};
 use std::rt::Files;
 use std::{fs, io};
 
@@ -25,11 +27,18 @@ where
     L: OpenListener<Stream = S> + Drop,
     S: Read + Drop,
 {
-    ghost use Rattle.hj_net.specs.Channel.{left_of};
+    ghost use Rattle.hj_net.specs.Channel.{left_of, IsConnected};
 
     ghost remaining = { left_of F.remaining S.remaining };
 
-    fn read(&mut self, buf: &mut [u8]) -> io::Result<usize> {
+    /// Reads the next bytes of the file or of the peer, for which it waits where nobody has connected yet. It fails
+    /// where the connection of a peer does, and answers an end of a peer alone that has connected.
+    fn read(&mut self, buf: &mut [u8]) -> io::Result<usize>
+        ensures bound { ReadsAtMost result buf.new }
+        ensures bytes { ReadConsumes (left_of F.remaining S.remaining self.old)
+            (left_of F.remaining S.remaining self.new) result buf.new }
+        ensures connected { OnOk result (IsConnected self.new) }
+    {
         if let Channel::Listening(listener) = self {
             let (stream, _peer) = listener.accept()?;
             *self = Channel::Connected(stream);
@@ -49,7 +58,7 @@ pub fn open<R: Files + Net>(rt: &R, name: &str) -> Option<Channel<R::File, R::Li
     match address_of(name)? {
         Address::File => Some(Channel::File(open_file(rt, name)?)),
         Address::Port(port) => {
-            let listener = TcpListener::bind(rt, (Ipv4Addr::LOCALHOST, port)).ok()?;
+            let listener = TcpListener::bind(rt, socket_of(port)).ok()?;
             Some(Channel::Listening(listener))
         }
     }

@@ -1,6 +1,6 @@
 ghost use Rattle.std.specs.Prelude.{◌≡◌, ◌↔◌, [], false, IsTrue, IsErr, IfOk, OnOk};
 ghost use Rattle.std.specs.Io.{WritesAtMost};
-ghost use Rattle.std.specs.Io.KnownBytes.{Keeps, WriteAppends};
+ghost use Rattle.std.specs.Io.KnownBytes.{Keeps, WriteAppends, append_known};
 
 use hj_base::Memory;
 use std::alloc::Global;
@@ -15,7 +15,7 @@ pub struct Collected<W: Write + Drop> {
 }
 
 impl<W: Write + Drop> Collected<W> {
-    ghost use Rattle.hj_net.specs.Collected.{handed_on, has_refused, waiting};
+    ghost use Rattle.hj_net.specs.Collected.{handed_on, has_refused, other_writer, taken, waiting};
 
     /// Makes a writer with nothing collected. No later call takes memory.
     pub fn new(alloc: Global, writer: W) -> Result<Collected<W>, Memory>
@@ -30,6 +30,23 @@ impl<W: Write + Drop> Collected<W> {
         })
     }
 
+    /// Hands on what waits, unless some was refused before. Returns the other writer, and what wasn't handed on.
+    fn close(self) -> (W, Vec<u8>)
+        ensures bytes { Keeps (taken W.contents self) (append_known (W.contents result.0) result.1.items) }
+        ensures refused { IsTrue (has_refused self)
+            → (result.0 ≡ other_writer self) × (result.1.items ≡ waiting self) }
+    {
+        let Collected {
+            mut buffered,
+            is_refused,
+        } = self;
+        if !is_refused {
+            let _ = buffered.flush();
+        }
+        buffered.into_parts()
+    }
+
+    /// Fails once some was refused.
     fn check_open(&self) -> io::Result<()>
         ensures { IsErr result ↔ IsTrue (has_refused self.now) }
     {
@@ -75,12 +92,6 @@ impl<W: Write + Drop> Write for Collected<W> {
 impl<W: Write + Drop> Drop for Collected<W> {
     /// Hands on what waits, unless some was refused before.
     fn drop(self) {
-        let Collected {
-            buffered,
-            is_refused,
-        } = self;
-        if is_refused {
-            let (_writer, _waiting) = buffered.into_parts();
-        }
+        let (_writer, _waiting) = self.close();
     }
 }

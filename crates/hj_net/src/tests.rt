@@ -4,14 +4,14 @@ ghost use Rattle.hj_base.specs.declared.outside.Role.TheVariants as role;
 ghost use Rattle.hj_net.specs.Source.{role_of};
 
 use crate::address::{Address, address_of};
-use crate::channel::open;
+use crate::channel::{Channel, open};
 use crate::source::Source;
 use crate::{Output, RealOutside, RealSink};
 use hj_base::{Got, Opened, Outside, Put, Role, Sink};
 use std::alloc::Global;
 use std::cell::Cell;
 use std::io::{ErrorKind, Read, Write};
-use std::net::{Ipv4Addr, Net, OpenListener, TcpListener, TcpStream};
+use std::net::{Ipv4Addr, Net, OpenListener, SocketAddr, TcpListener, TcpStream};
 use std::process::Abort;
 use std::rt::Files;
 use std::{fs, io};
@@ -49,6 +49,27 @@ impl Write for Counting<'_> {
         let count = piece.len().min(3_000);
         self.taken.count(count);
         Ok(count)
+    }
+
+    fn flush(&mut self) -> io::Result<()> {
+        Ok(())
+    }
+}
+
+/// A writer whose first write fails, and which takes all later ones.
+#[derive(Drop)]
+struct Refusing<'a> {
+    taken: &'a Taken,
+}
+
+impl Write for Refusing<'_> {
+    fn write(&mut self, piece: &[u8]) -> io::Result<usize> {
+        if self.taken.writes.get() == 0 {
+            self.taken.count(0);
+            return Err(io::Error::from(ErrorKind::BrokenPipe));
+        }
+        self.taken.count(piece.len());
+        Ok(piece.len())
     }
 
     fn flush(&mut self) -> io::Result<()> {
@@ -97,6 +118,15 @@ fn collects_until_handed_on(rt: HostRuntime) {
     hands_on(&rt, &output);
     hands_on(&rt, &output);
     has_taken(&rt, &taken, 3, 8_000);
+}
+
+#[test]
+fn tells_how_much_was_taken(rt: HostRuntime) {
+    let taken = Taken::new();
+    let output = counted(&rt, rt.alloc(), &taken);
+    let mut sink = RealSink::output(&output);
+    puts(&rt, &mut sink, &[b'x'; 10_000], Put::Wrote(3_000));
+    has_taken(&rt, &taken, 1, 3_000);
 }
 
 /// Writes lines past the room of the output, which has 5 bytes, and notes after it.
@@ -157,6 +187,33 @@ fn puts_a_pair<W: Write + Drop>(rt: &impl Abort, output: &Output<W>) {
     puts(rt, &mut sink, b"a pair\n", Put::Wrote(7));
 }
 
+/// Writes a pair, and lets the output go.
+fn lets_go<W: Write + Drop>(rt: &impl Abort, output: Output<W>) {
+    puts_a_pair(rt, &output);
+}
+
+/// Writes a pair, asserts that it is refused when it is handed on, and lets the output go.
+fn is_refused_once<W: Write + Drop>(rt: &impl Abort, output: Output<W>) {
+    puts_a_pair(rt, &output);
+    assert!(rt; output.hand_on().is_err());
+}
+
+#[test]
+fn hands_on_what_waits_at_its_end(rt: HostRuntime) {
+    let taken = Taken::new();
+    lets_go(&rt, counted(&rt, rt.alloc(), &taken));
+    has_taken(&rt, &taken, 1, 7);
+}
+
+#[test]
+fn hands_on_nothing_after_a_refusal(rt: HostRuntime) {
+    let taken = Taken::new();
+    let writer = Refusing { taken: &taken };
+    let output = Output::new(rt.alloc(), writer).expect(&rt, "memory");
+    is_refused_once(&rt, output);
+    has_taken(&rt, &taken, 1, 0);
+}
+
 #[test]
 fn hands_on_before_it_reads(rt: HostRuntime) {
     let name = "hands_on_before_it_reads.csv";
@@ -166,6 +223,16 @@ fn hands_on_before_it_reads(rt: HostRuntime) {
     puts_a_pair(&rt, &output);
     reads_a_file(&rt, rt.alloc(), &output, name);
     has_taken(&rt, &taken, 1, 7);
+    assert!(rt; fs::remove_file(&rt, name).is_ok());
+}
+
+#[test]
+fn opens_a_file_under_exactly_its_name(rt: HostRuntime) {
+    let name = " with a blank at each end ";
+    makes_a_file(&rt, name);
+    let taken = Taken::new();
+    let output = counted(&rt, rt.alloc(), &taken);
+    reads_a_file(&rt, rt.alloc(), &output, name);
     assert!(rt; fs::remove_file(&rt, name).is_ok());
 }
 
@@ -250,6 +317,21 @@ impl Read for Interrupted<'_> {
     }
 }
 
+/// A listener to which no peer comes.
+#[derive(Drop)]
+struct Lonely;
+
+impl OpenListener for Lonely {
+    type Stream = Interrupted<'static>;
+
+    fn accept(&self) -> io::Result<(Interrupted<'static>, SocketAddr)> {
+        Err(io::Error::from(ErrorKind::ConnectionAborted))
+    }
+}
+
+/// A channel over readers and listeners that fail.
+type FailingChannel = Channel<Interrupted<'static>, Lonely, Interrupted<'static>>;
+
 /// Begins a source, and asserts that it is ready.
 fn begun<S: Read + Drop>(rt: &impl Abort, alloc: Global, stream: S) -> Source<S>
     ensures { IsOpen (role_of result).phase }
@@ -276,7 +358,8 @@ fn reads_on_after_a_failed_read(rt: HostRuntime) {
         reads: 0,
         bytes: b"abcd",
     };
-    let mut source = begun(&rt, rt.alloc(), stream);
+    let channel: FailingChannel = Channel::File(stream);
+    let mut source = begun(&rt, rt.alloc(), channel);
     let mut buf = [0; 3];
     reads_once(&rt, &mut source, &mut buf, Got::Bytes(3));
     reads_once(&rt, &mut source, &mut buf, Got::Failed);
@@ -285,9 +368,35 @@ fn reads_on_after_a_failed_read(rt: HostRuntime) {
     reads_once(&rt, &mut source, &mut buf, Got::End);
 }
 
+#[test]
+fn fails_where_no_peer_comes(rt: HostRuntime) {
+    let channel: FailingChannel = Channel::Listening(Lonely);
+    let mut source = begun(&rt, rt.alloc(), channel);
+    let mut buf = [0; 3];
+    reads_once(&rt, &mut source, &mut buf, Got::Failed);
+    reads_once(&rt, &mut source, &mut buf, Got::Failed);
+}
+
 /// Makes the name under which a role listens to a port.
 fn listening(rt: &impl Abort, alloc: Global, port: u16) -> String {
     format!(in alloc; "listen:{port}").expect(rt, "memory")
+}
+
+/// Asserts that a channel listens to this port of this machine, and so to no other one.
+fn listens_at<F, L: OpenListener, S>(rt: &impl Abort, channel: &Channel<F, L, S>, port: u16) {
+    let Channel::Listening(listener) = channel else {
+        panic!(rt; "no listener");
+    };
+    let address = listener.local_addr().expect(rt, "an address");
+    assert!(rt; address == SocketAddr::from((Ipv4Addr::LOCALHOST, port)));
+}
+
+#[test]
+fn listens_to_this_machine_alone(rt: HostRuntime) {
+    let (_, port) = free_port(&rt);
+    let name = listening(&rt, rt.alloc(), port);
+    let channel = open(&rt, &name).expect(&rt, "the port is taken");
+    listens_at(&rt, &channel, port);
 }
 
 /// Connects to a port, sends bytes and closes.
