@@ -27,7 +27,7 @@ pub fn address_of(name: &str) -> Option<Address>
     }
 }
 
-/// Gives the address at which a port of this machine is listened to: 127.0.0.1, which no other machine reaches.
+/// Gives the address at which a port is listened to: that of this machine, which no other machine reaches.
 pub fn socket_of(port: u16) -> SocketAddrV4
     ensures this_machine { ipv4_octets (v4_ip result) ≡ 127 ∷ 0 ∷ 0 ∷ 1 ∷ [] }
     ensures port { v4_port result ≡ port }

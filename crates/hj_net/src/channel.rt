@@ -31,8 +31,8 @@ where
 
     ghost remaining = { left_of F.remaining S.remaining };
 
-    /// Reads the next bytes of the file or of the peer, for which it waits where nobody has connected yet. It fails
-    /// where the connection of a peer does, and answers an end of a peer alone that has connected.
+    /// Reads the next bytes of the file or of the peer into the start of a buffer, and waits for the peer where nobody
+    /// has connected yet. Returns how many bytes came, 0 at the end; it fails where the read or the connection does.
     fn read(&mut self, buf: &mut [u8]) -> io::Result<usize>
         ensures bound { ReadsAtMost result buf.new }
         ensures bytes { ReadConsumes (left_of F.remaining S.remaining self.old)

@@ -30,7 +30,8 @@ impl<W: Write + Drop> Collected<W> {
         })
     }
 
-    /// Hands on what waits, unless some was refused before. Returns the other writer, and what wasn't handed on.
+    /// Hands on what waits, unless some was refused before. Returns the other writer, and the bytes that weren't handed
+    /// on.
     fn close(self) -> (W, Vec<u8>)
         ensures bytes { Keeps (taken W.contents self) (append_known (W.contents result.0) result.1.items) }
         ensures refused { IsTrue (has_refused self)
