@@ -1,5 +1,5 @@
 -- The rows of a side in order, by what its bytes give, which rows wait and what a read brings.
-use Rattle.std.proofs.Common.{◌≡◌, ℕ, ◌≤◌, inl, inr, Bool, true, false, List, [], ◌∷◌, ◌++◌, length, ℤ, Ok, Err, None, Some, sym, refl, ap, subst, ◌∙◌, append_assoc}
+use Rattle.std.proofs.Common.{◌≡◌, ℕ, ◌≤◌, inl, inr, Bool, true, false, not, List, [], ◌∷◌, ◌++◌, length, ℤ, Ok, Err, None, Some, sym, refl, ap, subst, ◌∙◌, append_assoc, true≢false}
 use Rattle.std.specs.List.{filter}
 use Rattle.std.specs.declared.option.Option.{Option}
 use Rattle.std.specs.declared.result.Result.{Result}
@@ -9,13 +9,15 @@ use Rattle.hj_record.specs.Pieces.{Stream}
 use Rattle.hj_event.specs.declared.fault.RecordFault.{RecordFault}
 use Rattle.hj_event.specs.declared.stop.Stop.{Stop}
 use Rattle.hj_event.specs.declared.stop.Stop.TheVariants as stop
+use Rattle.hj_event.specs.declared.source.Ahead.{Ahead}
+use Rattle.hj_event.specs.declared.source.Ahead.TheVariants as ahead
 use Rattle.hj_event.specs.declared.stop.Found.{Found}
 use Rattle.hj_event.specs.declared.stop.Found.TheVariants as found
 use Rattle.hj_event.specs.Rows.{Rows, no_row, then_rows, put_in, is_sure, in_order, rows_in, clean, unread}
 use Rattle.hj_event.specs.Sides.{Reading, SideState, in_front, at_its_end, cut_off, MayFollow, pieces_ahead, read_ahead, rows_ahead}
 use Rattle.hj_event.specs.Reads.{Fills}
 use Rattle.hj_event.specs.Roles.{IsReadOn, IsInStep}
-use Rattle.hj_event.specs.Taking.{IsNeeded, IsReadAsNeeded, FoundLeads, Wants, Advances, GoesOn, TakesRow, TellsRow, TellsNext, IsOver, IsKept, unseen, has_failed}
+use Rattle.hj_event.specs.Taking.{IsNeeded, IsReadAsNeeded, FoundLeads, Wants, Advances, GoesOn, TakesRow, TellsRow, TellsNext, IsTold, IsOver, IsKnown, IsKept, refused_in, found_by, unseen, has_failed}
 use Rattle.hj_event.specs.Waiting.{AreInOrder, has_sure}
 use Rattle.hj_event.proofs.OrderLemmas.{as_read, sure_ahead}
 use Rattle.hj_event.proofs.WaitingLemmas.{none_first}
@@ -159,14 +161,30 @@ goes_on_as_read answer old new none advances =
       wants = wants_as_read answer new still advances.wants;
     }
 
-as_source : (reading : Reading) (waiting : List (List Field)) (refused : Option (ℕ × RecordFault)) (over : Bool) → (waiting ≡ []) × (refused ≡ None) × (over ≡ false) → source reading waiting refused ≡ source reading [] None
-as_source reading waiting refused over none = ap (λ (rows : List (List Field)). source reading rows refused) none.0 ∙ ap (source reading []) none.1
+as_source : (reading : Reading) (waiting : List (List Field)) (known : Ahead) → (waiting ≡ []) × (known ≡ ahead.Unknown) → source reading waiting (refused_in known) ≡ source reading [] None
+as_source reading waiting known none = ap (λ (rows : List (List Field)). source reading rows (refused_in known)) none.0 ∙ ap (λ (k : Ahead). source reading [] (refused_in k)) none.1
 
-pub goes_on_without : (answer : Result Found Stop) (old new : Reading) (waiting : List (List Field)) (refused : Option (ℕ × RecordFault)) (over : Bool) → IsKept old waiting refused over → old.slack ≡ 0 → Advances answer old new
-    → GoesOn answer (source old waiting refused) (source new waiting refused)
-goes_on_without answer old new waiting refused over kept none advances =
-    subst (λ (before : SideState). GoesOn answer before (source new waiting refused)) (sym (as_source old waiting refused over (kept.without none)))
-    (subst (λ (after : SideState). GoesOn answer (source old [] None) after) (sym (as_source new waiting refused over (kept.without none))) (goes_on_as_read answer old new none advances))
+pub goes_on_without : (answer : Result Found Stop) (old new : Reading) (waiting : List (List Field)) (known : Ahead) → IsKept old waiting known → old.slack ≡ 0 → Advances answer old new
+    → GoesOn answer (source old waiting (refused_in known)) (source new waiting (refused_in known))
+goes_on_without answer old new waiting known kept none advances =
+    subst (λ (before : SideState). GoesOn answer before (source new waiting (refused_in known))) (sym (as_source old waiting known (kept.without none)))
+    (subst (λ (after : SideState). GoesOn answer (source old [] None) after) (sym (as_source new waiting known (kept.without none))) (goes_on_as_read answer old new none advances))
+
+-- Without a slack nothing is known beside what was read.
+pub kept_without : (old new : Reading) (waiting : List (List Field)) (known : Ahead) → IsKept old waiting known → old.slack ≡ 0 → IsKept new waiting known
+kept_without old new waiting known kept none =
+    let nothing = kept.without none in
+    record { without = λ still. nothing; is_known = subst (λ (k : Ahead). IsKnown k new waiting) (sym nothing.1) tt }
+
+-- A read changes nothing of what is known while the stream goes on.
+pub kept_filled : (old : Reading) (rest : List ℕ) (ended : Bool) (waiting : List (List Field)) (known : Ahead) → old.ended ≡ false → IsKept old waiting known → IsKept (record old { rest = rest; ended = ended }) waiting known
+kept_filled old rest ended waiting known going kept = record { without = kept.without; is_known = by known kept.is_known }
+  where
+    by : (k : Ahead) → IsKnown k old waiting → IsKnown k (record old { rest = rest; ended = ended }) waiting
+    by ahead.Unknown is = tt
+    by ahead.Sure is = is
+    by ahead.Over is = absurd (true≢false (sym is.0 ∙ going))
+    by (ahead.Refused at why) is = tt
 
 module _ (old new : Reading) (waiting : List (List Field)) where
   as_late : (slack : ℕ) (time : Option ℤ) → new.slack ≡ slack → new.time ≡ time → (stream : Stream) → rows_ahead (source new waiting None) stream ≡ in_order slack time waiting (read_ahead new stream)
@@ -243,8 +261,8 @@ gives_end old new advances = record {
 pub tells_as_read : (reading : Reading) → reading.slack ≡ 0 → TellsRow reading → TellsNext (source reading [] None)
 tells_as_read reading none tells = λ e. tells (sym (rows_as_read reading none cut_off) ∙ e)
 
-pub tells_without : (reading : Reading) (waiting : List (List Field)) (refused : Option (ℕ × RecordFault)) (over : Bool) → IsKept reading waiting refused over → reading.slack ≡ 0 → TellsRow reading → TellsNext (source reading waiting refused)
-tells_without reading waiting refused over kept none tells = subst TellsNext (sym (as_source reading waiting refused over (kept.without none))) (tells_as_read reading none tells)
+pub tells_without : (reading : Reading) (waiting : List (List Field)) (known : Ahead) → IsKept reading waiting known → reading.slack ≡ 0 → TellsRow reading → TellsNext (source reading waiting (refused_in known))
+tells_without reading waiting known kept none tells = subst TellsNext (sym (as_source reading waiting known (kept.without none))) (tells_as_read reading none tells)
 
 pub tells_refused : (reading : Reading) (waiting : List (List Field)) (refused : ℕ × RecordFault) → TellsNext (source reading waiting (Some refused))
 tells_refused reading waiting refused = λ e. let ends = ap (λ (rows : Rows). rows.ending) e in cc
@@ -254,10 +272,12 @@ tells_sure reading [] has = cc
 tells_sure reading (row ∷ waiting) has =
     λ e. let rows = ap (λ (rows : Rows). rows.rows) (sym (sure_ahead reading.columns reading.slack row reading.record_no reading.time waiting (pieces_ahead reading cut_off) has) ∙ e) in cc
 
--- A row that waits is told where it is sure, and else the fault, where it is known.
-pub tells_next : (reading : Reading) (waiting : List (List Field)) (refused : Option (ℕ × RecordFault)) → has_sure reading.slack reading.time waiting ≡ true → TellsNext (source reading waiting refused)
-tells_next reading waiting (Some found) has = tells_refused reading waiting found
-tells_next reading waiting None has = tells_sure reading waiting has
+-- What is known tells what comes next.
+pub tells_known : (reading : Reading) (waiting : List (List Field)) (known : Ahead) → (known ≡ ahead.Unknown → ⊥) → IsKnown known reading waiting → IsTold (source reading waiting (refused_in known))
+tells_known reading waiting ahead.Unknown some is = absurd (some refl)
+tells_known reading waiting ahead.Sure some is = inr (inr (tells_sure reading waiting is))
+tells_known reading waiting ahead.Over some is = inr (inl is.0)
+tells_known reading waiting (ahead.Refused at why) some is = inr (inr (tells_refused reading waiting (at, why)))
 
 -- The first row that waits is given where it is sure.
 pub gives_first : (reading : Reading) (row : List Field) (waiting after : List (List Field)) (refused : Option (ℕ × RecordFault)) → refused ≡ None → has_sure reading.slack reading.time waiting ≡ true → waiting ≡ row ∷ after
@@ -318,10 +338,24 @@ comes_to_end old new waiting refused none advances = rw none (record {
 is_over : (old new : Reading) → Advances (Ok found.End) old new → IsOver new
 is_over old new advances = (advances.wants, (advances.leads at_its_end (subst (λ (ended : Bool). MayFollow ended at_its_end) (sym advances.wants) refl)).1)
 
--- What is kept once all was read.
-pub kept_at_end : (old new : Reading) (waiting : List (List Field)) (refused : Option (ℕ × RecordFault)) → (old.slack ≡ 0 → ⊥) → Advances (Ok found.End) old new → IsKept new waiting refused true
-kept_at_end old new waiting refused late advances = record { without = λ none. absurd (late (sym advances.slack ∙ none)); at_end = λ ends. is_over old new advances }
+-- What is kept where rows may be late.
+pub kept_late : (old new : Reading) (waiting : List (List Field)) (known : Ahead) → (old.slack ≡ 0 → ⊥) → new.slack ≡ old.slack → IsKnown known new waiting → IsKept new waiting known
+kept_late old new waiting known late same is = record { without = λ none. absurd (late (sym same ∙ none)); is_known = is }
 
-pub none_refused : (refused : Option (ℕ × RecordFault)) → ((found : ℕ × RecordFault) → refused ≡ Some found → ⊥) → refused ≡ None
-none_refused None not_some = refl
-none_refused (Some found) not_some = absurd (not_some found refl)
+pub kept_at_end : (old new : Reading) (waiting : List (List Field)) → (old.slack ≡ 0 → ⊥) → Advances (Ok found.End) old new → IsKept new waiting ahead.Over
+kept_at_end old new waiting late advances = kept_late old new waiting ahead.Over late advances.slack (is_over old new advances)
+
+-- More bytes are wanted where no row that waits is sure.
+pub looks : (old new : Reading) (waiting : List (List Field)) (refused : Option (ℕ × RecordFault)) (sure : Bool) → refused ≡ None → AreInOrder waiting → sure ≡ has_sure new.slack new.time waiting → Advances (Ok found.More) old new
+    → GoesOn (found_by (Ok (not sure))) (source old waiting refused) (source new waiting None)
+looks old new waiting refused true none ordered is advances = rw none (looked_at old new waiting None refl advances)
+looks old new waiting refused false none ordered is advances = rw none (wants_bytes old new waiting None refl ordered (sym is) advances)
+
+-- After a row is given, rows are read that were there already.
+pub then_read : (row : List Field) (old between new : SideState) → GoesOn (Ok (found.Row row)) old between → new.reading.ended ≡ between.reading.ended → ((stream : Stream) → MayFollow new.reading.ended stream → rows_ahead between stream ≡ rows_ahead new stream)
+    → GoesOn (Ok (found.Row row)) old new
+then_read row old between new goes ended same = record {
+  ended = ended ∙ goes.ended;
+  leads = λ stream follows. goes.leads stream (follows_as stream new.reading.ended between.reading.ended ended follows) ∙ ap (then_rows row) (same stream follows);
+  wants = tt;
+}

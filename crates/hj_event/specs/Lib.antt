@@ -3,6 +3,7 @@ pub mod Arriving
 pub mod Calls
 pub mod Cut
 pub mod Events
+pub mod Late
 pub mod Merger
 pub mod Numbering
 pub mod Reads

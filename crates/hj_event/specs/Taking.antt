@@ -5,6 +5,7 @@ use Rattle.std.specs.declared.result.Result.{Result}
 use Rattle.hj_value.specs.declared.column.Column.{Column}
 use Rattle.hj_value.specs.declared.field.Field.{Field}
 use Rattle.hj_value.specs.Row.{time_of}
+use Rattle.hj_base.specs.declared.numbers.Memory.{Memory}
 use Rattle.hj_base.specs.Outside.{RoleState}
 use Rattle.hj_record.specs.declared.fault.PieceFault.TheVariants as piece_fault
 use Rattle.hj_record.specs.Pieces.{Stream}
@@ -13,10 +14,13 @@ use Rattle.hj_event.specs.declared.fault.RecordFault.{RecordFault}
 use Rattle.hj_event.specs.declared.fault.RecordFault.TheVariants as fault
 use Rattle.hj_event.specs.declared.stop.Stop.{Stop}
 use Rattle.hj_event.specs.declared.stop.Stop.TheVariants as stop
+use Rattle.hj_event.specs.declared.source.Ahead.{Ahead}
+use Rattle.hj_event.specs.declared.source.Ahead.TheVariants as ahead
 use Rattle.hj_event.specs.declared.stop.Found.{Found}
 use Rattle.hj_event.specs.declared.stop.Found.TheVariants as found
 use Rattle.hj_event.specs.Rows.{Rows, no_row, then_rows, row_at, in_time, with_time, clean, bad, unread}
 use Rattle.hj_event.specs.Sides.{Reading, SideState, in_front, at_its_end, cut_off, MayFollow, Follows, read_ahead, rows_ahead, side_ahead}
+use Rattle.hj_event.specs.Waiting.{has_sure}
 use Rattle.hj_event.specs.Roles.{IsReadOn, IsUnread}
 
 -- The row of a piece, behind rows of which the greatest time is this, unless memory ran out.
@@ -106,10 +110,30 @@ EndsSide answer ended = Unit {0}
 abbrev pub IsOver : Reading → Type 0
 IsOver side = (side.ended ≡ true) × (read_ahead side at_its_end ≡ no_row clean)
 
+-- the record that is refused, where it is known
+abbrev pub refused_in : Ahead → Option (ℕ × RecordFault)
+refused_in ahead.Unknown = None
+refused_in ahead.Sure = None
+refused_in ahead.Over = None
+refused_in (ahead.Refused at why) = Some (at, why)
+
+-- What is known of the row that comes next is so.
+abbrev pub IsKnown : Ahead → Reading → List (List Field) → Type 0
+IsKnown ahead.Unknown side waiting = Unit {0}
+IsKnown ahead.Sure side waiting = has_sure side.slack side.time waiting ≡ true
+IsKnown ahead.Over side waiting = IsOver side
+IsKnown (ahead.Refused at why) side waiting = Unit {0}
+
 -- What a side keeps behind its reader. Without a slack no row waits, and nothing is known of what comes behind those that do.
-pub record IsKept (side : Reading) (waiting : List (List Field)) (refused : Option (ℕ × RecordFault)) (over : Bool) : Type 0 where
-  pub without : side.slack ≡ 0 → (waiting ≡ []) × (refused ≡ None) × (over ≡ false)
-  pub at_end : over ≡ true → IsOver side
+pub record IsKept (side : Reading) (waiting : List (List Field)) (known : Ahead) : Type 0 where
+  pub without : side.slack ≡ 0 → (waiting ≡ []) × (known ≡ ahead.Unknown)
+  pub is_known : IsKnown known side waiting
+
+-- what was found where rows wait: more bytes are wanted, or what was read is kept
+abbrev pub found_by : Result Bool Memory → Result Found Stop
+found_by (Ok true) = Ok found.More
+found_by (Ok false) = Ok found.NoRecord
+found_by (Err why) = Err stop.Memory
 
 -- These bytes were needed: the side hadn't ended, and without the last ones, of at most one read, what was read of it gives no row.
 pub record IsNeeded (side : SideState) (bytes : List ℕ) : Type 0 where

@@ -1,5 +1,5 @@
 -- Rows that wait in order: those that came in order, and those that came late.
-use Rattle.std.specs.Prelude.{◌≡◌, ◌<◌, ℕ, ℤ, Bool, true, false, List, [], ◌∷◌, int_lt, None, Some}
+use Rattle.std.specs.Prelude.{◌≡◌, ℕ, ℤ, Bool, true, false, List, [], ◌∷◌, int_lt, None, Some}
 use Rattle.std.specs.declared.option.Option.{Option}
 use Rattle.std.specs.Ordering.{int_eq}
 use Rattle.hj_value.specs.declared.field.Field.{Field}
@@ -19,15 +19,6 @@ AreInOrder (row ∷ rows) = NoneBefore row rows × AreInOrder rows
 -- whether a row has this time
 abbrev pub is_of_time : ℤ → List Field → Bool
 is_of_time time row = int_eq (time_of row) time
-
--- a row's time, and the number under which it came
-abbrev pub Place : Type 0
-Place = ℤ × ℕ
-
--- Each row stands at its time, under a number below this one.
-abbrev pub ArePlaced : ℕ → List (Place × List Field) → Type 0
-ArePlaced next [] = Unit {0}
-ArePlaced next (entry ∷ entries) = (entry.0.0 ≡ time_of entry.1) × (entry.0.1 < next) × ArePlaced next entries
 
 abbrev pub first_time : List (List Field) → Option ℤ
 first_time [] = None

@@ -29,6 +29,7 @@ impl Model for Rows {
 }
 
 impl Rows {
+    /// Makes a side of which nothing was read.
     fn new(alloc: Global, schema: Schema, slack: u64) -> Self
         ensures { result ≡ new_side schema.columns slack }
     {
@@ -61,7 +62,7 @@ impl Rows {
         self.head = Some(row);
     }
 
-    /// Whether the first row, or the end, can be told without a read.
+    /// Returns whether the first row, or the end, can be told without a read.
     #[inline(always)]
     fn is_ready(&self) -> bool
         ensures { IsTrue result → IsTold self.now }
@@ -86,7 +87,7 @@ impl Model for Arrivals {
 }
 
 impl Arrivals {
-    /// The arrivals of two streams of which nothing was read, with rows by these schemas, which may be late by the slack.
+    /// Makes the arrivals of two streams of which nothing was read, with rows by these schemas, which may be late by the slack.
     pub(crate) fn new(alloc: Global, left: Schema, right: Schema, slack: u64) -> Self
         ensures { result ≡ new_sides left.columns right.columns slack }
     {
@@ -132,7 +133,7 @@ impl Arrivals {
         }
     }
 
-    /// Whether the next arrival can be told without a read.
+    /// Returns whether the next arrival can be told without a read.
     #[inline(always)]
     pub(crate) fn is_ready(&self) -> bool
         ensures { IsTrue result → IsTold self.now.left × IsTold self.now.right }
@@ -141,7 +142,7 @@ impl Arrivals {
     }
 }
 
-/// How the merge ends where a side stops.
+/// Returns how the merge ends where a side stops.
 fn last(side: Side, stop: Stop) -> Last
     ensures { result ≡ last_of side stop }
 {

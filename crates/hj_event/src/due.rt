@@ -17,7 +17,7 @@ pub(crate) struct Due {
     arrival: Option<(Side, SharedRow)>,
     /// The row that expires after it.
     after: Option<(Side, EventNo)>,
-    /// The side that has a quiet event behind these.
+    /// The side that has a quiet event after these.
     quiet: Option<Side>,
 }
 
@@ -31,7 +31,7 @@ impl Model for Due {
 }
 
 impl Due {
-    /// Nothing is due.
+    /// Makes one of which nothing is due.
     pub(crate) fn new(alloc: Global) -> Self
         ensures { result ≡ nothing_due }
     {
@@ -44,7 +44,7 @@ impl Due {
         }
     }
 
-    /// What comes of the arrival of a row by which these rows expire and this side has a quiet event.
+    /// Makes what comes of the arrival of a row by which these rows expire and this side has a quiet event.
     #[inline(always)]
     pub(crate) fn of_arrival(
         side: Side,
@@ -63,7 +63,7 @@ impl Due {
         }
     }
 
-    /// Whether anything is due.
+    /// Returns whether anything is due.
     #[inline(always)]
     pub(crate) fn is_some(&self) -> bool
         ensures { result ≡ has_due self.now }
@@ -74,7 +74,7 @@ impl Due {
             || self.quiet.is_some()
     }
 
-    /// Takes the first event that is due, under the number `no`.
+    /// Takes the first event that is due, under the number `no`; None where none is.
     #[inline(always)]
     pub(crate) fn take(&mut self, no: EventNo) -> Option<Event<SharedRow>>
         ensures { TakesDue result no.0 self.old self.new }

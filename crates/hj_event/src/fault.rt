@@ -14,7 +14,7 @@ pub enum RecordFault {
     /// Its fields are no row.
     #[error("{0}")]
     Row(RowFault),
-    /// Its time, the second number, is below that of the row before, the first.
+    /// Its time, the second number, is below the greatest time before it, the first, by more than the slack.
     #[error("time {1} after {0}")]
     TimeBack(i64, i64),
 }

@@ -1,71 +1,130 @@
 ghost use Rattle.std.specs.Prelude.{◌≡◌, [], OnErr, OnOk};
+ghost use Rattle.std.proofs.Common.{rules};
+ghost use Rattle.std.specs.Cmp.Rules.{comparing};
+ghost use Rattle.std.specs.Ordering.{as_partial_cmp, eq_by_cmp};
+ghost use Rattle.hj_value.specs.Row.{time_of};
 ghost use Rattle.hj_event.specs.Rows.{put_in};
 ghost use Rattle.hj_event.specs.Waiting.{first_time, TakesFirst};
 
 use hj_base::Memory;
 use hj_value::SharedRow;
 use std::alloc::Global;
-use std::collections::BTreeMap;
+use std::cmp::Ordering;
+use std::collections::BinaryHeap;
 use std::marker::Model;
+
+/// A row that came late. It is the greater the sooner it is to be given: by its time, then by its number.
+#[derive(Drop)]
+struct LateRow {
+    time: i64,
+    /// The number under which it came.
+    no: u64,
+    row: SharedRow,
+}
+
+impl Ord for LateRow {
+    ghost use Rattle.hj_event.specs.Late.{late_cmp};
+
+    ghost cmp = { late_cmp };
+
+    ghost total = { Prim.search (comparing, rules) };
+
+    ghost matches_partial_cmp = { Prim.search (comparing, rules) };
+
+    ghost matches_eq = { Prim.search (comparing, rules) };
+
+    fn cmp(&self, other: &Self) -> Ordering {
+        let by_time = other.time.cmp(&self.time);
+        by_time.then(other.no.cmp(&self.no))
+    }
+}
+
+impl PartialOrd for LateRow {
+    ghost use Rattle.hj_event.specs.Late.{late_cmp};
+
+    ghost partial_cmp = { as_partial_cmp late_cmp };
+
+    ghost laws = { Prim.search (comparing, rules) };
+
+    fn partial_cmp(&self, other: &Self) -> Option<Ordering> {
+        Some(self.cmp(other))
+    }
+}
+
+impl PartialEq for LateRow {
+    ghost use Rattle.hj_event.specs.Late.{late_cmp};
+
+    ghost eq = { eq_by_cmp late_cmp };
+
+    ghost laws = { Prim.search (comparing, rules) };
+
+    fn eq(&self, other: &Self) -> bool {
+        self.cmp(other).is_eq()
+    }
+}
+
+impl Eq for LateRow {
+    ghost laws = { Prim.search (comparing, rules) };
+}
 
 /// Rows in order of time, rows of equal time in the order in which they came.
 #[derive(Drop)]
 pub(crate) struct Late {
-    /// By a row's time and the number under which it came.
-    rows: BTreeMap<(i64, u64), SharedRow>,
+    rows: BinaryHeap<LateRow>,
     /// The number of the next row that comes.
     next: u64,
 }
 
 impl Model for Late {
     ghost use Rattle.std.specs.Prelude.{List};
-    ghost use Rattle.std.specs.Map.{values_of};
+    ghost use Rattle.std.specs.BinaryHeap.{heap_items};
     ghost use Rattle.hj_value.specs.declared.field.Field.{Field};
-    ghost use Rattle.hj_event.specs.Waiting.{ArePlaced};
+    ghost use Rattle.hj_event.specs.Late.{rows_in_order, AreLate};
 
     ghost Value = { List (List Field) };
 
-    ghost view = { λ l. values_of l.rows.entries };
+    ghost view = { λ l. rows_in_order (heap_items l.rows) };
 
-    ghost invariant = { λ l. ArePlaced l.next l.rows.entries };
+    ghost invariant = { λ l. AreLate l.next (heap_items l.rows) };
 }
 
 impl Late {
-    /// No rows.
+    /// Makes one that keeps no rows.
     pub(crate) fn new(alloc: Global) -> Self
         ensures { result ≡ [] }
     {
         Late {
-            rows: BTreeMap::new(alloc),
+            rows: BinaryHeap::new(alloc),
             next: 0,
         }
     }
 
-    /// Puts a row behind all that aren't later.
-    pub(crate) fn put(&mut self, row: SharedRow) -> Result<(), Memory>
+    /// Puts a row of this time after all that aren't later. An error changes nothing, and drops the row.
+    pub(crate) fn put(&mut self, time: i64, row: SharedRow) -> Result<(), Memory>
+        requires { time ≡ time_of row }
         ensures ok { OnOk result (self.new ≡ put_in row self.old) }
         ensures err { OnErr result (self.new ≡ self.old) }
     {
-        let time = row.row().time();
-        let next = self.next.checked_add(1).ok_or(Memory)?;
-        self.rows.insert((time, self.next), row)?;
+        let no = self.next;
+        let next = no.checked_add(1).ok_or(Memory)?;
+        self.rows.push(LateRow { time, no, row })?;
         self.next = next;
         Ok(())
     }
 
-    /// Takes the first row.
+    /// Takes the first row; None where there is none.
     pub(crate) fn take(&mut self) -> Option<SharedRow>
         ensures { TakesFirst result self.old self.new }
     {
-        let (_, row) = self.rows.pop_first()?;
-        Some(row)
+        let first = self.rows.pop()?;
+        Some(first.row)
     }
 
-    /// The time of the first row.
+    /// Returns the time of the first row, in the stream's own units; None where there is none.
     pub(crate) fn first_time(&self) -> Option<i64>
         ensures { result ≡ first_time self.now }
     {
-        let (&(time, _), _) = self.rows.first_key_value()?;
-        Some(time)
+        let first = self.rows.peek()?;
+        Some(first.time)
     }
 }

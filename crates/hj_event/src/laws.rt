@@ -25,43 +25,43 @@ ghost use Rattle.hj_event.specs.Silences.{IsQuietOnlyAfter};
 ghost use Rattle.hj_event.specs.Waiting.{is_of_time, AreInOrder};
 ghost use Rattle.hj_event.specs.Windows.{RowsExpireInTurn};
 
-/// The rows of any stream are in order of time, and rows of equal time in the order in which they were read. Without a slack
-/// all are in the order in which they were read.
+/// States that the rows of any stream are in order of time, and rows of equal time in the order in which they were read.
+/// Without a slack all are in the order in which they were read.
 pub fn rows_are_in_order()
     ensures in_order { (columns : List Column) (slack : ℕ) (stream : Stream) → AreInOrder (rows_of columns slack stream).rows }
     ensures ties { (rows : List (List Field)) (time : ℤ) → filter (is_of_time time) (put_all [] rows) ≡ filter (is_of_time time) rows }
     ensures without { (columns : List Column) (stream : Stream) → rows_of columns 0 stream ≡ read_of columns 0 stream }
 {}
 
-/// The events of any two streams are numbered from 0, one after another, and each expiry names a live row of its side.
+/// States that the events of any two streams are numbered from 0, one after another, and each expiry names a live row of its side.
 pub fn events_are_well_formed()
     ensures { (query : Parts) (left right : Stream) (limit : ℕ) → IsWellFormed (events_of query left right limit).events }
 {}
 
-/// In the events of any two streams, where no limit cuts them off, a side under `rows W` never has more than W live rows, but
-/// for one that expires next, and it is the oldest one. A row under `time T` has expired before each arrival at a time T or
+/// States that in the events of any two streams, where no limit cuts them off, a side under `rows W` never has more than W live
+/// rows, but for one that expires next, and it is the oldest one. A row under `time T` has expired before each arrival at a time T or
 /// more above its own, and expires only before such an arrival.
 pub fn rows_expire_in_turn()
     ensures { (query : Parts) (left right : Stream) → RowsExpireInTurn query (all_events_of query left right).events }
 {}
 
-/// Where the quiet number of a query is at least 1, no more rows of a side than it says arrive between two arrivals or quiet events
-/// of the other side. A quiet event comes only where so many did, so none comes where the number is 0.
+/// States that where the quiet number of a query is at least 1, at most that many rows of a side arrive between two arrivals or
+/// quiet events of the other side. A quiet event comes only where that many did, so none comes where the number is 0.
 pub fn silence_is_told()
     ensures within { (query : Parts) (left right : Stream) (limit : ℕ) → 1 ≤ query.quiet → IsQuietWithin query.quiet (events_of query left right limit).events }
     ensures only_after { (query : Parts) (left right : Stream) (limit : ℕ) → IsQuietOnlyAfter query.quiet (events_of query left right limit).events }
 {}
 
-/// Streams that were cut off, one of them or both, give the first of the events of the whole ones: all of them, with
-/// the same ending, or those before a missing read.
+/// States that streams that were cut off, one of them or both, give the first of the events of the whole ones: all of them,
+/// with the same ending, or those before a missing read.
 pub fn cut_stream_gives_prefix()
     ensures events { (query : Parts) (limit : ℕ) (cut_left cut_right left right : Stream) → IsCutOf cut_left left → IsCutOf cut_right right → IsPrefix (events_of query cut_left cut_right limit).events (events_of query left right limit).events }
     ensures ending { (query : Parts) (limit : ℕ) (cut_left cut_right left right : Stream) → IsCutOf cut_left left → IsCutOf cut_right right → (events_of query cut_left cut_right limit ≡ events_of query left right limit) ⊎ ((side : Side) × ((events_of query cut_left cut_right limit).ending ≡ unread side)) }
 {}
 
-/// All calls of a merger together give the events of both streams. A new one has given none; each event that it gives is the
-/// next one of the streams whose bytes it read, whatever comes behind these bytes; and an answer that is no event says how the
-/// events end.
+/// States that all calls of a merger together give the events of both streams. A new one has given none; each event that it
+/// gives is the next one of the streams whose bytes it read, whatever comes after these bytes; and an answer that is no event
+/// says how the events end.
 pub fn calls_give_events()
     ensures begins { (query : Parts) (limit : ℕ) (now : Merging) → IsNew query limit now → HasGiven query limit [] [] [] now }
     ensures goes_on { (query : Parts) (limit : ℕ) (left right : List ℕ) (events : List (Event (List Field))) (event : Event (List Field)) (old new : Merging) (before now : Role → RoleState)

@@ -54,7 +54,8 @@ impl Model for Merger {
 }
 
 impl Merger {
-    /// A merger of the streams of `query`, by its schemas, windows and quiet number, that gives at most `limit` events.
+    /// Makes a merger of the streams of `query`, by its schemas, windows, slack and quiet number, that gives at most `limit`
+    /// events. It fails only where memory runs out.
     pub fn new(alloc: Global, query: &Query, limit: u64) -> Result<Merger, Memory>
         ensures { IfOk result (λ merger. IsNew query.now limit merger) }
     {
@@ -68,7 +69,7 @@ impl Merger {
         })
     }
 
-    /// The next event of the two streams, or how they end. It reads a role only where it doesn't know that side's next row, at
+    /// Gives the next event of the two streams, or how they end. It reads a role only where it doesn't know that side's next row, at
     /// most 4,096 bytes a read. Every answer other than an event is given again by every later call, which reads nothing.
     #[inline(always)]
     pub fn next<O: Outside>(&mut self, outside: &mut O) -> Next
@@ -89,7 +90,7 @@ impl Merger {
         }
     }
 
-    /// Whether the next answer can be given without a read, as far as that can be told without one.
+    /// Returns whether the next answer can be given without a read, as far as that can be told without one.
     #[inline(always)]
     pub fn is_ready(&self) -> bool
         ensures { IsTrue result → ReadsNothingNext self.now }
@@ -97,7 +98,7 @@ impl Merger {
         self.over.is_some() || self.numbering.has_due() || self.arrivals.is_ready()
     }
 
-    /// The next event, or the last answer.
+    /// Gives the next event, or the last answer.
     #[inline(always)]
     fn step<O: Outside>(&mut self, outside: &mut O) -> Result<Event<SharedRow>, Last>
         requires left { IsInStep self.old.sides.left.reading.ended (O.state outside.old role.Left) }
@@ -114,6 +115,7 @@ impl Merger {
     }
 }
 
+/// Returns the answer of a merger that is over.
 fn answer(last: Last) -> Next
     ensures { result ≡ answer_of last }
 {

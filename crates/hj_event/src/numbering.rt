@@ -41,7 +41,7 @@ impl Model for Numbering {
 }
 
 impl Numbering {
-    /// A numbering that has given nothing, of at most `limit` events.
+    /// Makes a numbering that has given nothing, of at most `limit` events.
     pub(crate) fn new(alloc: Global, left: Window, right: Window, quiet: u32, limit: u64) -> Self
         ensures { result ≡ record { live = record { left = left; right = right; rows = [] }; silence = no_silence; quiet = quiet; due = nothing_due; next = 0; limit = limit } }
     {
@@ -55,7 +55,7 @@ impl Numbering {
         }
     }
 
-    /// Whether an event is due.
+    /// Returns whether an event is due.
     #[inline(always)]
     pub(crate) fn has_due(&self) -> bool
         ensures { result ≡ has_due self.now.due }

@@ -60,7 +60,7 @@ impl Model for Reader {
 }
 
 impl Reader {
-    /// A side of which nothing was read.
+    /// Makes a side of which nothing was read.
     pub(crate) fn new(alloc: Global, schema: Schema, slack: u64) -> Self
         ensures { result ≡ new_reading schema.columns slack }
     {
@@ -80,7 +80,7 @@ impl Reader {
         }
     }
 
-    /// Whether there are bytes that were read and not looked at.
+    /// Returns whether there are bytes that were read and not looked at.
     #[inline(always)]
     pub(crate) fn has_rest(&self) -> bool
         ensures { result ≡ false → self.now.rest ≡ [] }
@@ -88,7 +88,7 @@ impl Reader {
         self.taken < self.filled
     }
 
-    /// How late a row may be.
+    /// Returns how late a row may be, in the stream's own units of time.
     #[inline(always)]
     pub(crate) fn slack(&self) -> u64
         ensures { result ≡ self.now.slack }
@@ -96,7 +96,7 @@ impl Reader {
         self.slack
     }
 
-    /// The greatest time of the rows that were read.
+    /// Returns the greatest time of the rows that were read; None before the first.
     #[inline(always)]
     pub(crate) fn greatest(&self) -> Option<i64>
         ensures { result ≡ self.now.time }
@@ -104,7 +104,7 @@ impl Reader {
         self.greatest
     }
 
-    /// Whether a read answered the end.
+    /// Returns whether a read answered the end.
     #[inline(always)]
     pub(crate) fn has_ended(&self) -> bool
         ensures { result ≡ self.now.ended }
@@ -112,7 +112,7 @@ impl Reader {
         self.ended
     }
 
-    /// Whether the line that comes next, or a later one where this one is empty, has its end in the bytes that were read.
+    /// Returns whether the line that comes next, or a later one where this one is empty, has its end in the bytes that were read.
     #[inline(always)]
     pub(crate) fn has_line(&self) -> bool
         ensures { IsTrue result → TellsRow self.now }
@@ -238,7 +238,7 @@ impl Reader {
     }
 }
 
-/// Whether a line may have this byte and be empty: one of a line's end, or of a byte order mark.
+/// Returns whether a line may have this byte and be empty: one of a line's end, or of a byte order mark.
 #[inline(always)]
 fn is_blank(byte: u8) -> bool
     ensures { result ≡ is_blank byte }
@@ -246,7 +246,7 @@ fn is_blank(byte: u8) -> bool
     matches!(byte, CARRIAGE_RETURN | LINE_FEED | 0xEF | 0xBB | 0xBF)
 }
 
-/// The place of the first byte that no empty line has.
+/// Finds the place of the first byte that no empty line has.
 #[inline(always)]
 fn first_written(bytes: &[u8]) -> Option<usize>
     ensures { result ≡ position (λ byte. not (is_blank byte)) bytes.now }
@@ -254,7 +254,8 @@ fn first_written(bytes: &[u8]) -> Option<usize>
     bytes.iter().position(|&byte| !is_blank(byte))
 }
 
-/// The place behind the last line feed of some bytes; 0 where they have a quote, so that a line feed may be a field's.
+/// Finds the place after the last line feed of some bytes; 0 where they have none, or a quote, so that a line feed may be a
+/// field's.
 fn lines_end(bytes: &[u8]) -> usize
     ensures within { result ≤ length bytes.now }
     ensures line_feed { 0 < result → slice_index bytes.now (result - 1) ≡ 10 }
@@ -271,7 +272,7 @@ fn lines_end(bytes: &[u8]) -> usize
     0
 }
 
-/// Whether there is a quote among some bytes. It looks at all of them, several at a time.
+/// Returns whether there is a quote among some bytes. It looks at all of them, several at a time.
 fn has_quote(bytes: &[u8]) -> bool
     ensures { result ≡ list_any (λ byte. byte == 34) bytes.now }
 {
@@ -282,7 +283,7 @@ fn has_quote(bytes: &[u8]) -> bool
     found
 }
 
-/// The greatest time, with one more.
+/// Returns the greatest time, with one more.
 #[inline(always)]
 fn later(greatest: Option<i64>, time: i64) -> i64
     ensures { result ≡ with_time greatest time }
@@ -310,7 +311,7 @@ fn read_kept(
     row
 }
 
-/// Why the stream stops at the record of this number.
+/// Returns why the stream stops at the record of this number.
 fn stop(at: u64, fault: RecordFault) -> Stop
     ensures { result ≡ stop_of at fault }
 {

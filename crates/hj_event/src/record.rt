@@ -7,7 +7,7 @@ use hj_schema::read_row;
 use hj_value::{Row, Schema};
 use std::alloc::Global;
 
-/// Reads the row of a piece by a schema, behind rows of which the greatest time is `greatest`; None where the piece holds no
+/// Reads the row of a piece by a schema, after rows of which the greatest time is `greatest`; None where the piece holds no
 /// record. The fields of the record go into `fields`.
 pub(crate) fn read_record(
     alloc: Global,
@@ -27,7 +27,7 @@ pub(crate) fn read_record(
     Ok(Some(in_time(slack, greatest, row)?))
 }
 
-/// The row, unless its time is below the greatest time before it less the slack.
+/// Returns the row, unless its time is below the greatest time before it less the slack.
 #[inline(always)]
 fn in_time(slack: u64, greatest: Option<i64>, row: Row) -> Result<Row, RecordFault>
     ensures { InTime result slack greatest row }
@@ -41,7 +41,7 @@ fn in_time(slack: u64, greatest: Option<i64>, row: Row) -> Result<Row, RecordFau
     }
 }
 
-/// Whether a time is below the greatest one less the slack.
+/// Returns whether a time is below the greatest one less the slack.
 #[inline(always)]
 fn is_late(slack: u64, greatest: i64, time: i64) -> bool
     ensures { result ≡ int_lt time (greatest -ℤ pos slack) }

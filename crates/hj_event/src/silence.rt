@@ -21,7 +21,7 @@ impl Model for Silence {
 }
 
 impl Silence {
-    /// No row has arrived yet.
+    /// Makes the silence before any row has arrived.
     pub(crate) fn new() -> Self
         ensures { result ≡ no_silence }
     {
@@ -31,7 +31,7 @@ impl Silence {
         }
     }
 
-    /// Counts a row that arrives on `side`. Answers the other side where it has a quiet event by that: `quiet` rows have arrived
+    /// Counts a row that arrives on `side`. Returns the other side where it has a quiet event by that: `quiet` rows have arrived
     /// in its silence.
     #[inline(always)]
     pub(crate) fn arrive(&mut self, side: Side, quiet: u32) -> Option<Side>
@@ -48,7 +48,7 @@ impl Silence {
         Some(self.side)
     }
 
-    /// How many rows of `side` have arrived in the silence of the other one.
+    /// Returns how many rows of `side` have arrived in the silence of the other one.
     #[inline(always)]
     fn rows_of(&self, side: Side) -> u64
         ensures { result ≡ rows_in_silence self.now side }
@@ -60,7 +60,7 @@ impl Silence {
     }
 }
 
-/// The other side.
+/// Returns the other side.
 #[inline(always)]
 fn other(side: Side) -> Side
     ensures { result ≡ other_side side }

@@ -1,19 +1,32 @@
-ghost use Rattle.std.specs.Prelude.{◌≡◌, ◌≢◌, IsTrue, List, ℕ, [], false};
+ghost use Rattle.std.specs.Prelude.{◌≡◌, ◌≢◌, IsTrue, List, ℕ, [], false, true, OnOk};
 ghost use Rattle.hj_base.specs.Outside.{role_of, ChangesOnly};
+ghost use Rattle.hj_record.specs.Pieces.{Stream};
 ghost use Rattle.hj_event.specs.Roles.{IsInStep};
 ghost use Rattle.hj_event.specs.Reads.{Fills};
-ghost use Rattle.hj_event.specs.Sides.{new_side};
+ghost use Rattle.hj_event.specs.Sides.{new_side, rows_ahead, MayFollow};
 ghost use Rattle.hj_event.specs.Waiting.{has_sure, AreInOrder};
-ghost use Rattle.hj_event.specs.Taking.{unseen, GoesOn, TakesRow, IsTold, TellsNext};
+ghost use Rattle.hj_event.specs.Taking.{found_by, unseen, GoesOn, TakesRow, IsTold};
 
 use crate::RecordFault;
 use crate::reader::Reader;
 use crate::stop::{Found, Stop};
 use crate::waiting::Waiting;
-use hj_base::{Outside, Side};
+use hj_base::{Memory, Outside, Side};
 use hj_value::{Schema, SharedRow};
 use std::alloc::Global;
 use std::marker::Model;
+
+/// What is known of the row that comes next, where rows may be late.
+#[derive(Clone, Copy)]
+enum Ahead {
+    Unknown,
+    /// The first row that waits is sure.
+    Sure,
+    /// No row comes after those that wait.
+    Over,
+    /// The record of this number, after those of the rows that wait, is refused.
+    Refused { at: u64, fault: RecordFault },
+}
 
 /// The rows of a side in order, of which no more is read than is looked at.
 ///
@@ -23,34 +36,30 @@ pub(crate) struct Source {
     reader: Reader,
     /// The rows that were read and not given.
     waiting: Waiting,
-    /// The number of the record that was refused behind them, and why.
-    refused: Option<(u64, RecordFault)>,
-    /// No row comes behind them.
-    over: bool,
+    ahead: Ahead,
 }
 
 impl Model for Source {
     ghost use Rattle.std.specs.Prelude.{None};
     ghost use Rattle.hj_event.specs.Sides.{SideState};
-    ghost use Rattle.hj_event.specs.Taking.{IsKept};
+    ghost use Rattle.hj_event.specs.Taking.{refused_in, IsKept};
 
     ghost Value = { SideState };
 
-    ghost view = { λ s. record { head = None; reading = s.reader; waiting = s.waiting; stop = s.refused } };
+    ghost view = { λ s. record { head = None; reading = s.reader; waiting = s.waiting; stop = refused_in s.ahead } };
 
-    ghost invariant = { λ s. IsKept s.reader s.waiting s.refused s.over };
+    ghost invariant = { λ s. IsKept s.reader s.waiting s.ahead };
 }
 
 impl Source {
-    /// A source of which nothing was read.
+    /// Makes a source of which nothing was read.
     pub(crate) fn new(alloc: Global, schema: Schema, slack: u64) -> Self
         ensures { result ≡ new_side schema.columns slack }
     {
         Source {
             reader: Reader::new(alloc, schema, slack),
             waiting: Waiting::new(alloc),
-            refused: None,
-            over: false,
+            ahead: Ahead::Unknown,
         }
     }
 
@@ -90,7 +99,7 @@ impl Source {
         self.reader.fill(side, outside)
     }
 
-    /// Whether the next row, or the end, can be told without a read.
+    /// Returns whether the next row, or the end, can be told without a read.
     #[inline(always)]
     pub(crate) fn is_ready(&self) -> bool
         ensures { IsTrue result → IsTold (unseen self.now) }
@@ -99,18 +108,20 @@ impl Source {
             || if self.reader.slack() == 0 {
                 self.reader.has_line()
             } else {
-                self.has_next()
+                self.knows_next()
             }
     }
 
-    /// Whether a row that waits comes next, or the fault is known.
-    fn has_next(&self) -> bool
-        ensures { IsTrue result → TellsNext self.now }
+    /// Returns whether it is known what comes next.
+    #[inline(always)]
+    fn knows_next(&self) -> bool
+        ensures known { IsTrue result → IsTold (unseen self.now) }
+        ensures unknown { result ≡ false → self.now.stop ≡ None }
     {
-        self.refused.is_some() || self.has_sure()
+        !matches!(self.ahead, Ahead::Unknown)
     }
 
-    /// Whether the first row that waits is sure.
+    /// Returns whether the first row that waits is sure.
     #[inline(always)]
     fn has_sure(&self) -> bool
         ensures sure { result ≡ has_sure self.now.reading.slack self.now.reading.time self.now.waiting }
@@ -133,51 +144,107 @@ impl Source {
         }
     }
 
-    /// Goes on where rows may be late. All that was read is looked at before a row that waits is given.
+    /// Goes on where rows may be late.
     fn go_on_in_order(&mut self) -> Result<Found, Stop>
         requires { self.old.reading.slack ≢ 0 }
         ensures { GoesOn result self.old self.new }
     {
-        if let Some((at, fault)) = self.refused {
-            return match self.waiting.take() {
-                Some(row) => Ok(Found::Row(row)),
-                None => Err(Stop::Bad { at, fault }),
-            };
-        }
-        if self.over {
-            return match self.waiting.take() {
+        match self.ahead {
+            Ahead::Unknown => {
+                if self.read_row()? {
+                    Ok(Found::More)
+                } else {
+                    Ok(Found::NoRecord)
+                }
+            }
+            Ahead::Sure => self.give_sure(),
+            Ahead::Over => match self.waiting.take() {
                 Some(row) => Ok(Found::Row(row)),
                 None => Ok(Found::End),
-            };
-        }
-        if !self.reader.has_rest() && self.has_sure() {
-            return match self.waiting.take() {
+            },
+            Ahead::Refused { at, fault } => match self.waiting.take() {
                 Some(row) => Ok(Found::Row(row)),
-                None => Ok(Found::NoRecord),
-            };
+                None => Err(Stop::Bad { at, fault }),
+            },
         }
+    }
+
+    /// Gives the first row that waits, which is sure, and reads on to the next one.
+    #[inline(always)]
+    fn give_sure(&mut self) -> Result<Found, Stop>
+        requires late { self.old.reading.slack ≢ 0 }
+        requires going { self.old.stop ≡ None }
+        requires sure { has_sure self.old.reading.slack self.old.reading.time self.old.waiting ≡ true }
+        ensures { GoesOn result self.old self.new }
+    {
+        self.ahead = Ahead::Unknown;
+        let Some(row) = self.waiting.take() else {
+            return Ok(Found::NoRecord);
+        };
+        self.read_on()?;
+        Ok(Found::Row(row))
+    }
+
+    /// Reads rows in the bytes that were read until the next one is known. So `is_ready` can tell, and no more rows wait than the
+    /// slack holds back.
+    #[inline(always)]
+    fn read_on(&mut self) -> Result<(), Memory>
+        requires late { self.old.reading.slack ≢ 0 }
+        requires going { self.old.stop ≡ None }
+        ensures ended { self.new.reading.ended ≡ self.old.reading.ended }
+        ensures same { OnOk result ((stream : Stream) → MayFollow self.new.reading.ended stream → rows_ahead self.old stream ≡ rows_ahead self.new stream) }
+    {
+        for _ in 0..u64::MAX {
+            if !self.reader.has_rest() {
+                self.look();
+                return Ok(());
+            }
+            self.read_row()?;
+            if self.knows_next() {
+                return Ok(());
+            }
+        }
+        Err(Memory)
+    }
+
+    /// Reads the row of the next piece, which waits from then on, and looks whether the first one is sure by it. Returns whether
+    /// more bytes are wanted.
+    #[inline(always)]
+    fn read_row(&mut self) -> Result<bool, Memory>
+        requires late { self.old.reading.slack ≢ 0 }
+        requires going { self.old.stop ≡ None }
+        ensures goes_on { GoesOn (found_by result) self.old self.new }
+        ensures slack { self.new.reading.slack ≡ self.old.reading.slack }
+    {
+        self.ahead = Ahead::Unknown;
         match self.reader.advance() {
             Ok(Found::Row(row)) => {
                 self.waiting.put(row)?;
-                Ok(Found::NoRecord)
+                self.look();
             }
-            Ok(Found::NoRecord) => Ok(Found::NoRecord),
-            Ok(Found::More) => {
-                if self.has_sure() {
-                    Ok(Found::NoRecord)
-                } else {
-                    Ok(Found::More)
-                }
-            }
-            Ok(Found::End) => {
-                self.over = true;
-                Ok(Found::NoRecord)
-            }
-            Err(Stop::Bad { at, fault }) => {
-                self.refused = Some((at, fault));
-                Ok(Found::NoRecord)
-            }
-            Err(stop) => Err(stop),
+            Ok(Found::NoRecord) => (),
+            Ok(Found::More) => return Ok(!self.look()),
+            Ok(Found::End) => self.ahead = Ahead::Over,
+            Err(Stop::Bad { at, fault }) => self.ahead = Ahead::Refused { at, fault },
+            // Nothing is read from outside here, so no read fails.
+            Err(Stop::Failed | Stop::Memory) => return Err(Memory),
         }
+        Ok(false)
+    }
+
+    /// Looks whether the first row that waits is sure, and notes it.
+    #[inline(always)]
+    fn look(&mut self) -> bool
+        requires late { self.old.reading.slack ≢ 0 }
+        requires going { self.old.stop ≡ None }
+        ensures same { self.new ≡ self.old }
+        ensures sure { result ≡ has_sure self.old.reading.slack self.old.reading.time self.old.waiting }
+        ensures in_order { AreInOrder self.old.waiting }
+    {
+        let sure = self.has_sure();
+        if sure {
+            self.ahead = Ahead::Sure;
+        }
+        sure
     }
 }

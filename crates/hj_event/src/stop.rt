@@ -18,7 +18,7 @@ pub(crate) enum Stop {
 pub(crate) enum Found {
     Row(SharedRow),
     NoRecord,
-    /// The piece goes on behind them.
+    /// The piece goes on after them.
     More,
     /// There is no further piece.
     End,

@@ -32,7 +32,7 @@ impl Model for Waiting {
 }
 
 impl Waiting {
-    /// No rows.
+    /// Makes one that keeps no rows.
     pub(crate) fn new(alloc: Global) -> Self
         ensures { result ≡ [] }
     {
@@ -42,20 +42,20 @@ impl Waiting {
         }
     }
 
-    /// Puts a row behind all that aren't later.
+    /// Puts a row after all that aren't later. An error drops the row.
     pub(crate) fn put(&mut self, row: SharedRow) -> Result<(), Memory>
         ensures { OnOk result (self.new ≡ put_in row self.old) }
     {
         let time = row.row().time();
         if is_before(Some(time), last_time(&self.queue)) {
-            self.late.put(row)
+            self.late.put(time, row)
         } else {
             self.queue.push_back(row)?;
             Ok(())
         }
     }
 
-    /// Takes the first row.
+    /// Takes the first row; None where there is none.
     pub(crate) fn take(&mut self) -> Option<SharedRow>
         ensures { TakesFirst result self.old self.new }
     {
@@ -66,7 +66,7 @@ impl Waiting {
         }
     }
 
-    /// Whether the first row is sure: its time is at most the greatest one less the slack.
+    /// Returns whether the first row is sure: its time is at most the greatest one less the slack.
     pub(crate) fn has_sure(&self, slack: u64, greatest: Option<i64>) -> bool
         ensures sure { result ≡ has_sure slack greatest self.now }
         ensures in_order { AreInOrder self.now }
@@ -80,7 +80,7 @@ impl Waiting {
         is_sure(slack, greatest, time)
     }
 
-    /// The time of the first row.
+    /// Returns the time of the first row; None where there is none.
     fn first_time(&self) -> Option<i64>
         ensures time { result ≡ first_time self.now }
         ensures in_order { AreInOrder self.now }
@@ -91,7 +91,7 @@ impl Waiting {
     }
 }
 
-/// The time of the first row.
+/// Returns the time of the first row; None where there is none.
 fn first_time(rows: &VecDeque<SharedRow>) -> Option<i64>
     ensures { result ≡ first_time rows.now.items }
 {
@@ -99,7 +99,7 @@ fn first_time(rows: &VecDeque<SharedRow>) -> Option<i64>
     Some(row.row().time())
 }
 
-/// The time of the last row.
+/// Returns the time of the last row; None where there is none.
 fn last_time(rows: &VecDeque<SharedRow>) -> Option<i64>
     ensures { result ≡ last_time rows.now.items }
 {
@@ -107,7 +107,7 @@ fn last_time(rows: &VecDeque<SharedRow>) -> Option<i64>
     Some(row.row().time())
 }
 
-/// Whether there are two times, the first one below the second.
+/// Returns whether there are two times, the first one below the second.
 fn is_before(time: Option<i64>, other: Option<i64>) -> bool
     ensures { result ≡ is_before time other }
 {
@@ -117,7 +117,7 @@ fn is_before(time: Option<i64>, other: Option<i64>) -> bool
     }
 }
 
-/// Whether a time is at most the greatest one less the slack.
+/// Returns whether a time is at most the greatest one less the slack.
 fn is_sure(slack: u64, greatest: i64, time: i64) -> bool
     ensures { result ≡ int_le time (greatest -ℤ pos slack) }
 {
