@@ -6,7 +6,7 @@ use std::process::Abort;
 const HEAD: &str =
     "left (ts int, k int)\nright (ts int, k int)\nwindow left rows 1\nwindow right time 5000\non ";
 
-/// The canonical text of the query that a text spells.
+/// Returns the canonical text of the query that a text spells.
 fn printed(rt: &impl Abort, alloc: Global, text: &str) -> QueryText {
     let query = query_of(rt, alloc, &[text]);
     print(alloc, &query).expect(rt, "memory")
@@ -120,7 +120,7 @@ fn is_printed(rt: &impl Abort, alloc: Global, text: &str, want: &str) {
     assert!(rt; found.bytes() == want.as_bytes());
 }
 
-/// Prints a condition of one comparison and so many more behind a word.
+/// Prints a condition of one comparison and `count` more, each after a word.
 fn prints_long(rt: &impl Abort, alloc: Global, word: &str, count: usize) {
     let dense = [word, "''=''"].concat(alloc).expect(rt, "memory");
     let spaced = [" ", word, " '' = ''"].concat(alloc).expect(rt, "memory");

@@ -8,12 +8,12 @@ use std::process::Abort;
 const HEAD: &str =
     "left (ts int, k int, s text) right (ts int, k int, s text) window left rows 1 window right rows 1 on ";
 
-/// The query with this condition.
+/// Returns the query with this condition.
 fn query(rt: &impl Abort, alloc: Global, condition: &str) -> Query {
     query_of(rt, alloc, &[HEAD, condition])
 }
 
-/// A row of a time and this field.
+/// Makes a row of a time and this field.
 fn short_row(rt: &impl Abort, alloc: Global, field: Field<'_>) -> Row {
     let mut row = Row::new(alloc);
     row.push(Field::Int(1)).expect(rt, "memory");
@@ -21,7 +21,7 @@ fn short_row(rt: &impl Abort, alloc: Global, field: Field<'_>) -> Row {
     row
 }
 
-/// A row of a time and these fields.
+/// Makes a row of a time and these fields.
 fn row(rt: &impl Abort, alloc: Global, first: Field<'_>, second: Field<'_>) -> Row {
     let mut row = short_row(rt, alloc, first);
     row.push(second).expect(rt, "memory");
@@ -36,12 +36,12 @@ fn number<'a>(rt: &impl Abort, text: &str) -> Field<'a> {
     Field::Int(text.parse::<i64>().expect(rt, "a number"))
 }
 
-/// A row of a time and a number.
+/// Makes a row of a time and a number.
 fn number_row(rt: &impl Abort, alloc: Global, k: &str) -> Row {
     short_row(rt, alloc, number(rt, k))
 }
 
-/// A row of a time, a number and a text.
+/// Makes a row of a time, a number and a text.
 fn whole_row(rt: &impl Abort, alloc: Global, k: &str, s: &str) -> Row {
     row(rt, alloc, number(rt, k), text(rt, s))
 }
@@ -68,7 +68,7 @@ const PAIRS: &str = "\
 0 > -1
 0 = 0";
 
-/// Whether a condition holds of a left number and a right one.
+/// Returns whether a condition holds of a left number and a right one.
 fn holds_of(rt: &impl Abort, alloc: Global, query: &Query, left: &str, right: &str) -> bool {
     let left = number_row(rt, alloc, left);
     let right = number_row(rt, alloc, right);
@@ -129,7 +129,7 @@ r.k > l.k and l.k <= r.k | 1 2 true
 l.k <= r.k and r.k < l.k | 1 2 false
 r.s > l.s | 1 2 true";
 
-/// What a query says of two rows, as it is and made ready.
+/// Returns what a query says of two rows, as it is and made ready.
 fn says(query: &Query, left: &Row, right: &Row) -> (bool, bool) {
     (
         holds(query, left, right),
@@ -137,7 +137,7 @@ fn says(query: &Query, left: &Row, right: &Row) -> (bool, bool) {
     )
 }
 
-/// What a condition says of two rows of these numbers, as it is and made ready.
+/// Returns what a condition says of two rows of these numbers, as it is and made ready.
 fn says_of(rt: &impl Abort, alloc: Global, query: &Query, left: &str, right: &str) -> (bool, bool) {
     let left = whole_row(rt, alloc, left, "ab");
     let right = whole_row(rt, alloc, right, "b");
@@ -172,7 +172,7 @@ l.k within 5 of r.k + 0
 l.s = r.s
 r.s != 'a'";
 
-/// A row of a time, zero and a text.
+/// Makes a row of a time, zero and a text.
 fn zero_row(rt: &impl Abort, alloc: Global) -> Row {
     row(rt, alloc, Field::Int(0), text(rt, "b"))
 }
@@ -200,7 +200,7 @@ fn misses_values(rt: HostRuntime) {
     misses(&rt, rt.alloc(), &turned);
 }
 
-/// Whether a condition holds of a left row and a right row with no field.
+/// Returns whether a condition holds of a left row and a right row with no field.
 fn holds_of_none(rt: &impl Abort, alloc: Global, query: &Query) -> bool {
     let whole = zero_row(rt, alloc);
     let none = Row::new(alloc);
@@ -213,7 +213,7 @@ fn negates_what_misses_a_value(rt: HostRuntime) {
     assert!(rt; holds_of_none(&rt, rt.alloc(), &query));
 }
 
-/// Whether a condition of one comparison and so many more, then an end, holds of a row on both sides.
+/// Returns whether a condition of one comparison and `count` more, then an end, holds of a row on both sides.
 fn holds_long(rt: &impl Abort, alloc: Global, row: &Row, count: usize, end: &str) -> bool {
     let condition = long_text(rt, alloc, "1=2", " or 1=2", count, end);
     holds(&query(rt, alloc, &condition), row, row)
@@ -246,7 +246,7 @@ l.k = r.k + 0 and l.k = 7 | Scan
 l.k + 1 within 10 of r.k | Scan
 l.k within 10 of l.ts | Scan";
 
-/// A plan as the table has it.
+/// Returns a plan as the table has it.
 fn told(rt: &impl Abort, alloc: Global, plan: StorePlan) -> String {
     let told = match plan {
         StorePlan::Equal { left, right } => format!(in alloc; "Equal {left} {right}"),

@@ -36,7 +36,7 @@ window left rows 9 window right rows 9 | 100 |  | 5,7/4,7/ | \
 Right 0: 5; Right record 2: time 4 after 5; Right record 2: time 4 after 5;
 window left rows 9 window right rows 9 | 100 | x | x | Left record 1: 1 fields; Left record 1: 1 fields;";
 
-/// Rows that are late by at most the slack are put in their place, rows of equal time as they were read. A bad record comes behind
+/// Rows that are late by at most the slack are put in their place, rows of equal time as they were read. A bad record comes after
 /// the rows that wait.
 const LATE_CASES: &str = "\
 window left rows 9 window right rows 9 slack 2 | 100 | 1,7/4,7/2,7/ | 3,7/ | \
@@ -49,8 +49,8 @@ Right 0: 4; Right 1: 4; Right 2: 5; Right 3: 6; Right 4: 6; Right record 6: 1 fi
 window left rows 9 window right rows 9 slack 4611686018427387904 | 100 | -4611686018427387904,7/0,7/-4611686018427387904,7/ |  | \
 Left 0: -4611686018427387904; Left 1: -4611686018427387904; Left 2: 0; done; done;";
 
-/// A side is quiet behind every so many rows of the other one in its silence, which a row of its own ends; the row's expiry comes
-/// before that. A quiet event counts for the limit.
+/// A side is quiet after every Q rows of the other one in its silence, which a row of its own ends; the row's expiry comes before
+/// that. A quiet event counts for the limit.
 const QUIET_CASES: &str = "\
 window left rows 9 window right rows 9 quiet 2 | 7 | 1,7/2,7/3,7/4,7/ | 0,7/ | \
 Right 0: 0; Left 1: 1; Left 2: 2; Right 3: quiet; Left 4: 3; Left 5: 4; Right 6: quiet; done; done;
@@ -67,6 +67,7 @@ Left 0: 1; Right 1: quiet; Right 2: 2; Left 3: quiet; Right 4: 3; Left 5: quiet;
 window left rows 9 window right rows 9 quiet 3 | 100 | 1,7/2,7/x | 9,7/ | \
 Left 0: 1; Left 1: 2; Left record 3: 1 fields; Left record 3: 1 fields;";
 
+/// Reads a line of a table.
 fn case_of<'a>(rt: &impl Abort, alloc: Global, line: &'a str) -> Case<'a> {
     let mut fields = line.split(" | ");
     let windows = fields.next().expect(rt, "the windows");
@@ -82,7 +83,7 @@ fn case_of<'a>(rt: &impl Abort, alloc: Global, line: &'a str) -> Case<'a> {
     }
 }
 
-/// The bytes of a case's streams, under `l` and `r`, of which a read gives so many.
+/// Makes the streams of a case, under `l` and `r`, of which a read gives at most `chunk` bytes.
 fn contents(rt: &impl Abort, alloc: Global, case: &Case<'_>, chunk: usize) -> MemOutside
     requires { 1 ≤ chunk }
     ensures left { (role_at result role.Left).phase ≡ unbegun }
@@ -96,7 +97,7 @@ fn contents(rt: &impl Abort, alloc: Global, case: &Case<'_>, chunk: usize) -> Me
     outside
 }
 
-/// Has one read of a role fail.
+/// Makes one read of a role fail, the first one being 1.
 fn fails(rt: &impl Abort, outside: &mut MemOutside, failing: Role, nth: u64)
     requires first { 1 ≤ nth }
     requires last { nth ≤ 9 }
@@ -130,7 +131,7 @@ fn starts_both<O: Outside>(rt: &impl Abort, outside: &mut O)
 /// The schemas of rows of two numbers.
 const SCHEMAS: &str = "left (ts int, k int) right (ts int, k int) ";
 
-/// A merger of a case's streams, which has read nothing.
+/// Makes a merger of a case's streams, which has read nothing.
 fn merger_of(rt: &impl Abort, alloc: Global, case: &Case<'_>) -> Merger
     ensures left { result.sides.left.reading.ended ≡ false }
     ensures right { result.sides.right.reading.ended ≡ false }
@@ -150,7 +151,7 @@ fn begun<O: Outside>(rt: &impl Abort, alloc: Global, case: &Case<'_>, outside: &
     merger_of(rt, alloc, case)
 }
 
-/// The next answer of a merger.
+/// Returns the next answer of a merger.
 fn answer_of<O: Outside>(merger: &mut Merger, outside: &mut O) -> Next
     requires left { IsInStep merger.old.sides.left.reading.ended (O.state outside.old role.Left) }
     requires right { IsInStep merger.old.sides.right.reading.ended (O.state outside.old role.Right) }
@@ -160,14 +161,14 @@ fn answer_of<O: Outside>(merger: &mut Merger, outside: &mut O) -> Next
     merger.next(outside)
 }
 
-/// Adds an answer to a text, and tells whether it is the last one.
+/// Adds an answer to a text, and returns whether it is the last one.
 fn puts(rt: &impl Abort, text: &mut String, answer: Next) -> bool {
     let over = !matches!(answer, Next::Event(_));
     put(text, answer).expect(rt, "memory");
     over
 }
 
-/// What a merger of a case answers, up to its last answer, and that one again.
+/// Returns what a merger of a case answers, up to its last answer, and that one again.
 fn merged<O: Outside>(
     rt: &impl Abort,
     alloc: Global,
@@ -204,7 +205,7 @@ fn answers<O: Outside>(rt: &impl Abort, alloc: Global, case: &Case<'_>, outside:
     same(rt, &text, want);
 }
 
-/// Merges the streams of a case, of which a read gives so many bytes.
+/// Merges the streams of a case, of which a read gives at most `chunk` bytes.
 fn merges(rt: &impl Abort, alloc: Global, case: &Case<'_>, chunk: usize)
     requires { 1 ≤ chunk }
 {
@@ -235,6 +236,72 @@ fn puts_late_rows_in_their_place(rt: HostRuntime) {
 #[test]
 fn tells_of_quiet_sides(rt: HostRuntime) {
     merges_all(&rt, rt.alloc(), QUIET_CASES);
+}
+
+/// Rows that may be late by 2, and before each answer whether the merger is ready for it, where a read gives one row: the first row
+/// that waits is sure, or the end is known.
+const READY_BY_ROWS: &str = "\
+window left rows 9 window right rows 9 slack 2 | 100 | 1,7/2,7/5,7/3,7/9,7/ |  | asks Left 0: 1; ready Left 1: 2; \
+asks Left 2: 3; asks Left 3: 5; asks Left 4: 9; ready done; ready done;
+window left rows 9 window right rows 9 slack 2 | 100 | 9,7/ | 1,7/4,7/2,7/ | asks Right 0: 1; asks Right 1: 2; \
+asks Right 2: 4; ready Left 3: 9; ready done; ready done;";
+
+/// The same where a read gives all rows, and where a fault is known after the rows that wait.
+const READY_AT_ONCE: &str = "\
+window left rows 9 window right rows 9 slack 2 | 100 | 1,7/2,7/5,7/3,7/9,7/ |  | asks Left 0: 1; ready Left 1: 2; \
+ready Left 2: 3; ready Left 3: 5; asks Left 4: 9; ready done; ready done;
+window left rows 9 window right rows 9 slack 2 | 100 | 5,7/4,7/x/ |  | asks Left 0: 4; ready Left 1: 5; \
+ready Left record 3: 1 fields; ready Left record 3: 1 fields;";
+
+/// Adds to a text whether a merger is ready.
+fn puts_ready(rt: &impl Abort, text: &mut String, ready: bool) {
+    let word = if ready { "ready " } else { "asks " };
+    text.push_str(word).expect(rt, "memory");
+}
+
+/// Returns what a merger of a case answers, as `merged` has it, and before each answer whether it is ready for it.
+fn told<O: Outside>(rt: &impl Abort, alloc: Global, merger: &mut Merger, outside: &mut O) -> String
+    requires left { IsInStep merger.old.sides.left.reading.ended (O.state outside.old role.Left) }
+    requires right { IsInStep merger.old.sides.right.reading.ended (O.state outside.old role.Right) }
+{
+    let mut text = String::new(alloc);
+    let mut over = false;
+    for _ in 0..12 {
+        let again = over;
+        puts_ready(rt, &mut text, merger.is_ready());
+        over = puts(rt, &mut text, answer_of(merger, outside));
+        if again {
+            break;
+        }
+    }
+    text
+}
+
+/// Holds what a merger of a case answers, and when it is ready, to what is wanted.
+fn tells<O: Outside>(rt: &impl Abort, alloc: Global, case: &Case<'_>, outside: &mut O)
+    requires left { (O.state outside.old role.Left).phase ≡ unbegun }
+    requires right { (O.state outside.old role.Right).phase ≡ unbegun }
+{
+    let mut merger = begun(rt, alloc, case, outside);
+    let text = told(rt, alloc, &mut merger, outside);
+    same(rt, &text, case.want);
+}
+
+/// Merges the streams of each case, of which a read gives at most `chunk` bytes.
+fn tells_all(rt: &impl Abort, alloc: Global, cases: &str, chunk: usize)
+    requires { 1 ≤ chunk }
+{
+    for line in cases.lines() {
+        let case = case_of(rt, alloc, line);
+        let mut outside = contents(rt, alloc, &case, chunk);
+        tells(rt, alloc, &case, &mut outside);
+    }
+}
+
+#[test]
+fn is_ready_where_the_first_row_is_sure(rt: HostRuntime) {
+    tells_all(&rt, rt.alloc(), READY_BY_ROWS, 4);
+    tells_all(&rt, rt.alloc(), READY_AT_ONCE, 4_096);
 }
 
 const TWO_A_SIDE: &str =
@@ -289,7 +356,7 @@ fn asks_once<O: Outside>(rt: &impl Abort, merger: &mut Merger, outside: &mut O)
     let _ = answer_of(merger, outside);
 }
 
-/// Asks a merger of a case for its first answer, and reads what comes behind it.
+/// Asks a merger of a case for its first answer, and reads what comes after it.
 fn reads_behind<O: Outside>(rt: &impl Abort, alloc: Global, case: &Case<'_>, outside: &mut O)
     requires left { (O.state outside.old role.Left).phase ≡ unbegun }
     requires right { (O.state outside.old role.Right).phase ≡ unbegun }
@@ -306,6 +373,7 @@ fn reads_no_more_than_the_heads(rt: HostRuntime) {
     reads_behind(&rt, rt.alloc(), &case, &mut outside);
 }
 
+/// Adds an event to a text.
 fn put_event(text: &mut String, event: Event<SharedRow>) -> Result<(), AllocError> {
     match event {
         Event::Arrive { no, side, row } => {
@@ -325,6 +393,7 @@ fn put_event(text: &mut String, event: Event<SharedRow>) -> Result<(), AllocErro
     }
 }
 
+/// Adds an answer to a text.
 fn put(text: &mut String, answer: Next) -> Result<(), AllocError> {
     match answer {
         Next::Event(event) => put_event(text, event),

@@ -20,7 +20,7 @@ const WHOLE: &str =
 /// Takes what may go to other threads and be read by them.
 fn crosses<T: Send + Sync + Drop>(_value: T) {}
 
-/// What a text is: a query, or its first fault as it is printed.
+/// Returns what a text is: a query, or its first fault as it is printed.
 fn judgement(rt: &impl Abort, alloc: Global, text: &[u8]) -> String {
     match parse(alloc, text) {
         Ok(_) => String::from_str(alloc, "a query").expect(rt, "memory"),
@@ -28,14 +28,14 @@ fn judgement(rt: &impl Abort, alloc: Global, text: &[u8]) -> String {
     }
 }
 
-/// Judges the text that is these parts, one behind the other.
+/// Judges the text that is these parts, one after the other.
 fn judge(rt: &impl Abort, alloc: Global, parts: &[&str], want: &str) {
     let text = parts.concat(alloc).expect(rt, "memory");
     let found = judgement(rt, alloc, text.as_bytes());
     assert_eq!(rt; found.as_str(), want, "of {text}");
 }
 
-/// Judges each text of a table behind a front. A line of a table is a text and, behind a bar, what it is.
+/// Judges each text of a table after a beginning. A line of a table is a text and, after a bar, what it is.
 fn judge_all(rt: &impl Abort, alloc: Global, front: &str, table: &str) {
     for line in table.lines() {
         let (text, want) = line.split_once(" | ").expect(rt, "a case");
@@ -43,7 +43,7 @@ fn judge_all(rt: &impl Abort, alloc: Global, front: &str, table: &str) {
     }
 }
 
-/// What each front of the whole text is, by its length.
+/// What each beginning of the whole text is, by its length.
 const FRONTS: &str = "\
 0 | expected LeftWord at 0
 4 | expected OpenParen at 4
@@ -90,7 +90,7 @@ const FRONTS: &str = "\
 121 | expected Term at 121
 125 | a query";
 
-/// Judges the front of the whole text that a line tells.
+/// Judges the beginning of the whole text that a line tells.
 fn judge_front(rt: &impl Abort, alloc: Global, line: &str) {
     let (length, want) = line.split_once(" | ").expect(rt, "a case");
     let length = length.parse::<usize>().expect(rt, "a length");
@@ -302,7 +302,7 @@ not  |  | 65 | too deep at 341
 not ( | ) | 32 | a query
 not ( | ) | 33 | too deep at 245";
 
-/// A condition that stands inside so many openings.
+/// Makes a condition that stands inside `count` openings.
 fn nested(
     rt: &impl Abort,
     alloc: Global,
@@ -336,7 +336,7 @@ fn bounds_the_depth(rt: HostRuntime) {
     }
 }
 
-/// Judges a condition between so many parentheses behind another one, and inside one more.
+/// Judges a condition between `count` parentheses after another one, and inside one more.
 fn judge_behind(rt: &impl Abort, alloc: Global, count: usize, inside: &str, deeper: &str) {
     let front = nested(rt, alloc, "(", ")", count, "l.k = r.k");
     let back = nested(rt, alloc, "(", ")", count, "1=1");
@@ -355,7 +355,7 @@ fn depth_ends_where_it_is_closed(rt: HostRuntime) {
     judge_behind(&rt, rt.alloc(), 64, "a query", "too deep at 291");
 }
 
-/// Judges a text in which so many of the same part stand between a front and a back.
+/// Judges a text in which the same part stands `count` times between a beginning and an end.
 fn judge_long(
     rt: &impl Abort,
     alloc: Global,
@@ -387,7 +387,7 @@ fn length_is_no_depth(rt: HostRuntime) {
     judge_long(&rt, rt.alloc(), on_one, "+1", 30000, "=1", "a query");
 }
 
-/// So many columns of a schema behind its word.
+/// Makes `count` columns of a schema after its word.
 fn columns_behind(rt: &impl Abort, alloc: Global, word: &str, count: usize) -> String {
     let mut text = [word, " (ts int"].concat(alloc).expect(rt, "memory");
     for number in 1..count {
@@ -415,7 +415,7 @@ fn takes_256_columns(rt: HostRuntime) {
     );
 }
 
-/// What comes behind 256 columns of the left schema.
+/// What comes after 256 columns of the left schema.
 const BEHIND_MOST_COLUMNS: &str = "\
 , c256 text) | too many columns at 2711
 , ts 1 | too many columns at 2711
@@ -445,7 +445,7 @@ fn bounds_the_text(rt: HostRuntime) {
     judge_long(&rt, rt.alloc(), &[WHOLE], " ", 65_411, " ", long);
 }
 
-/// The operands of an `or`.
+/// Returns the operands of an `or`.
 fn or_of<'a>(rt: &impl Abort, pred: &'a Pred) -> (&'a Pred, &'a Pred) {
     match pred {
         Pred::Or(left, right) => (left, right),
@@ -453,7 +453,7 @@ fn or_of<'a>(rt: &impl Abort, pred: &'a Pred) -> (&'a Pred, &'a Pred) {
     }
 }
 
-/// The operands of an `and`.
+/// Returns the operands of an `and`.
 fn and_of<'a>(rt: &impl Abort, pred: &'a Pred) -> (&'a Pred, &'a Pred) {
     match pred {
         Pred::And(left, right) => (left, right),
@@ -461,7 +461,7 @@ fn and_of<'a>(rt: &impl Abort, pred: &'a Pred) -> (&'a Pred, &'a Pred) {
     }
 }
 
-/// The sums of a `not` of a `<`.
+/// Returns the sums of a `not` of a `<`.
 fn not_less_of<'a>(rt: &impl Abort, pred: &'a Pred) -> (&'a Sum, &'a Sum) {
     let Pred::Not(inner) = pred else {
         panic!(rt; "no not");
@@ -472,7 +472,7 @@ fn not_less_of<'a>(rt: &impl Abort, pred: &'a Pred) -> (&'a Sum, &'a Sum) {
     }
 }
 
-/// Whether a part of a sum is added, and its term.
+/// Returns whether a part of a sum is added, and its term.
 fn part_of<'a>(rt: &impl Abort, sum: &'a Sum, at: usize) -> (bool, &'a Term) {
     let part = sum.rest.get(at).expect(rt, "a part");
     (part.plus, &part.term)

@@ -4,13 +4,13 @@ use hj_query::{Query, parse};
 use std::alloc::Global;
 use std::process::Abort;
 
-/// The query that these parts spell, one behind the other.
+/// Reads the query that these parts spell, one after the other.
 pub(crate) fn query_of(rt: &impl Abort, alloc: Global, parts: &[&str]) -> Query {
     let text = parts.concat(alloc).expect(rt, "memory");
     parse(alloc, text.as_bytes()).expect(rt, "a query")
 }
 
-/// A text of so many of the same part between a front and a back.
+/// Makes a text of `count` times the same part between a beginning and an end.
 pub(crate) fn long_text(
     rt: &impl Abort,
     alloc: Global,
