@@ -17,7 +17,7 @@ use Rattle.hj_chain.proofs.Goings.{enabled_going, cause-going}
 use Rattle.hj_chain.proofs.Looking.{at-dropped, none-passes, passes-one}
 use Rattle.std.proofs.lemmas.Bool.{lt-ltb}
 
-none-is : (o : Option NotNow) → is_none o ≡ true → o ≡ None
+pub none-is : (o : Option NotNow) → is_none o ≡ true → o ≡ None
 none-is None is = refl
 none-is (Some why) is = absurd (cc)
 

@@ -52,6 +52,7 @@ pub mod Standing
 pub mod Starting
 pub mod Stepping
 pub mod Stuck
+pub mod Sweeping
 pub mod Totals
 pub mod Turning
 pub mod UnderWay

@@ -1,7 +1,6 @@
 -- Where nothing is under way, each core has handled and reported each arrival and each quiet event that was put.
-use Rattle.std.proofs.Common.{◌≡◌, ℕ, zero, suc, ◌+◌, ◌-◌, ◌<◌, ◌≤◌, Bool, true, false, cond, ◌||◌, ◌==◌, nat_lt, inl, inr, List, [], ◌∷◌, ◌++◌, map, get_or, Contains, refl, ap, sym, ◌∙◌, subst, arith, append-nil, eq-eqb}
+use Rattle.std.proofs.Common.{◌≡◌, ℕ, zero, suc, ◌+◌, ◌-◌, ◌<◌, ◌≤◌, Bool, true, false, cond, ◌||◌, ◌==◌, nat_lt, inl, inr, List, [], ◌∷◌, ◌++◌, get_or, Contains, refl, ap, sym, ◌∙◌, subst, arith, append-nil, eq-eqb}
 use Rattle.std.specs.List.{list_any, flat_map}
-use Rattle.std.specs.Option.{option_to_list}
 use Rattle.std.proofs.lemmas.List.Folds.{list_any-append}
 use Rattle.hj_base.specs.declared.numbers.EventNo.{EventNo}
 use Rattle.hj_base.specs.declared.numbers.Side.{Side}
@@ -23,9 +22,7 @@ use Rattle.hj_msg.proofs.Marks.{told_option}
 use Rattle.hj_msg.proofs.Members.{Contains-nil, Contains-cons_cases}
 use Rattle.hj_chain.specs.declared.actor.Actor.{Actor}
 use Rattle.hj_chain.specs.Chain.{ChainState}
-use Rattle.hj_chain.specs.Reached.{Reached, history_of, collected_of, run_of}
-use Rattle.hj_chain.specs.Reports.{queue_at}
-use Rattle.hj_chain.proofs.Carrying.{rights, lefts}
+use Rattle.hj_chain.specs.Reached.{Reached, history_of, collected_of}
 use Rattle.hj_chain.proofs.Counts.{count, count-append}
 use Rattle.hj_chain.proofs.Driving.{turns_of}
 use Rattle.hj_chain.proofs.Gathered.{collected-at}

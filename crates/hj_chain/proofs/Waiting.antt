@@ -1,8 +1,7 @@
 -- What a chain has given where it waits for the next event.
-use Rattle.std.proofs.Common.{◌≡◌, ◌⊎◌, inl, inr, ℕ, zero, suc, ◌≤◌, Bool, true, false, cond, List, [], ◌∷◌, ◌++◌, length, take, slice_get, All, Contains, Some, None, refl, ap, sym, ◌∙◌, subst, arith, append_assoc, true≢false}
+use Rattle.std.proofs.Common.{◌≡◌, ◌⊎◌, inl, inr, ℕ, zero, suc, Bool, false, cond, List, [], ◌∷◌, ◌++◌, length, take, slice_get, Contains, Some, None, ap, sym, ◌∙◌, subst, append_assoc, true≢false}
 use Rattle.std.specs.Option.{is_none}
 use Rattle.std.proofs.lemmas.List.Elements.{All-contains}
-use Rattle.hj_base.specs.declared.numbers.Side.{Side}
 use Rattle.hj_msg.specs.declared.event.Event.{Event}
 use Rattle.hj_msg.specs.declared.event.Pair.{Pair}
 use Rattle.hj_msg.specs.declared.message.Report.{Report}
@@ -11,14 +10,14 @@ use Rattle.hj_msg.specs.Emission.{emitted}
 use Rattle.hj_msg.specs.Event.{IsWellFormed}
 use Rattle.hj_msg.specs.Feed.{event_in}
 use Rattle.hj_msg.specs.Kang.{kang}
-use Rattle.hj_msg.specs.Quiet.{IsQuietWithin, IsAmongLast, EmitsAllButLast}
+use Rattle.hj_msg.specs.Quiet.{IsQuietWithin, IsAmongLast}
 use Rattle.hj_msg.specs.Run.{IsRun}
 use Rattle.hj_msg.specs.Valid.{later}
 use Rattle.hj_msg.proofs.Members.{Contains-head, Contains-cons, Contains-filter}
 use Rattle.hj_msg.proofs.Prompt.{emits_all_but_last}
 use Rattle.hj_chain.specs.declared.actor.Actor.{Actor}
 use Rattle.hj_chain.specs.declared.actor.Actor.TheVariants.{Admit}
-use Rattle.hj_chain.specs.Chain.{ChainState, Contents, cause}
+use Rattle.hj_chain.specs.Chain.{ChainState, Contents}
 use Rattle.hj_chain.specs.Prompt.{WaitsForEvents, GaveAllButLast}
 use Rattle.hj_chain.specs.Reached.{Reached, StandsFor, history_of, collected_of, next_pair, run_of}
 use Rattle.hj_chain.specs.Serial.{actors, enabled, is_enabled}

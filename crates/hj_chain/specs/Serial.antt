@@ -1,5 +1,5 @@
 -- A serial run: one enabled actor after the other makes its step, each chosen by a rule.
-use Rattle.std.specs.Prelude.{◌≡◌, ℕ, ◌+◌, ◌-◌, ◌*◌, ◌≤◌, ◌%◌, ◌&&◌, not, nat_lt, if◌then◌else◌, Bool, true, false, List, [], ◌∷◌, ◌++◌, drop, filter, is_none, length, map, replicate, slice_get, take, None, Some}
+use Rattle.std.specs.Prelude.{◌≡◌, ℕ, ◌+◌, ◌-◌, ◌*◌, ◌<◌, ◌≤◌, ◌%◌, ◌&&◌, not, nat_lt, if◌then◌else◌, Bool, true, false, List, [], ◌∷◌, ◌++◌, drop, filter, is_none, length, map, replicate, slice_get, take, None, Some}
 use Rattle.std.specs.declared.option.Option.{Option}
 use Rattle.std.specs.List.{flat_map, range_with_len}
 use Rattle.hj_base.specs.declared.numbers.CoreNo.{CoreNo}
@@ -16,8 +16,6 @@ use Rattle.hj_msg.specs.Feed.{GoesOver, is_stop}
 use Rattle.hj_chain.specs.declared.actor.Actor.{Actor}
 use Rattle.hj_chain.specs.declared.actor.Actor.TheVariants.{Admit, PortLeft, PortRight, Core, Collect}
 use Rattle.hj_chain.specs.declared.actor.Stepped.TheVariants as stepped
-use Rattle.hj_chain.specs.declared.chain.serial.Rule.{Rule}
-use Rattle.hj_chain.specs.declared.chain.serial.Rule.TheVariants.{InTurn, Seeded}
 use Rattle.hj_chain.specs.declared.serial.Chooser.{Chooser}
 use Rattle.hj_chain.specs.declared.serial.Chooser.TheVariants as chooser
 use Rattle.hj_msg.specs.declared.fin.Fin.{Fin}
@@ -92,15 +90,17 @@ abbrev pub choosing_after : ℕ → Actor → Choosing → Choosing
 choosing_after n actor (from_place place) = from_place (place_behind n actor)
 choosing_after n actor (by_draw held) = by_draw (lcg.next held)
 
--- where a rule stands in the code
-abbrev pub choosing_of : Rule → Choosing
-choosing_of (InTurn place) = from_place place
-choosing_of (Seeded held) = by_draw held
-
 -- the place is one of those of n cores, or the one behind them all
 abbrev pub IsWithin : ℕ → Choosing → Type 0
 IsWithin n (from_place place) = place ≤ length (actors n)
 IsWithin n (by_draw held) = Unit {0}
+
+-- A place that may be tried next where a rule stands at this one: the rule names the actor there if it is enabled; else it names
+-- the same one from the place behind it on.
+pub record MayBeTried {P : Type 0} (place : ℕ) (ready : Bool) (chain : ChainState P) (at : ℕ) : Type 0 where
+  pub within : at < length (actors (length chain.cores))
+  pub named : (actor : Actor) → slice_get (actors (length chain.cores)) at ≡ Some actor → is_enabled chain actor ≡ true → chosen (from_place place) ready chain ≡ Some actor
+  pub passed : (actor : Actor) → slice_get (actors (length chain.cores)) at ≡ Some actor → is_enabled chain actor ≡ false → chosen (from_place place) ready chain ≡ chosen (from_place (at + 1)) ready chain
 
 -- Steps that are made one after another, each of the actor that the rule names then. Where memory runs out in one, none comes
 -- behind it.

@@ -1,4 +1,4 @@
-ghost use Rattle.std.specs.Prelude.{◌≡◌, ◌<◌, ◌≤◌, length, slice_get, Some};
+ghost use Rattle.std.specs.Prelude.{◌≡◌, ◌+◌, ◌<◌, ◌≤◌, length, slice_get, Some};
 ghost use Rattle.hj_chain.specs.Serial.{actors, place_behind};
 
 use hj_base::{CoreNo, EventNo, Side};
@@ -35,7 +35,8 @@ impl Actor {
     pub(crate) fn at(place: usize, cores: usize) -> Self
         requires few { cores ≤ 64 }
         requires within { place < length (actors cores) }
-        ensures { slice_get (actors cores) place ≡ Some result }
+        ensures actor { slice_get (actors cores) place ≡ Some result }
+        ensures behind { place_behind cores result ≡ place + 1 }
     {
         let ends = 2 * cores;
         match place {

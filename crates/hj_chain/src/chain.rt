@@ -19,7 +19,7 @@ ghost use Rattle.hj_chain.specs.Steps.{at_port, GoesWith, Gathers, HasRoom, IsGo
 use crate::links::Links;
 use crate::reports::Reports;
 use crate::{Actor, NotNow, Stepped};
-use hj_base::{CoreNo, Memory, Share, Side};
+use hj_base::{CoreNo, Gate, Memory, OpenGate, Share, Side};
 use hj_collect::Collector;
 use hj_core::{Core, Sends};
 use hj_driver::{Admitted, Closing, Driver};
@@ -167,11 +167,37 @@ impl<P: Share + Drop, J: Join<P> + Drop, L: Store<P, J> + Drop, R: Store<P, J> +
         if self.over {
             return Stepped::NotEnabled(NotNow::Over);
         }
+        self.step_past(actor, feed, &OpenGate, 0)
+    }
+
+    /// Makes a step of an actor, if it is enabled, as `step` does, where memory didn't run out in an earlier one. A core passes the
+    /// gate before its step, with the number of steps that were made before.
+    #[inline(always)]
+    fn step_past<F: Feed<P>, G: Gate>(
+        &mut self,
+        actor: Actor,
+        feed: &mut F,
+        gate: &G,
+        made: u64,
+    ) -> Stepped
+        requires goes { GoesWith J.predicate self.old (F.state feed.old) }
+        requires going { self.old.state.over ≡ false }
+        ensures step { Steps F.gives F.ready (J.predicate self.old.join) actor self.old.state feed.old result self.new.state feed.new }
+        ensures answers { was_asked actor self.old.state.next (F.ready feed.old) result ≡ true → IfSome self.new.state.next (λ given. Answers given (F.state feed.old) (F.state feed.new)) }
+        ensures join { self.new.join ≡ self.old.join }
+        ensures gathers { Gathers actor self.old result self.new }
+        ensures room { HasRoom self.new.state }
+        ensures goes { GoesWith J.predicate self.new (F.state feed.new) }
+        ensures stands { (schedule : List Actors) (events : List (Event P)) (given : ℕ) → StandsFor J.predicate self.old schedule events given → result ≡ Stepped.Did
+            → StandsFurther F.gives J.predicate (schedule ++ actor ∷ []) events given feed.old self.new feed.new }
+        ensures stays { (schedule : List Actors) (events : List (Event P)) (given : ℕ) → StandsFor J.predicate self.old schedule events given → result ≢ Stepped.Did
+            → StandsFor J.predicate self.new schedule events given }
+    {
         match actor {
             Actor::Admit => self.admit(feed),
             Actor::PortLeft => self.receive(Side::Left),
             Actor::PortRight => self.receive(Side::Right),
-            Actor::Core(core, end) => self.turn(core, end),
+            Actor::Core(core, end) => self.turn(core, end, gate, made),
             Actor::Collect(core) => self.collect(core),
         }
     }
@@ -288,9 +314,10 @@ impl<P: Share + Drop, J: Join<P> + Drop, L: Store<P, J> + Drop, R: Store<P, J> +
         }
     }
 
-    /// Lets a core handle the first message that comes in at one of its ends.
+    /// Lets a core handle the first message that comes in at one of its ends. It passes the gate before, with the number of steps
+    /// that were made before.
     #[inline(always)]
-    fn turn(&mut self, core: CoreNo, end: Side) -> Stepped
+    fn turn<G: Gate>(&mut self, core: CoreNo, end: Side, gate: &G, made: u64) -> Stepped
         requires { IsGoing J.predicate self.old }
         ensures step { (answer : FeedAnswer P) → StepsTo (J.predicate self.old.join) (Actor.Core core end) answer self.old.state result self.new.state }
         ensures others { self.new ≡ record self.old { state = self.new.state } }
@@ -305,6 +332,7 @@ impl<P: Share + Drop, J: Join<P> + Drop, L: Store<P, J> + Drop, R: Store<P, J> +
         if self.reports.is_full(place) {
             return Stepped::NotEnabled(NotNow::ReportsFull);
         }
+        gate.pass(core, made);
         let core = &mut self.cores[place];
         let Ok(prepared) = core.prepare(msg) else {
             self.over = true;

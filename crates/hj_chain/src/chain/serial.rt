@@ -1,10 +1,10 @@
-ghost use Rattle.std.specs.Prelude.{◌≡◌, ◌+◌, ◌-◌, ◌*◌, ◌%◌, ◌<◌, ◌≤◌, ◌++◌, true, ℕ, List, length, slice_get, is_none, take, drop, filter, Bool, IfSome, IfNone};
+ghost use Rattle.std.specs.Prelude.{◌≡◌, ◌+◌, ◌-◌, ◌*◌, ◌%◌, ◌<◌, ◌≤◌, ◌++◌, true, false, ℕ, List, length, slice_get, is_none, take, drop, filter, Bool, IfSome, IfNone};
 ghost use Rattle.hj_msg.specs.declared.event.Event.{Event};
 ghost use Rattle.hj_msg.specs.Feed.{FeedState};
 ghost use Rattle.hj_chain.specs.declared.actor.Actor.{Actor as Actors};
 ghost use Rattle.hj_chain.specs.Chain.{admit_cause};
 ghost use Rattle.hj_chain.specs.Reached.{StandsFor};
-ghost use Rattle.hj_chain.specs.Serial.{Choosing, IsWithin, Releases, RunsSerially, actors, chosen, choosing_after, choosing_of, drawn_from, enabled, first_choosing, in_turn, is_enabled, would_wait};
+ghost use Rattle.hj_chain.specs.Serial.{MayBeTried, Releases, RunsSerially, actors, chosen, drawn_from, enabled, from_place, in_turn, is_enabled, would_wait};
 ghost use Rattle.hj_chain.specs.Steps.{GoesWith};
 
 use crate::{Actor, Chain, Chooser, Stepped};
@@ -69,17 +69,79 @@ impl<P: Share + Drop, J: Join<P> + Drop, L: Store<P, J> + Drop, R: Store<P, J> +
         ensures join { self.new.join ≡ self.old.join }
         ensures goes { GoesWith J.predicate self.new (F.state feed.new) }
     {
-        let mut rule = Rule::new(chooser);
+        match chooser {
+            Chooser::InTurn => self.run_in_turn(feed, drain, gate),
+            Chooser::Seeded(seed) => self.run_drawn(seed, feed, drain, gate),
+        }
+    }
+
+    /// Makes the steps of a serial run in turn, by a sweep over the actors: each one is tried once, and makes its step if it is
+    /// enabled.
+    fn run_in_turn<F: Feed<P>, D: Drain<P>, G: Gate>(
+        &mut self,
+        feed: &mut F,
+        drain: &mut D,
+        gate: &G,
+    ) -> Fin
+        requires { GoesWith J.predicate self.old (F.state feed.old) }
+        ensures runs { (schedule : List Actors) (events : List (Event P)) (given : ℕ) → StandsFor J.predicate self.old schedule events given
+            → RunsSerially F.gives F.ready D.takes J.predicate Chooser.InTurn schedule events given self.old feed.old drain.old result self.new feed.new drain.new }
+        ensures join { self.new.join ≡ self.old.join }
+        ensures goes { GoesWith J.predicate self.new (F.state feed.new) }
+    {
+        let count = Actor::count(self.cores.len());
+        let (mut place, mut idle) = (0, 0);
         let mut made: u64 = 0;
         if self.release(drain) == Drained::Refused {
             return Fin::Refused;
         }
-        while let Some(actor) = rule.next(self, self.would_wait(feed)) {
-            pass(gate, actor, made);
-            made = made.saturating_add(1);
-            if self.step(actor, feed) == Stepped::Memory {
+        if self.over {
+            return Fin::Memory;
+        }
+        while let Some(at) = self.place_to_try(place, idle, count, feed) {
+            place = at + 1;
+            let actor = Actor::at(at, self.cores.len());
+            match self.step_past(actor, feed, gate, made) {
+                Stepped::NotEnabled(_) => idle += 1,
+                Stepped::Memory => return Fin::Memory,
+                Stepped::Did => {
+                    idle = 0;
+                    made = made.saturating_add(1);
+                    if let Actor::Collect(_) = actor {
+                        if self.release(drain) == Drained::Refused {
+                            return Fin::Refused;
+                        }
+                    }
+                }
+            }
+        }
+        Fin::Done
+    }
+
+    /// Makes the steps of a serial run whose actors a generator names that begins with this seed.
+    fn run_drawn<F: Feed<P>, D: Drain<P>, G: Gate>(
+        &mut self,
+        seed: u64,
+        feed: &mut F,
+        drain: &mut D,
+        gate: &G,
+    ) -> Fin
+        requires { GoesWith J.predicate self.old (F.state feed.old) }
+        ensures runs { (schedule : List Actors) (events : List (Event P)) (given : ℕ) → StandsFor J.predicate self.old schedule events given
+            → RunsSerially F.gives F.ready D.takes J.predicate (Chooser.Seeded seed) schedule events given self.old feed.old drain.old result self.new feed.new drain.new }
+        ensures join { self.new.join ≡ self.old.join }
+        ensures goes { GoesWith J.predicate self.new (F.state feed.new) }
+    {
+        let mut lcg = Lcg::new(seed);
+        let mut made: u64 = 0;
+        if self.release(drain) == Drained::Refused {
+            return Fin::Refused;
+        }
+        while let Some(actor) = self.drawn(lcg.draw(), self.would_wait(feed)) {
+            if self.step_past(actor, feed, gate, made) == Stepped::Memory {
                 return Fin::Memory;
             }
+            made = made.saturating_add(1);
             if let Actor::Collect(_) = actor {
                 if self.release(drain) == Drained::Refused {
                     return Fin::Refused;
@@ -87,6 +149,58 @@ impl<P: Share + Drop, J: Join<P> + Drop, L: Store<P, J> + Drop, R: Store<P, J> +
             }
         }
         if self.over { Fin::Memory } else { Fin::Done }
+    }
+
+    /// Returns the place to be tried next, among those of `count` actors, where the sweep has come to `place` and passed over
+    /// `idle` actors since the last step. Once it passed over as many as there are, that of the enabled one that is left, as the
+    /// driver's put that would wait; None where none is.
+    #[inline(always)]
+    fn place_to_try<F: Feed<P>>(
+        &self,
+        place: usize,
+        idle: usize,
+        count: usize,
+        feed: &F,
+    ) -> Option<usize>
+        requires all { count ≡ length (actors (length self.now.state.cores)) }
+        requires within { place ≤ count }
+        requires few { idle ≤ count }
+        ensures tried { IfSome result (MayBeTried place (F.ready feed.now) self.now.state) }
+        ensures passed { IfSome result (λ at. (actor : Actors) → slice_get (actors (length self.now.state.cores)) at ≡ Some actor → is_enabled self.now.state actor ≡ false → idle < count) }
+        ensures none { IfNone result (chosen (from_place place) (F.ready feed.now) self.now.state ≡ None) }
+    {
+        if idle == count {
+            return self.place_left(place, self.would_wait(feed));
+        }
+        Some(self.place_or_next(place, count, feed))
+    }
+
+    /// Returns this place, all the way round; not that of the driver's put where it would wait, but the next one.
+    #[inline(always)]
+    fn place_or_next<F: Feed<P>>(&self, place: usize, count: usize, feed: &F) -> usize
+        requires all { count ≡ length (actors (length self.now.state.cores)) }
+        requires within { place ≤ count }
+        ensures { MayBeTried place (F.ready feed.now) self.now.state result }
+    {
+        let at = if place == count { 0 } else { place };
+        if at == 0 && self.would_wait(feed) {
+            1
+        } else {
+            at
+        }
+    }
+
+    /// Returns the place of the first enabled actor from this place on, all the way round; the driver's put comes last where it
+    /// would wait.
+    #[cold]
+    fn place_left(&self, place: usize, waits: bool) -> Option<usize>
+        requires { place ≤ length (actors (length self.now.state.cores)) }
+        ensures tried { (ready : Bool) → waits ≡ would_wait ready self.now.state → IfSome result (MayBeTried place ready self.now.state) }
+        ensures enabled { IfSome result (λ at. (actor : Actors) → slice_get (actors (length self.now.state.cores)) at ≡ Some actor → is_enabled self.now.state actor ≡ true) }
+        ensures none { (ready : Bool) → waits ≡ would_wait ready self.now.state → IfNone result (chosen (from_place place) ready self.now.state ≡ None) }
+    {
+        let actor = self.first_from(place, waits)?;
+        Some(actor.place_behind(self.cores.len()) - 1)
     }
 
     /// Gives the pairs that are due to the drain, one after the other, up to the first one that it refuses.
@@ -169,7 +283,7 @@ impl<P: Share + Drop, J: Join<P> + Drop, L: Store<P, J> + Drop, R: Store<P, J> +
 
     /// Returns the first enabled actor from this place on, all the way round; the driver's put comes last where it
     /// would wait.
-    #[inline(always)]
+    #[cold]
     fn first_from(&self, place: usize, waits: bool) -> Option<Actor>
         requires { place ≤ length (actors (length self.now.state.cores)) }
         ensures { result ≡ slice_get (filter (is_enabled self.now.state) (in_turn (length self.now.state.cores) waits place)) 0 }
@@ -209,56 +323,5 @@ impl<P: Share + Drop, J: Join<P> + Drop, L: Store<P, J> + Drop, R: Store<P, J> +
             }
         }
         None
-    }
-}
-
-/// Passes the gate before a step of a core.
-#[inline(always)]
-fn pass<G: Gate>(gate: &G, actor: Actor, made: u64) {
-    if let Actor::Core(core, _) = actor {
-        gate.pass(core, made);
-    }
-}
-
-/// Which actor is looked at first for the next step of a serial run.
-#[derive(Drop)]
-enum Rule {
-    /// The one at this place; then all others, all the way round.
-    InTurn(usize),
-    /// The one that the generator names.
-    Seeded(Lcg),
-}
-
-impl Rule {
-    fn new(chooser: Chooser) -> Self
-        ensures { choosing_of result ≡ first_choosing chooser }
-    {
-        match chooser {
-            Chooser::InTurn => Rule::InTurn(0),
-            Chooser::Seeded(seed) => Rule::Seeded(Lcg::new(seed)),
-        }
-    }
-
-    /// Returns the enabled actor that makes the next step, where the driver's put would wait or not; None where none
-    /// is enabled.
-    #[inline(always)]
-    fn next<P: Share + Drop, J: Join<P> + Drop, L: Store<P, J> + Drop, R: Store<P, J> + Drop>(
-        &mut self,
-        chain: &Chain<P, J, L, R>,
-        waits: bool,
-    ) -> Option<Actor>
-        requires within { IsWithin (length chain.now.state.cores) (choosing_of self.old) }
-        ensures actor { (ready : Bool) → waits ≡ would_wait ready chain.now.state → result ≡ chosen (choosing_of self.old) ready chain.now.state }
-        ensures goes_on { IfSome result (λ actor. choosing_of self.new ≡ choosing_after (length chain.now.state.cores) actor (choosing_of self.old)) }
-        ensures still_within { IsWithin (length chain.now.state.cores) (choosing_of self.new) }
-    {
-        match self {
-            Rule::InTurn(place) => {
-                let actor = chain.first_from(*place, waits)?;
-                *place = actor.place_behind(chain.cores.len());
-                Some(actor)
-            }
-            Rule::Seeded(lcg) => chain.drawn(lcg.draw(), waits),
-        }
     }
 }

@@ -28,7 +28,7 @@ pub loop-place-preserved : goal.loop-place-preserved
 loop-place-preserved g c =
     let n : c.len-cores.result ≡ length c.args.self.now.state.cores = (c.len-cores.ensures ∙ c.self.inside.cores.ok.0 ∙ sym (length-map c.self.inside.cores.items (state_of g.L.Store.entries g.R.Store.entries)) ∙ ap (λ (k : Contents g.row.P.Denot g.row.J.Denot). length k.state.cores) c.self.view_is) in
     let all = actors (length c.args.self.now.state.cores) in
-    let here : slice_get all c.loop-place.place ≡ Some c.at.result = subst (λ (m : ℕ). slice_get (actors m) c.loop-place.place ≡ Some c.at.result) n c.at.ensures in
+    let here : slice_get all c.loop-place.place ≡ Some c.at.result = subst (λ (m : ℕ). slice_get (actors m) c.loop-place.place ≡ Some c.at.result) n c.at.ensures.actor in
     elim c.if-is_enabled.branch [
       | then-is_enabled w ↦
           omega (

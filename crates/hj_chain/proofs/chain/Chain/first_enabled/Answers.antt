@@ -13,7 +13,7 @@ returns-then-is_enabled g c =
     let all = actors (length c.args.self.now.state.cores) in
     let test = is_enabled c.args.self.now.state in
     let i : ℕ = c.loop-place.place - c.args.from in
-    let here : slice_get all c.loop-place.place ≡ Some c.at-actor.result = subst (λ (m : ℕ). slice_get (actors m) c.loop-place.place ≡ Some c.at-actor.result) n c.at-actor.ensures in
+    let here : slice_get all c.loop-place.place ≡ Some c.at-actor.result = subst (λ (m : ℕ). slice_get (actors m) c.loop-place.place ≡ Some c.at-actor.result) n c.at-actor.ensures.actor in
     let there : slice_get (drop c.args.from all) i ≡ Some c.at-actor.result = at-dropped all c.args.from c.loop-place.place i (omega (arith, c.loop-place.auto.place)) ∙ here in
     let stands = found test (drop c.args.from all) i c.at-actor.result there (sym c.is_enabled.ensures ∙ c.if-is_enabled.true) (c.args.to - c.args.from) (omega (arith, c.loop-place-test.true, c.loop-place.auto.place)) in
     sym (subst (λ (k : ℕ). slice_get (filter test (take (c.args.to - c.args.from) (drop c.args.from all))) k ≡ Some c.at-actor.result) (ap length c.loop-place.invariant) stands)
@@ -23,6 +23,6 @@ loop-place-preserved g c =
     let n : c.len-cores.result ≡ length c.args.self.now.state.cores = (c.len-cores.ensures ∙ c.self.inside.cores.ok.0 ∙ sym (length-map c.self.inside.cores.items (state_of g.L.Store.entries g.R.Store.entries)) ∙ ap (λ (k : Contents g.row.P.Denot g.row.J.Denot). length k.state.cores) c.self.view_is) in
     let all = actors (length c.args.self.now.state.cores) in
     let i : ℕ = c.loop-place.place - c.args.from in
-    let here : slice_get all c.loop-place.place ≡ Some c.at-actor.result = subst (λ (m : ℕ). slice_get (actors m) c.loop-place.place ≡ Some c.at-actor.result) n c.at-actor.ensures in
+    let here : slice_get all c.loop-place.place ≡ Some c.at-actor.result = subst (λ (m : ℕ). slice_get (actors m) c.loop-place.place ≡ Some c.at-actor.result) n c.at-actor.ensures.actor in
     let there : slice_get (drop c.args.from all) i ≡ Some c.at-actor.result = at-dropped all c.args.from c.loop-place.place i (omega (arith, c.loop-place.auto.place)) ∙ here in
     none-more (is_enabled c.args.self.now.state) (drop c.args.from all) i c.at-actor.result there (sym c.is_enabled.ensures ∙ c.if-is_enabled.false) (c.loop-place.place + 1 - c.args.from) (omega (arith, c.loop-place.auto.place)) ∙ c.loop-place.invariant

@@ -15,7 +15,7 @@ returns-then-passed-at g c =
     let n : c.len-cores.result ≡ length c.args.self.now.state.cores = (c.len-cores.ensures ∙ c.self.inside.cores.ok.0 ∙ sym (length-map c.self.inside.cores.items (state_of g.L.Store.entries g.R.Store.entries)) ∙ ap (λ (k : Contents g.row.P.Denot g.row.J.Denot). length k.state.cores) c.self.view_is) in
     let all = actors (length c.args.self.now.state.cores) in
     let test = is_enabled c.args.self.now.state in
-    let here : slice_get all c.loop-place.place ≡ Some c.at-actor.result = subst (λ (m : ℕ). slice_get (actors m) c.loop-place.place ≡ Some c.at-actor.result) n c.at-actor.ensures in
+    let here : slice_get all c.loop-place.place ≡ Some c.at-actor.result = subst (λ (m : ℕ). slice_get (actors m) c.loop-place.place ≡ Some c.at-actor.result) n c.at-actor.ensures.actor in
     let within : c.loop-place.place < length all = omega (arith, c.loop-place-test.true, c.count-place-end.ensures, ap (λ (m : ℕ). length (actors m)) n) in
     let stands = found test all c.loop-place.place c.at-actor.result here (sym c.is_enabled.ensures ∙ c.if-is_enabled.true) (length all) within in
     let at : length (filter test (take c.loop-place.place all)) ≡ c.args.at = sym c.loop-place.invariant.passed ∙ c.if-passed-at.true in
@@ -25,7 +25,7 @@ pub loop-place-preserved : goal.loop-place-preserved
 loop-place-preserved g c =
     let n : c.len-cores.result ≡ length c.args.self.now.state.cores = (c.len-cores.ensures ∙ c.self.inside.cores.ok.0 ∙ sym (length-map c.self.inside.cores.items (state_of g.L.Store.entries g.R.Store.entries)) ∙ ap (λ (k : Contents g.row.P.Denot g.row.J.Denot). length k.state.cores) c.self.view_is) in
     let all = actors (length c.args.self.now.state.cores) in
-    let here : slice_get all c.loop-place.place ≡ Some c.at-actor.result = subst (λ (m : ℕ). slice_get (actors m) c.loop-place.place ≡ Some c.at-actor.result) n c.at-actor.ensures in
+    let here : slice_get all c.loop-place.place ≡ Some c.at-actor.result = subst (λ (m : ℕ). slice_get (actors m) c.loop-place.place ≡ Some c.at-actor.result) n c.at-actor.ensures.actor in
     elim c.if-is_enabled.branch [
       | then-is_enabled+else-passed-at w ↦ record {
         passed =

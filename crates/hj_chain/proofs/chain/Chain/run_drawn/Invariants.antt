@@ -1,12 +1,13 @@
 use Rattle.std.proofs.Common.{◌≡◌, ◌+◌, ◌*◌, false, length}
-use Rattle.hj_chain.specs.Serial.{choosing_of}
+use Rattle.hj_chain.specs.declared.serial.Chooser.TheVariants as chooser
+use Rattle.hj_chain.specs.Serial.{by_draw}
 use Rattle.hj_chain.proofs.FewSteps.{to_come}
 use Rattle.hj_chain.proofs.SerialRuns.{Running, Settled}
-use Rattle.hj_chain.proofs.chain.Chain.run_serial.Given as goal
+use Rattle.hj_chain.proofs.chain.Chain.run_drawn.Given as goal
 
 abbrev pub invariant-loop-actor : goal.invariant-loop-actor
 invariant-loop-actor g l = record {
-  running : Running g.F.Feed.gives g.F.Feed.ready g.D.Drain.takes g.F.Feed.state g.J.Join.predicate l.fn.chooser l.fn.self l.fn.feed l.fn.drain (choosing_of l.rule) l.self l.feed l.drain;
+  running : Running g.F.Feed.gives g.F.Feed.ready g.D.Drain.takes g.F.Feed.state g.J.Join.predicate (chooser.Seeded l.fn.seed) l.fn.self l.fn.feed l.fn.drain (by_draw l.lcg) l.self l.feed l.drain;
   settled : l.self.state.over ≡ false → Settled l.self;
 }
 
