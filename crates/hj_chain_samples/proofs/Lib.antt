@@ -1,2 +1,3 @@
 mod FirstRow
+mod SilentSide
 mod TwoRows

@@ -23,6 +23,8 @@ mod released;
 #[cfg(test)]
 mod rows;
 #[cfg(test)]
+mod silence;
+#[cfg(test)]
 mod stores;
 #[cfg(test)]
 mod threads;
