@@ -1,4 +1,4 @@
-ghost use Rattle.std.specs.Prelude.{◌≡◌, ◌≢◌, ◌↔◌, true, ◌+◌, ◌^◌, ◌<◌, ◌≤◌, ◌++◌, [], ◌∷◌, ℕ, false, List, length, map, replicate, option_to_list, Some, All, IfOk, IfSome, IfNone, IsPermutation, OnErr};
+ghost use Rattle.std.specs.Prelude.{◌≡◌, ◌≢◌, ◌↔◌, true, ◌+◌, ◌<◌, ◌≤◌, ◌++◌, [], ◌∷◌, ℕ, false, List, length, map, replicate, option_to_list, Some, All, IfOk, IfSome, IfNone, IsPermutation, OnErr};
 ghost use Rattle.hj_base.specs.declared.numbers.Side.{Side as Sides};
 ghost use Rattle.hj_base.specs.declared.numbers.Side.TheVariants.{Left, Right};
 ghost use Rattle.hj_msg.specs.declared.event.Event.{Event};
@@ -6,14 +6,11 @@ ghost use Rattle.hj_chain.specs.declared.actor.Actor.{Actor as Actors};
 ghost use Rattle.hj_msg.specs.Core.{empty_state};
 ghost use Rattle.hj_msg.specs.Feed.{IsFresh, Answers, FeedState};
 ghost use Rattle.hj_core.specs.Contents.{state_of};
-ghost use Rattle.hj_core.specs.Sent.{sent};
 ghost use Rattle.hj_chain.specs.Placed.{ArePlaced};
 ghost use Rattle.hj_chain.specs.Chain.{FeedAnswer, empty_chain, if_there};
 ghost use Rattle.hj_collect.specs.Collector.{nothing_taken};
 ghost use Rattle.hj_chain.specs.Reached.{StandsFor, next_pair};
 ghost use Rattle.hj_chain.specs.Progress.{IsDone};
-ghost use Rattle.hj_chain.specs.Links.{changed_at, link_at, send_out};
-ghost use Rattle.hj_chain.specs.Reports.{queue_at};
 ghost use Rattle.hj_chain.specs.Steps.{at_port, GoesWith, Gathers, HasRoom, IsGoing, Ran, StandsFurther, Steps, StepsTo, Tells, was_asked};
 
 use crate::links::Links;
@@ -21,7 +18,7 @@ use crate::reports::Reports;
 use crate::{Actor, NotNow, Stepped};
 use hj_base::{CoreNo, Gate, Memory, OpenGate, Share, Side};
 use hj_collect::Collector;
-use hj_core::{Core, Sends};
+use hj_core::Core;
 use hj_driver::{Admitted, Closing, Driver};
 use hj_msg::{Feed, Given, Join, Msg, Pair, Store};
 use hj_order::Ordered;
@@ -334,15 +331,15 @@ impl<P: Share + Drop, J: Join<P> + Drop, L: Store<P, J> + Drop, R: Store<P, J> +
         }
         gate.pass(core, made);
         let core = &mut self.cores[place];
-        let Ok(prepared) = core.prepare(msg) else {
+        let Ok(entry) = core.handle(msg) else {
             self.over = true;
             return Stepped::Memory;
         };
         let Some(msg) = self.links.take_in(place, end) else {
             unreachable!()
         };
-        let sends = core.commit(msg, prepared);
-        put_sends(&mut self.links, &mut self.reports, place, sends);
+        self.links.send_on(place, self.cores.len(), msg);
+        self.reports.put(place, entry);
         Stepped::Did
     }
 
@@ -385,24 +382,6 @@ fn next_if_there<P, F: Feed<P>>(feed: &mut F) -> Option<Given<P>>
     } else {
         None
     }
-}
-
-/// Puts what a core sends on its links, and its report into its queue.
-#[inline(always)]
-fn put_sends<P: Drop>(links: &mut Links<P>, reports: &mut Reports<P>, place: usize, sends: Sends<P>)
-    requires small { place < 2 ^ 16 }
-    requires in_links { place + 1 < length links.old }
-    requires in_reports { place < length reports.old.queues }
-    requires room_left { length (link_at links.old place).leftwards + 1 ≤ (link_at links.old place).capacity }
-    requires room_right { length (link_at links.old (place + 1)).rightwards + length (sent sends).right ≤ (link_at links.old (place + 1)).capacity }
-    requires room { length (queue_at reports.old.queues place) < reports.old.capacity }
-    ensures links { links.new ≡ send_out place (sent sends).left (sent sends).right links.old }
-    ensures reports { reports.new ≡ record reports.old { queues = changed_at place (λ queue. queue ++ option_to_list sends.entry) reports.old.queues } }
-{
-    links.put_left(place, sends.to_left);
-    links.put_right(place + 1, sends.to_right);
-    links.put_right(place + 1, sends.to_right_then);
-    reports.put(place, sends.entry);
 }
 
 /// Makes a core for each two stores, each at its place. Stores are taken from the ends of their lists, so the last

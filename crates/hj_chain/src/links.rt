@@ -1,9 +1,10 @@
-ghost use Rattle.std.specs.Prelude.{◌≡◌, ◌+◌, ◌^◌, ◌<◌, ◌≤◌, [], ◌∷◌, length, replicate, option_to_list, IfOk};
+ghost use Rattle.std.specs.Prelude.{◌≡◌, ◌+◌, ◌++◌, ◌^◌, ◌<◌, ◌≤◌, [], ◌∷◌, length, replicate, option_to_list, IfOk};
 ghost use Rattle.std.specs.Option.{option_copied};
 ghost use Rattle.hj_base.specs.declared.numbers.Side.TheVariants.{Left, Right};
+ghost use Rattle.hj_msg.specs.Core.{only_if, sends};
 ghost use Rattle.hj_queue.specs.Queues.{no_messages};
 ghost use Rattle.hj_chain.specs.Chain.{first};
-ghost use Rattle.hj_chain.specs.Links.{link_at, changed_at, put_leftwards, put_rightwards, at_port, HasRoomAt, incoming as incoming_of, put_in, take_out, take_in};
+ghost use Rattle.hj_chain.specs.Links.{link_at, changed_at, put_leftwards, put_rightwards, at_port, HasRoomAt, incoming as incoming_of, put_in, send_out, take_out, take_in};
 
 use hj_base::{Memory, Side};
 use hj_msg::Msg;
@@ -107,6 +108,58 @@ impl<P: Drop> Links<P> {
         }
     }
 
+    /// Puts what a core of this place among `cores` sends for a message that it handled on the links at its sides.
+    #[inline(always)]
+    pub fn send_on(&mut self, place: usize, cores: usize, msg: Msg<P>)
+        requires small { place < 2 ^ 16 }
+        requires in_range { place + 1 < length self.old }
+        requires room_left { length (link_at self.old place).leftwards + 1 ≤ (link_at self.old place).capacity }
+        requires room_right { length (link_at self.old (place + 1)).rightwards + length (sends place cores msg).right ≤ (link_at self.old (place + 1)).capacity }
+        ensures { self.new ≡ send_out place (sends place cores msg).left (sends place cores msg).right self.old }
+    {
+        match msg {
+            Msg::R { no, row } => {
+                let ends = when(place + 1 == cores, Msg::EndR(no));
+                self.put_around(place, ends, Some(Msg::R { no, row }), None);
+            }
+            Msg::S { no, row } => {
+                let acknowledged = when(place + 1 < cores, Msg::AckS(no));
+                let ends = when(place == 0, Msg::EndS(no));
+                self.put_around(place, Some(Msg::S { no, row }), acknowledged, ends);
+            }
+            Msg::EndR(no) => self.put_around(place, Some(Msg::EndR(no)), None, None),
+            Msg::ExpR(no) => self.put_around(place, Some(Msg::ExpR(no)), None, None),
+            Msg::QuietR(no) => self.put_around(place, Some(Msg::QuietR(no)), None, None),
+            Msg::CloseR => self.put_around(place, Some(Msg::CloseR), None, None),
+            Msg::EndS(no) => self.put_around(place, None, Some(Msg::EndS(no)), None),
+            Msg::ExpS(no) => self.put_around(place, None, Some(Msg::ExpS(no)), None),
+            Msg::QuietL(no) => self.put_around(place, None, Some(Msg::QuietL(no)), None),
+            Msg::CloseL => self.put_around(place, None, Some(Msg::CloseL), None),
+            Msg::AckS(_) => self.put_around(place, None, None, None),
+        }
+    }
+
+    /// Puts messages on the links at the sides of the core of a place: at most one to the left, and to the right one and then
+    /// another.
+    #[inline(always)]
+    fn put_around(
+        &mut self,
+        place: usize,
+        to_left: Option<Msg<P>>,
+        to_right: Option<Msg<P>>,
+        to_right_then: Option<Msg<P>>,
+    )
+        requires small { place < 2 ^ 16 }
+        requires in_range { place + 1 < length self.old }
+        requires room_left { length (link_at self.old place).leftwards + 1 ≤ (link_at self.old place).capacity }
+        requires room_right { length (link_at self.old (place + 1)).rightwards + length (option_to_list to_right ++ option_to_list to_right_then) ≤ (link_at self.old (place + 1)).capacity }
+        ensures { self.new ≡ send_out place (option_to_list to_left) (option_to_list to_right ++ option_to_list to_right_then) self.old }
+    {
+        self.put_left(place, to_left);
+        self.put_right(place + 1, to_right);
+        self.put_right(place + 1, to_right_then);
+    }
+
     /// Puts a message in at a port of a chain of this many cores.
     #[inline(always)]
     pub fn put_in(&mut self, port: Side, cores: usize, msg: Msg<P>)
@@ -132,4 +185,12 @@ impl<P: Drop> Links<P> {
             Side::Right => self.links[cores].take_right(),
         }
     }
+}
+
+/// Returns a message if it is to be sent.
+#[inline(always)]
+fn when<P: Drop>(holds: bool, msg: Msg<P>) -> Option<Msg<P>>
+    ensures { option_to_list result ≡ only_if holds msg }
+{
+    if holds { Some(msg) } else { None }
 }

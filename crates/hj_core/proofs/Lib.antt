@@ -1,2 +1,3 @@
 mod Flights
+mod Homes
 mod Merges

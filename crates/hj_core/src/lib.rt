@@ -2,6 +2,7 @@
 //! send on.
 #![tactic(auto)]
 
+mod at_home;
 mod flight;
 mod flying;
 mod one_core;

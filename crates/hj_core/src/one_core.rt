@@ -1,11 +1,11 @@
-ghost use Rattle.std.specs.Prelude.{◌≡◌, ◌+◌, ◌==◌, ◌<◌, nat_lt, ◌≤◌, ◌↔◌, [], not, ◌&&◌, IfOk, MatchOption};
+ghost use Rattle.std.specs.Prelude.{◌≡◌, ◌+◌, ◌==◌, ◌<◌, nat_lt, ◌≤◌, [], not, ◌&&◌, IfOk, OnErr, MatchOption};
 ghost use Rattle.std.specs.Option.{ForSome};
-ghost use Rattle.hj_base.specs.declared.numbers.Side.{Side as Sides};
 ghost use Rattle.hj_msg.specs.Core.{empty_state, after, sends, report, is_home, is_last};
-ghost use Rattle.hj_msg.specs.Store.{with_element, with_entry};
-ghost use Rattle.hj_msg.specs.declared.message.Msg.TheVariants.{R as LeftRow, S as RightRow};
+ghost use Rattle.hj_msg.specs.Store.{with_element};
+ghost use Rattle.hj_msg.specs.declared.message.Msg.TheVariants.{R as LeftRow, S as RightRow, EndR, EndS, ExpR, ExpS, CloseL, CloseR};
 ghost use Rattle.hj_core.specs.Ready.{IsReady};
 
+use crate::at_home::{keep_at_home, remove_at_home, rest_at_home, settle_at_home, share_at_home};
 use crate::flight::Flight;
 use crate::sends::when;
 use crate::{Prepared, Sends};
@@ -29,13 +29,17 @@ pub struct Core<P, J: Join<P>, L: Store<P, J>, R: Store<P, J>> {
 
 impl<P, J: Join<P>, L: Store<P, J>, R: Store<P, J>> Model for Core<P, J, L, R> {
     ghost use Rattle.std.specs.Prelude.{◌<◌};
-    ghost use Rattle.hj_core.specs.Contents.{Contents, Suits};
+    ghost use Rattle.hj_core.specs.Contents.{Contents, HoldsItsOwn, Suits};
 
     ghost Value = { Contents P J L R };
 
     ghost view = { λ core. record { place = core.place.0; cores = core.cores; join = core.join; left = core.left; right = core.right; flight = core.flight; closed_left = core.closed_left; closed_right = core.closed_right } };
 
-    ghost invariant = { λ core. (0 < core.cores) × Suits L.suits R.suits core.join core.left core.right };
+    ghost invariant = { λ core. record {
+      some : 0 < core.cores;
+      suits : Suits L.suits R.suits core.join core.left core.right;
+      own : HoldsItsOwn core.place.0 core.cores (L.entries core.left) (R.entries core.right);
+    } };
 }
 
 impl<P: Share + Drop, J: Join<P> + Drop, L: Store<P, J> + Drop, R: Store<P, J> + Drop> Core<
@@ -109,19 +113,19 @@ impl<P: Share + Drop, J: Join<P> + Drop, L: Store<P, J> + Drop, R: Store<P, J> +
             Msg::R { no, row } => self.commit_left(no, row, prepared),
             Msg::S { no, row } => self.commit_right(no, row, prepared),
             Msg::EndR(no) => {
-                self.left.settle(no);
+                self.settle_left(no);
                 Sends::left(Msg::EndR(no))
             }
             Msg::EndS(no) => {
-                self.right.settle(no);
+                self.settle_right(no);
                 Sends::right(Msg::EndS(no))
             }
             Msg::ExpR(no) => {
-                self.left.remove(no);
+                self.remove_left(no);
                 Sends::left(Msg::ExpR(no))
             }
             Msg::ExpS(no) => {
-                self.right.remove(no);
+                self.remove_right(no);
                 Sends::right(Msg::ExpS(no))
             }
             Msg::AckS(no) => {
@@ -151,6 +155,32 @@ impl<P: Share + Drop, J: Join<P> + Drop, L: Store<P, J> + Drop, R: Store<P, J> +
                 Sends::left(Msg::CloseR).with_end(is_second)
             }
         }
+    }
+
+    /// Handles a message in one call, as `prepare` and `commit` do in two: takes all memory that it needs, and then keeps its row
+    /// if that is to be kept. Returns what is to be reported. The message isn't sent on. After an error what the core holds is as
+    /// before.
+    #[inline(always)]
+    pub fn handle(&mut self, msg: &Msg<P>) -> Result<Option<Report<P>>, Memory>
+        ensures state { IfOk result (λ entry. state_of L.entries R.entries self.new ≡ after self.old.place self.old.cores (state_of L.entries R.entries self.old) msg.now) }
+        ensures report { IfOk result (λ entry. entry ≡ report (J.predicate self.old.join) (state_of L.entries R.entries self.old) msg.now) }
+        ensures unchanged { OnErr result (state_of L.entries R.entries self.new ≡ state_of L.entries R.entries self.old) }
+        ensures kept { KeepsPlace self.old self.new }
+    {
+        match msg {
+            Msg::R { no, row } => return self.handle_left(*no, row),
+            Msg::S { no, row } => return self.handle_right(*no, row),
+            Msg::EndR(no) => self.settle_left(*no),
+            Msg::EndS(no) => self.settle_right(*no),
+            Msg::ExpR(no) => self.remove_left(*no),
+            Msg::ExpS(no) => self.remove_right(*no),
+            Msg::AckS(no) => self.flight.acknowledge(*no),
+            Msg::QuietL(no) => return Ok(Some(quiet(*no, Side::Left))),
+            Msg::QuietR(no) => return Ok(Some(quiet(*no, Side::Right))),
+            Msg::CloseL => return Ok(self.close_left()),
+            Msg::CloseR => return Ok(self.close_right()),
+        }
+        Ok(None)
     }
 
     /// Returns whether both closes were handled.
@@ -194,6 +224,115 @@ impl<P: Share + Drop, J: Join<P> + Drop, L: Store<P, J> + Drop, R: Store<P, J> +
         ensures { result ≡ nat_lt (self.now.place + 1) self.now.cores }
     {
         u32::from(self.place.0) + 1 < u32::from(self.cores)
+    }
+
+    /// Settles a left row, if it rests here.
+    #[inline(always)]
+    fn settle_left(&mut self, no: EventNo)
+        ensures state { state_of L.entries R.entries self.new ≡ after self.old.place self.old.cores (state_of L.entries R.entries self.old) (EndR no) }
+        ensures kept { KeepsPlace self.old self.new }
+    {
+        let home = self.is_home(no);
+        settle_at_home::<P, J, L>(&mut self.left, home, no);
+    }
+
+    /// Settles a right row, if it rests here.
+    #[inline(always)]
+    fn settle_right(&mut self, no: EventNo)
+        ensures state { state_of L.entries R.entries self.new ≡ after self.old.place self.old.cores (state_of L.entries R.entries self.old) (EndS no) }
+        ensures kept { KeepsPlace self.old self.new }
+    {
+        let home = self.is_home(no);
+        settle_at_home::<P, J, R>(&mut self.right, home, no);
+    }
+
+    /// Removes a left row, if it rests here.
+    #[inline(always)]
+    fn remove_left(&mut self, no: EventNo)
+        ensures state { state_of L.entries R.entries self.new ≡ after self.old.place self.old.cores (state_of L.entries R.entries self.old) (ExpR no) }
+        ensures kept { KeepsPlace self.old self.new }
+    {
+        let home = self.is_home(no);
+        remove_at_home::<P, J, L>(&mut self.left, home, no);
+    }
+
+    /// Removes a right row, if it rests here.
+    #[inline(always)]
+    fn remove_right(&mut self, no: EventNo)
+        ensures state { state_of L.entries R.entries self.new ≡ after self.old.place self.old.cores (state_of L.entries R.entries self.old) (ExpS no) }
+        ensures kept { KeepsPlace self.old self.new }
+    {
+        let home = self.is_home(no);
+        remove_at_home::<P, J, R>(&mut self.right, home, no);
+    }
+
+    /// Handles the close from the left, and returns whether the core's end is to be reported.
+    #[inline(always)]
+    fn close_left(&mut self) -> Option<Report<P>>
+        ensures state { state_of L.entries R.entries self.new ≡ after self.old.place self.old.cores (state_of L.entries R.entries self.old) CloseL }
+        ensures report { result ≡ report (J.predicate self.old.join) (state_of L.entries R.entries self.old) CloseL }
+        ensures kept { KeepsPlace self.old self.new }
+    {
+        let ends = self.closed_right && !self.closed_left;
+        self.closed_left = true;
+        if ends { Some(Report::Ended) } else { None }
+    }
+
+    /// Handles the close from the right, and returns whether the core's end is to be reported.
+    #[inline(always)]
+    fn close_right(&mut self) -> Option<Report<P>>
+        ensures state { state_of L.entries R.entries self.new ≡ after self.old.place self.old.cores (state_of L.entries R.entries self.old) CloseR }
+        ensures report { result ≡ report (J.predicate self.old.join) (state_of L.entries R.entries self.old) CloseR }
+        ensures kept { KeepsPlace self.old self.new }
+    {
+        let ends = self.closed_left && !self.closed_right;
+        self.closed_right = true;
+        if ends { Some(Report::Ended) } else { None }
+    }
+
+    /// Finds the partners of a left row, and keeps it if it rests here.
+    #[inline(always)]
+    fn handle_left(&mut self, no: EventNo, row: &P) -> Result<Option<Report<P>>, Memory>
+        ensures state { IfOk result (λ entry. state_of L.entries R.entries self.new ≡ after self.old.place self.old.cores (state_of L.entries R.entries self.old) (LeftRow no row.now)) }
+        ensures report { IfOk result (λ entry. entry ≡ report (J.predicate self.old.join) (state_of L.entries R.entries self.old) (LeftRow no row.now)) }
+        ensures unchanged { OnErr result (state_of L.entries R.entries self.new ≡ state_of L.entries R.entries self.old) }
+        ensures kept { KeepsPlace self.old self.new }
+    {
+        let at_rest = self.right.probe(Side::Right, row, &self.join)?;
+        let partners = self.flight.add_partners(row, &self.join, at_rest)?;
+        let reported = row.share()?;
+        let home = self.is_home(no);
+        let last = self.is_last();
+        keep_at_home::<P, J, L>(&mut self.left, home, no, row, last)?;
+        Ok(Some(Report::Handled {
+            no,
+            side: Side::Left,
+            row: reported,
+            partners,
+        }))
+    }
+
+    /// Finds the partners of a right row, and keeps it if it rests here, and until the left neighbour acknowledges it.
+    #[inline(always)]
+    fn handle_right(&mut self, no: EventNo, row: &P) -> Result<Option<Report<P>>, Memory>
+        ensures state { IfOk result (λ entry. state_of L.entries R.entries self.new ≡ after self.old.place self.old.cores (state_of L.entries R.entries self.old) (RightRow no row.now)) }
+        ensures report { IfOk result (λ entry. entry ≡ report (J.predicate self.old.join) (state_of L.entries R.entries self.old) (RightRow no row.now)) }
+        ensures unchanged { OnErr result (state_of L.entries R.entries self.new ≡ state_of L.entries R.entries self.old) }
+        ensures kept { KeepsPlace self.old self.new }
+    {
+        let partners = self.left.probe(Side::Left, row, &self.join)?;
+        let reported = row.share()?;
+        let home = self.is_home(no);
+        let first = self.is_first();
+        let flying = share_in_flight(&mut self.flight, first, row)?;
+        keep_at_home::<P, J, R>(&mut self.right, home, no, row, first)?;
+        keep_in_flight(&mut self.flight, no, flying);
+        Ok(Some(Report::Handled {
+            no,
+            side: Side::Right,
+            row: reported,
+            partners,
+        }))
     }
 
     #[inline(always)]
@@ -301,26 +440,6 @@ impl<P: Share + Drop, J: Join<P> + Drop, L: Store<P, J> + Drop, R: Store<P, J> +
     }
 }
 
-/// Makes a row equal to this one, and a place for it in a store, if this is its home.
-#[inline(always)]
-fn share_at_home<P: Share + Drop, J: Join<P>, S: Store<P, J>>(
-    store: &mut S,
-    home: bool,
-    no: EventNo,
-    row: &P,
-) -> Result<Option<P>, Memory>
-    ensures entries { S.entries store.new ≡ S.entries store.old }
-    ensures suits { (side : Sides) (join : J) → S.suits store.new side join ↔ S.suits store.old side join }
-    ensures ready { IfOk result (IsReady home row.now (S.has_place store.new no.0 row.now)) }
-{
-    if home {
-        store.reserve(no, row)?;
-        Ok(Some(row.share()?))
-    } else {
-        Ok(None)
-    }
-}
-
 /// Makes a row equal to this one, and room for it in flight, if it has a left neighbour to go to.
 #[inline(always)]
 fn share_in_flight<P: Share + Drop>(
@@ -339,24 +458,6 @@ fn share_in_flight<P: Share + Drop>(
     }
 }
 
-/// Puts the row that rests here, if one does, into its store.
-#[inline(always)]
-fn rest_at_home<P: Drop, J: Join<P>, S: Store<P, J>>(
-    store: &mut S,
-    no: EventNo,
-    resting: Option<P>,
-    settled: bool,
-)
-    requires { ForSome resting (S.has_place store.old no.0) }
-    ensures entries { MatchOption resting (S.entries store.new ≡ S.entries store.old)
-        (λ row. S.entries store.new ≡ with_entry (record { no = no.0; row = row; settled = settled }) (S.entries store.old)) }
-    ensures suits { (side : Sides) (join : J) → S.suits store.new side join ↔ S.suits store.old side join }
-{
-    if let Some(row) = resting {
-        store.insert(no, row, settled);
-    }
-}
-
 /// Keeps the row that is in flight, if one is.
 #[inline(always)]
 fn keep_in_flight<P: Drop>(flight: &mut Flight<P>, no: EventNo, flying: Option<P>)
@@ -367,4 +468,12 @@ fn keep_in_flight<P: Drop>(flight: &mut Flight<P>, no: EventNo, flying: Option<P
     if let Some(row) = flying {
         flight.put(no, row);
     }
+}
+
+/// Makes the report that a side was quiet.
+#[inline(always)]
+fn quiet<P>(no: EventNo, side: Side) -> Report<P>
+    ensures { result ≡ Report.Quiet no side }
+{
+    Report::Quiet { no, side }
 }

@@ -1,4 +1,4 @@
-use Rattle.std.proofs.Common.{◌≤◌, ◌++◌, length, set, Option, sym, ◌∙◌, ap, ap₂, arith, List}
+use Rattle.std.proofs.Common.{◌≡◌, ◌≤◌, ◌++◌, ℕ, length, map, set, Option, Some, refl, sym, ◌∙◌, ap, ap₂, arith, List}
 use Rattle.std.specs.Option.{option_copied, option_to_list}
 use Rattle.std.proofs.lemmas.List.{length-map, length-set}
 use Rattle.hj_msg.specs.declared.message.Msg.{Msg}
@@ -6,7 +6,6 @@ use Rattle.hj_msg.specs.declared.message.Report.{Report}
 use Rattle.hj_msg.specs.Core as step
 use Rattle.hj_queue.specs.Queues.{Queues}
 use Rattle.hj_core.specs.Contents.{state_of}
-use Rattle.hj_core.specs.Sent.{sent}
 use Rattle.hj_chain.specs.Links.{changed_at, send_out}
 use Rattle.hj_chain.specs.Reports.{ReportQueues}
 use Rattle.hj_chain.proofs.Opening.{in_reports, in_links_next, turning-room, turning-in_links, turning-room_left, turning-room_right, turning-no_memory, turning-did}
@@ -16,81 +15,80 @@ use Rattle.hj_chain.proofs.chain.Chain.turn.Goals as goal
 pub invariant_of-self : goal.invariant_of-self
 invariant_of-self g c = record {
   placed =
-      prepared-placed g.J.Join.predicate (state_of g.L.Store.entries g.R.Store.entries) c.self.inside.join c.self.inside.cores.items c.from-place.result c.index_mut-core.result.now c.prepare.new.self c.self.invariant.placed
-      (omega (arith, c.len.ensures, c.if-place-len.false, c.self.inside.cores.ok.0)) c.index_mut-core.ensures.value c.prepare.ensures.state c.prepare.ensures.kept;
-  few =
-      (let few : length (set c.self.inside.cores.items c.from-place.result c.prepare.new.self) ≤ 64 = omega (arith, c.self.invariant.few, length-set c.self.inside.cores.items c.from-place.result c.prepare.new.self) in few);
+      prepared-placed g.J.Join.predicate (state_of g.L.Store.entries g.R.Store.entries) c.self.inside.join c.self.inside.cores.items c.from-place.result c.index_mut-core.result.now c.handle.new.self c.self.invariant.placed
+      (omega (arith, c.len.ensures, c.if-place-len.false, c.self.inside.cores.ok.0)) c.index_mut-core.ensures.value c.in_default-handle.ensures.unchanged c.handle.ensures.kept;
+  few = (let few : length (set c.self.inside.cores.items c.from-place.result c.handle.new.self) ≤ 64 = omega (arith, c.self.invariant.few, length-set c.self.inside.cores.items c.from-place.result c.handle.new.self) in few);
   flight = c.self.invariant.flight;
   capacity = c.self.invariant.capacity;
 }
 
-pub returns-in_default-prepare-clause-step : goal.returns-in_default-prepare-clause-step
-returns-in_default-prepare-clause-step g c = λ answer.
+pub returns-in_default-handle-clause-step : goal.returns-in_default-handle-clause-step
+returns-in_default-handle-clause-step g c = λ answer.
     turning-no_memory g.J.Join.predicate _ _ c.self.view_is c.requires c.args.end c.from-place.result c.in-Some.msg.now c.self.inside.reports.capacity
     (omega (arith, c.len.ensures, c.if-place-len.false, c.self.inside.cores.ok.0, length-map c.self.inside.cores.items (state_of g.L.Store.entries g.R.Store.entries)))
     (sym c.incoming.ensures ∙ ap option_copied c.in-Some.is) c.self.invariant.capacity (sym c.is_full.ensures ∙ c.if-is_full.false)
     answer c.args.core _ c.from-place.ensures
-    (prepared-states g.J.Join.predicate (state_of g.L.Store.entries g.R.Store.entries) c.self.inside.join c.self.inside.cores.items c.from-place.result c.index_mut-core.result.now c.prepare.new.self c.self.invariant.placed
-    (omega (arith, c.len.ensures, c.if-place-len.false, c.self.inside.cores.ok.0)) c.index_mut-core.ensures.value c.prepare.ensures.state c.prepare.ensures.kept)
+    (prepared-states g.J.Join.predicate (state_of g.L.Store.entries g.R.Store.entries) c.self.inside.join c.self.inside.cores.items c.from-place.result c.index_mut-core.result.now c.handle.new.self c.self.invariant.placed
+    (omega (arith, c.len.ensures, c.if-place-len.false, c.self.inside.cores.ok.0)) c.index_mut-core.ensures.value c.in_default-handle.ensures.unchanged c.handle.ensures.kept)
 
 pub take_in-requires : goal.take_in-requires
 take_in-requires g c =
     in_links_next g.J.Join.predicate _ _ c.self.view_is c.requires c.from-place.result
     (omega (arith, c.len.ensures, c.if-place-len.false, c.self.inside.cores.ok.0, length-map c.self.inside.cores.items (state_of g.L.Store.entries g.R.Store.entries)))
 
-pub put_sends-requires-clause-in_links : goal.put_sends-requires-clause-in_links
-put_sends-requires-clause-in_links g c =
-    turning-in_links g.J.Join.predicate _ _ c.self.view_is c.requires c.args.end c.from-place.result c.in-Some-take_in.msg c.self.inside.reports.capacity
+pub send_on-requires-clause-in_range : goal.send_on-requires-clause-in_range
+send_on-requires-clause-in_range g c =
+    turning-in_links g.J.Join.predicate _ _ c.self.view_is c.requires c.args.end c.from-place.result c.in-Some.msg.now c.self.inside.reports.capacity
     (omega (arith, c.len.ensures, c.if-place-len.false, c.self.inside.cores.ok.0, length-map c.self.inside.cores.items (state_of g.L.Store.entries g.R.Store.entries)))
-    (sym c.take_in.ensures.first ∙ c.in-Some-take_in.is) c.self.invariant.capacity (sym c.is_full.ensures ∙ c.if-is_full.false) c.take_in.new.self c.take_in.ensures.rest
+    (sym c.incoming.ensures ∙ ap option_copied c.in-Some.is) c.self.invariant.capacity (sym c.is_full.ensures ∙ c.if-is_full.false) c.take_in.new.self c.take_in.ensures.rest
 
-pub put_sends-requires-clause-in_reports : goal.put_sends-requires-clause-in_reports
-put_sends-requires-clause-in_reports g c =
+pub send_on-requires-clause-room_left : goal.send_on-requires-clause-room_left
+send_on-requires-clause-room_left g c =
+    turning-room_left g.J.Join.predicate _ _ c.self.view_is c.requires c.args.end c.from-place.result c.in-Some.msg.now c.self.inside.reports.capacity
+    (omega (arith, c.len.ensures, c.if-place-len.false, c.self.inside.cores.ok.0, length-map c.self.inside.cores.items (state_of g.L.Store.entries g.R.Store.entries)))
+    (sym c.incoming.ensures ∙ ap option_copied c.in-Some.is) c.self.invariant.capacity (sym c.is_full.ensures ∙ c.if-is_full.false) c.take_in.new.self c.take_in.ensures.rest
+
+pub send_on-requires-clause-room_right : goal.send_on-requires-clause-room_right
+send_on-requires-clause-room_right g c =
+    let taken : c.in-Some-take_in.msg ≡ c.in-Some.msg.now = let e : Some c.in-Some-take_in.msg ≡ Some c.in-Some.msg.now = sym (sym c.take_in.ensures.first ∙ c.in-Some-take_in.is) ∙ (sym c.incoming.ensures ∙ ap option_copied c.in-Some.is) in cc in
+    let all : c.len-2.result ≡ length (map (state_of g.L.Store.entries g.R.Store.entries) c.self.inside.cores.items) = omega (arith, c.len-2.ensures, c.self.inside.cores.ok.0, length-map c.self.inside.cores.items (state_of g.L.Store.entries g.R.Store.entries)) in
+    let sends_are : step.sends c.from-place.result c.len-2.result c.in-Some-take_in.msg ≡ step.sends c.from-place.result (length (map (state_of g.L.Store.entries g.R.Store.entries) c.self.inside.cores.items)) c.in-Some.msg.now = ap₂ (λ (n : ℕ) (m : Msg g.row.P.Denot). step.sends c.from-place.result n m) all taken in
+    turning-room_right g.J.Join.predicate _ _ c.self.view_is c.requires c.args.end c.from-place.result c.in-Some.msg.now c.self.inside.reports.capacity
+    (omega (arith, c.len.ensures, c.if-place-len.false, c.self.inside.cores.ok.0, length-map c.self.inside.cores.items (state_of g.L.Store.entries g.R.Store.entries)))
+    (sym c.incoming.ensures ∙ ap option_copied c.in-Some.is) c.self.invariant.capacity (sym c.is_full.ensures ∙ c.if-is_full.false) c.take_in.new.self (step.sends c.from-place.result c.len-2.result c.in-Some-take_in.msg) c.take_in.ensures.rest sends_are
+
+pub put-requires-clause-in_range : goal.put-requires-clause-in_range
+put-requires-clause-in_range g c =
     in_reports g.J.Join.predicate _ _ c.self.view_is c.requires c.from-place.result
     (omega (arith, c.len.ensures, c.if-place-len.false, c.self.inside.cores.ok.0, length-map c.self.inside.cores.items (state_of g.L.Store.entries g.R.Store.entries)))
 
-pub put_sends-requires-clause-room_left : goal.put_sends-requires-clause-room_left
-put_sends-requires-clause-room_left g c =
-    turning-room_left g.J.Join.predicate _ _ c.self.view_is c.requires c.args.end c.from-place.result c.in-Some-take_in.msg c.self.inside.reports.capacity
+pub put-requires-clause-room : goal.put-requires-clause-room
+put-requires-clause-room g c =
+    turning-room g.J.Join.predicate _ _ c.self.view_is c.requires c.args.end c.from-place.result c.in-Some.msg.now c.self.inside.reports.capacity
     (omega (arith, c.len.ensures, c.if-place-len.false, c.self.inside.cores.ok.0, length-map c.self.inside.cores.items (state_of g.L.Store.entries g.R.Store.entries)))
-    (sym c.take_in.ensures.first ∙ c.in-Some-take_in.is) c.self.invariant.capacity (sym c.is_full.ensures ∙ c.if-is_full.false) c.take_in.new.self c.take_in.ensures.rest
-
-pub put_sends-requires-clause-room_right : goal.put_sends-requires-clause-room_right
-put_sends-requires-clause-room_right g c =
-    let d = done g.J.Join.predicate (state_of g.L.Store.entries g.R.Store.entries) c.self.inside.join c.self.inside.cores.items c.from-place.result c.index_mut-core.result.now c.prepare.new.self c.self.invariant.placed
-    (omega (arith, c.len.ensures, c.if-place-len.false, c.self.inside.cores.ok.0)) c.index_mut-core.ensures.value c.prepare.ensures.state c.prepare.ensures.kept
-    c.commit-sends.new.self c.in-Some-take_in.msg (sent c.commit-sends.result) c.commit-sends.result.entry c.commit-sends.ensures.state c.commit-sends.ensures.sends c.commit-sends.ensures.report
-    c.commit-sends.ensures.kept in
-    turning-room_right g.J.Join.predicate _ _ c.self.view_is c.requires c.args.end c.from-place.result c.in-Some-take_in.msg c.self.inside.reports.capacity
-    (omega (arith, c.len.ensures, c.if-place-len.false, c.self.inside.cores.ok.0, length-map c.self.inside.cores.items (state_of g.L.Store.entries g.R.Store.entries)))
-    (sym c.take_in.ensures.first ∙ c.in-Some-take_in.is) c.self.invariant.capacity (sym c.is_full.ensures ∙ c.if-is_full.false) c.take_in.new.self (sent c.commit-sends.result) c.take_in.ensures.rest d.sends_are
-
-pub put_sends-requires-clause-room : goal.put_sends-requires-clause-room
-put_sends-requires-clause-room g c =
-    turning-room g.J.Join.predicate _ _ c.self.view_is c.requires c.args.end c.from-place.result c.in-Some-take_in.msg c.self.inside.reports.capacity
-    (omega (arith, c.len.ensures, c.if-place-len.false, c.self.inside.cores.ok.0, length-map c.self.inside.cores.items (state_of g.L.Store.entries g.R.Store.entries)))
-    (sym c.take_in.ensures.first ∙ c.in-Some-take_in.is) c.self.invariant.capacity (sym c.is_full.ensures ∙ c.if-is_full.false)
+    (sym c.incoming.ensures ∙ ap option_copied c.in-Some.is) c.self.invariant.capacity (sym c.is_full.ensures ∙ c.if-is_full.false)
 
 pub invariant_of-self-2 : goal.invariant_of-self-2
 invariant_of-self-2 g c =
-    let d = done g.J.Join.predicate (state_of g.L.Store.entries g.R.Store.entries) c.self.inside.join c.self.inside.cores.items c.from-place.result c.index_mut-core.result.now c.prepare.new.self c.self.invariant.placed
-    (omega (arith, c.len.ensures, c.if-place-len.false, c.self.inside.cores.ok.0)) c.index_mut-core.ensures.value c.prepare.ensures.state c.prepare.ensures.kept
-    c.commit-sends.new.self c.in-Some-take_in.msg (sent c.commit-sends.result) c.commit-sends.result.entry c.commit-sends.ensures.state c.commit-sends.ensures.sends c.commit-sends.ensures.report
-    c.commit-sends.ensures.kept in
-    let few : length (set c.self.inside.cores.items c.from-place.result c.commit-sends.new.self) ≤ 64 = omega (arith, c.self.invariant.few, length-set c.self.inside.cores.items c.from-place.result c.commit-sends.new.self) in
-    record { placed = d.placed; few = few; flight = c.self.invariant.flight; capacity = ap (λ (q : ReportQueues g.row.P.Denot). q.capacity) c.put_sends.ensures.reports ∙ c.self.invariant.capacity }
+    let d = done g.J.Join.predicate (state_of g.L.Store.entries g.R.Store.entries) c.self.inside.join c.self.inside.cores.items c.from-place.result c.index_mut-core.result.now c.index_mut-core.result.now c.self.invariant.placed
+    (omega (arith, c.len.ensures, c.if-place-len.false, c.self.inside.cores.ok.0)) c.index_mut-core.ensures.value refl (record { join = refl; place = refl; cores = refl })
+    c.handle.new.self c.in-Some.msg.now (step.sends c.index_mut-core.result.now.place c.index_mut-core.result.now.cores c.in-Some.msg.now) c.in-Ok.entry c.in-Ok.ensures.state refl c.in-Ok.ensures.report c.handle.ensures.kept in
+    let few : length (set c.self.inside.cores.items c.from-place.result c.handle.new.self) ≤ 64 = omega (arith, c.self.invariant.few, length-set c.self.inside.cores.items c.from-place.result c.handle.new.self) in
+    record { placed = d.placed; few = few; flight = c.self.invariant.flight; capacity = ap (λ (q : ReportQueues g.row.P.Denot). q.capacity) c.put.ensures ∙ c.self.invariant.capacity }
 
 pub returns-clause-step : goal.returns-clause-step
 returns-clause-step g c = λ answer.
-    let d = done g.J.Join.predicate (state_of g.L.Store.entries g.R.Store.entries) c.self.inside.join c.self.inside.cores.items c.from-place.result c.index_mut-core.result.now c.prepare.new.self c.self.invariant.placed
-    (omega (arith, c.len.ensures, c.if-place-len.false, c.self.inside.cores.ok.0)) c.index_mut-core.ensures.value c.prepare.ensures.state c.prepare.ensures.kept
-    c.commit-sends.new.self c.in-Some-take_in.msg (sent c.commit-sends.result) c.commit-sends.result.entry c.commit-sends.ensures.state c.commit-sends.ensures.sends c.commit-sends.ensures.report
-    c.commit-sends.ensures.kept in
-    turning-did g.J.Join.predicate _ _ c.self.view_is c.requires c.args.end c.from-place.result c.in-Some-take_in.msg c.self.inside.reports.capacity
+    let d = done g.J.Join.predicate (state_of g.L.Store.entries g.R.Store.entries) c.self.inside.join c.self.inside.cores.items c.from-place.result c.index_mut-core.result.now c.index_mut-core.result.now c.self.invariant.placed
+    (omega (arith, c.len.ensures, c.if-place-len.false, c.self.inside.cores.ok.0)) c.index_mut-core.ensures.value refl (record { join = refl; place = refl; cores = refl })
+    c.handle.new.self c.in-Some.msg.now (step.sends c.index_mut-core.result.now.place c.index_mut-core.result.now.cores c.in-Some.msg.now) c.in-Ok.entry c.in-Ok.ensures.state refl c.in-Ok.ensures.report c.handle.ensures.kept in
+    let taken : c.in-Some-take_in.msg ≡ c.in-Some.msg.now = let e : Some c.in-Some-take_in.msg ≡ Some c.in-Some.msg.now = sym (sym c.take_in.ensures.first ∙ c.in-Some-take_in.is) ∙ (sym c.incoming.ensures ∙ ap option_copied c.in-Some.is) in cc in
+    let all : c.len-2.result ≡ length (map (state_of g.L.Store.entries g.R.Store.entries) c.self.inside.cores.items) = omega (arith, c.len-2.ensures, c.self.inside.cores.ok.0, length-map c.self.inside.cores.items (state_of g.L.Store.entries g.R.Store.entries)) in
+    let sends_are : step.sends c.from-place.result c.len-2.result c.in-Some-take_in.msg ≡ step.sends c.from-place.result (length (map (state_of g.L.Store.entries g.R.Store.entries) c.self.inside.cores.items)) c.in-Some.msg.now = ap₂ (λ (n : ℕ) (m : Msg g.row.P.Denot). step.sends c.from-place.result n m) all taken in
+    turning-did g.J.Join.predicate _ _ c.self.view_is c.requires c.args.end c.from-place.result c.in-Some.msg.now c.self.inside.reports.capacity
     (omega (arith, c.len.ensures, c.if-place-len.false, c.self.inside.cores.ok.0, length-map c.self.inside.cores.items (state_of g.L.Store.entries g.R.Store.entries)))
-    (sym c.take_in.ensures.first ∙ c.in-Some-take_in.is) c.self.invariant.capacity (sym c.is_full.ensures ∙ c.if-is_full.false)
+    (sym c.incoming.ensures ∙ ap option_copied c.in-Some.is) c.self.invariant.capacity (sym c.is_full.ensures ∙ c.if-is_full.false)
     answer c.args.core _ _ _ c.from-place.ensures
-    (c.put_sends.ensures.links ∙ ap₂ (λ (s : step.Sends g.row.P.Denot) (ls : List (Queues (Msg g.row.P.Denot))). send_out c.from-place.result s.left s.right ls) d.sends_are c.take_in.ensures.rest)
+    (c.send_on.ensures ∙ ap₂ (λ (s : step.Sends g.row.P.Denot) (ls : List (Queues (Msg g.row.P.Denot))). send_out c.from-place.result s.left s.right ls) sends_are c.take_in.ensures.rest)
     d.states
-    (ap (λ (q : ReportQueues g.row.P.Denot). q.queues) c.put_sends.ensures.reports
+    (ap (λ (q : ReportQueues g.row.P.Denot). q.queues) c.put.ensures
     ∙ ap (λ (o : Option (Report g.row.P.Denot)). changed_at c.from-place.result (λ queue. queue ++ option_to_list o) c.self.inside.reports.queues) d.entry_is)
