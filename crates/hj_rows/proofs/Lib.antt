@@ -1,3 +1,4 @@
+mod InPlace
 pub mod Probes
 pub mod Rows
 pub mod SortedProbes

@@ -169,7 +169,7 @@ rows-removed {P = P} k ((n, Some row) ∷ es) at = by (nat_eq k n) refl at (rows
     by false p h later = rw p (ap (λ rows. row_of n row ∷ rows) (later h))
 
 -- an entry that was put in and is taken out again
-inserted-removed : {X : Type 0} (k : ℕ) (v : X) (es : List (ℕ × X)) → remove_entry (nat_eq k) (insert_entry nat_eq es k v) ≡ remove_entry (nat_eq k) es
+pub inserted-removed : {X : Type 0} (k : ℕ) (v : X) (es : List (ℕ × X)) → remove_entry (nat_eq k) (insert_entry nat_eq es k v) ≡ remove_entry (nat_eq k) es
 inserted-removed k v [] = rw (nat_eq_equiv.refl k) refl
 inserted-removed {X = X} k v ((n, w) ∷ es) = by (nat_eq k n) refl (inserted-removed k v es)
   where

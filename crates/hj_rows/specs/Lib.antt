@@ -1,3 +1,4 @@
+pub mod Keys
 pub mod ListStore
 pub mod Numbered
 pub mod Places

@@ -1,5 +1,5 @@
 -- Rows under their numbers, which stand in a map from numbers to places. A place whose row was removed is empty.
-use Rattle.std.specs.Prelude.{ℕ, Bool, true, false, ◌&&◌, ◌==◌, List, None, Some, find, option_map, if◌then◌else◌}
+use Rattle.std.specs.Prelude.{◌≡◌, ℕ, Bool, true, false, ◌&&◌, ◌==◌, List, None, Some, find, map, option_map, slice_get, if◌then◌else◌}
 use Rattle.std.specs.List.{filter_map}
 use Rattle.std.specs.declared.option.Option.{Option}
 use Rattle.hj_msg.specs.declared.partner.Partner.{Partner}
@@ -14,6 +14,14 @@ resting number (Some rest) = Some (record { no = number; row = rest.row; settled
 -- the rows of the places that aren't empty, in order
 abbrev pub rows_of : {P : Type 0} → List (ℕ × Option (Rest P)) → List (Resting P)
 rows_of places = filter_map (λ place. resting place.0 place.1) places
+
+-- the row of each place, in order; none for an empty place
+abbrev pub place_rows : {P : Type 0} → List (ℕ × Option (Rest P)) → List (Option P)
+place_rows places = map (λ place. option_map (λ rest. rest.row) place.1) places
+
+-- each row that a place has after, it had before
+abbrev pub StayInPlace : {P : Type 0} → List (Option P) → List (Option P) → Type 0
+StayInPlace {P} before after = (at : ℕ) (row : P) → slice_get after at ≡ Some (Some row) → slice_get before at ≡ Some (Some row)
 
 -- the row of a number, with what stands beside it
 abbrev pub entry_at : {P : Type 0} → ℕ → List (Resting P) → Option (Resting P)

@@ -20,7 +20,7 @@ pub struct ListStore<P> {
 }
 
 impl<P> ListStore<P> {
-    /// A store with no rows.
+    /// Makes a store with no rows.
     pub fn new(alloc: Global) -> Self
         ensures { resting_rows result ≡ [] }
     {
@@ -60,7 +60,7 @@ impl<P: Share + Drop, J: Join<P>> Store<P, J> for ListStore<P> {
         for (no, place) in &self.rows.places {
             if let Some(row) = joining_row(place, side, against, join) {
                 if *no < last {
-                    return self.probe_sorted(side, against, join);
+                    return probe_sorted(self.alloc, &self.rows, side, against, join);
                 }
                 found.push(Partner {
                     no: EventNo(*no),
@@ -73,40 +73,41 @@ impl<P: Share + Drop, J: Join<P>> Store<P, J> for ListStore<P> {
     }
 }
 
-impl<P: Share + Drop> ListStore<P> {
-    /// A probe where the rows that join don't stand in order of their numbers.
-    #[cold]
-    fn probe_sorted<J: Join<P>>(
-        &self,
-        side: Side,
-        against: &P,
-        join: &J,
-    ) -> Result<Partners<P>, Memory>
-        ensures { IfOk result (λ partners. partners ≡ settled_matches (J.predicate join.now) side against.now (rows_in self.now.rows)) }
-    {
-        partners_of(self.alloc, self.sorted_rows(side, against, join)?)
-    }
-
-    /// The settled rows that join with a row of the other side, by their numbers.
-    fn sorted_rows<J: Join<P>>(
-        &self,
-        side: Side,
-        against: &P,
-        join: &J,
-    ) -> Result<BTreeMap<u64, P>, Memory>
-        ensures { IfOk result (λ rows. map partner_of rows.entries ≡ settled_matches (J.predicate join.now) side against.now (rows_in self.now.rows)) }
-    {
-        let mut rows = BTreeMap::new(self.alloc);
-        for (no, place) in self.rows.places.iter() {
-            if let Some(row) = joining_row(place, side, against, join) {
-                rows.insert(*no, row.share()?)?;
-            }
-        }
-        Ok(rows)
-    }
+/// Finds what a probe asks for where the rows that join don't stand in order of their numbers: all places are walked. `side` is
+/// that of the rows at rest.
+#[cold]
+pub fn probe_sorted<P: Share + Drop, J: Join<P>>(
+    alloc: Global,
+    rows: &Numbered<P>,
+    side: Side,
+    against: &P,
+    join: &J,
+) -> Result<Partners<P>, Memory>
+    ensures { IfOk result (λ partners. partners ≡ settled_matches (J.predicate join.now) side against.now (rows_in rows.now)) }
+{
+    partners_of(alloc, sorted_rows(alloc, rows, side, against, join)?)
 }
 
-/// Rows, each under the number of its arrival, as partners in order of these numbers.
+/// Finds the settled rows of `side` that join with `against`, a row of the other side, by their numbers.
+fn sorted_rows<P: Share + Drop, J: Join<P>>(
+    alloc: Global,
+    rows: &Numbered<P>,
+    side: Side,
+    against: &P,
+    join: &J,
+) -> Result<BTreeMap<u64, P>, Memory>
+    ensures { IfOk result (λ found. map partner_of found.entries ≡ settled_matches (J.predicate join.now) side against.now (rows_in rows.now)) }
+{
+    let mut found = BTreeMap::new(alloc);
+    for (no, place) in rows.places.iter() {
+        if let Some(row) = joining_row(place, side, against, join) {
+            found.insert(*no, row.share()?)?;
+        }
+    }
+    Ok(found)
+}
+
+/// Gives rows, each under the number of its arrival, as partners in order of these numbers.
 pub fn partners_of<P: Drop>(alloc: Global, rows: BTreeMap<u64, P>) -> Result<Partners<P>, Memory>
     ensures { IfOk result (λ partners. partners ≡ map partner_of rows.entries) }
 {
@@ -120,9 +121,9 @@ pub fn partners_of<P: Drop>(alloc: Global, rows: BTreeMap<u64, P>) -> Result<Par
     Ok(partners)
 }
 
-/// The row of a place, where it is settled and joins with a row of the other side.
+/// Gives the row of a place, where it is settled and joins with `against`, a row of the other side; `side` is that of the place.
 #[inline(always)]
-fn joining_row<'a, P, J: Join<P>>(
+pub fn joining_row<'a, P, J: Join<P>>(
     place: &'a Option<Rest<P>>,
     side: Side,
     against: &P,
@@ -136,7 +137,7 @@ fn joining_row<'a, P, J: Join<P>>(
     }
 }
 
-/// Whether a row of a side joins with a row of the other one.
+/// Asks whether a row of `side` joins with a row of the other one.
 #[inline(always)]
 pub fn is_joined<P, J: Join<P>>(side: Side, row: &P, other: &P, join: &J) -> bool
     ensures { result ≡ joins (J.predicate join.now) side row.now other.now }

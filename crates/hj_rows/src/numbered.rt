@@ -1,8 +1,8 @@
-ghost use Rattle.std.specs.Prelude.{◌≡◌, ◌≤◌, ◌<◌, [], nat_eq, is_some, length, OnOk, IfSome, option_map};
+ghost use Rattle.std.specs.Prelude.{◌≡◌, ◌≤◌, ◌<◌, ◌+◌, ◌^◌, [], ◌∷◌, ◌++◌, Some, nat_eq, is_some, length, OnOk, IfSome, option_map};
 ghost use Rattle.indexmap.specs.IndexMap.{get, spare, insert_entry, shift_remove_entry, IsUnique};
 ghost use Rattle.hj_msg.specs.Store.{AreDistinct, holds, with_entry, with_settled, without_entry};
-ghost use Rattle.hj_rows.specs.Numbered.{room_in, rows_in};
-ghost use Rattle.hj_rows.specs.Places.{entry_at, row_at, rows_of};
+ghost use Rattle.hj_rows.specs.Numbered.{places_in, room_in, rows_in};
+ghost use Rattle.hj_rows.specs.Places.{entry_at, row_at, rows_of, StayInPlace};
 
 use crate::place::{Rest, settle_place, taken_place, was_empty};
 use hj_base::Memory;
@@ -21,9 +21,10 @@ pub struct Numbered<P> {
 }
 
 impl<P> Numbered<P> {
-    /// No rows.
+    /// Makes a list with no rows.
     pub fn new(alloc: Global) -> Self
-        ensures { rows_in result ≡ [] }
+        ensures rows { rows_in result ≡ [] }
+        ensures places { places_in result ≡ [] }
     {
         Numbered {
             places: IndexMap::new(alloc),
@@ -31,15 +32,16 @@ impl<P> Numbered<P> {
         }
     }
 
-    /// How many places there are: one for each row, and the empty ones.
+    /// Returns how many places there are: one for each row, and the empty ones.
     pub fn places(&self) -> usize
         ensures counted { result ≡ length self.now.places.entries }
+        ensures few { result < 2 ^ 63 }
         ensures enough { length (rows_in self.now) ≤ result }
     {
         self.places.len()
     }
 
-    /// The row of a number; None exactly where there is none.
+    /// Returns the row of a number; None exactly where there is none.
     pub fn get(&self, no: u64) -> Option<&Rest<P>>
         ensures { option_map (λ rest. record { no = no; row = rest.now.row; settled = rest.now.settled }) result ≡ entry_at no (rows_in self.now) }
     {
@@ -53,6 +55,7 @@ impl<P: Drop> Numbered<P> {
     /// Makes room for a row under any number. The rows stay as they are, also where memory runs out.
     pub fn reserve(&mut self) -> Result<(), Memory>
         ensures rows { rows_in self.new ≡ rows_in self.old }
+        ensures places { self.new.places.entries ≡ self.old.places.entries }
         ensures room { OnOk result (1 < room_in self.new) }
         ensures distinct { AreDistinct (rows_in self.new) }
     {
@@ -61,11 +64,14 @@ impl<P: Drop> Numbered<P> {
         Ok(())
     }
 
-    /// Puts a row under its number: in place of the one that has it, which is answered, or else behind all others.
+    /// Puts a row under its number: in place of the one that has it, which is returned, or else after all others. Where there
+    /// is one place more then, it is the last one, and the others are as before.
     pub fn insert(&mut self, no: u64, row: P, settled: bool) -> Option<P>
         requires { 1 < room_in self.old }
         ensures replaced { result ≡ row_at no (rows_in self.old) }
         ensures rows { rows_in self.new ≡ with_entry (record { no = no; row = row; settled = settled }) (rows_in self.old) }
+        ensures few { length self.new.places.entries ≤ length self.old.places.entries + 1 }
+        ensures appended { length self.new.places.entries ≡ length self.old.places.entries + 1 → places_in self.new ≡ places_in self.old ++ Some row ∷ [] }
         ensures distinct { AreDistinct (rows_in self.new) }
     {
         let Ok(old) = self.places.insert(no, Some(Rest { row, settled })) else {
@@ -78,10 +84,11 @@ impl<P: Drop> Numbered<P> {
         taken_place(old)
     }
 
-    /// Settles the row of a number; false exactly where there is none.
+    /// Settles the row of a number; returns false exactly where there is none.
     pub fn settle(&mut self, no: u64) -> bool
         ensures held { result ≡ holds no (rows_in self.old) }
         ensures rows { rows_in self.new ≡ with_settled no (rows_in self.old) }
+        ensures places { places_in self.new ≡ places_in self.old }
         ensures room { room_in self.new ≡ room_in self.old }
         ensures distinct { AreDistinct (rows_in self.new) }
     {
@@ -91,11 +98,14 @@ impl<P: Drop> Numbered<P> {
         settle_place(place)
     }
 
-    /// Takes out the row of a number; None exactly where there is none.
+    /// Takes out the row of a number and returns it; None exactly where there is none. Where there are as many places then, each
+    /// row stays in its place.
     pub fn remove(&mut self, no: u64) -> Option<P>
         ensures taken { result ≡ row_at no (rows_in self.old) }
         ensures held { is_some result ≡ holds no (rows_in self.old) }
         ensures rows { rows_in self.new ≡ without_entry no (rows_in self.old) }
+        ensures few { length self.new.places.entries ≤ length self.old.places.entries }
+        ensures places { length self.new.places.entries ≡ length self.old.places.entries → StayInPlace (places_in self.old) (places_in self.new) }
         ensures distinct { AreDistinct (rows_in self.new) }
     {
         let Some(place) = self.places.get_mut(&no) else {
@@ -111,6 +121,8 @@ impl<P: Drop> Numbered<P> {
     /// Counts a place that was emptied, and sweeps all empty places out where they are a third of all. The rows stay.
     fn count_empty(&mut self)
         ensures rows { rows_of self.new.places.entries ≡ rows_of self.old.places.entries }
+        ensures few { length self.new.places.entries ≤ length self.old.places.entries }
+        ensures places { length self.new.places.entries ≡ length self.old.places.entries → self.new.places.entries ≡ self.old.places.entries }
         ensures unique { IsUnique nat_eq self.new.places }
     {
         self.empty = self.empty.saturating_add(1);
@@ -120,7 +132,7 @@ impl<P: Drop> Numbered<P> {
         }
     }
 
-    /// Moves the place of a number behind all others, which goes over all later ones. There is one to spare.
+    /// Moves the place of a number after all others, which goes over all later ones. There is one to spare.
     #[cold]
     fn move_last(&mut self, no: u64)
         requires { 0 < spare self.old.places }

@@ -9,7 +9,7 @@ pub struct Rest<P> {
     pub settled: bool,
 }
 
-/// Settles the row of a place; false exactly where the place is empty.
+/// Settles the row of a place; returns false exactly where the place is empty.
 #[inline(always)]
 pub(crate) fn settle_place<P>(place: &mut Option<Rest<P>>) -> bool
     ensures held { result ≡ is_some place.old }
@@ -24,7 +24,7 @@ pub(crate) fn settle_place<P>(place: &mut Option<Rest<P>>) -> bool
     }
 }
 
-/// Whether there was a place, an empty one.
+/// Asks whether there was a place, an empty one.
 #[inline(always)]
 pub(crate) fn was_empty<P>(place: &Option<Option<Rest<P>>>) -> bool
     ensures { result ≡ is_empty_place place.now }
@@ -32,7 +32,7 @@ pub(crate) fn was_empty<P>(place: &Option<Option<Rest<P>>>) -> bool
     matches!(place, Some(None))
 }
 
-/// The row that stood in a place, where there was one.
+/// Returns the row that stood in a place, where there was one.
 #[inline(always)]
 pub(crate) fn taken_place<P: Drop>(place: Option<Option<Rest<P>>>) -> Option<P>
     ensures { result ≡ option_map (λ rest. rest.row) (option_and_then (λ place. place) place) }

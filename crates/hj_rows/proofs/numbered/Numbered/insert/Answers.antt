@@ -1,4 +1,4 @@
-use Rattle.std.proofs.Common.{◌≡◌, nat_eq, None, Some, Option, option_map, option_and_then, IfSome, is_some, true, false, sym, ap, subst, ◌∙◌}
+use Rattle.std.proofs.Common.{◌≡◌, ◌≤◌, ◌+◌, ℕ, length, nat_eq, None, Some, Option, option_map, option_and_then, IfSome, is_some, true, false, sym, ap, subst, ◌∙◌, arith}
 use Rattle.std.specs.List.{IsDistinct}
 use Rattle.std.specs.Map.{lookup, remove_entry, keys_of}
 use Rattle.indexmap.specs.IndexMap.{insert_entry}
@@ -7,6 +7,7 @@ use Rattle.hj_msg.specs.Store.{Resting}
 use Rattle.hj_rows.specs.Places.{rows_of, is_empty_place}
 use Rattle.hj_rows.specs.declared.place.Rest.{Rest}
 use Rattle.hj_rows.proofs.Rows.{entry-found, found-empty, row-taken, rows-distinct, rows-inserted, rows-moved}
+use Rattle.hj_rows.proofs.InPlace.{inserted-le, put-again, put-last}
 use Rattle.hj_rows.proofs.numbered.Numbered.insert.Goals as goal
 
 pub returns-then-was_empty-clause-rows : goal.returns-then-was_empty-clause-rows
@@ -52,3 +53,39 @@ returns-clause-replaced g c =
     let full : is_empty_place (lookup (nat_eq k) es) ≡ false = ap is_empty_place (sym c.in-Ok.ensures.old) ∙ sym c.if-was_empty.ensures in
     c.taken_place.ensures ∙ ap (λ (o : Option (Option (Rest g.row.P.Denot))). option_map (λ (rest : Rest g.row.P.Denot). rest.row) (option_and_then (λ (place : Option (Rest g.row.P.Denot)). place) o)) c.in-Ok.ensures.old
     ∙ sym (row-taken k es full)
+
+pub returns-then-was_empty-clause-appended : goal.returns-then-was_empty-clause-appended
+returns-then-was_empty-clause-appended g c = λ long.
+    let k = c.args.no in
+    let m = c.args.self.now.places in
+    let new = c.insert.new.self.entries in
+    let last = c.move_last.new.self.places.entries in
+    let rest : Rest g.row.P.Denot = record { row = c.args.row; settled = c.args.settled } in
+    let moved = subst (λ held. IfSome held (λ place. last ≡ insert_entry nat_eq (remove_entry (nat_eq k) new) k place)) c.in-Ok.ensures.updates.1 c.move_last.ensures.moved in
+    let empty : is_empty_place (lookup (nat_eq k) m.entries) ≡ true = ap is_empty_place (sym c.in-Ok.ensures.old) ∙ sym c.if-was_empty.ensures in
+    let no_longer = put-again k (Some rest) m.entries new last None (found-empty (lookup (nat_eq k) m.entries) empty) c.in-Ok.ensures.entries moved in
+    absurd (omega (arith, no_longer, long))
+
+pub returns-clause-appended : goal.returns-clause-appended
+returns-clause-appended g c = λ long.
+    let k = c.args.no in
+    let es = c.args.self.now.places.entries in
+    let rest : Rest g.row.P.Denot = record { row = c.args.row; settled = c.args.settled } in
+    put-last k rest es c.insert.new.self.entries c.in-Ok.ensures.entries long
+
+pub returns-then-was_empty-clause-few : goal.returns-then-was_empty-clause-few
+returns-then-was_empty-clause-few g c =
+    let k = c.args.no in
+    let m = c.args.self.now.places in
+    let new = c.insert.new.self.entries in
+    let last = c.move_last.new.self.places.entries in
+    let rest : Rest g.row.P.Denot = record { row = c.args.row; settled = c.args.settled } in
+    let moved = subst (λ held. IfSome held (λ place. last ≡ insert_entry nat_eq (remove_entry (nat_eq k) new) k place)) c.in-Ok.ensures.updates.1 c.move_last.ensures.moved in
+    let empty : is_empty_place (lookup (nat_eq k) m.entries) ≡ true = ap is_empty_place (sym c.in-Ok.ensures.old) ∙ sym c.if-was_empty.ensures in
+    let no_longer = put-again k (Some rest) m.entries new last None (found-empty (lookup (nat_eq k) m.entries) empty) c.in-Ok.ensures.entries moved in
+    omega (arith, no_longer)
+
+pub returns-clause-few : goal.returns-clause-few
+returns-clause-few g c =
+    let rest : Rest g.row.P.Denot = record { row = c.args.row; settled = c.args.settled } in
+    subst (λ (n : ℕ). n ≤ length c.args.self.now.places.entries + 1) (sym (ap length c.in-Ok.ensures.entries)) (inserted-le c.args.no (Some rest) c.args.self.now.places.entries)

@@ -1,9 +1,10 @@
-use Rattle.std.proofs.Common.{◌≡◌, nat_eq, is_some, None, Some, option_map, sym, ap, ◌∙◌}
+use Rattle.std.proofs.Common.{◌≡◌, nat_eq, is_some, None, Some, option_map, arith, refl, sym, ap, ◌∙◌}
 use Rattle.std.specs.Option.{option_copied_mut}
 use Rattle.std.specs.Map.{lookup}
 use Rattle.hj_msg.specs.Store.{Resting}
 use Rattle.hj_rows.specs.Places.{rows_of}
 use Rattle.hj_rows.proofs.Rows.{entry-absent, entry-found, held-at, holds-absent, row_of, rows-distinct, rows-emptied, without-absent}
+use Rattle.hj_rows.proofs.InPlace.{emptied-length, emptied-swept}
 use Rattle.hj_rows.proofs.numbered.Numbered.remove.Goals as goal
 
 pub returns-in_default-clause-held : goal.returns-in_default-clause-held
@@ -63,3 +64,24 @@ returns-clause-rows g c =
 
 pub returns-clause-distinct : goal.returns-clause-distinct
 returns-clause-distinct g c = rows-distinct c.count_empty.new.self.places.entries c.count_empty.ensures.unique
+
+pub returns-in_default-take-clause-places : goal.returns-in_default-take-clause-places
+returns-in_default-take-clause-places g c = λ long.
+    emptied-swept c.args.no c.args.self.now.places.entries (c.get_mut.follows.lender c.take.new.self).entries (c.get_mut.follows.lender c.take.new.self).entries
+    ((c.get_mut.follows.holds c.take.new.self).0 ∙ rw c.take.ensures.after refl) refl
+
+pub returns-clause-places : goal.returns-clause-places
+returns-clause-places g c = λ long.
+    let emptied = (c.get_mut.follows.holds c.take.new.self).0 ∙ rw c.take.ensures.after refl in
+    emptied-swept c.args.no c.args.self.now.places.entries (c.get_mut.follows.lender c.take.new.self).entries c.count_empty.new.self.places.entries emptied
+    (c.count_empty.ensures.places (long ∙ sym (emptied-length c.args.no c.args.self.now.places.entries (c.get_mut.follows.lender c.take.new.self).entries emptied)))
+
+pub returns-in_default-take-clause-few : goal.returns-in_default-take-clause-few
+returns-in_default-take-clause-few g c =
+    let emptied = (c.get_mut.follows.holds c.take.new.self).0 ∙ rw c.take.ensures.after refl in
+    omega (arith, emptied-length c.args.no c.args.self.now.places.entries (c.get_mut.follows.lender c.take.new.self).entries emptied)
+
+pub returns-clause-few : goal.returns-clause-few
+returns-clause-few g c =
+    let emptied = (c.get_mut.follows.holds c.take.new.self).0 ∙ rw c.take.ensures.after refl in
+    omega (arith, emptied-length c.args.no c.args.self.now.places.entries (c.get_mut.follows.lender c.take.new.self).entries emptied, c.count_empty.ensures.few)

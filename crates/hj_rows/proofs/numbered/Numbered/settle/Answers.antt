@@ -1,8 +1,9 @@
 use Rattle.std.proofs.Common.{◌≡◌, nat_eq, None, sym, ap, ◌∙◌}
 use Rattle.std.specs.Option.{option_copied_mut}
 use Rattle.std.specs.Map.{lookup}
-use Rattle.hj_rows.specs.Places.{rows_of}
+use Rattle.hj_rows.specs.Places.{place_rows, rows_of}
 use Rattle.hj_rows.proofs.Rows.{rows-distinct, held-at, settled-at, holds-absent, settled-absent}
+use Rattle.hj_rows.proofs.InPlace.{settled-stays}
 use Rattle.hj_rows.proofs.numbered.Numbered.settle.Goals as goal
 
 pub returns-in_default-clause-held : goal.returns-in_default-clause-held
@@ -33,3 +34,10 @@ pub returns-clause-distinct : goal.returns-clause-distinct
 returns-clause-distinct g c =
     let new = c.settle_place.new.place in
     rows-distinct (c.get_mut.follows.lender new).entries (c.get_mut.follows.holds new).4
+
+pub returns-clause-places : goal.returns-clause-places
+returns-clause-places g c =
+    let new = c.settle_place.new.place in
+    ap place_rows (c.get_mut.follows.holds new).0
+    ∙ rw c.settle_place.ensures.settled
+    (settled-stays c.args.no c.in-Some.place.now c.args.self.now.places.entries (sym c.get_mut.ensures.value ∙ ap option_copied_mut c.in-Some.is))
