@@ -1,4 +1,5 @@
 mod Comparing
-mod Needing
+pub mod Filtering
+mod Testing
 pub mod Planning
 mod Totals

@@ -17,7 +17,7 @@ drop_suc [] at x e = absurd cc
 drop_suc (y ∷ xs) zero x e = ap (λ z. z ∷ xs) (sym (some_same x y e))
 drop_suc (y ∷ xs) (suc at) x e = drop_suc xs at x e
 
-drop_get : {A : Type 0} (xs : List A) (at : ℕ) (x : A) → Some x ≡ slice_get xs at → drop at xs ≡ x ∷ drop (at + 1) xs
+pub drop_get : {A : Type 0} (xs : List A) (at : ℕ) (x : A) → Some x ≡ slice_get xs at → drop at xs ≡ x ∷ drop (at + 1) xs
 drop_get xs at x e =
     let n : suc at ≡ at + 1 = omega arith in
     drop_suc xs at x e ∙ ap (λ k. x ∷ drop k xs) n

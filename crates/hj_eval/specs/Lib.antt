@@ -1,4 +1,5 @@
+pub mod Filter
 pub mod Holds
-pub mod Needed
 pub mod Plan
+pub mod Tests
 pub mod Values

@@ -8,7 +8,7 @@ use crate::value::{accepts, compares, is_within};
 use hj_query::{Op, Pred, Query, Sum};
 use hj_value::Row;
 
-/// Whether the condition of a query holds for a left and a right row. Sums and distances have no bound, and texts compare
+/// Asks whether the condition of a query holds for a left and a right row. Sums and distances have no bound, and texts compare
 /// by their bytes. A comparison or a distance with a missing value doesn't hold; a column has none where the row lacks it,
 /// or has another type there than the query's schema.
 pub fn holds(query: &Query, left: &Row, right: &Row) -> bool
@@ -17,9 +17,9 @@ pub fn holds(query: &Query, left: &Row, right: &Row) -> bool
     pred_holds(&Rows { query, left, right }, query.pred())
 }
 
-/// Whether a condition holds. The left operands may stand as deep as the condition is long, so this keeps little on the
+/// Asks whether a condition holds. The left operands may stand as deep as the condition is long, so this keeps little on the
 /// stack.
-fn pred_holds<'a>(rows: &Rows<'a>, pred: &'a Pred) -> bool
+pub(crate) fn pred_holds<'a>(rows: &Rows<'a>, pred: &'a Pred) -> bool
     ensures { result ≡ pred_holds (value_in rows.now) pred.now }
 {
     match pred {
@@ -31,7 +31,7 @@ fn pred_holds<'a>(rows: &Rows<'a>, pred: &'a Pred) -> bool
     }
 }
 
-/// Whether two sums compare so.
+/// Asks whether two sums compare so.
 fn comparison_holds<'a>(rows: &Rows<'a>, op: Op, left: &'a Sum, right: &'a Sum) -> bool
     ensures { result ≡ pred_holds (value_in rows.now) (Compare op left.now right.now) }
 {
@@ -42,7 +42,7 @@ fn comparison_holds<'a>(rows: &Rows<'a>, op: Op, left: &'a Sum, right: &'a Sum) 
     }
 }
 
-/// Whether the values of two sums compare so.
+/// Asks whether the values of two sums compare so.
 fn values_compare<'a>(rows: &Rows<'a>, op: Op, left: &'a Sum, right: &'a Sum) -> bool
     ensures { result ≡ pred_holds (value_in rows.now) (Compare op left.now right.now) }
 {
@@ -55,7 +55,7 @@ fn values_compare<'a>(rows: &Rows<'a>, op: Op, left: &'a Sum, right: &'a Sum) ->
     }
 }
 
-/// Whether two sums are numbers that differ by at most so much.
+/// Asks whether two sums are numbers that differ by at most `distance`.
 fn distance_holds<'a>(rows: &Rows<'a>, distance: u64, left: &'a Sum, right: &'a Sum) -> bool
     ensures { result ≡ pred_holds (value_in rows.now) (Within distance left.now right.now) }
 {
@@ -65,7 +65,7 @@ fn distance_holds<'a>(rows: &Rows<'a>, distance: u64, left: &'a Sum, right: &'a 
     }
 }
 
-/// Whether the values of two sums are numbers that differ by at most so much.
+/// Asks whether the values of two sums are numbers that differ by at most `distance`.
 fn values_are_within<'a>(rows: &Rows<'a>, distance: u64, left: &'a Sum, right: &'a Sum) -> bool
     ensures { result ≡ pred_holds (value_in rows.now) (Within distance left.now right.now) }
 {

@@ -1,28 +1,31 @@
-ghost use Rattle.std.specs.Prelude.{◌≡◌};
+ghost use Rattle.std.specs.Prelude.{◌≡◌, IfOk};
 ghost use Rattle.hj_eval.specs.Holds.{holds};
 
-use crate::condition::holds;
-use crate::needed::{Comparison, needed_by};
+use crate::conjuncts::Conjuncts;
 use hj_base::{Memory, Share};
 use hj_msg::Join;
 use hj_query::Query;
 use hj_value::{Row, SharedRow};
+use std::alloc::Global;
 use std::marker::Model;
 
-/// The join that a query's condition makes, seen as the query and ready for many rows: most of those for which the condition
-/// doesn't hold are told by one comparison of two fields.
+/// The join that a query's condition makes, seen as the query and ready for many rows: the condition's parts are a list, in which
+/// those that compare two columns were looked up once.
 #[derive(Drop)]
 pub struct QueryJoin<'a> {
+    alloc: Global,
     query: &'a Query,
-    needed: Option<Comparison>,
+    conjuncts: Conjuncts<'a>,
 }
 
 impl<'a> Model for QueryJoin<'a> {
-    ghost use Rattle.std.specs.Prelude.{IfSome};
+    ghost use Rattle.std.specs.Prelude.{◌≡◌, List};
     ghost use Rattle.hj_query.specs.Parts.{Parts};
     ghost use Rattle.hj_query.specs.contracts.pred.Pred as e;
     ghost use Rattle.std.specs.Coded.{codes};
-    ghost use Rattle.hj_eval.specs.Needed.{IsNeeded};
+    ghost use Rattle.hj_value.specs.declared.field.Field.{Field};
+    ghost use Rattle.hj_eval.specs.Holds.{holds};
+    ghost use Rattle.hj_eval.specs.Tests.{all_hold};
 
     ghost Value = { Parts };
 
@@ -30,39 +33,33 @@ impl<'a> Model for QueryJoin<'a> {
 
     ghost view = { λ c. c.query.now };
 
-    ghost invariant = { λ c. IfSome c.needed (IsNeeded c.query.now.pred) };
+    ghost invariant = { λ c. (left right : List Field) → all_hold c.query.now c.conjuncts left right ≡ holds c.query.now left right };
 }
 
 impl<'a> QueryJoin<'a> {
-    /// The join by the condition of `query`.
-    pub fn new(query: &'a Query) -> Self
-        ensures { result ≡ query.now }
+    /// Makes the join by the condition of `query`.
+    pub fn new(alloc: Global, query: &'a Query) -> Result<Self, Memory>
+        ensures { IfOk result (λ join. join ≡ query.now) }
     {
-        QueryJoin {
+        Ok(QueryJoin {
+            alloc,
             query,
-            needed: needed_by(query.pred()),
-        }
+            conjuncts: Conjuncts::of(alloc, query)?,
+        })
     }
 
-    /// Whether the condition holds for a left and a right row, as `holds` tells.
+    /// Asks whether the condition holds for a left and a right row, as `holds` tells.
+    #[inline(always)]
     pub fn holds(&self, left: &Row, right: &Row) -> bool
         ensures { result ≡ holds self.now left.now right.now }
     {
-        if let Some(needed) = &self.needed
-            && !needed.holds(left, right)
-        {
-            return false;
-        }
-        holds(self.query, left, right)
+        self.conjuncts.hold(self.query, left, right)
     }
 }
 
 impl Share for QueryJoin<'_> {
     fn share(&self) -> Result<Self, Memory> {
-        Ok(QueryJoin {
-            query: self.query,
-            needed: self.needed,
-        })
+        QueryJoin::new(self.alloc, self.query)
     }
 }
 

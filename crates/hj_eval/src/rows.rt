@@ -19,7 +19,7 @@ pub struct Rows<'a> {
     pub right: &'a Row,
 }
 
-/// The number of a sum that is one term; None where it is none, or has further terms.
+/// Gives the number of a sum that is one term; None where it is no number, or has further terms.
 pub fn lone_number<'a>(rows: &Rows<'a>, sum: &'a Sum) -> Option<i64>
     ensures { IfSome result (λ number. sum_value (value_in rows.now) sum.now ≡ Some (field.Int number)) }
 {
@@ -36,7 +36,7 @@ pub fn lone_number<'a>(rows: &Rows<'a>, sum: &'a Sum) -> Option<i64>
     }
 }
 
-/// The value of a sum; None where a term has none, and where a text is one of several terms.
+/// Gives the value of a sum; None where a term has none, and where a text is one of several terms.
 pub fn sum_value<'a>(rows: &Rows<'a>, sum: &'a Sum) -> Option<Value<'a>>
     ensures { option_map field_of result ≡ sum_value (value_in rows.now) sum.now }
 {
@@ -50,7 +50,7 @@ pub fn sum_value<'a>(rows: &Rows<'a>, sum: &'a Sum) -> Option<Value<'a>>
     }
 }
 
-/// The number with these terms added to it and taken off it; None where one of them is no number.
+/// Gives a number with the terms of `rest` added to it and taken off it; None where one of them is no number.
 fn total<'a>(rows: &Rows<'a>, front: i128, rest: &'a Rest) -> Option<i128>
     requires { FitsSigned w64 front }
     ensures { option_map (λ number. field.Int number) result ≡ with_parts (value_in rows.now) (Some (field.Int front)) rest.now }
@@ -65,7 +65,7 @@ fn total<'a>(rows: &Rows<'a>, front: i128, rest: &'a Rest) -> Option<i128>
     Some(total)
 }
 
-/// The number with a term added to it or taken off it; None where the term is no number.
+/// Gives a number with a term added to it or taken off it; None where the term is no number.
 fn with_part<'a>(rows: &Rows<'a>, total: i128, part: &'a Part) -> Option<i128>
     requires { IsTotalOf (2 ^ 64 - 1) total }
     ensures value { option_map (λ number. field.Int number) result ≡ with_part (value_in rows.now) (Some (field.Int total)) part.now }
@@ -78,7 +78,7 @@ fn with_part<'a>(rows: &Rows<'a>, total: i128, part: &'a Part) -> Option<i128>
     }
 }
 
-/// The value of a term; None for a column that isn't in its row, or has another type there.
+/// Gives the value of a term; None for a column that isn't in its row, or has another type there.
 fn term_value<'a>(rows: &Rows<'a>, term: &'a Term) -> Option<Value<'a>>
     ensures value { option_map field_of result ≡ value_in rows.now term.now }
     ensures small { IfSome result IsSmall }
@@ -93,7 +93,7 @@ fn term_value<'a>(rows: &Rows<'a>, term: &'a Term) -> Option<Value<'a>>
     }
 }
 
-/// The field of a side's row in a column; None where the row lacks it, or has another type there.
+/// Returns the field of a side's row in a column; None where the row lacks it, or has another type there.
 fn column_value<'a>(rows: &Rows<'a>, side: Side, at: usize) -> Option<Field<'a>>
     ensures { result ≡ column_value
         (slice_get (columns_of rows.now.query.now side) at)
@@ -108,7 +108,7 @@ fn column_value<'a>(rows: &Rows<'a>, side: Side, at: usize) -> Option<Field<'a>>
 }
 
 impl<'a> Rows<'a> {
-    /// The row of a side.
+    /// Returns the row of a side.
     fn of(&self, side: Side) -> &'a Row
         ensures { result.now ≡ by_side self.now.left.now self.now.right.now side }
     {

@@ -18,7 +18,7 @@ pub enum StorePlan {
     Scan,
 }
 
-/// The plan for a query's condition, by what is left once all `and`s at its top are taken apart, from left to right: Equal
+/// Gives the plan for a query's condition, by what is left once all `and`s at its top are taken apart, from left to right: Equal
 /// by the first that compares one column of each side by `=`; else Band by the first that has `within` with one column of
 /// each side; else Scan.
 pub fn plan(query: &Query) -> StorePlan
@@ -28,7 +28,7 @@ pub fn plan(query: &Query) -> StorePlan
     plan_of(query.pred())
 }
 
-/// The plan for a condition. The left operands may stand as deep as the condition is long, so this keeps little on the
+/// Gives the plan for a condition. The left operands may stand as deep as the condition is long, so this keeps little on the
 /// stack.
 fn plan_of(pred: &Pred) -> StorePlan
     ensures { result ≡ plan_of pred.now }
@@ -51,7 +51,7 @@ fn plan_of(pred: &Pred) -> StorePlan
     }
 }
 
-/// The better of two plans; where they are alike, the first.
+/// Gives the better of two plans; where they are alike, the first.
 fn better(first: StorePlan, second: StorePlan) -> StorePlan
     ensures { result ≡ better_plan first second }
 {
@@ -63,7 +63,7 @@ fn better(first: StorePlan, second: StorePlan) -> StorePlan
     }
 }
 
-/// A column of the left rows and one of the right rows, where each of two sums is one column alone, and they are of both
+/// Gives a column of the left rows and one of the right rows, where each of two sums is one column alone, and they are of both
 /// sides.
 pub(crate) fn column_pair(first: &Sum, second: &Sum) -> Option<(u16, u16)>
     ensures { result ≡ column_pair first.now second.now }
@@ -75,7 +75,7 @@ pub(crate) fn column_pair(first: &Sum, second: &Sum) -> Option<(u16, u16)>
     }
 }
 
-/// The column that a sum is, where it is one alone.
+/// Gives the column that a sum is, where it is one alone.
 pub(crate) fn lone_column(sum: &Sum) -> Option<(Side, u16)>
     ensures column { result ≡ lone_column sum.now }
     ensures alone { IfSome result (λ column. sum.now ≡ record { first = terms.Column column.0 column.1; rest = [] }) }

@@ -13,7 +13,7 @@ pub enum Value<'a> {
     Text(&'a [u8]),
 }
 
-/// Whether two values compare so.
+/// Asks whether two values compare so.
 pub fn compares(op: Op, left: Value<'_>, right: Value<'_>) -> bool
     ensures { result ≡ compares op (Some (field_of left.entry)) (Some (field_of right.entry)) }
 {
@@ -24,7 +24,7 @@ pub fn compares(op: Op, left: Value<'_>, right: Value<'_>) -> bool
     }
 }
 
-/// Whether the bytes of two texts compare so.
+/// Asks whether the bytes of two texts compare so.
 pub fn texts_compare(op: Op, left: &[u8], right: &[u8]) -> bool
     ensures { result ≡ compares op (Some (field.Text left.now)) (Some (field.Text right.now)) }
 {
@@ -35,7 +35,7 @@ pub fn texts_compare(op: Op, left: &[u8], right: &[u8]) -> bool
     }
 }
 
-/// Whether two values in this order compare so.
+/// Asks whether two values in this order compare so.
 pub fn accepts(op: Op, order: Ordering) -> bool
     ensures { result ≡ accepts op order }
 {
@@ -49,7 +49,7 @@ pub fn accepts(op: Op, order: Ordering) -> bool
     }
 }
 
-/// Whether two values are numbers that differ by at most so much.
+/// Asks whether two values are numbers that differ by at most `distance`.
 pub fn is_within(distance: u64, left: Value<'_>, right: Value<'_>) -> bool
     ensures { result ≡ is_within distance (Some (field_of left.entry)) (Some (field_of right.entry)) }
 {

@@ -127,21 +127,22 @@ l.k = 1 and r.k = 1 | 1 2 false
 l.k = 1 or r.k = 1 | 1 2 true
 r.k > l.k and l.k <= r.k | 1 2 true
 l.k <= r.k and r.k < l.k | 1 2 false
-r.s > l.s | 1 2 true";
+r.s > l.s | 1 2 true
+not l.k < r.k | 1 2 false
+not not r.k > l.k and l.s != r.s and l.k + r.k = 3 | 1 2 true
+not r.k within 5 of l.k | 1 2 false";
 
 /// Returns what a query says of two rows, as it is and made ready.
-fn says(query: &Query, left: &Row, right: &Row) -> (bool, bool) {
-    (
-        holds(query, left, right),
-        QueryJoin::new(query).holds(left, right),
-    )
+fn says(rt: &impl Abort, alloc: Global, query: &Query, left: &Row, right: &Row) -> (bool, bool) {
+    let join = QueryJoin::new(alloc, query).expect(rt, "memory");
+    (holds(query, left, right), join.holds(left, right))
 }
 
 /// Returns what a condition says of two rows of these numbers, as it is and made ready.
 fn says_of(rt: &impl Abort, alloc: Global, query: &Query, left: &str, right: &str) -> (bool, bool) {
     let left = whole_row(rt, alloc, left, "ab");
     let right = whole_row(rt, alloc, right, "b");
-    says(query, &left, &right)
+    says(rt, alloc, query, &left, &right)
 }
 
 /// Evaluates the condition of a line.
