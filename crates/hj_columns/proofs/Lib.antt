@@ -1,0 +1,7 @@
+mod Blocks
+mod Covering
+mod Finding
+mod Keeping
+mod Listing
+mod Masks
+mod Probes

@@ -1,0 +1,4 @@
+pub mod Columns
+pub mod Masks
+pub mod Probing
+pub mod Store
