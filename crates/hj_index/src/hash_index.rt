@@ -40,7 +40,7 @@ pub(crate) fn put(
     }
 }
 
-/// The link of a row that comes behind all others.
+/// Gives the link of a row that comes after all others.
 #[inline(always)]
 fn tail_link(ends: &HashMap<u64, Ends>, key: Option<u64>) -> Option<Link>
     ensures { result ≡ tail_link (get nat_eq ends.now) key }
@@ -113,7 +113,7 @@ fn link_between(rows: &mut Rows, ends: &mut HashMap<u64, Ends>, no: u64, key: u6
     join(rows, ends, no, link);
 }
 
-/// The link of the row of a number by a key: the rows of that key before it and behind it.
+/// Finds the link of the row of a number by a key: the rows of that key before it and behind it.
 fn neighbours(rows: &Rows, no: u64, key: u64) -> Link
     ensures { result ≡ neighbours key no None (rows_in rows.now) }
 {
@@ -139,7 +139,7 @@ fn neighbours(rows: &Rows, no: u64, key: u64) -> Link
     link
 }
 
-/// Takes the row of a number out; false exactly where there is none.
+/// Takes the row of a number out; returns false exactly where there is none.
 pub(crate) fn take(rows: &mut Rows, ends: &mut HashMap<u64, Ends>, own: u16, no: u64) -> bool
     requires indexed { AreIndexed own (rows_in rows.old) (get nat_eq ends.old) }
     ensures held { result ≡ holds no (plain_rows (rows_in rows.old)) }
@@ -157,7 +157,7 @@ pub(crate) fn take(rows: &mut Rows, ends: &mut HashMap<u64, Ends>, own: u16, no:
     }
 }
 
-/// Whether a link is by a key.
+/// Asks whether a link is by a key.
 fn has_key(link: Option<Link>, key: u64) -> bool
     ensures { result ≡ has_key key link }
 {

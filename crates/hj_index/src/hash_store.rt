@@ -58,7 +58,7 @@ impl Model for HashStore {
 }
 
 impl HashStore {
-    /// A store with no rows. `own` is the column of the rows at rest, `other` that of the rows that probe, each counted from
+    /// Makes a store with no rows. `own` is the column of the rows at rest, `other` that of the rows that probe, each counted from
     /// 0. It suits a join by a query of which the plan is Equal on these columns.
     pub fn new(alloc: Global, own: u16, other: u16) -> Self
         ensures rows { result.rows ≡ [] }
@@ -115,7 +115,7 @@ impl<J: Join<SharedRow>> Store<SharedRow, J> for HashStore {
 }
 
 impl HashStore {
-    /// A probe among the rows of a key, from the first on.
+    /// Probes the rows of a key, from the first on.
     fn probe_chain<J: Join<SharedRow>>(
         &self,
         key: u64,
@@ -153,7 +153,7 @@ impl HashStore {
         Ok(found)
     }
 
-    /// A probe where the rows of a key don't stand in order of their numbers.
+    /// Probes the rows of a key where they don't stand in order of their numbers.
     #[cold]
     fn probe_sorted<J: Join<SharedRow>>(
         &self,
@@ -169,7 +169,7 @@ impl HashStore {
         partners_of(self.alloc, self.sorted_rows(key, side, against, join)?)
     }
 
-    /// The settled rows of a key that join with a row of the other stream, by their numbers.
+    /// Finds the settled rows of a key that join with a row of the other stream, by their numbers.
     fn sorted_rows<J: Join<SharedRow>>(
         &self,
         key: u64,
@@ -199,7 +199,7 @@ impl HashStore {
     }
 }
 
-/// The row of a place, where it is settled and joins with a row of the other side.
+/// Returns the row of a place, where it is settled and joins with a row of the other side.
 #[inline(always)]
 fn joining_row<'a, J: Join<SharedRow>>(
     rest: &'a Rest<Linked<SharedRow>>,
@@ -216,7 +216,7 @@ fn joining_row<'a, J: Join<SharedRow>>(
     }
 }
 
-/// The number of the first row of a key.
+/// Returns the number of the first row of a key.
 #[inline(always)]
 fn first_of(ends: &HashMap<u64, Ends>, key: u64) -> Option<u64>
     ensures { result ≡ first_in (get nat_eq ends.now key) }
@@ -227,7 +227,7 @@ fn first_of(ends: &HashMap<u64, Ends>, key: u64) -> Option<u64>
     }
 }
 
-/// The number behind, where a link names one.
+/// Returns the number of the row behind, where a link names one.
 #[inline(always)]
 fn behind(link: Option<Link>) -> Option<u64>
     ensures { result ≡ number_behind link }

@@ -3,7 +3,7 @@ ghost use Rattle.hj_index.specs.Keys.{key_at, key_of, mixed};
 
 use hj_value::{Field, Row};
 
-/// The key of a column's value in a row; None where the row lacks it. Equal values have equal keys.
+/// Gives the key of a column's value in a row; None where the row lacks it. Equal values have equal keys.
 #[inline(always)]
 pub(crate) fn key_at(row: &Row, column: u16) -> Option<u64>
     ensures { result ≡ key_at column row.now }
@@ -14,7 +14,7 @@ pub(crate) fn key_at(row: &Row, column: u16) -> Option<u64>
     }
 }
 
-/// The bytes of a text, mixed as FNV-1a does.
+/// Mixes the bytes of a text as FNV-1a does.
 fn mixed_bytes(bytes: &[u8]) -> u64
     ensures { result ≡ fold mixed 14695981039346656037 bytes.now }
 {
@@ -25,7 +25,7 @@ fn mixed_bytes(bytes: &[u8]) -> u64
     key
 }
 
-/// The key with a byte mixed in.
+/// Mixes a byte into a key.
 fn mixed(key: u64, byte: u8) -> u64
     ensures { result ≡ mixed key byte }
 {

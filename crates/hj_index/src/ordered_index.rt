@@ -24,7 +24,7 @@ pub struct OrderedIndex {
 }
 
 impl OrderedIndex {
-    /// No keys.
+    /// Makes an index with no keys.
     pub(crate) fn new(alloc: Global) -> Self
         ensures { (key : Key) → stands result key ≡ false }
     {
@@ -102,7 +102,7 @@ impl OrderedIndex {
     }
 }
 
-/// A column's value in a row; None where the row lacks it, or it is a text.
+/// Returns a column's value in a row; None where the row lacks it, or it is a text.
 #[inline(always)]
 pub(crate) fn number_at(row: &Row, column: u16) -> Option<i64>
     ensures { result ≡ number_at column row.now }
@@ -113,7 +113,7 @@ pub(crate) fn number_at(row: &Row, column: u16) -> Option<i64>
     }
 }
 
-/// The key of a row that came under a number; None where it has no number in the column.
+/// Gives the key of a row that came under a number; None where it has no number in the column.
 #[inline(always)]
 pub(crate) fn key_of(row: &Row, own: u16, no: u64) -> Option<Key>
     ensures { result ≡ key_of own no row.now }
@@ -121,7 +121,7 @@ pub(crate) fn key_of(row: &Row, own: u16, no: u64) -> Option<Key>
     Some((number_at(row, own)?, no))
 }
 
-/// The key of the row that came under a number, where there is one.
+/// Finds the key of the row that came under a number, where there is one.
 #[inline(always)]
 pub(crate) fn key_of_held(row: &Option<SharedRow>, own: u16, no: u64) -> Option<Key>
     ensures { result ≡ option_and_then (key_of own no) row.now }
@@ -132,7 +132,7 @@ pub(crate) fn key_of_held(row: &Option<SharedRow>, own: u16, no: u64) -> Option<
     }
 }
 
-/// The keys of which the number differs from another one by at most `within`: their bounds.
+/// Gives the bounds of the keys of which the number differs from another one by at most `within`.
 #[inline(always)]
 pub(crate) fn band(number: i64, within: u64) -> (Bound<Key>, Bound<Key>)
     ensures forward { IsForward (IsLeBy key_cmp) (IsLtBy key_cmp) result.0 result.1 }

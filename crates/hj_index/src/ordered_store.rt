@@ -53,9 +53,9 @@ impl Model for OrderedStore {
 }
 
 impl OrderedStore {
-    /// A store with no rows. `own` is the column of the rows at rest, `other` that of the rows that probe, each counted from
+    /// Makes a store with no rows. `own` is the column of the rows at rest, `other` that of the rows that probe, each counted from
     /// 0; numbers in them are near if they differ by at most `within`. It suits a join by a query of which the plan is Band
-    /// on these columns and by so much.
+    /// on these columns and by this distance.
     pub fn new(alloc: Global, own: u16, other: u16, within: u64) -> Self
         ensures rows { result.rows ≡ [] }
         ensures own { result.own ≡ own }
@@ -117,7 +117,7 @@ impl<J: Join<SharedRow>> Store<SharedRow, J> for OrderedStore {
 }
 
 impl OrderedStore {
-    /// A probe among the rows that are near a number, from the lowest on.
+    /// Probes the rows that are near a number, from the lowest on.
     fn probe_band<J: Join<SharedRow>>(
         &self,
         number: i64,
@@ -153,7 +153,7 @@ impl OrderedStore {
         Ok(found)
     }
 
-    /// A probe where the rows that join don't stand in order of their numbers of arrival.
+    /// Probes the rows that are near a number where those that join don't stand in order of their numbers of arrival.
     #[cold]
     fn probe_sorted<J: Join<SharedRow>>(
         &self,
@@ -169,7 +169,7 @@ impl OrderedStore {
         partners_of(self.alloc, self.sorted_rows(number, side, against, join)?)
     }
 
-    /// The settled rows near a number that join with a row of the other stream, by their numbers of arrival.
+    /// Finds the settled rows near a number that join with a row of the other stream, by their numbers of arrival.
     fn sorted_rows<J: Join<SharedRow>>(
         &self,
         number: i64,
@@ -198,7 +198,7 @@ impl OrderedStore {
     }
 }
 
-/// The row for which a key stands in the index, where it is settled and joins with a row of the other side.
+/// Returns the row for which a key stands in the index, where it is settled and joins with a row of the other side.
 #[inline(always)]
 fn joining_row<'a, J: Join<SharedRow>>(
     rows: &'a Numbered<SharedRow>,
