@@ -20,7 +20,7 @@ function column(side) { return side "." (draw(2) ? "k" : "q") }
 
 # A condition, at most this deep, in the query's words; its tree goes behind `size`.
 function condition(depth,    kind, at, first) {
-    kind = depth > 0 ? draw(7) : 3 + draw(4)
+    kind = depth > 0 ? draw(8) : 3 + draw(5)
     at = ++size
     if (kind == 0) { node[at] = "not"; return "not (" condition(depth - 1) ")" }
     if (kind <= 2) {
@@ -33,8 +33,13 @@ function condition(depth,    kind, at, first) {
         first_of[at] = column("l"); second_of[at] = column("r"); by[at] = draw(3)
         return first_of[at] " within " by[at] " of " second_of[at]
     }
-    node[at] = "compare"
     by[at] = signs[draw(6)]
+    if (kind == 7) {
+        node[at] = "sum"
+        first_of[at] = column("l"); second_of[at] = column("r"); more[at] = draw(8) - 2
+        return first_of[at] " + " second_of[at] " " by[at] " " more[at]
+    }
+    node[at] = "compare"
     if (kind == 4) { first_of[at] = "l.t"; second_of[at] = "r.t" }
     else if (kind == 5) { first_of[at] = column("r"); second_of[at] = column("l") }
     else { first_of[at] = column("l"); second_of[at] = column("r") }
@@ -60,6 +65,7 @@ function holds(left, right,    at, a, b) {
     }
     a = value(first_of[at], left, right)
     b = value(second_of[at], left, right)
+    if (node[at] == "sum") { a += b; b = more[at] }
     if (node[at] == "within") return (a > b ? a - b : b - a) <= by[at]
     if (by[at] == "=") return a == b
     if (by[at] == "!=") return a != b

@@ -53,7 +53,9 @@ pub(crate) fn run_crew<
     let Ok(stores) = planned_stores(alloc, query, plan.setup.cores) else {
         return (Err(Memory), feed, drain);
     };
-    let join = QueryJoin::new(query);
+    let Ok(join) = QueryJoin::new(alloc, query) else {
+        return (Err(Memory), feed, drain);
+    };
     let CrewPlan {
         rt,
         setup,
@@ -65,6 +67,9 @@ pub(crate) fn run_crew<
             run_threads(rt, alloc, setup, &join, left, right, feed, drain, gate)
         }
         PlannedStores::Ordered(Stores { left, right }) => {
+            run_threads(rt, alloc, setup, &join, left, right, feed, drain, gate)
+        }
+        PlannedStores::Columns(Stores { left, right }) => {
             run_threads(rt, alloc, setup, &join, left, right, feed, drain, gate)
         }
         PlannedStores::List(Stores { left, right }) => {

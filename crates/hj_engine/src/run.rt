@@ -62,6 +62,7 @@ fn run_planned<F: Feed<SharedRow>, D: Drain<SharedRow>, G: Gate>(
     match planned_stores(alloc, query, plan.cores)? {
         PlannedStores::Hash(stores) => run_over(alloc, query, plan, stores, feed, drain, gate),
         PlannedStores::Ordered(stores) => run_over(alloc, query, plan, stores, feed, drain, gate),
+        PlannedStores::Columns(stores) => run_over(alloc, query, plan, stores, feed, drain, gate),
         PlannedStores::List(stores) => run_over(alloc, query, plan, stores, feed, drain, gate),
     }
 }
@@ -87,7 +88,7 @@ fn run_over<
     ensures runs { IfOk result (λ fin. RunsJoin F.gives F.state D.takes (holds query.now) fin feed.old feed.new drain.old drain.new) }
     ensures refused { OnErr result ((feed.new ≡ feed.old) × (drain.new ≡ drain.old)) }
 {
-    let join = QueryJoin::new(query);
+    let join = QueryJoin::new(alloc, query)?;
     let mut chain = Chain::new(alloc, join, stores.left, stores.right, plan.flight, feed)?;
     Ok(chain.run_serial(plan.chooser, feed, drain, gate))
 }

@@ -1,8 +1,9 @@
 ghost use Rattle.std.specs.Prelude.{◌≡◌, length, All, IfOk};
-ghost use Rattle.hj_engine.specs.Stores.{AreReadyFor};
+ghost use Rattle.hj_engine.specs.Stores.{AreReadyFor, IsNewFor};
 
-use hj_base::Memory;
-use hj_eval::StorePlan;
+use hj_base::{Memory, Side};
+use hj_columns::ColumnStore;
+use hj_eval::{Filter, StorePlan};
 use hj_index::{HashStore, OrderedStore};
 use hj_query::Query;
 use hj_rows::ListStore;
@@ -18,21 +19,23 @@ pub(crate) struct Stores<S> {
 
 /// The stores of a chain's cores, of the kind that a query's condition asks for.
 #[derive(Drop)]
-pub(crate) enum PlannedStores {
+pub(crate) enum PlannedStores<'a> {
     /// For the plan Equal.
     Hash(Stores<HashStore>),
     /// For the plan Band.
     Ordered(Stores<OrderedStore>),
-    /// For the plan Scan.
+    /// For the plan Scan, under a condition with filters.
+    Columns(Stores<ColumnStore<SharedRow, Filter<'a>>>),
+    /// For the plan Scan, under any other condition.
     List(Stores<ListStore<SharedRow>>),
 }
 
-/// New stores for so many cores, of the kind that the query's condition asks for.
-pub(crate) fn planned_stores(
+/// Makes stores for `cores` cores, of the kind that the query's condition asks for.
+pub(crate) fn planned_stores<'a>(
     alloc: Global,
-    query: &Query,
+    query: &'a Query,
     cores: u16,
-) -> Result<PlannedStores, Memory>
+) -> Result<PlannedStores<'a>, Memory>
     ensures { IfOk result (AreReadyFor query.now cores) }
 {
     match hj_eval::plan(query) {
@@ -56,14 +59,50 @@ pub(crate) fn planned_stores(
                 || OrderedStore::new(alloc, right, left, within),
             )?,
         })),
-        StorePlan::Scan => Ok(PlannedStores::List(Stores {
-            left: repeat_with(alloc, cores, || ListStore::new(alloc))?,
-            right: repeat_with(alloc, cores, || ListStore::new(alloc))?,
-        })),
+        StorePlan::Scan => scanned_stores(alloc, query, cores),
     }
 }
 
-/// So many stores, each made anew.
+/// Makes stores for `cores` cores, of which a probe goes over all rows, or over their keys where the query's condition has filters.
+fn scanned_stores<'a>(
+    alloc: Global,
+    query: &'a Query,
+    cores: u16,
+) -> Result<PlannedStores<'a>, Memory>
+    ensures { IfOk result (AreReadyFor query.now cores) }
+{
+    let filters = hj_eval::filters(alloc, query)?;
+    if filters.is_empty() {
+        return Ok(PlannedStores::List(Stores {
+            left: repeat_with(alloc, cores, || ListStore::new(alloc))?,
+            right: repeat_with(alloc, cores, || ListStore::new(alloc))?,
+        }));
+    }
+    let filters = filters.as_slice();
+    Ok(PlannedStores::Columns(Stores {
+        left: column_stores(alloc, cores, Side::Left, filters)?,
+        right: column_stores(alloc, cores, Side::Right, filters)?,
+    }))
+}
+
+/// Makes `count` stores of columns with no rows, for rows of `side`.
+fn column_stores<'a>(
+    alloc: Global,
+    count: u16,
+    side: Side,
+    filters: &[Filter<'a>],
+) -> Result<Vec<ColumnStore<SharedRow, Filter<'a>>>, Memory>
+    ensures count { IfOk result (λ stores. length stores.items ≡ count) }
+    ensures made { IfOk result (λ stores. All (IsNewFor side filters.now) stores.items) }
+{
+    let mut stores = Vec::with_capacity(alloc, usize::from(count))?;
+    for _ in 0..count {
+        stores.push(ColumnStore::new(alloc, side, filters)?)?;
+    }
+    Ok(stores)
+}
+
+/// Makes `count` stores, each anew.
 fn repeat_with<S: Drop, M: Fn() -> S>(alloc: Global, count: u16, make: M) -> Result<Vec<S>, Memory>
     requires { M.IsAlwaysCallable make }
     ensures count { IfOk result (λ stores. length stores.items ≡ count) }

@@ -34,16 +34,3 @@ returns-in_ok-repeat_with-in-Band-2 c =
           let made = right.made k d lt in
           ordered_suits _ _ _ c.in-Band.right c.in-Band.left c.in-Band.within Right c.args.query.now (search rules) (search rules) (search rules) plan (search rules);
     }
-
-pub returns-in_ok-repeat_with-in-Scan-2 : goal.returns-in_ok-repeat_with-in-Scan-2
-returns-in_ok-repeat_with-in-Scan-2 c =
-    let left = c.in_ok-repeat_with-in-Scan.ensures in
-    let right = c.in_ok-repeat_with-in-Scan-2.ensures in
-    record {
-      left_count = left.count;
-      right_count = right.count;
-      left_empty = λ k d lt. let made = left.made k d lt in search rules;
-      right_empty = λ k d lt. let made = right.made k d lt in search rules;
-      left_suit = λ k d lt. tt;
-      right_suit = λ k d lt. tt;
-    }
