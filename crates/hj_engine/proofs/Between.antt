@@ -20,7 +20,7 @@ use Rattle.hj_engine.specs.declared.drain.LineDrain.{LineDrain}
 use Rattle.hj_engine.specs.declared.feed.EventFeed.{EventFeed}
 use Rattle.hj_engine.specs.declared.outcome.Outcome.{Outcome}
 use Rattle.hj_engine.specs.declared.outcome.Outcome.TheVariants as outcome
-use Rattle.hj_engine.specs.declared.output.Sent.TheVariants as sent
+use Rattle.hj_output.specs.declared.output.Sent.TheVariants as sent
 use Rattle.hj_engine.specs.Draining.{TakesLine}
 use Rattle.hj_engine.specs.Ending.{EndsAs}
 use Rattle.hj_engine.specs.Feeding.{Feeding, Gives}

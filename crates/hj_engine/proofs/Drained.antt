@@ -9,11 +9,11 @@ use Rattle.hj_msg.specs.declared.drain.Drained.TheVariants.{Kept, Refused}
 use Rattle.hj_msg.specs.declared.event.Pair.{Pair}
 use Rattle.hj_msg.specs.Drain.{Drainage, TakesAll, AreKept, pairs_in}
 use Rattle.hj_emit.specs.Line.{line_of}
-use Rattle.hj_engine.specs.declared.output.Sent.{Sent}
-use Rattle.hj_engine.specs.declared.output.Sent.TheVariants as sent
+use Rattle.hj_output.specs.declared.output.Sent.{Sent}
+use Rattle.hj_output.specs.declared.output.Sent.TheVariants as sent
 use Rattle.hj_engine.specs.Draining.{TakesLine, answer_by}
 use Rattle.hj_engine.specs.JoinText.{text}
-use Rattle.hj_engine.specs.Output.{AppendsFront, CountsFaults, Sends}
+use Rattle.hj_output.specs.Output.{AppendsFront, CountsFaults, Sends}
 
 -- What is seen of a drain: how its last line went, and what its sink tells and counts.
 pub record Draining : Type 0 where

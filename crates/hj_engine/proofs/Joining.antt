@@ -27,13 +27,13 @@ use Rattle.hj_event.specs.Calls.{GivesAll, then_events}
 use Rattle.hj_event.proofs.RoleLemmas.{not_read}
 use Rattle.hj_engine.specs.declared.outcome.Outcome.{Outcome}
 use Rattle.hj_engine.specs.declared.outcome.Outcome.TheVariants as outcome
-use Rattle.hj_engine.specs.declared.output.Sent.{Sent}
-use Rattle.hj_engine.specs.declared.output.Sent.TheVariants as sent
+use Rattle.hj_output.specs.declared.output.Sent.{Sent}
+use Rattle.hj_output.specs.declared.output.Sent.TheVariants as sent
 use Rattle.hj_engine.specs.Draining.{refusal_of}
 use Rattle.hj_engine.specs.Feeding.{outcome_by}
 use Rattle.hj_engine.specs.JoinText.{JoinResult, text, text_of, join_result}
 use Rattle.hj_engine.specs.Joining.{CountsSinkFault, FailsOn, WritesText, AreEnded, Joins}
-use Rattle.hj_engine.specs.Output.{CountsFaults}
+use Rattle.hj_output.specs.Output.{CountsFaults}
 use Rattle.hj_engine.proofs.Prefixes.{IsPrefix-trans}
 
 -- The whole text goes on behind that of the first events.

@@ -10,5 +10,4 @@ pub mod Over
 pub mod Prefixes
 pub mod Ran
 pub mod Reading
-pub mod Sending
 pub mod Walks

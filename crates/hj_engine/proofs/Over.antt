@@ -32,14 +32,14 @@ use Rattle.hj_event.proofs.CallLemmas.{before_call, ends}
 use Rattle.hj_event.proofs.RoleLemmas.{read_more}
 use Rattle.hj_engine.specs.declared.outcome.Outcome.{Outcome}
 use Rattle.hj_engine.specs.declared.outcome.Outcome.TheVariants as outcome
-use Rattle.hj_engine.specs.declared.output.Sent.{Sent}
-use Rattle.hj_engine.specs.declared.output.Sent.TheVariants as sent
+use Rattle.hj_output.specs.declared.output.Sent.{Sent}
+use Rattle.hj_output.specs.declared.output.Sent.TheVariants as sent
 use Rattle.hj_engine.specs.Draining.{TakesLine, refusal_of}
 use Rattle.hj_engine.specs.Ending.{EndsAs}
 use Rattle.hj_engine.specs.Feeding.{Feeding, Gives}
 use Rattle.hj_engine.specs.Joining.{CountsSinkFault, Joins}
 use Rattle.hj_engine.specs.JoinText.{join_result, text, text_of}
-use Rattle.hj_engine.specs.Output.{AppendsFront}
+use Rattle.hj_output.specs.Output.{AppendsFront}
 use Rattle.hj_engine.specs.Showing.{EndsRun, OfEvents}
 use Rattle.hj_engine.proofs.Drained.{Draining, all_kept, last_refused}
 use Rattle.hj_engine.proofs.Fed.{Fed, HasEnded, fed_all, fed_first, fed_well}

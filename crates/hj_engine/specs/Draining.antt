@@ -8,9 +8,9 @@ use Rattle.hj_msg.specs.declared.event.Pair.{Pair}
 use Rattle.hj_emit.specs.Line.{line_of}
 use Rattle.hj_engine.specs.declared.outcome.Outcome.{Outcome}
 use Rattle.hj_engine.specs.declared.outcome.Outcome.TheVariants as outcome
-use Rattle.hj_engine.specs.declared.output.Sent.{Sent}
-use Rattle.hj_engine.specs.declared.output.Sent.TheVariants as sent
-use Rattle.hj_engine.specs.Output.{CountsFaults, Sends}
+use Rattle.hj_output.specs.declared.output.Sent.{Sent}
+use Rattle.hj_output.specs.declared.output.Sent.TheVariants as sent
+use Rattle.hj_output.specs.Output.{CountsFaults, Sends}
 
 -- A pair is kept exactly where its whole line was sent.
 abbrev pub answer_by : Sent → Drained

@@ -5,7 +5,6 @@ pub mod Feeding
 pub mod InStep
 pub mod Joining
 pub mod JoinText
-pub mod Output
 pub mod Running
 pub mod Showing
 pub mod Stores

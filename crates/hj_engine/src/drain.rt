@@ -1,14 +1,14 @@
 ghost use Rattle.std.specs.Prelude.{◌≡◌, ◌≢◌};
-ghost use Rattle.hj_engine.specs.declared.output.Sent.TheVariants as sent;
+ghost use Rattle.hj_output.specs.declared.output.Sent.TheVariants as sent;
 ghost use Rattle.hj_emit.specs.Line.{line_of};
 ghost use Rattle.hj_engine.specs.Draining.{refusal_of};
-ghost use Rattle.hj_engine.specs.Output.{CountsFaults, Sends};
+ghost use Rattle.hj_output.specs.Output.{CountsFaults, Sends};
 
 use crate::Outcome;
-use crate::output::{Sent, put_all};
 use hj_base::{Memory, Sink};
 use hj_emit::fill_line;
 use hj_msg::{Drain, Drained, Pair};
+use hj_output::{Sent, put_all};
 use hj_value::SharedRow;
 
 /// Writes the line of each pair to a sink.

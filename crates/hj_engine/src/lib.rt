@@ -6,13 +6,11 @@ mod drain;
 mod feed;
 mod history;
 mod outcome;
-mod output;
 mod run;
 mod serial;
 mod stores;
 mod threads;
 
 pub use outcome::Outcome;
-pub use output::{Sent, put_all};
 pub use serial::join_serial;
 pub use threads::join_threads;

@@ -1,6 +1,6 @@
 ghost use Rattle.std.specs.Prelude.{◌≡◌, ◌≢◌, true, is_some};
 ghost use Rattle.hj_msg.specs.declared.fin.Fin.TheVariants as fin;
-ghost use Rattle.hj_engine.specs.declared.output.Sent.TheVariants as sent;
+ghost use Rattle.hj_output.specs.declared.output.Sent.TheVariants as sent;
 ghost use Rattle.hj_engine.specs.Ending.{EndsAs};
 
 use crate::drain::LineDrain;

@@ -4,8 +4,8 @@ use Rattle.std.specs.Io.KnownBytes.{Appends}
 use Rattle.std.specs.declared.option.Option.{Option}
 use Rattle.hj_base.specs.Counts.{Rose}
 use Rattle.hj_base.specs.Journals.{IsPrefix}
-use Rattle.hj_engine.specs.declared.output.Sent.{Sent}
-use Rattle.hj_engine.specs.declared.output.Sent.TheVariants as sent
+use Rattle.hj_output.specs.declared.output.Sent.{Sent}
+use Rattle.hj_output.specs.declared.output.Sent.TheVariants as sent
 
 -- A front of the bytes was appended.
 pub record AppendsFront (bytes : List ℕ) (old new : Option (List ℕ)) : Type 0 where

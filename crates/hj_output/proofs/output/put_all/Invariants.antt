@@ -1,6 +1,6 @@
 use Rattle.std.proofs.Common.{◌≡◌, length}
-use Rattle.hj_engine.proofs.Sending.{Took}
-use Rattle.hj_engine.proofs.output.put_all.Given as goal
+use Rattle.hj_output.proofs.Sending.{Took}
+use Rattle.hj_output.proofs.output.put_all.Given as goal
 
 abbrev pub invariant-loop-left : goal.invariant-loop-left
 invariant-loop-left g l = record {

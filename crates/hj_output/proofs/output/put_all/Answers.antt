@@ -1,5 +1,5 @@
-use Rattle.hj_engine.proofs.Sending.{took_more}
-use Rattle.hj_engine.proofs.output.put_all.Goals as goal
+use Rattle.hj_output.proofs.Sending.{took_more}
+use Rattle.hj_output.proofs.output.put_all.Goals as goal
 use Rattle.std.proofs.Common.{◌∙◌}
 
 pub loop-left-preserved : goal.loop-left-preserved

@@ -1,4 +1,4 @@
-ghost use Rattle.hj_engine.specs.Output.{Sends, CountsFaults, CountsRefusals};
+ghost use Rattle.hj_output.specs.Output.{Sends, CountsFaults, CountsRefusals};
 
 use hj_base::{Put, Sink};
 
