@@ -8,7 +8,7 @@ use crate::stores::{PlannedStores, Stores, planned_stores};
 use hj_base::{Gate, Memory, Setup};
 use hj_crew::{Ran, run_threads};
 use hj_eval::QueryJoin;
-use hj_msg::{Drain, Feed, Store};
+use hj_msg::{Drain, Feed, Join, Store};
 use hj_query::Query;
 use hj_value::SharedRow;
 use std::alloc::Global;
@@ -54,35 +54,37 @@ pub(crate) fn run_crew<
     let Ok(stores) = planned_stores(alloc, query, plan.setup.cores) else {
         return (Err(Memory), feed, drain);
     };
+    let join = QueryJoin::new(query);
     match stores {
-        PlannedStores::Hash(stores) => run_over(alloc, query, plan, stores, feed, drain),
-        PlannedStores::Ordered(stores) => run_over(alloc, query, plan, stores, feed, drain),
-        PlannedStores::List(stores) => run_over(alloc, query, plan, stores, feed, drain),
+        PlannedStores::Hash(stores) => run_over(alloc, plan, &join, stores, feed, drain),
+        PlannedStores::Ordered(stores) => run_over(alloc, plan, &join, stores, feed, drain),
+        PlannedStores::List(stores) => run_over(alloc, plan, &join, stores, feed, drain),
     }
 }
 
-/// Runs a new chain on threads over these stores.
+/// Runs a new chain on threads over these stores, which may be probed by the join.
 fn run_over<
-    'a,
-    S: Store<SharedRow, QueryJoin<'a>> + Send + Drop,
+    J: Join<SharedRow> + Send + Drop,
+    S: Store<SharedRow, J> + Send + Drop,
     T: Threads + Wait + Clock + Sync,
     F: Feed<SharedRow> + Drop,
     D: Drain<SharedRow> + Drop,
     G: Gate + Sync,
 >(
     alloc: Global,
-    query: &'a Query,
     plan: &CrewPlan<'_, T, G>,
+    join: &J,
     stores: Stores<S>,
     feed: F,
     drain: D,
 ) -> (Result<Ran<SharedRow>, Memory>, F, D)
     requires fresh { IsFresh (F.state feed) }
-    requires stores { AreReady S.entries S.suits query.now plan.now.setup.cores stores }
-    ensures runs { IfOk result.0 (RunsOnThreads F.gives F.state D.takes (holds query.now) plan.now.setup.cores plan.now.setup.flight feed result.1 drain result.2) }
+    requires stores { AreReady S.entries S.suits join.now plan.now.setup.cores stores }
+    ensures runs { IfOk result.0 (RunsOnThreads F.gives F.state D.takes (J.predicate join.now) plan.now.setup.cores plan.now.setup.flight feed result.1 drain result.2) }
     ensures refused { OnErr result.0 ((result.1 ≡ feed) × (result.2 ≡ drain)) }
 {
-    let join = QueryJoin::new(query);
     let Stores { left, right } = stores;
-    run_threads(plan.rt, alloc, plan.setup, &join, left, right, feed, drain, plan.gate)
+    run_threads(
+        plan.rt, alloc, plan.setup, join, left, right, feed, drain, plan.gate,
+    )
 }

@@ -29,11 +29,7 @@ pub enum PlannedStores {
 
 /// Makes the stores of a chain of `cores` cores, of the kind that the query's condition asks for. They have no rows, and the
 /// query's join may probe them. The error is that memory ran out.
-pub fn planned_stores(
-    alloc: Global,
-    query: &Query,
-    cores: u16,
-) -> Result<PlannedStores, Memory>
+pub fn planned_stores(alloc: Global, query: &Query, cores: u16) -> Result<PlannedStores, Memory>
     ensures { IfOk result (AreReadyFor query.now cores) }
 {
     match hj_eval::plan(query) {

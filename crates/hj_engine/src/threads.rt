@@ -115,7 +115,7 @@ fn join_feed<
     drain: LineDrain<'d, K, L>,
     ran: &mut Option<Ran<SharedRow>>,
 ) -> Joined<'f, 'd, O, K, L>
-    requires { IsUnasked query.now plan.now.limit feed }
+    requires unasked { IsUnasked query.now plan.now.limit feed }
     ensures same_outside { result.feed.outside.ghost_name ≡ feed.entry.outside.ghost_name }
     ensures same_out { result.drain.out.ghost_name ≡ drain.entry.out.ghost_name }
     ensures joins { (joins : JoinsBy (L.line drain.entry.lines.now) result.ended query.now plan.now.limit

@@ -3,6 +3,9 @@ use Rattle.hj_stream.specs.Joining.{Joins}
 use Rattle.hj_engine.specs.Showing.{ShowsJoin}
 use Rattle.hj_engine.proofs.threads.join_merged.Goals as goal
 
+pub join_feed-joined-requires-clause-unasked : goal.join_feed-joined-requires-clause-unasked
+join_feed-joined-requires-clause-unasked g c κs within = c.new-feed.ensures.unasked c.args.query.now c.requires.merger
+
 pub returns-clause-joins : goal.returns-clause-joins
 returns-clause-joins g c =
     let joins = rw (c.new-feed.ensures.outside, c.new-drain.ensures.out) at c.join_feed-joined.ensures.joins in
