@@ -10,7 +10,7 @@ use Rattle.hj_msg.specs.declared.feed.Given.{Given}
 use Rattle.hj_msg.specs.declared.fin.Fin.{Fin}
 use Rattle.hj_msg.specs.declared.fin.Fin.TheVariants as fin
 use Rattle.hj_msg.specs.Drain.{pairs_in}
-use Rattle.hj_msg.specs.Feed.{FeedState, IsFresh, events_in, numbering_of}
+use Rattle.hj_msg.specs.Feed.{FeedState, events_in, numbering_of}
 use Rattle.hj_msg.specs.RunsJoin.{RunsJoin}
 use Rattle.hj_query.specs.Parts.{Parts}
 use Rattle.hj_eval.specs.Holds.{holds}
@@ -73,10 +73,6 @@ module _ {O K L : Type 0} (outside : OutsideGhosts O) (sink : SinkGhosts K) (lin
 
     none : from.events ≡ 0
     none = sym from.counted ∙ ap length unasked.given
-
-    -- a chain may be run between them
-    pub fresh : IsFresh (state from)
-    fresh = ap numbering_of unasked.given
 
     -- memory ran out before either was asked
     pub joins_nothing : (to : Feed) (filled : Drain) → to ≡ from → filled ≡ unfilled → JoinsBy line outcome.Memory query limit (view from).roles (view to).roles (seen unfilled).told (seen filled).told
