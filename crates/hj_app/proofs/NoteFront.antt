@@ -7,9 +7,9 @@ use Rattle.std.specs.Io.KnownBytes.{Appends}
 use Rattle.std.specs.declared.option.Option.{Option}
 use Rattle.hj_base.specs.Counts.{Rose}
 use Rattle.hj_app.specs.declared.notes.Part.{Part}
-use Rattle.hj_engine.specs.declared.output.Sent.{Sent}
-use Rattle.hj_engine.specs.declared.output.Sent.TheVariants as sent
-use Rattle.hj_engine.specs.Output.{AppendsFront, Sends, CountsRefusals}
+use Rattle.hj_output.specs.declared.output.Sent.{Sent}
+use Rattle.hj_output.specs.declared.output.Sent.TheVariants as sent
+use Rattle.hj_output.specs.Output.{AppendsFront, Sends, CountsRefusals}
 use Rattle.hj_app.specs.NoteWritten.{NoteWritten}
 use Rattle.hj_app.specs.Parts.{part_text}
 use Rattle.hj_app.proofs.Prefixes.{begins_behind}

@@ -3,9 +3,9 @@ use Rattle.std.proofs.Common.{◌≡◌, ℕ, List, Ok, Err, Some, sym, subst, i
 use Rattle.std.specs.declared.option.Option.{Option}
 use Rattle.hj_value.specs.declared.field.Field.{Field}
 use Rattle.hj_crew.specs.Ran.{RanSeen}
-use Rattle.hj_engine.specs.declared.output.Sent.{Sent}
-use Rattle.hj_engine.specs.declared.output.Sent.TheVariants as sent
-use Rattle.hj_engine.specs.Output.{AppendsFront, CountsFaults, Sends}
+use Rattle.hj_output.specs.declared.output.Sent.{Sent}
+use Rattle.hj_output.specs.declared.output.Sent.TheVariants as sent
+use Rattle.hj_output.specs.Output.{AppendsFront, CountsFaults, Sends}
 use Rattle.hj_app.specs.declared.notes.Note.TheVariants as why
 use Rattle.hj_app.specs.Calls.{call}
 use Rattle.hj_app.specs.Crew.{CameToJoin, Crew, ShowsMade}

@@ -8,7 +8,7 @@ ghost use Rattle.hj_app.specs.Words.{check_query};
 use crate::notes::Note;
 use crate::query::read_query;
 use hj_base::{Outside, Sink};
-use hj_engine::{Sent, put_all};
+use hj_output::{Sent, put_all};
 use hj_query::print;
 use std::alloc::Global;
 

@@ -2,14 +2,14 @@ ghost use Rattle.std.specs.Prelude.{◌≡◌};
 ghost use Rattle.std.specs.List.{flat_map};
 ghost use Rattle.hj_app.specs.Notes.{role_name, side_name, piece_text, row_text, fault_text, record_note, query_note, query_place, query_text, lex_place, lex_text, place_text, wanted_text};
 ghost use Rattle.hj_app.specs.Parts.{part_text};
-ghost use Rattle.hj_engine.specs.Output.{Sends, CountsRefusals};
+ghost use Rattle.hj_output.specs.Output.{Sends, CountsRefusals};
 ghost use Rattle.hj_app.specs.NoteText.{note_text, status_of, status_of_end, text_of_end};
 ghost use Rattle.hj_app.specs.NoteWritten.{NoteWritten};
 
 use hj_base::{Memory, Role, Side, Sink};
-use hj_engine::{Sent, put_all};
 use hj_event::{RecordFault, RowFault};
 use hj_lex::LexFault;
+use hj_output::{Sent, put_all};
 use hj_query::{QueryFault, Wanted};
 use hj_record::PieceFault;
 use itoa::Buffer;

@@ -2,17 +2,11 @@
 #![tactic(auto)]
 
 mod crew;
-mod drain;
-mod feed;
-mod history;
-mod outcome;
-mod output;
 mod run;
 mod serial;
 mod stores;
 mod threads;
 
-pub use outcome::Outcome;
-pub use output::{Sent, put_all};
 pub use serial::join_serial;
+pub use stores::{PlannedStores, Stores, planned_stores};
 pub use threads::join_threads;

@@ -10,16 +10,16 @@ use hj_rows::ListStore;
 use hj_value::SharedRow;
 use std::alloc::Global;
 
-/// The stores of a chain's cores: a left one and a right one for each.
+/// Holds the stores of a chain's cores: a left one and a right one for each, by the place of the core.
 #[derive(Drop)]
-pub(crate) struct Stores<S> {
-    pub(crate) left: Vec<S>,
-    pub(crate) right: Vec<S>,
+pub struct Stores<S> {
+    pub left: Vec<S>,
+    pub right: Vec<S>,
 }
 
-/// The stores of a chain's cores, of the kind that a query's condition asks for.
+/// Holds the stores of a chain's cores, of the kind that a query's condition asks for.
 #[derive(Drop)]
-pub(crate) enum PlannedStores<'a> {
+pub enum PlannedStores<'a> {
     /// For the plan Equal.
     Hash(Stores<HashStore>),
     /// For the plan Band.
@@ -30,8 +30,9 @@ pub(crate) enum PlannedStores<'a> {
     List(Stores<ListStore<SharedRow>>),
 }
 
-/// Makes stores for `cores` cores, of the kind that the query's condition asks for.
-pub(crate) fn planned_stores<'a>(
+/// Makes the stores of a chain of `cores` cores, of the kind that the query's condition asks for. They have no rows, and the
+/// query's join may probe them. The error is that memory ran out.
+pub fn planned_stores<'a>(
     alloc: Global,
     query: &'a Query,
     cores: u16,

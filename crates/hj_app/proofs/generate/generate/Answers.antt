@@ -1,5 +1,5 @@
 use Rattle.std.proofs.Common.{ℕ, List, sym, subst}
-use Rattle.hj_engine.specs.declared.output.Sent.TheVariants as sent
+use Rattle.hj_output.specs.declared.output.Sent.TheVariants as sent
 use Rattle.hj_app.specs.Generating.{IsSummary}
 use Rattle.hj_app.specs.Orders.{recipe_seen}
 use Rattle.hj_app.specs.Turning.{crew_seen}

@@ -1,11 +1,14 @@
 use Rattle.std.proofs.Common.{rules, subst₂, IfSome}
-use Rattle.hj_engine.specs.Joining.{Joins}
+use Rattle.hj_stream.specs.Joining.{Joins}
 use Rattle.hj_engine.specs.Showing.{ShowsJoin}
 use Rattle.hj_engine.proofs.threads.join_merged.Goals as goal
 
+pub join_feed-joined-requires-clause-unasked : goal.join_feed-joined-requires-clause-unasked
+join_feed-joined-requires-clause-unasked g c κs within = c.new-feed.ensures.unasked c.args.query.now c.requires.merger
+
 pub returns-clause-joins : goal.returns-clause-joins
 returns-clause-joins g c =
-    let joins = rw (c.new-feed.ensures.limit, c.new-feed.ensures.outside, c.new-drain.ensures.out) at c.join_feed-joined.ensures.joins in
+    let joins = rw (c.new-feed.ensures.outside, c.new-drain.ensures.out) at c.join_feed-joined.ensures.joins in
     let plan = c.args.plan.now in
     let outside = g.O.Outside.state c.args.outside.now in
     let out = g.K.Sink.told c.args.out.now in

@@ -1,0 +1,41 @@
+use Rattle.std.proofs.Common.{◌≡◌, ◌∙◌, List, [], ◌∷◌, length, length-append, sym, ap, subst, arith}
+use Rattle.hj_value.specs.declared.field.Field.{Field}
+use Rattle.hj_msg.specs.declared.event.Event.{Event}
+use Rattle.hj_event.specs.declared.merger.Next.{Next}
+use Rattle.hj_event.specs.declared.merger.Next.TheVariants as next
+use Rattle.hj_event.specs.Merger.{TakesNext}
+use Rattle.hj_stream.specs.Ahead.{IsGoingOn}
+use Rattle.hj_stream.proofs.Coming.{gives-first}
+use Rattle.hj_stream.proofs.Going.{comes_first, going_on, none_from, not_some}
+use Rattle.hj_stream.proofs.Reading.{taking}
+use Rattle.hj_stream.proofs.feed.EventFeedFeedSharedRow.next.Goals as goal
+
+pub overflow_add-self : goal.overflow_add-self
+overflow_add-self g c =
+    let going = c.args.self.now.going (not_some c.args.self.now.ended (sym c.is_some.ensures ∙ c.if-is_some.false)) in
+    let takes : TakesNext (next.Event c.in-Event.event) c.args.self.now.merger.now c.next-answer.new.self (g.O.Outside.state c.args.self.now.outside.now) (g.O.Outside.state c.next-answer.new.outside) =
+    subst (λ (a : Next). TakesNext a c.args.self.now.merger.now c.next-answer.new.self (g.O.Outside.state c.args.self.now.outside.now) (g.O.Outside.state c.next-answer.new.outside)) c.in-Event.is (taking _ _ _ _ _ (none_from _ going.going) c.next-answer.ensures.answers) in
+    let first = comes_first c.args.self.now.limit c.args.self.now.given.items c.in-Event.event _ _ _ _ going takes in
+    let counted : length c.args.self.now.given.items ≡ c.args.self.now.events = c.args.self.now.counted in
+    omega (arith, first.few, counted, c.args.self.now.low_limit)
+
+pub invariant_of-self : goal.invariant_of-self
+invariant_of-self g c =
+    let going = c.args.self.now.going (not_some c.args.self.now.ended (sym c.is_some.ensures ∙ c.if-is_some.false)) in
+    let takes : TakesNext (next.Event c.in-Event.event) c.args.self.now.merger.now c.next-answer.new.self (g.O.Outside.state c.args.self.now.outside.now) (g.O.Outside.state c.next-answer.new.outside) =
+    subst (λ (a : Next). TakesNext a c.args.self.now.merger.now c.next-answer.new.self (g.O.Outside.state c.args.self.now.outside.now) (g.O.Outside.state c.next-answer.new.outside)) c.in-Event.is (taking _ _ _ _ _ (none_from _ going.going) c.next-answer.ensures.answers) in
+    record {
+      left = takes.left.in_step;
+      right = takes.right.in_step;
+      low_limit = c.args.self.now.low_limit;
+      counted = omega (arith, ap length c.and-self.ensures, length-append c.args.self.now.given.items (c.in-Event.event ∷ []), c.args.self.now.counted);
+      going = λ none. subst (λ (given : List (Event (List Field))). IsGoingOn c.args.self.now.limit c.next-answer.new.self given) (sym c.and-self.ensures) (going_on c.args.self.now.limit c.args.self.now.given.items c.in-Event.event _ _ _ _ going takes);
+    }
+
+pub returns-in-Event-clause-answers : goal.returns-in-Event-clause-answers
+returns-in-Event-clause-answers g c =
+    let going = c.args.self.now.going (not_some c.args.self.now.ended (sym c.is_some.ensures ∙ c.if-is_some.false)) in
+    let takes : TakesNext (next.Event c.in-Event.event) c.args.self.now.merger.now c.next-answer.new.self (g.O.Outside.state c.args.self.now.outside.now) (g.O.Outside.state c.next-answer.new.outside) =
+    subst (λ (a : Next). TakesNext a c.args.self.now.merger.now c.next-answer.new.self (g.O.Outside.state c.args.self.now.outside.now) (g.O.Outside.state c.next-answer.new.outside)) c.in-Event.is (taking _ _ _ _ _ (none_from _ going.going) c.next-answer.ensures.answers) in
+    gives-first c.args.self.now.limit c.args.self.now.events _ c.args.self.now.given.items _ c.in-Event.event _ (sym c.is_some.ensures ∙ c.if-is_some.false)
+    (comes_first c.args.self.now.limit c.args.self.now.given.items c.in-Event.event _ _ _ _ going takes) c.args.self.now.counted c.and-self.ensures
