@@ -1,5 +1,4 @@
 pub mod Crewed
-pub mod HeldRead
 pub mod Joined
 pub mod MadeEvents
 pub mod MadeJoin

@@ -24,7 +24,7 @@ use Rattle.hj_query.specs.Parts.{Parts}
 use Rattle.hj_record.specs.Pieces.{Stream}
 use Rattle.hj_app.specs.Crew.{Crew, ShowsMade, made_roles}
 use Rattle.hj_app.specs.Generating.{IsSummary, join_made, left_stream, whole}
-use Rattle.hj_app.specs.Held.{HeldState, KeptState, TwoHeld, held_role, open_role}
+use Rattle.hj_held.specs.Held.{HeldState, KeptState, TwoHeld, held_role, open_role}
 use Rattle.hj_app.specs.Words.{Recipe, most_events}
 use Rattle.hj_app.proofs.MadeEvents.{ends_clean}
 

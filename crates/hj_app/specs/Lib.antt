@@ -2,7 +2,6 @@ pub mod Calls
 pub mod Check
 pub mod Crew
 pub mod Generating
-pub mod Held
 pub mod Joining
 pub mod NoteText
 pub mod NoteWritten

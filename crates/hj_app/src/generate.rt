@@ -11,7 +11,7 @@ ghost use Rattle.hj_app.specs.Turning.{crew_seen};
 ghost use Rattle.hj_app.specs.Words.{most_events, sum_up};
 
 use crate::ended::Ended;
-use crate::held::{HeldStreams, KeptText};
+use hj_held::{HeldStreams, KeptText};
 use crate::notes::Note;
 use crate::plan::{CrewPlan, MOST_EVENTS};
 use crate::recipe::Recipe;

@@ -5,7 +5,6 @@
 mod check;
 mod ended;
 mod generate;
-mod held;
 mod join;
 mod keyed;
 mod notes;

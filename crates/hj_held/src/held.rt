@@ -1,15 +1,15 @@
 ghost use Rattle.std.specs.Prelude.{◌≡◌, ◌<◌, List, ℕ, [], false, length, None, Some};
 ghost use Rattle.hj_base.specs.Outside.{unbegun, IsOpen, Starts, Reads, ChangesOnly};
 ghost use Rattle.hj_base.specs.Sink.{Writes, CountsFault, CountsRefusal};
-ghost use Rattle.hj_app.specs.Held.{held_role, open_role};
+ghost use Rattle.hj_held.specs.Held.{held_role, open_role};
 
 use hj_base::{Bytes, Got, Opened, Outside, Put, Role, Sink};
 use std::alloc::Global;
 use std::marker::Model;
 
-/// A stream in memory, open from the start, of which some bytes were read.
+/// A stream in memory, open from the start, of which some bytes were read. No read of it fails.
 #[derive(Debug, Drop)]
-struct HeldStream {
+pub struct HeldStream {
     bytes: Bytes,
     taken: usize,
     ended: bool,
@@ -17,7 +17,7 @@ struct HeldStream {
 
 impl Model for HeldStream {
     ghost use Rattle.std.specs.Prelude.{◌≤◌, drop, length};
-    ghost use Rattle.hj_app.specs.Held.{HeldState};
+    ghost use Rattle.hj_held.specs.Held.{HeldState};
 
     ghost Value = { HeldState };
 
@@ -27,7 +27,8 @@ impl Model for HeldStream {
 }
 
 impl HeldStream {
-    fn new(bytes: Bytes) -> HeldStream
+    /// Makes the stream of these bytes, of which nothing was read.
+    pub fn new(bytes: Bytes) -> HeldStream
         ensures { result ≡ record { rest = bytes; ended = false } }
     {
         HeldStream {
@@ -38,7 +39,7 @@ impl HeldStream {
     }
 
     /// Reads as many of the next bytes as fit the buffer, or answers their end.
-    fn read(&mut self, buf: &mut [u8]) -> Got
+    pub fn read(&mut self, buf: &mut [u8]) -> Got
         requires { 0 < length buf.old }
         ensures { Reads result buf.new (open_role self.old) (open_role self.new) }
     {
@@ -62,7 +63,7 @@ pub struct HeldStreams {
 }
 
 impl Model for HeldStreams {
-    ghost use Rattle.hj_app.specs.Held.{TwoHeld};
+    ghost use Rattle.hj_held.specs.Held.{TwoHeld};
 
     ghost Value = { TwoHeld };
 
@@ -70,7 +71,7 @@ impl Model for HeldStreams {
 }
 
 impl HeldStreams {
-    /// The streams of these bytes, of which nothing was read.
+    /// Makes the streams of these bytes, of which nothing was read.
     pub fn new(left: Bytes, right: Bytes) -> HeldStreams
         ensures { result ≡ record { left = record { rest = left; ended = false }; right = record { rest = right; ended = false } } }
     {
@@ -111,7 +112,7 @@ pub struct KeptText {
 }
 
 impl Model for KeptText {
-    ghost use Rattle.hj_app.specs.Held.{KeptState};
+    ghost use Rattle.hj_held.specs.Held.{KeptState};
 
     ghost Value = { KeptState };
 
@@ -119,7 +120,7 @@ impl Model for KeptText {
 }
 
 impl KeptText {
-    /// No bytes.
+    /// Makes a sink that holds no bytes.
     pub fn new(alloc: Global) -> KeptText
         ensures { result ≡ record { text = []; refusals = 0 } }
     {
@@ -129,7 +130,7 @@ impl KeptText {
         }
     }
 
-    /// All bytes that were written.
+    /// Lends all bytes that were written, in their order.
     pub fn bytes(&self) -> &[u8]
         ensures { result.now ≡ self.now.text }
     {

@@ -1,9 +1,9 @@
 use Rattle.std.proofs.Common.{◌≡◌, length, sym, ap, ◌∙◌, arith, refl, [], length-take}
 use Rattle.std.proofs.lemmas.Grind.{common_steps}
 use Rattle.hj_base.specs.Outside.{opened}
-use Rattle.hj_app.specs.Held.{HeldState}
-use Rattle.hj_app.proofs.HeldRead.{came_in_front}
-use Rattle.hj_app.proofs.held.HeldStream.read.Goals as goal
+use Rattle.hj_held.specs.Held.{HeldState}
+use Rattle.hj_held.proofs.HeldRead.{came_in_front}
+use Rattle.hj_held.proofs.held.HeldStream.read.Goals as goal
 
 pub returns : goal.returns
 returns c =
