@@ -10,10 +10,10 @@ use Rattle.hj_engine.specs.declared.outcome.Outcome.{Outcome}
 use Rattle.hj_engine.specs.declared.outcome.Outcome.TheVariants as outcome
 use Rattle.hj_engine.specs.Joining.{Joins}
 use Rattle.hj_engine.specs.Showing.{ShowsJoin}
-use Rattle.hj_app.specs.declared.notes.Note.{Note}
+use Rattle.hj_notes.specs.declared.note.Note.{Note}
 use Rattle.hj_app.specs.Calls.{call}
 use Rattle.hj_app.specs.Crew.{CameToJoin, Crew, ShowsStreams}
-use Rattle.hj_app.specs.NoteText.{status_of, status_of_end}
+use Rattle.hj_notes.specs.NoteText.{status_of, status_of_end}
 use Rattle.hj_app.specs.OnCrew.{RunsOnCrew}
 use Rattle.hj_app.specs.Ready.{EndsEarly, IsReady}
 use Rattle.hj_app.specs.Run.{RunsOrder, end_of}

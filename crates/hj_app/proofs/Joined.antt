@@ -19,8 +19,8 @@ use Rattle.hj_event.specs.Roles.{CountsFailure, IsReadOn, name_of}
 use Rattle.hj_event.specs.Sides.{Follows, at_its_end, in_front}
 use Rattle.hj_query.specs.Parts.{Parts}
 use Rattle.hj_record.specs.Pieces.{Stream}
-use Rattle.hj_app.specs.declared.notes.Note.{Note}
-use Rattle.hj_app.specs.declared.notes.Note.TheVariants as note
+use Rattle.hj_notes.specs.declared.note.Note.{Note}
+use Rattle.hj_notes.specs.declared.note.Note.TheVariants as note
 use Rattle.hj_app.specs.Calls.{Call, call}
 use Rattle.hj_app.specs.Joining.{BeginsText, WritesAll, WritesWhole}
 use Rattle.hj_app.specs.Opening.{AreOpened, IsOpened}

@@ -4,7 +4,6 @@ pub mod MadeEvents
 pub mod MadeJoin
 pub mod MadeLines
 pub mod MemoryRoles
-pub mod NoteFront
 pub mod Phases
 pub mod Prefixes
 pub mod QueryReading

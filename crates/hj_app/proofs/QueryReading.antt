@@ -12,8 +12,8 @@ use Rattle.hj_query.specs.Parts.{Parts}
 use Rattle.hj_query.specs.Texts.{IsFirst, Spells, Unless}
 use Rattle.hj_query.specs.declared.fault.QueryFault.{QueryFault}
 use Rattle.hj_query.specs.declared.fault.QueryFault.TheVariants as faults
-use Rattle.hj_app.specs.declared.notes.Note.{Note}
-use Rattle.hj_app.specs.declared.notes.Note.TheVariants as why
+use Rattle.hj_notes.specs.declared.note.Note.{Note}
+use Rattle.hj_notes.specs.declared.note.Note.TheVariants as why
 use Rattle.hj_app.specs.Opening.{GetsQuery, IsOpened, IsRead, IsReadPast, Opens, Parses, ReadsText, refusal_of}
 use Rattle.hj_app.specs.Queries.{IsQueryRead, IsReadTooFar, IsReadWhole}
 use Rattle.hj_app.specs.Streams.{IsBegunUnder, StandsFor}

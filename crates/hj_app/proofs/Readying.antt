@@ -9,8 +9,8 @@ use Rattle.hj_base.specs.declared.outside.Role.TheVariants as role
 use Rattle.hj_base.specs.Counts.{Rose}
 use Rattle.hj_base.specs.Outside.{RoleState, ChangesOnly, IsOpen, opened, role_of, unbegun}
 use Rattle.hj_query.specs.Parts.{Parts}
-use Rattle.hj_app.specs.declared.notes.Note.{Note}
-use Rattle.hj_app.specs.declared.notes.Note.TheVariants as why
+use Rattle.hj_notes.specs.declared.note.Note.{Note}
+use Rattle.hj_notes.specs.declared.note.Note.TheVariants as why
 use Rattle.hj_app.specs.Calls.{call}
 use Rattle.hj_app.specs.Opening.{GetsQuery, IsOpened, Opens}
 use Rattle.hj_app.specs.Queries.{IsQueryOf}

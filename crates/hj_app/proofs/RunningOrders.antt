@@ -12,8 +12,8 @@ use Rattle.hj_output.specs.declared.output.Sent.TheVariants as sent
 use Rattle.hj_output.specs.Output.{AppendsFront, CountsFaults, Sends}
 use Rattle.hj_query.specs.Canonical.{canonical}
 use Rattle.hj_query.specs.Parts.{Parts}
-use Rattle.hj_app.specs.declared.notes.Note.{Note}
-use Rattle.hj_app.specs.declared.notes.Note.TheVariants as why
+use Rattle.hj_notes.specs.declared.note.Note.{Note}
+use Rattle.hj_notes.specs.declared.note.Note.TheVariants as why
 use Rattle.hj_app.specs.Calls.{Call, call}
 use Rattle.hj_app.specs.Opening.{GetsQuery, QueryCause}
 use Rattle.hj_app.specs.Run.{Cause, CountsSink, RunsOrder}

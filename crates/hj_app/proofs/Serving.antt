@@ -11,13 +11,13 @@ use Rattle.hj_query.specs.declared.fault.QueryFault.{QueryFault}
 use Rattle.hj_base.specs.declared.outside.Role.{Role}
 use Rattle.hj_base.specs.declared.numbers.Side.{Side}
 use Rattle.hj_event.specs.declared.fault.RecordFault.{RecordFault}
-use Rattle.hj_app.specs.declared.notes.Note.{Note}
-use Rattle.hj_app.specs.declared.notes.Note.TheVariants as why
+use Rattle.hj_notes.specs.declared.note.Note.{Note}
+use Rattle.hj_notes.specs.declared.note.Note.TheVariants as why
 use Rattle.hj_app.specs.Calls.{Call}
 use Rattle.hj_app.specs.Calls.{call as as_call}
-use Rattle.hj_app.specs.NoteText.{status_of_end, text_of_end}
-use Rattle.hj_app.specs.NoteWritten.{NoteWritten}
-use Rattle.hj_app.specs.Notes.{memory_note}
+use Rattle.hj_notes.specs.NoteText.{status_of_end, text_of_end}
+use Rattle.hj_notes.specs.NoteWritten.{NoteWritten}
+use Rattle.hj_notes.specs.Notes.{memory_note}
 use Rattle.hj_app.specs.Run.{RunsOrder}
 use Rattle.hj_app.specs.Serve.{Begins, EndsBy, FailsSource, IsBad, IsDecided, IsDone, IsNote, JoinsAll, Notes, RefusesQuery, Serves, Writes, status_of_ending}
 use Rattle.hj_app.specs.Serve as says

@@ -6,11 +6,11 @@ use Rattle.hj_crew.specs.Ran.{RanSeen}
 use Rattle.hj_output.specs.declared.output.Sent.{Sent}
 use Rattle.hj_output.specs.declared.output.Sent.TheVariants as sent
 use Rattle.hj_output.specs.Output.{AppendsFront, CountsFaults, Sends}
-use Rattle.hj_app.specs.declared.notes.Note.TheVariants as why
+use Rattle.hj_notes.specs.declared.note.Note.TheVariants as why
 use Rattle.hj_app.specs.Calls.{call}
 use Rattle.hj_app.specs.Crew.{CameToJoin, Crew, ShowsMade}
 use Rattle.hj_app.specs.Generating.{IsSummary}
-use Rattle.hj_app.specs.NoteText.{status_of_end}
+use Rattle.hj_notes.specs.NoteText.{status_of_end}
 use Rattle.hj_app.specs.OnCrew.{RunsOnCrew}
 use Rattle.hj_app.specs.Run.{RunsOrder}
 use Rattle.hj_app.specs.Serve.{WritesFront}

@@ -17,7 +17,7 @@ use Rattle.hj_engine.specs.Showing.{ShowsJoin}
 use Rattle.hj_app.specs.Calls.{Call}
 use Rattle.hj_app.specs.Generating.{left_stream, right_stream}
 use Rattle.hj_held.specs.Held.{held_role}
-use Rattle.hj_app.specs.NoteText.{status_of_end}
+use Rattle.hj_notes.specs.NoteText.{status_of_end}
 use Rattle.hj_app.specs.Opening.{AreOpened}
 use Rattle.hj_app.specs.Run.{end_of}
 use Rattle.hj_app.specs.Serve.{Accepts, AreOpen}

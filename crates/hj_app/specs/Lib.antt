@@ -3,13 +3,9 @@ pub mod Check
 pub mod Crew
 pub mod Generating
 pub mod Joining
-pub mod NoteText
-pub mod NoteWritten
-pub mod Notes
 pub mod OnCrew
 pub mod Opening
 pub mod Orders
-pub mod Parts
 pub mod Queries
 pub mod Ready
 pub mod Run

@@ -3,7 +3,7 @@ use Rattle.std.specs.Prelude.{◌≢◌, ◌↔◌, ℕ, IsSome, IfSome, Some}
 use Rattle.hj_app.specs.declared.ended.Ended.{Ended}
 use Rattle.hj_app.specs.Calls.{Call}
 use Rattle.hj_app.specs.Crew.{CameToJoin, Crew, ShowsOrder}
-use Rattle.hj_app.specs.NoteText.{status_of_end}
+use Rattle.hj_notes.specs.NoteText.{status_of_end}
 use Rattle.hj_app.specs.Run.{RunsOrder}
 use Rattle.hj_app.specs.Words.{Order}
 

@@ -13,8 +13,8 @@ use Rattle.hj_query.specs.declared.fault.QueryFault.{QueryFault}
 use Rattle.hj_query.specs.declared.fault.QueryFault.TheVariants as fault
 use Rattle.hj_query.specs.Parts.{Parts}
 use Rattle.hj_query.specs.Texts.{most_bytes, IsFirst, Spells}
-use Rattle.hj_app.specs.declared.notes.Note.{Note}
-use Rattle.hj_app.specs.declared.notes.Note.TheVariants as note
+use Rattle.hj_notes.specs.declared.note.Note.{Note}
+use Rattle.hj_notes.specs.declared.note.Note.TheVariants as note
 use Rattle.hj_app.specs.Queries.{IsQueryOf, IsRefused}
 use Rattle.hj_app.specs.Serve.{BeginsSource, name_in}
 use Rattle.hj_app.specs.Words.{Names, Source}

@@ -6,9 +6,9 @@ use Rattle.hj_base.specs.declared.outside.Role.{Role}
 use Rattle.hj_base.specs.declared.outside.Role.TheVariants as role
 use Rattle.hj_base.specs.Outside.{RoleState}
 use Rattle.hj_query.specs.Parts.{Parts}
-use Rattle.hj_app.specs.declared.notes.Note.{Note}
+use Rattle.hj_notes.specs.declared.note.Note.{Note}
 use Rattle.hj_app.specs.Calls.{call}
-use Rattle.hj_app.specs.NoteText.{status_of}
+use Rattle.hj_notes.specs.NoteText.{status_of}
 use Rattle.hj_app.specs.Opening.{AreOpened}
 use Rattle.hj_app.specs.Queries.{IsQueryOf}
 use Rattle.hj_app.specs.Run.{RunsOrder}

@@ -5,8 +5,8 @@ use Rattle.hj_base.specs.Counts.{Rose}
 use Rattle.hj_engine.specs.declared.outcome.Outcome.{Outcome}
 use Rattle.hj_engine.specs.declared.outcome.Outcome.TheVariants as outcome
 use Rattle.hj_event.specs.Arrivals.{bad, too_many}
-use Rattle.hj_app.specs.declared.notes.Note.{Note}
-use Rattle.hj_app.specs.declared.notes.Note.TheVariants as note
+use Rattle.hj_notes.specs.declared.note.Note.{Note}
+use Rattle.hj_notes.specs.declared.note.Note.TheVariants as note
 use Rattle.hj_app.specs.Calls.{Call}
 use Rattle.hj_app.specs.Serve.{Begins, FailsSource, HasLimit, IsDone, JoinsAll, RefusesQuery, WritesFront}
 use Rattle.hj_app.specs.Words.{Order}

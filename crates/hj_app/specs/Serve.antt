@@ -18,7 +18,7 @@ use Rattle.hj_app.specs.Calls.{Call}
 use Rattle.hj_app.specs.Check.{BeginsCanonical, WritesCanonical}
 use Rattle.hj_app.specs.Generating.{BeginsSummary, WritesSummary}
 use Rattle.hj_app.specs.Joining.{BeginsText, WritesAll, WritesWhole}
-use Rattle.hj_app.specs.Notes.{events_note, memory_note, query_note, record_note, sink_note, source_note, usage_note}
+use Rattle.hj_notes.specs.Notes.{events_note, memory_note, query_note, record_note, sink_note, source_note, usage_note}
 use Rattle.hj_app.specs.Queries.{IsQueryOf, IsRefused}
 use Rattle.hj_app.specs.Streams.{AreStreams, Fails, IsBegunUnder, NoneFails}
 use Rattle.hj_app.specs.Words.{Names, Order, Source, check_query, join_streams, keyed, most_events, named, sum_up}

@@ -5,7 +5,7 @@ ghost use Rattle.hj_app.specs.Calls.{call};
 ghost use Rattle.hj_app.specs.Run.{RunsOrder};
 ghost use Rattle.hj_app.specs.Words.{check_query};
 
-use crate::notes::Note;
+use hj_notes::Note;
 use crate::query::read_query;
 use hj_base::{Outside, Sink};
 use hj_output::{Sent, put_all};

@@ -12,7 +12,7 @@ ghost use Rattle.hj_app.specs.Words.{most_events, sum_up};
 
 use crate::ended::Ended;
 use hj_held::{HeldStreams, KeptText};
-use crate::notes::Note;
+use hj_notes::Note;
 use crate::plan::{CrewPlan, MOST_EVENTS};
 use crate::recipe::Recipe;
 use hj_base::{Bytes, Gate, Memory, Sink};

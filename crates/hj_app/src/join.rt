@@ -9,7 +9,7 @@ ghost use Rattle.hj_app.specs.Run.{end_of, RunsOrder};
 ghost use Rattle.hj_app.specs.Turning.{crew_seen};
 
 use crate::ended::Ended;
-use crate::notes::Note;
+use hj_notes::Note;
 use crate::plan::{CrewPlan, SerialPlan};
 use crate::query::{open, query_of};
 use crate::source::JoinOrder;

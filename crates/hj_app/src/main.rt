@@ -7,7 +7,8 @@ mod ended;
 mod generate;
 mod join;
 mod keyed;
-mod notes;
+#[cfg(test)]
+mod note_tests;
 #[cfg(test)]
 mod peer;
 mod plan;
@@ -21,7 +22,7 @@ mod tests;
 
 use hj_base::OpenGate;
 use hj_net::{Output, RealOutside, RealSink};
-use notes::{Note, write_note};
+use hj_notes::{Note, write_note};
 use serve::serve;
 use std::env;
 use std::io::ErrorKind;

@@ -6,7 +6,7 @@ ghost use Rattle.hj_app.specs.Opening.{GetsQuery, Opens, Parses, ReadsText, refu
 ghost use Rattle.hj_app.specs.Orders.{source_seen};
 ghost use Rattle.hj_app.specs.Words.{named};
 
-use crate::notes::Note;
+use hj_notes::Note;
 use crate::source::Source;
 use hj_base::{Got, Opened, Outside, Role};
 use hj_query::{MOST_BYTES, Query, QueryFault, equi, parse};

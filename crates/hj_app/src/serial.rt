@@ -10,7 +10,7 @@ ghost use Rattle.hj_app.specs.Words.{asked_by};
 
 use crate::check::check;
 use crate::join::join_alone;
-use crate::notes::{Note, report};
+use hj_notes::{Note, report};
 use crate::plan::SerialPlan;
 use crate::source::{JoinOrder, Source};
 use hj_base::{Gate, Outside, Sink};

@@ -1,9 +1,9 @@
 -- The text of each note, and the exit status that goes with it.
 use Rattle.std.specs.Prelude.{ℕ, List, [], Ok, Err}
 use Rattle.std.specs.declared.result.Result.{Result}
-use Rattle.hj_app.specs.declared.notes.Note.{Note}
-use Rattle.hj_app.specs.declared.notes.Note.TheVariants as note
-use Rattle.hj_app.specs.Notes.{usage_note, query_note, source_note, sink_note, memory_note, events_note, record_note}
+use Rattle.hj_notes.specs.declared.note.Note.{Note}
+use Rattle.hj_notes.specs.declared.note.Note.TheVariants as note
+use Rattle.hj_notes.specs.Notes.{usage_note, query_note, source_note, sink_note, memory_note, events_note, record_note}
 
 abbrev pub note_text : Note → List ℕ
 note_text note.Usage = usage_note

@@ -1,8 +1,8 @@
 use Rattle.std.proofs.Common.{◌≡◌, take}
 use Rattle.std.specs.Io.KnownBytes.{Appends}
 use Rattle.std.specs.List.{flat_map}
-use Rattle.hj_app.specs.Parts.{part_text}
-use Rattle.hj_app.proofs.notes.put_parts.Given as goal
+use Rattle.hj_notes.specs.Parts.{part_text}
+use Rattle.hj_notes.proofs.parts.put_parts.Given as goal
 
 abbrev pub invariant-loop-part : goal.invariant-loop-part
 invariant-loop-part g l = record {

@@ -1,8 +1,8 @@
 -- The text of a part of a note.
 use Rattle.std.specs.Prelude.{ℕ, List}
 use Rattle.std.specs.Fmt.{decimal, signed_decimal}
-use Rattle.hj_app.specs.declared.notes.Part.{Part}
-use Rattle.hj_app.specs.declared.notes.Part.TheVariants.{Words, Number, Signed}
+use Rattle.hj_notes.specs.declared.parts.Part.{Part}
+use Rattle.hj_notes.specs.declared.parts.Part.TheVariants.{Words, Number, Signed}
 
 abbrev pub part_text : Part → List ℕ
 part_text (Words words) = words.now

@@ -1,18 +1,25 @@
 -- What stands of a note when a part of it is refused.
-use Rattle.std.proofs.Common.{◌≡◌, ◌≤◌, ◌<◌, ◌⊎◌, ℕ, suc, List, ◌∷◌, ◌++◌, length, take, drop, get_or, sym, ap, ◌∙◌, subst, take-append-drop, drop-cons, inl, inr}
+use Rattle.std.proofs.Common.{◌≡◌, ◌≤◌, ◌<◌, ◌⊎◌, ℕ, suc, List, ◌∷◌, ◌++◌, length, take, drop, get_or, sym, ap, ◌∙◌, subst, take-append-drop, drop-cons, append_assoc, inl, inr}
 use Rattle.std.proofs.KnownBytes.{Appends-trans}
 use Rattle.std.proofs.lemmas.Grind.{flat_map-append}
 use Rattle.std.specs.List.{flat_map}
 use Rattle.std.specs.Io.KnownBytes.{Appends}
 use Rattle.std.specs.declared.option.Option.{Option}
 use Rattle.hj_base.specs.Counts.{Rose}
-use Rattle.hj_app.specs.declared.notes.Part.{Part}
+use Rattle.hj_base.specs.Journals.{IsPrefix}
+use Rattle.hj_notes.specs.declared.parts.Part.{Part}
 use Rattle.hj_output.specs.declared.output.Sent.{Sent}
 use Rattle.hj_output.specs.declared.output.Sent.TheVariants as sent
 use Rattle.hj_output.specs.Output.{AppendsFront, Sends, CountsRefusals}
-use Rattle.hj_app.specs.NoteWritten.{NoteWritten}
-use Rattle.hj_app.specs.Parts.{part_text}
-use Rattle.hj_app.proofs.Prefixes.{begins_behind}
+use Rattle.hj_notes.specs.NoteWritten.{NoteWritten}
+use Rattle.hj_notes.specs.Parts.{part_text}
+
+-- what begins a part begins the whole, with all before the part in front
+begins_behind : (done part rest whole grown : List ℕ) → whole ≡ done ++ (part ++ rest) → IsPrefix grown part → IsPrefix (done ++ grown) whole
+begins_behind done part rest whole grown is front = record {
+  rest = front.rest ++ rest;
+  is = is ∙ ap (λ l. done ++ (l ++ rest)) front.is ∙ ap (λ l. done ++ l) (append_assoc grown front.rest rest) ∙ sym (append_assoc done grown (front.rest ++ rest));
+}
 
 cut : (parts : List Part) (i : ℕ) (d : Part) → i < length parts → parts ≡ take i parts ++ (get_or parts i d ∷ drop (suc i) parts)
 cut parts i d h = sym (take-append-drop i parts) ∙ ap (λ l. take i parts ++ l) (drop-cons parts i d h)

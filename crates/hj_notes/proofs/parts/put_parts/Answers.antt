@@ -1,5 +1,5 @@
-use Rattle.hj_app.proofs.NoteFront.{refused}
-use Rattle.hj_app.proofs.notes.put_parts.Goals as goal
+use Rattle.hj_notes.proofs.NoteFront.{refused}
+use Rattle.hj_notes.proofs.parts.put_parts.Goals as goal
 
 pub returns-in-Failed : goal.returns-in-Failed
 returns-in-Failed g c =
