@@ -6,9 +6,9 @@ use Rattle.hj_base.specs.declared.outside.Role.TheVariants as role
 use Rattle.hj_value.specs.declared.field.Field.{Field}
 use Rattle.hj_query.specs.Parts.{Parts}
 use Rattle.hj_crew.specs.Ran.{RanSeen}
-use Rattle.hj_engine.specs.declared.outcome.Outcome.{Outcome}
-use Rattle.hj_engine.specs.declared.outcome.Outcome.TheVariants as outcome
-use Rattle.hj_engine.specs.Joining.{Joins}
+use Rattle.hj_stream.specs.declared.outcome.Outcome.{Outcome}
+use Rattle.hj_stream.specs.declared.outcome.Outcome.TheVariants as outcome
+use Rattle.hj_stream.specs.Joining.{Joins}
 use Rattle.hj_engine.specs.Showing.{ShowsJoin}
 use Rattle.hj_notes.specs.declared.note.Note.{Note}
 use Rattle.hj_app.specs.Calls.{call}

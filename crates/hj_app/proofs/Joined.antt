@@ -10,10 +10,10 @@ use Rattle.hj_base.specs.declared.outside.Role.TheVariants as role
 use Rattle.hj_base.specs.Counts.{Rose}
 use Rattle.hj_base.specs.Journals.{IsPrefix}
 use Rattle.hj_base.specs.Outside.{RoleState, opened, role_of}
-use Rattle.hj_engine.specs.declared.outcome.Outcome.{Outcome}
-use Rattle.hj_engine.specs.declared.outcome.Outcome.TheVariants as outcome
-use Rattle.hj_engine.specs.Joining.{AreEnded, CountsSinkFault, FailsOn, Joins, WritesText}
-use Rattle.hj_engine.specs.JoinText.{JoinResult, join_result}
+use Rattle.hj_stream.specs.declared.outcome.Outcome.{Outcome}
+use Rattle.hj_stream.specs.declared.outcome.Outcome.TheVariants as outcome
+use Rattle.hj_stream.specs.Joining.{AreEnded, CountsSinkFault, FailsOn, Joins, WritesText}
+use Rattle.hj_stream.specs.JoinText.{JoinResult, join_result}
 use Rattle.hj_event.specs.Arrivals.{Ending, clean, bad, unread, too_many}
 use Rattle.hj_event.specs.Roles.{CountsFailure, IsReadOn, name_of}
 use Rattle.hj_event.specs.Sides.{Follows, at_its_end, in_front}

@@ -8,10 +8,10 @@ use Rattle.hj_base.specs.declared.outside.Role.TheVariants as role
 use Rattle.hj_base.specs.Outside.{RoleState}
 use Rattle.hj_value.specs.declared.field.Field.{Field}
 use Rattle.hj_crew.specs.Ran.{RanSeen}
-use Rattle.hj_engine.specs.declared.outcome.Outcome.{Outcome}
-use Rattle.hj_engine.specs.declared.outcome.Outcome.TheVariants as outcome
-use Rattle.hj_engine.specs.Joining.{CountsSinkFault, Joins, WritesText}
-use Rattle.hj_engine.specs.JoinText.{JoinResult, join_result}
+use Rattle.hj_stream.specs.declared.outcome.Outcome.{Outcome}
+use Rattle.hj_stream.specs.declared.outcome.Outcome.TheVariants as outcome
+use Rattle.hj_stream.specs.Joining.{CountsSinkFault, Joins, WritesText}
+use Rattle.hj_stream.specs.JoinText.{JoinResult, join_result}
 use Rattle.hj_engine.specs.Showing.{ShowsJoin}
 use Rattle.hj_event.specs.declared.fault.RecordFault.{RecordFault}
 use Rattle.hj_event.specs.Arrivals.{Ending, bad, clean, too_many}

@@ -10,9 +10,9 @@ use Rattle.hj_words.specs.declared.order.Order as spelled
 use Rattle.hj_words.specs.declared.order.Order.TheVariants as spells
 use Rattle.hj_words.specs.Orders as words
 use Rattle.hj_crew.specs.Ran.{RanSeen}
-use Rattle.hj_engine.specs.declared.outcome.Outcome.{Outcome}
-use Rattle.hj_engine.specs.declared.outcome.Outcome.TheVariants as outcome
-use Rattle.hj_engine.specs.Joining.{Joins}
+use Rattle.hj_stream.specs.declared.outcome.Outcome.{Outcome}
+use Rattle.hj_stream.specs.declared.outcome.Outcome.TheVariants as outcome
+use Rattle.hj_stream.specs.Joining.{Joins}
 use Rattle.hj_engine.specs.Showing.{ShowsJoin}
 use Rattle.hj_app.specs.Calls.{Call}
 use Rattle.hj_app.specs.Generating.{left_stream, right_stream}

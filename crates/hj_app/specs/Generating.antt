@@ -2,7 +2,7 @@
 use Rattle.std.specs.Prelude.{◌≡◌, ℕ, List, true}
 use Rattle.std.specs.Io.KnownBytes.{Appends}
 use Rattle.hj_base.specs.Journals.{IsPrefix}
-use Rattle.hj_engine.specs.JoinText.{JoinResult, join_result}
+use Rattle.hj_stream.specs.JoinText.{JoinResult, join_result}
 use Rattle.hj_event.specs.Arrivals.{clean}
 use Rattle.hj_gen.specs.Streams.{right_seed, stream_of}
 use Rattle.hj_gen.specs.Summary.{summary_of}

@@ -4,7 +4,7 @@ use Rattle.std.specs.Io.KnownBytes.{Appends}
 use Rattle.hj_base.specs.declared.outside.Role.TheVariants as role
 use Rattle.hj_base.specs.Journals.{IsPrefix}
 use Rattle.hj_event.specs.Arrivals.{Ending, clean}
-use Rattle.hj_engine.specs.JoinText.{join_result}
+use Rattle.hj_stream.specs.JoinText.{join_result}
 use Rattle.hj_query.specs.Parts.{Parts}
 use Rattle.hj_record.specs.Pieces.{Stream}
 use Rattle.hj_app.specs.Calls.{Call}

@@ -2,8 +2,8 @@
 use Rattle.std.specs.Prelude.{◌≡◌, ℕ, Some, Ok, Err}
 use Rattle.std.specs.declared.result.Result.{Result}
 use Rattle.hj_base.specs.Counts.{Rose}
-use Rattle.hj_engine.specs.declared.outcome.Outcome.{Outcome}
-use Rattle.hj_engine.specs.declared.outcome.Outcome.TheVariants as outcome
+use Rattle.hj_stream.specs.declared.outcome.Outcome.{Outcome}
+use Rattle.hj_stream.specs.declared.outcome.Outcome.TheVariants as outcome
 use Rattle.hj_event.specs.Arrivals.{bad, too_many}
 use Rattle.hj_notes.specs.declared.note.Note.{Note}
 use Rattle.hj_notes.specs.declared.note.Note.TheVariants as note

@@ -8,7 +8,7 @@ use Rattle.hj_base.specs.declared.outside.Role.TheVariants as role
 use Rattle.hj_base.specs.Counts.{Rose}
 use Rattle.hj_base.specs.Journals.{IsPrefix}
 use Rattle.hj_base.specs.Outside.{RoleState, Phase, unbegun, IsOpen, role_of}
-use Rattle.hj_engine.specs.JoinText.{join_result}
+use Rattle.hj_stream.specs.JoinText.{join_result}
 use Rattle.hj_event.specs.declared.fault.RecordFault.{RecordFault}
 use Rattle.hj_event.specs.Arrivals.{Ending, clean, bad, unread, too_many}
 use Rattle.hj_query.specs.declared.fault.QueryFault.{QueryFault}

@@ -26,13 +26,14 @@ use Rattle.hj_msg.proofs.Emitting.{emits_prefix}
 use Rattle.hj_query.specs.Parts.{Parts}
 use Rattle.hj_eval.specs.Holds.{holds}
 use Rattle.hj_crew.specs.Ran.{RanSeen, RunsOnThreads, queue_at, reports_of, run_of}
-use Rattle.hj_engine.specs.declared.outcome.Outcome.{Outcome}
-use Rattle.hj_engine.specs.declared.outcome.Outcome.TheVariants as outcome
-use Rattle.hj_engine.specs.JoinText.{text}
-use Rattle.hj_engine.specs.Showing.{EndsRun, ShowsJoin}
-use Rattle.hj_engine.proofs.Joining.{text-front}
-use Rattle.hj_engine.proofs.Over.{JoinsOver}
-use Rattle.hj_engine.proofs.Prefixes.{IsPrefix-trans}
+use Rattle.hj_stream.specs.declared.outcome.Outcome.{Outcome}
+use Rattle.hj_stream.specs.declared.outcome.Outcome.TheVariants as outcome
+use Rattle.hj_stream.specs.JoinText.{text}
+use Rattle.hj_stream.specs.Runs.{EndsRun}
+use Rattle.hj_engine.specs.Showing.{ShowsJoin}
+use Rattle.hj_stream.proofs.Joining.{text-front}
+use Rattle.hj_stream.proofs.Over.{JoinsOver}
+use Rattle.hj_stream.proofs.Prefixes.{IsPrefix-trans}
 
 rest_nil : {X : Type 0} (rest : List X) → length rest ≡ 0 → rest ≡ []
 rest_nil [] is = refl

@@ -1,13 +1,3 @@
 pub mod Beginning
-pub mod Between
 pub mod ByRun
-pub mod Coming
-pub mod Drained
-pub mod Fed
-pub mod Going
-pub mod Joining
-pub mod Over
-pub mod Prefixes
 pub mod Ran
-pub mod Reading
-pub mod Walks

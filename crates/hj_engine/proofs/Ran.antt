@@ -29,7 +29,7 @@ use Rattle.hj_chain.specs.Serial.{Ends, RunsSerially}
 use Rattle.hj_chain.specs.Steps.{GoesWith}
 use Rattle.hj_chain.proofs.Finishing.{emission_begins, emission_whole}
 use Rattle.hj_engine.specs.Running.{IsBegun}
-use Rattle.hj_engine.proofs.Prefixes.{IsPrefix-trans}
+use Rattle.hj_stream.proofs.Prefixes.{IsPrefix-trans}
 
 -- nothing was done for want of memory
 pub nothing_ran : {P F D : Type 0} (gives : F → Given P → F → Type 0) (state : F → FeedState) (takes : D → Pair P → Drained → D → Type 0) (matches : P → P → Bool) (from to : F) (unfilled filled : D) → to ≡ from → filled ≡ unfilled

@@ -1,10 +1,3 @@
-pub mod Ahead
-pub mod Draining
-pub mod Ending
-pub mod Feeding
-pub mod InStep
-pub mod Joining
-pub mod JoinText
 pub mod Running
 pub mod Showing
 pub mod Stores

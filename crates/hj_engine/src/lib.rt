@@ -2,15 +2,10 @@
 #![tactic(auto)]
 
 mod crew;
-mod drain;
-mod feed;
-mod history;
-mod outcome;
 mod run;
 mod serial;
 mod stores;
 mod threads;
 
-pub use outcome::Outcome;
 pub use serial::join_serial;
 pub use threads::join_threads;

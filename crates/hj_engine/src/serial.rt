@@ -3,17 +3,14 @@ ghost use Rattle.hj_base.specs.declared.outside.Role.TheVariants as role;
 ghost use Rattle.hj_output.specs.declared.output.Sent.TheVariants as sent;
 ghost use Rattle.hj_event.specs.Merger.{IsNew};
 ghost use Rattle.hj_event.specs.Roles.{IsInStep};
-ghost use Rattle.hj_engine.specs.Joining.{Joins, CountsSinkFault};
+ghost use Rattle.hj_stream.specs.Joining.{Joins, CountsSinkFault};
 
-use crate::Outcome;
-use crate::drain::LineDrain;
-use crate::feed::EventFeed;
-use crate::outcome::outcome_of;
 use crate::run::{Plan, run_chain};
 use hj_base::{Gate, Outside, Sink};
 use hj_chain::Chooser;
 use hj_event::Merger;
 use hj_query::Query;
+use hj_stream::{EventFeed, LineDrain, Outcome, outcome_of};
 use std::alloc::Global;
 
 /// Joins the streams Left and Right of `outside` under a query, and writes the line of each pair to `out`: each pair of the

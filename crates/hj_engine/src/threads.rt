@@ -2,18 +2,15 @@ ghost use Rattle.std.specs.Prelude.{◌≡◌, ◌≤◌, [], None, false, List,
 ghost use Rattle.hj_base.specs.declared.outside.Role.TheVariants as role;
 ghost use Rattle.hj_event.specs.Merger.{IsNew};
 ghost use Rattle.hj_event.specs.Roles.{IsInStep};
-ghost use Rattle.hj_engine.specs.Joining.{CountsSinkFault, Joins};
+ghost use Rattle.hj_stream.specs.Joining.{CountsSinkFault, Joins};
 ghost use Rattle.hj_engine.specs.Showing.{ShowsJoin};
 
-use crate::Outcome;
 use crate::crew::{CrewPlan, run_crew};
-use crate::drain::LineDrain;
-use crate::feed::EventFeed;
-use crate::outcome::outcome_of;
 use hj_base::{Gate, Memory, Outside, Setup, Sink};
 use hj_crew::Ran;
 use hj_event::Merger;
 use hj_query::Query;
+use hj_stream::{EventFeed, LineDrain, Outcome, outcome_of};
 use hj_value::SharedRow;
 use std::alloc::Global;
 use std::sync::Wait;

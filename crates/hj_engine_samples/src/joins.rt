@@ -8,9 +8,10 @@ use hj_base::{
     Sink,
 };
 use hj_chain::Chooser;
-use hj_engine::{Outcome, join_serial, join_threads};
+use hj_engine::{join_serial, join_threads};
 use hj_msg::Fin;
 use hj_query::parse;
+use hj_stream::Outcome;
 use std::alloc::Global;
 use std::cell::Cell;
 use std::sync::Wait;

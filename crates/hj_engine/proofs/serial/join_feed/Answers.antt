@@ -1,4 +1,4 @@
-use Rattle.hj_engine.proofs.Between.{names, over, refused, same_out, same_outside, stopped}
+use Rattle.hj_stream.proofs.Between.{names, over, refused, same_out, same_outside, stopped}
 use Rattle.hj_engine.proofs.serial.join_feed.Goals as goal
 
 pub outcome_of-requires-clause-done : goal.outcome_of-requires-clause-done

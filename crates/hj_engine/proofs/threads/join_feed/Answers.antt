@@ -1,5 +1,5 @@
 use Rattle.std.proofs.Common.{sym, ◌∙◌}
-use Rattle.hj_engine.proofs.Between.{joins_nothing, names, over, refused, same_out, same_outside}
+use Rattle.hj_stream.proofs.Between.{joins_nothing, names, over, refused, same_out, same_outside}
 use Rattle.hj_engine.proofs.ByRun.{as_join, shows}
 use Rattle.hj_engine.proofs.threads.join_feed.Goals as goal
 

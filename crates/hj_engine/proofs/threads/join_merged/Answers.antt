@@ -1,5 +1,5 @@
 use Rattle.std.proofs.Common.{rules, subst₂, IfSome}
-use Rattle.hj_engine.specs.Joining.{Joins}
+use Rattle.hj_stream.specs.Joining.{Joins}
 use Rattle.hj_engine.specs.Showing.{ShowsJoin}
 use Rattle.hj_engine.proofs.threads.join_merged.Goals as goal
 

@@ -1,4 +1,4 @@
-use Rattle.hj_engine.proofs.Joining.{joins_none}
+use Rattle.hj_stream.proofs.Joining.{joins_none}
 use Rattle.hj_engine.proofs.threads.join_threads.Goals as goal
 
 pub returns-in_default-clause-joins : goal.returns-in_default-clause-joins

@@ -4,11 +4,11 @@ use Rattle.hj_msg.specs.declared.event.Event.{Event}
 use Rattle.hj_event.specs.declared.merger.Next.{Next}
 use Rattle.hj_event.specs.declared.merger.Next.TheVariants as next
 use Rattle.hj_event.specs.Merger.{TakesNext}
-use Rattle.hj_engine.specs.Ahead.{IsGoingOn}
-use Rattle.hj_engine.proofs.Coming.{gives-first}
-use Rattle.hj_engine.proofs.Going.{comes_first, going_on, none_from, not_some}
-use Rattle.hj_engine.proofs.Reading.{taking}
-use Rattle.hj_engine.proofs.feed.EventFeedFeedSharedRow.next.Goals as goal
+use Rattle.hj_stream.specs.Ahead.{IsGoingOn}
+use Rattle.hj_stream.proofs.Coming.{gives-first}
+use Rattle.hj_stream.proofs.Going.{comes_first, going_on, none_from, not_some}
+use Rattle.hj_stream.proofs.Reading.{taking}
+use Rattle.hj_stream.proofs.feed.EventFeedFeedSharedRow.next.Goals as goal
 
 pub overflow_add-self : goal.overflow_add-self
 overflow_add-self g c =

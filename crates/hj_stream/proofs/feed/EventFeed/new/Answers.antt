@@ -3,9 +3,9 @@ use Rattle.hj_msg.specs.declared.event.Event.{Event}
 use Rattle.hj_value.specs.declared.field.Field.{Field}
 use Rattle.hj_base.specs.declared.outside.Role.TheVariants as role
 use Rattle.hj_event.specs.Roles.{IsInStep}
-use Rattle.hj_engine.specs.Ahead.{IsGoingOn}
-use Rattle.hj_engine.proofs.Going.{going_first}
-use Rattle.hj_engine.proofs.feed.EventFeed.new.Goals as goal
+use Rattle.hj_stream.specs.Ahead.{IsGoingOn}
+use Rattle.hj_stream.proofs.Going.{going_first}
+use Rattle.hj_stream.proofs.feed.EventFeed.new.Goals as goal
 
 pub invariant_of-result : goal.invariant_of-result
 invariant_of-result g c = record {

@@ -14,9 +14,9 @@ use Rattle.hj_event.specs.Merger.{Merging, IsNew, TakesNext, events_from}
 use Rattle.hj_event.specs.Sides.{at_its_end, in_front}
 use Rattle.hj_event.proofs.CallLemmas.{follows_before}
 use Rattle.hj_event.proofs.Whole.{are_well_formed}
-use Rattle.hj_engine.specs.Ahead.{IsGoingOn, MayComeBehind}
-use Rattle.hj_engine.proofs.Coming.{may-come, may-come-later}
-use Rattle.hj_engine.proofs.Reading.{end_follows, events_within}
+use Rattle.hj_stream.specs.Ahead.{IsGoingOn, MayComeBehind}
+use Rattle.hj_stream.proofs.Coming.{may-come, may-come-later}
+use Rattle.hj_stream.proofs.Reading.{end_follows, events_within}
 
 pub none_from : {X : Type 0} (o : Option X) → is_none o ≡ true → o ≡ None
 none_from None h = refl

@@ -14,9 +14,9 @@ use Rattle.hj_query.specs.Parts.{Parts}
 use Rattle.hj_event.specs.declared.merger.Next.{Next}
 use Rattle.hj_event.specs.Merger.{Merging, IsNew, TakesNext}
 use Rattle.hj_event.specs.Roles.{IsInStep}
-use Rattle.hj_engine.specs.declared.outcome.Outcome.{Outcome}
-use Rattle.hj_engine.specs.Feeding.{Feeding, Gives, GivesFrom, outcome_by}
-use Rattle.hj_engine.proofs.Reading.{Reads, reads_begin, reads_more, well_formed}
+use Rattle.hj_stream.specs.declared.outcome.Outcome.{Outcome}
+use Rattle.hj_stream.specs.Feeding.{Feeding, Gives, GivesFrom, outcome_by}
+use Rattle.hj_stream.proofs.Reading.{Reads, reads_begin, reads_more, well_formed}
 
 abbrev Events : Type 0
 Events = List (event.Event (List Field))

@@ -4,8 +4,8 @@ ghost use Rattle.hj_msg.specs.Feed.{numbering_of};
 ghost use Rattle.hj_event.specs.Roles.{IsInStep};
 ghost use Rattle.hj_event.specs.Merger.{IsNew};
 ghost use Rattle.hj_query.specs.Parts.{Parts};
-ghost use Rattle.hj_engine.specs.Ahead.{IsGoingOn};
-ghost use Rattle.hj_engine.specs.InStep.{IsInStep-prop};
+ghost use Rattle.hj_stream.specs.Ahead.{IsGoingOn};
+ghost use Rattle.hj_stream.specs.InStep.{IsInStep-prop};
 
 use crate::Outcome;
 use crate::history::History;
@@ -16,7 +16,7 @@ use hj_value::SharedRow;
 
 /// The events of two streams, as a merger gives them, and how they ended.
 #[derive(Drop)]
-pub(crate) struct EventFeed<'a, O: Outside> {
+pub struct EventFeed<'a, O: Outside> {
     merger: &'a mut Merger,
     outside: &'a mut O,
     limit: u64,
@@ -36,7 +36,7 @@ pub(crate) struct EventFeed<'a, O: Outside> {
 
 impl<'a, O: Outside> EventFeed<'a, O> {
     /// The events that a new merger gives of the open roles Left and Right, at most `limit`.
-    pub(crate) fn new(merger: &'a mut Merger, limit: u64, outside: &'a mut O) -> Self
+    pub fn new(merger: &'a mut Merger, limit: u64, outside: &'a mut O) -> Self
         requires new { (query : Parts) × IsNew query limit merger.old }
         requires left { IsInStep false (O.state outside.old role.Left) }
         requires right { IsInStep false (O.state outside.old role.Right) }
@@ -60,7 +60,7 @@ impl<'a, O: Outside> EventFeed<'a, O> {
     }
 
     /// The outcome of a join of all events, where every line was written.
-    pub(crate) fn outcome(&self) -> Outcome
+    pub fn outcome(&self) -> Outcome
         requires { is_some self.now.ended ≡ true }
         ensures { self.now.ended ≡ Some result }
     {
@@ -72,7 +72,7 @@ impl<'a, O: Outside> EventFeed<'a, O> {
 }
 
 impl<O: Outside> Feed<SharedRow> for EventFeed<'_, O> {
-    ghost use Rattle.hj_engine.specs.Feeding.{Gives};
+    ghost use Rattle.hj_stream.specs.Feeding.{Gives};
 
     ghost gives = { λ old answer new. (new.outside.ghost_name ≡ old.outside.ghost_name)
         × ((name : List ℕ) → O.under new.outside.now name ≡ O.under old.outside.now name)

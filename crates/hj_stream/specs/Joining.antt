@@ -14,9 +14,9 @@ use Rattle.hj_record.specs.Pieces.{Stream}
 use Rattle.hj_event.specs.Arrivals.{clean, bad, unread, too_many}
 use Rattle.hj_event.specs.Roles.{IsReadOn}
 use Rattle.hj_event.specs.Sides.{in_front, Follows}
-use Rattle.hj_engine.specs.declared.outcome.Outcome.{Outcome}
-use Rattle.hj_engine.specs.declared.outcome.Outcome.TheVariants as outcome
-use Rattle.hj_engine.specs.JoinText.{JoinResult, join_result}
+use Rattle.hj_stream.specs.declared.outcome.Outcome.{Outcome}
+use Rattle.hj_stream.specs.declared.outcome.Outcome.TheVariants as outcome
+use Rattle.hj_stream.specs.JoinText.{JoinResult, join_result}
 
 -- the outcome is that a read of this side failed
 abbrev pub fails_on : Outcome → Side → Bool

@@ -11,8 +11,8 @@ use Rattle.hj_msg.specs.Drain.{Drainage, TakesAll, AreKept, pairs_in}
 use Rattle.hj_emit.specs.Line.{line_of}
 use Rattle.hj_output.specs.declared.output.Sent.{Sent}
 use Rattle.hj_output.specs.declared.output.Sent.TheVariants as sent
-use Rattle.hj_engine.specs.Draining.{TakesLine, answer_by}
-use Rattle.hj_engine.specs.JoinText.{text}
+use Rattle.hj_stream.specs.Draining.{TakesLine, answer_by}
+use Rattle.hj_stream.specs.JoinText.{text}
 use Rattle.hj_output.specs.Output.{AppendsFront, CountsFaults, Sends}
 
 -- What is seen of a drain: how its last line went, and what its sink tells and counts.

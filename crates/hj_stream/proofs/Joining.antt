@@ -25,16 +25,16 @@ use Rattle.hj_event.specs.Roles.{IsInStep}
 use Rattle.hj_event.specs.Sides.{in_front}
 use Rattle.hj_event.specs.Calls.{GivesAll, then_events}
 use Rattle.hj_event.proofs.RoleLemmas.{not_read}
-use Rattle.hj_engine.specs.declared.outcome.Outcome.{Outcome}
-use Rattle.hj_engine.specs.declared.outcome.Outcome.TheVariants as outcome
+use Rattle.hj_stream.specs.declared.outcome.Outcome.{Outcome}
+use Rattle.hj_stream.specs.declared.outcome.Outcome.TheVariants as outcome
 use Rattle.hj_output.specs.declared.output.Sent.{Sent}
 use Rattle.hj_output.specs.declared.output.Sent.TheVariants as sent
-use Rattle.hj_engine.specs.Draining.{refusal_of}
-use Rattle.hj_engine.specs.Feeding.{outcome_by}
-use Rattle.hj_engine.specs.JoinText.{JoinResult, text, text_of, join_result}
-use Rattle.hj_engine.specs.Joining.{CountsSinkFault, FailsOn, WritesText, AreEnded, Joins}
+use Rattle.hj_stream.specs.Draining.{refusal_of}
+use Rattle.hj_stream.specs.Feeding.{outcome_by}
+use Rattle.hj_stream.specs.JoinText.{JoinResult, text, text_of, join_result}
+use Rattle.hj_stream.specs.Joining.{CountsSinkFault, FailsOn, WritesText, AreEnded, Joins}
 use Rattle.hj_output.specs.Output.{CountsFaults}
-use Rattle.hj_engine.proofs.Prefixes.{IsPrefix-trans}
+use Rattle.hj_stream.proofs.Prefixes.{IsPrefix-trans}
 
 -- The whole text goes on behind that of the first events.
 text-then : (query : Parts) (events : List (Event (List Field))) (all others : Numbered) → all ≡ then_events events others

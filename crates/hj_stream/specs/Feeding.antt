@@ -9,8 +9,8 @@ use Rattle.hj_msg.specs.declared.feed.Given.TheVariants.{Event, Stop}
 use Rattle.hj_event.specs.declared.merger.Next.{Next}
 use Rattle.hj_event.specs.declared.merger.Next.TheVariants as next
 use Rattle.hj_event.specs.Merger.{Merging, TakesNext}
-use Rattle.hj_engine.specs.declared.outcome.Outcome.{Outcome}
-use Rattle.hj_engine.specs.declared.outcome.Outcome.TheVariants as outcome
+use Rattle.hj_stream.specs.declared.outcome.Outcome.{Outcome}
+use Rattle.hj_stream.specs.declared.outcome.Outcome.TheVariants as outcome
 
 -- What is seen of a feed: its merger and the roles that this reads, how many events were given, and once they have ended the
 -- outcome of a join of them.

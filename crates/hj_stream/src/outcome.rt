@@ -1,7 +1,7 @@
 ghost use Rattle.std.specs.Prelude.{◌≡◌, ◌≢◌, true, is_some};
 ghost use Rattle.hj_msg.specs.declared.fin.Fin.TheVariants as fin;
 ghost use Rattle.hj_output.specs.declared.output.Sent.TheVariants as sent;
-ghost use Rattle.hj_engine.specs.Ending.{EndsAs};
+ghost use Rattle.hj_stream.specs.Ending.{EndsAs};
 
 use crate::drain::LineDrain;
 use crate::feed::EventFeed;
@@ -33,7 +33,7 @@ pub enum Outcome {
 }
 
 /// The outcome of a join whose run ended so, between a feed and a drain.
-pub(crate) fn outcome_of<O: Outside, K: Sink>(
+pub fn outcome_of<O: Outside, K: Sink>(
     ended: Fin,
     feed: &EventFeed<'_, O>,
     drain: &LineDrain<'_, K>,

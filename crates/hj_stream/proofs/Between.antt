@@ -16,19 +16,19 @@ use Rattle.hj_query.specs.Parts.{Parts}
 use Rattle.hj_eval.specs.Holds.{holds}
 use Rattle.hj_event.specs.Merger.{IsNew}
 use Rattle.hj_event.specs.Roles.{IsInStep}
-use Rattle.hj_engine.specs.declared.drain.LineDrain.{LineDrain}
-use Rattle.hj_engine.specs.declared.feed.EventFeed.{EventFeed}
-use Rattle.hj_engine.specs.declared.outcome.Outcome.{Outcome}
-use Rattle.hj_engine.specs.declared.outcome.Outcome.TheVariants as outcome
+use Rattle.hj_stream.specs.declared.drain.LineDrain.{LineDrain}
+use Rattle.hj_stream.specs.declared.feed.EventFeed.{EventFeed}
+use Rattle.hj_stream.specs.declared.outcome.Outcome.{Outcome}
+use Rattle.hj_stream.specs.declared.outcome.Outcome.TheVariants as outcome
 use Rattle.hj_output.specs.declared.output.Sent.TheVariants as sent
-use Rattle.hj_engine.specs.Draining.{TakesLine}
-use Rattle.hj_engine.specs.Ending.{EndsAs}
-use Rattle.hj_engine.specs.Feeding.{Feeding, Gives}
-use Rattle.hj_engine.specs.Joining.{CountsSinkFault, Joins}
-use Rattle.hj_engine.proofs.Drained.{Draining, kept_by_all}
-use Rattle.hj_engine.proofs.Fed.{kept_all}
-use Rattle.hj_engine.proofs.Joining.{joins_none}
-use Rattle.hj_engine.proofs.Over.{JoinsOver, has_stopped, joins_over, was_refused}
+use Rattle.hj_stream.specs.Draining.{TakesLine}
+use Rattle.hj_stream.specs.Ending.{EndsAs}
+use Rattle.hj_stream.specs.Feeding.{Feeding, Gives}
+use Rattle.hj_stream.specs.Joining.{CountsSinkFault, Joins}
+use Rattle.hj_stream.proofs.Drained.{Draining, kept_by_all}
+use Rattle.hj_stream.proofs.Fed.{kept_all}
+use Rattle.hj_stream.proofs.Joining.{joins_none}
+use Rattle.hj_stream.proofs.Over.{JoinsOver, has_stopped, joins_over, was_refused}
 
 module _ {O K : Type 0} (outside : OutsideGhosts O) (sink : SinkGhosts K) where
   abbrev Feed : Type 0

@@ -30,12 +30,12 @@ use denote.Triple.Spec.{Meets, triple_of}
 use denote.Triple.Table.{entered}
 use denote.Triple.Walked.{says, Stays, stay_dropped, walk_of, ends_at, walk_Meets, Goes-dropped}
 use Rattle.std.specs.contracts.marker.PhantomData as Mark
-use Rattle.hj_engine.proofs.Walks.{none, one, one_made}
-use Rattle.hj_engine.specs.contracts.history.History as History
-use Rattle.hj_engine.specs.contracts.history.History.and as F
-use Rattle.hj_engine.specs.contracts.history.History.and.Key.{name as #self}
-use Rattle.hj_engine.proofs.history.History.and.Statement as stated
-use Rattle.hj_engine.proofs.history.History.and.Code as code
+use Rattle.hj_stream.proofs.Walks.{none, one, one_made}
+use Rattle.hj_stream.specs.contracts.history.History as History
+use Rattle.hj_stream.specs.contracts.history.History.and as F
+use Rattle.hj_stream.specs.contracts.history.History.and.Key.{name as #self}
+use Rattle.hj_stream.proofs.history.History.and.Statement as stated
+use Rattle.hj_stream.proofs.history.History.and.Code as code
 
 module _ (A : RattleType) where
   abbrev args : Args

@@ -1,7 +1,7 @@
 ghost use Rattle.std.specs.Prelude.{◌≡◌, ◌≢◌};
 ghost use Rattle.hj_output.specs.declared.output.Sent.TheVariants as sent;
 ghost use Rattle.hj_emit.specs.Line.{line_of};
-ghost use Rattle.hj_engine.specs.Draining.{refusal_of};
+ghost use Rattle.hj_stream.specs.Draining.{refusal_of};
 ghost use Rattle.hj_output.specs.Output.{CountsFaults, Sends};
 
 use crate::Outcome;
@@ -13,7 +13,7 @@ use hj_value::SharedRow;
 
 /// Writes the line of each pair to a sink.
 #[derive(Drop)]
-pub(crate) struct LineDrain<'a, K: Sink> {
+pub struct LineDrain<'a, K: Sink> {
     out: &'a mut K,
     /// A buffer for the line of a pair.
     line: &'a mut Vec<u8>,
@@ -25,7 +25,7 @@ pub(crate) struct LineDrain<'a, K: Sink> {
 
 impl<'a, K: Sink> LineDrain<'a, K> {
     /// A drain to this sink, that took no pair yet, with a buffer.
-    pub(crate) fn new(out: &'a mut K, line: &'a mut Vec<u8>) -> Self
+    pub fn new(out: &'a mut K, line: &'a mut Vec<u8>) -> Self
         ensures same_reference { result.out.ghost_name ≡ out.entry.ghost_name }
         ensures out { result.out.now ≡ out.old }
         ensures last { result.last ≡ sent.Whole }
@@ -39,7 +39,7 @@ impl<'a, K: Sink> LineDrain<'a, K> {
     }
 
     /// The outcome of a join whose last pair was refused.
-    pub(crate) fn outcome(&self) -> Outcome
+    pub fn outcome(&self) -> Outcome
         requires { self.now.last ≢ sent.Whole }
         ensures { result ≡ refusal_of self.now.last }
     {
@@ -66,7 +66,7 @@ impl<'a, K: Sink> LineDrain<'a, K> {
 
 impl<K: Sink> Drain<SharedRow> for LineDrain<'_, K> {
     ghost use Rattle.hj_msg.specs.Drain.{CountsRefused};
-    ghost use Rattle.hj_engine.specs.Draining.{TakesLine};
+    ghost use Rattle.hj_stream.specs.Draining.{TakesLine};
 
     ghost takes = { λ old pair answer new. (new.out.ghost_name ≡ old.out.ghost_name)
         × TakesLine pair answer new.last (K.told old.out.now) (K.told new.out.now) (K.faults old.out.now) (K.faults new.out.now) };

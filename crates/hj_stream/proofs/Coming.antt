@@ -12,7 +12,7 @@ use Rattle.hj_msg.specs.Event.{number, Arrives, Expires, NamesLive, IsWellFormed
 use Rattle.hj_msg.specs.Feed.{GivesEvent, NamesLiveNumber, Numbering, first_numbering, numbering_after, numbering_of}
 use Rattle.hj_msg.proofs.Members.{Contains-nil, Contains-head, Contains-cons, Contains-cons_cases, Contains-filter, any_of, find}
 use Rattle.hj_msg.proofs.Numbered.{NamesLive-last, front_is_well_formed, number-last}
-use Rattle.hj_engine.specs.Ahead.{MayComeBehind, may_come, names_live}
+use Rattle.hj_stream.specs.Ahead.{MayComeBehind, may_come, names_live}
 
 -- the numbers of a side's live rows
 abbrev live_of : Side → Numbering → List ℕ

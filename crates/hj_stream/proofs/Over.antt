@@ -30,22 +30,22 @@ use Rattle.hj_event.specs.Roles.{IsInStep}
 use Rattle.hj_event.specs.Sides.{in_front}
 use Rattle.hj_event.proofs.CallLemmas.{before_call, ends}
 use Rattle.hj_event.proofs.RoleLemmas.{read_more}
-use Rattle.hj_engine.specs.declared.outcome.Outcome.{Outcome}
-use Rattle.hj_engine.specs.declared.outcome.Outcome.TheVariants as outcome
+use Rattle.hj_stream.specs.declared.outcome.Outcome.{Outcome}
+use Rattle.hj_stream.specs.declared.outcome.Outcome.TheVariants as outcome
 use Rattle.hj_output.specs.declared.output.Sent.{Sent}
 use Rattle.hj_output.specs.declared.output.Sent.TheVariants as sent
-use Rattle.hj_engine.specs.Draining.{TakesLine, refusal_of}
-use Rattle.hj_engine.specs.Ending.{EndsAs}
-use Rattle.hj_engine.specs.Feeding.{Feeding, Gives}
-use Rattle.hj_engine.specs.Joining.{CountsSinkFault, Joins}
-use Rattle.hj_engine.specs.JoinText.{join_result, text, text_of}
+use Rattle.hj_stream.specs.Draining.{TakesLine, refusal_of}
+use Rattle.hj_stream.specs.Ending.{EndsAs}
+use Rattle.hj_stream.specs.Feeding.{Feeding, Gives}
+use Rattle.hj_stream.specs.Joining.{CountsSinkFault, Joins}
+use Rattle.hj_stream.specs.JoinText.{join_result, text, text_of}
 use Rattle.hj_output.specs.Output.{AppendsFront}
-use Rattle.hj_engine.specs.Showing.{EndsRun, OfEvents}
-use Rattle.hj_engine.proofs.Drained.{Draining, all_kept, last_refused}
-use Rattle.hj_engine.proofs.Fed.{Fed, HasEnded, fed_all, fed_first, fed_well}
-use Rattle.hj_engine.proofs.Joining.{SaysBegun, are_ended, counts_refusal, ended_by, ended_is, fails_so, front_of_all, memory_says, not_both, refusal_says, sink_same, text-front, writes_all}
-use Rattle.hj_engine.proofs.Prefixes.{IsPrefix-trans}
-use Rattle.hj_engine.proofs.Reading.{Reads}
+use Rattle.hj_stream.specs.Runs.{EndsRun, OfEvents}
+use Rattle.hj_stream.proofs.Drained.{Draining, all_kept, last_refused}
+use Rattle.hj_stream.proofs.Fed.{Fed, HasEnded, fed_all, fed_first, fed_well}
+use Rattle.hj_stream.proofs.Joining.{SaysBegun, are_ended, counts_refusal, ended_by, ended_is, fails_so, front_of_all, memory_says, not_both, refusal_says, sink_same, text-front, writes_all}
+use Rattle.hj_stream.proofs.Prefixes.{IsPrefix-trans}
+use Rattle.hj_stream.proofs.Reading.{Reads}
 
 abbrev Events : Type 0
 Events = List (Event (List Field))

@@ -28,12 +28,12 @@ use denote.Triple.Spec.{Meets, triple_of}
 use denote.Triple.Table.{entered}
 use denote.Triple.Walked.{says, Stays, walk_of, ends_at, walk_Meets}
 use Rattle.std.specs.contracts.marker.PhantomData as Mark
-use Rattle.hj_engine.proofs.Walks.{none, one, one_made}
-use Rattle.hj_engine.specs.contracts.history.History as History
-use Rattle.hj_engine.specs.contracts.history.History.new as F
-use Rattle.hj_engine.specs.contracts.history.History.new.Key.{name as #self}
-use Rattle.hj_engine.proofs.history.History.new.Statement as stated
-use Rattle.hj_engine.proofs.history.History.new.Code as code
+use Rattle.hj_stream.proofs.Walks.{none, one, one_made}
+use Rattle.hj_stream.specs.contracts.history.History as History
+use Rattle.hj_stream.specs.contracts.history.History.new as F
+use Rattle.hj_stream.specs.contracts.history.History.new.Key.{name as #self}
+use Rattle.hj_stream.proofs.history.History.new.Statement as stated
+use Rattle.hj_stream.proofs.history.History.new.Code as code
 
 module _ (A : RattleType) where
   abbrev args : Args

@@ -3,10 +3,10 @@ use Rattle.std.specs.Prelude.{◌≡◌, Some}
 use Rattle.std.specs.declared.option.Option.{Option}
 use Rattle.hj_msg.specs.declared.fin.Fin.{Fin}
 use Rattle.hj_msg.specs.declared.fin.Fin.TheVariants as fin
-use Rattle.hj_engine.specs.declared.outcome.Outcome.{Outcome}
-use Rattle.hj_engine.specs.declared.outcome.Outcome.TheVariants as outcome
+use Rattle.hj_stream.specs.declared.outcome.Outcome.{Outcome}
+use Rattle.hj_stream.specs.declared.outcome.Outcome.TheVariants as outcome
 use Rattle.hj_output.specs.declared.output.Sent.{Sent}
-use Rattle.hj_engine.specs.Draining.{refusal_of}
+use Rattle.hj_stream.specs.Draining.{refusal_of}
 
 -- The outcome of a run that ended so: that of the feed's end, or that of the last line, or want of memory.
 abbrev pub EndsAs : Fin → Option Outcome → Sent → Outcome → Type 0

@@ -1,0 +1,10 @@
+pub mod Between
+pub mod Coming
+pub mod Drained
+pub mod Fed
+pub mod Going
+pub mod Joining
+pub mod Over
+pub mod Prefixes
+pub mod Reading
+pub mod Walks

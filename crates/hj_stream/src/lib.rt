@@ -1,0 +1,12 @@
+//! The two ends of a join: the events of two streams as a chain's feed, the lines of pairs as its drain, and what a join's
+//! outcome says.
+#![tactic(auto)]
+
+mod drain;
+mod feed;
+mod history;
+mod outcome;
+
+pub use drain::LineDrain;
+pub use feed::EventFeed;
+pub use outcome::{Outcome, outcome_of};
