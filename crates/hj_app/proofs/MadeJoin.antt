@@ -23,10 +23,10 @@ use Rattle.hj_query.specs.Keyed.{IsKeyed}
 use Rattle.hj_query.specs.Parts.{Parts}
 use Rattle.hj_record.specs.Pieces.{Stream}
 use Rattle.hj_app.specs.Crew.{Crew, ShowsMade, made_roles}
-use Rattle.hj_app.specs.Generating.{IsSummary, join_made, left_stream, whole}
+use Rattle.hj_opening.specs.Generating.{IsSummary, join_made, left_stream, whole}
 use Rattle.hj_held.specs.Held.{HeldState, KeptState, TwoHeld, held_role, open_role}
-use Rattle.hj_app.specs.Words.{Recipe, most_events}
-use Rattle.hj_app.proofs.MadeEvents.{ends_clean}
+use Rattle.hj_opening.specs.Words.{Recipe, most_events}
+use Rattle.hj_opening.proofs.MadeEvents.{ends_clean}
 
 -- a stream of which nothing was read
 abbrev pub unread_stream : List ℕ → HeldState

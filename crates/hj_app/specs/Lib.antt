@@ -1,15 +1,4 @@
-pub mod Calls
-pub mod Check
 pub mod Crew
-pub mod Generating
-pub mod Joining
 pub mod OnCrew
-pub mod Opening
 pub mod Orders
-pub mod Queries
-pub mod Ready
-pub mod Run
-pub mod Serve
-pub mod Streams
 pub mod Turning
-pub mod Words

@@ -1,14 +1,14 @@
-ghost use Rattle.std.specs.Prelude.{ℕ, List, IfOk};
+ghost use Rattle.std.specs.Prelude.{◌≡◌, ℕ, List, IfOk};
 ghost use Rattle.std.specs.declared.option.Option.{Option};
 ghost use Rattle.hj_base.specs.declared.outside.Role.{Role};
-ghost use Rattle.hj_base.specs.Outside.{RoleState};
-ghost use Rattle.hj_app.specs.Calls.{call};
+ghost use Rattle.hj_base.specs.Outside.{RoleState, unbegun};
+ghost use Rattle.hj_opening.specs.Calls.{call};
 ghost use Rattle.hj_app.specs.Crew.{ShowsMade};
-ghost use Rattle.hj_app.specs.Generating.{IsSummary};
+ghost use Rattle.hj_opening.specs.Generating.{IsSummary};
 ghost use Rattle.hj_app.specs.OnCrew.{RunsOnCrew};
 ghost use Rattle.hj_app.specs.Orders.{recipe_seen};
 ghost use Rattle.hj_app.specs.Turning.{crew_seen};
-ghost use Rattle.hj_app.specs.Words.{most_events, sum_up};
+ghost use Rattle.hj_opening.specs.Words.{most_events, sum_up};
 
 use crate::ended::Ended;
 use hj_held::{HeldStreams, KeptText};
@@ -46,8 +46,9 @@ pub fn generate<T: Threads + Wait + Clock + Sync, K: Sink, G: Gate + Sync>(
     out: &mut K,
     gate: &G,
 ) -> Ended
-    ensures { (under : List ℕ → Option (List ℕ)) (roles : Role → RoleState) → RunsOnCrew (crew_seen plan) result (sum_up (recipe_seen recipe))
-        (call under roles roles (K.told out.old) (K.told out.new)) (K.faults out.old) (K.faults out.new) }
+    ensures { (under : List ℕ → Option (List ℕ)) (roles : Role → RoleState) → ((of : Role) → (roles of).phase ≡ unbegun)
+        → RunsOnCrew (crew_seen plan) result (sum_up (recipe_seen recipe))
+        (call under roles roles (K.told out.old) (K.told out.new) (K.faults out.old) (K.faults out.new)) }
 {
     let Ok(Summary { line, ran }) = sum_up(rt, alloc, recipe, plan, gate) else {
         return Ended {

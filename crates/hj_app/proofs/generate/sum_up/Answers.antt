@@ -2,7 +2,7 @@ use Rattle.std.proofs.Common.{◌∙◌, ap, arith, subst, inl, inr, refl}
 use Rattle.hj_gen.specs.Summary.{summary_of}
 use Rattle.hj_app.specs.Orders.{recipe_seen}
 use Rattle.hj_app.specs.Turning.{crew_seen}
-use Rattle.hj_app.specs.Words.{most_events}
+use Rattle.hj_opening.specs.Words.{most_events}
 use Rattle.hj_app.proofs.MadeJoin.{IsDoneOrMemory, done_shows, done_summed, only}
 use Rattle.hj_app.proofs.generate.sum_up.Goals as goal
 
