@@ -28,9 +28,9 @@ use Rattle.hj_eval.specs.Holds.{holds}
 use Rattle.hj_crew.specs.Ran.{RanSeen, RunsOnThreads, queue_at, reports_of, run_of}
 use Rattle.hj_stream.specs.declared.outcome.Outcome.{Outcome}
 use Rattle.hj_stream.specs.declared.outcome.Outcome.TheVariants as outcome
-use Rattle.hj_stream.specs.JoinText.{text}
+use Rattle.hj_stream.specs.JoinText.{Line, text_by}
 use Rattle.hj_stream.specs.Runs.{EndsRun}
-use Rattle.hj_engine.specs.Showing.{ShowsJoin}
+use Rattle.hj_engine.specs.Showing.{ShowsJoinBy}
 use Rattle.hj_stream.proofs.Joining.{text-front}
 use Rattle.hj_stream.proofs.Over.{JoinsOver}
 use Rattle.hj_stream.proofs.Prefixes.{IsPrefix-trans}
@@ -89,8 +89,8 @@ module _ {F D : Type 0} {gives : F → Given (List Field) → F → Type 0} {sta
   all_given done = all_emitted (holds query) (events_in runs.answers) ran (pairs_in runs.taken) runs.run runs.in_order (all_taken ran.ended (state to).stopped runs.taken (kang (holds query) (events_in runs.answers)) runs.ends done)
 
   -- what it shows of a join that it made
-  pub shows : {made : Outcome} {limit : ℕ} {before now : Role → RoleState} {old new : Option (List ℕ)} (over : JoinsOver made ran.ended query limit before now old new (events_in runs.answers) (pairs_in runs.taken)) → ShowsJoin over.joins cores in_flight ran
-  shows {made} over = record {
+  pub shows : {line : Line} {made : Outcome} {limit : ℕ} {before now : Role → RoleState} {old new : Option (List ℕ)} (over : JoinsOver line made ran.ended query limit before now old new (events_in runs.answers) (pairs_in runs.taken)) → ShowsJoinBy over.joins cores in_flight ran
+  shows {line} {made} over = record {
     links = runs.links;
     queues = runs.queues;
     flight = runs.flight;
@@ -98,6 +98,6 @@ module _ {F D : Type 0} {gives : F → Given (List Field) → F → Type 0} {sta
     run = runs.run;
     complete = runs.complete;
     begins = over.begins;
-    writes = IsPrefix-trans over.joins.grown (text (pairs_in runs.taken)) (text (emitted (reports_of ran))) over.writes (text-front (pairs_in runs.taken) (emitted (reports_of ran)) runs.in_order);
-    ends = ends_whole made ran.ended _ _ _ (λ done wrote. wrote ∙ ap text (all_given done)) over.ends;
+    writes = IsPrefix-trans over.joins.grown (text_by line (pairs_in runs.taken)) (text_by line (emitted (reports_of ran))) over.writes (text-front line (pairs_in runs.taken) (emitted (reports_of ran)) runs.in_order);
+    ends = ends_whole made ran.ended _ _ _ (λ done wrote. wrote ∙ ap (text_by line) (all_given done)) over.ends;
   }

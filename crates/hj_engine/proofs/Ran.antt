@@ -31,7 +31,7 @@ use Rattle.hj_chain.proofs.Finishing.{emission_begins, emission_whole}
 use Rattle.hj_engine.specs.Running.{IsBegun}
 use Rattle.hj_stream.proofs.Prefixes.{IsPrefix-trans}
 
--- nothing was done for want of memory
+-- nothing was done, since memory ran out
 pub nothing_ran : {P F D : Type 0} (gives : F → Given P → F → Type 0) (state : F → FeedState) (takes : D → Pair P → Drained → D → Type 0) (matches : P → P → Bool) (from to : F) (unfilled filled : D) → to ≡ from → filled ≡ unfilled
     → RunsJoin gives state takes matches fin.Memory from to unfilled filled
 nothing_ran gives state takes matches from to unfilled filled not_asked not_filled = record { answers = []; feed = not_asked; taken = []; drain = not_filled; ends = λ well. (refl, record { rest = kang matches []; is = refl }) }

@@ -12,7 +12,7 @@ use Rattle.hj_engine.specs.declared.stores.PlannedStores.{PlannedStores}
 use Rattle.hj_engine.specs.declared.stores.PlannedStores.TheVariants as planned
 use Rattle.hj_engine.specs.declared.stores.Stores.{Stores}
 
--- Stores are ready for a chain of so many cores that joins so: each core has a left and a right one, they have no rows, and
+-- Stores are ready for a chain of this many cores that joins so: each core has a left and a right one, they have no rows, and
 -- probes may be made by the join.
 pub record AreReady {P J S : Type 0} (entries : S → List (Resting P)) (suits : S → Side → J → Type 0) (join : J) (cores : ℕ) (stores : Stores S) : Type 0 where
   pub left_count : length stores.left.items ≡ cores
@@ -22,7 +22,7 @@ pub record AreReady {P J S : Type 0} (entries : S → List (Resting P)) (suits :
   pub left_suit : All (λ store. suits store Left join) stores.left.items
   pub right_suit : All (λ store. suits store Right join) stores.right.items
 
--- Planned stores are ready for a chain of so many cores under a query, whatever their kind.
+-- Planned stores are ready for a chain of this many cores under a query, whatever their kind.
 abbrev pub AreReadyFor : Parts → ℕ → PlannedStores → Type 0
 AreReadyFor query cores (planned.Hash stores) =
     AreReady (λ store. store.rows) (λ store side join. JoinsEqual store.own store.other (holds join) side) query cores stores

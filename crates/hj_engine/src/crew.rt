@@ -2,12 +2,13 @@ ghost use Rattle.std.specs.Prelude.{◌≡◌, ◌≤◌, IfOk, OnErr};
 ghost use Rattle.hj_msg.specs.Feed.{IsFresh};
 ghost use Rattle.hj_eval.specs.Holds.{holds};
 ghost use Rattle.hj_crew.specs.Ran.{RunsOnThreads};
+ghost use Rattle.hj_engine.specs.Stores.{AreReady};
 
 use crate::stores::{PlannedStores, Stores, planned_stores};
 use hj_base::{Gate, Memory, Setup};
 use hj_crew::{Ran, run_threads};
 use hj_eval::QueryJoin;
-use hj_msg::{Drain, Feed};
+use hj_msg::{Drain, Feed, Store};
 use hj_query::Query;
 use hj_value::SharedRow;
 use std::alloc::Global;
@@ -15,15 +16,15 @@ use std::sync::Wait;
 use std::thread::Threads;
 use std::time::Clock;
 
-/// How a join is run on threads.
+/// Says how a join is run on threads.
 #[derive(Drop)]
 pub(crate) struct CrewPlan<'r, T, G> {
-    /// It starts the threads.
+    /// Starts the threads.
     pub(crate) rt: &'r T,
     pub(crate) setup: Setup,
     /// How many events are numbered at most.
     pub(crate) limit: u64,
-    /// It is passed before each turn of a core.
+    /// Is passed before each turn of a core.
     pub(crate) gate: &'r G,
     ghost some_cores: { 1 ≤ setup.cores },
     ghost few_cores: { setup.cores ≤ 64 },
@@ -53,22 +54,35 @@ pub(crate) fn run_crew<
     let Ok(stores) = planned_stores(alloc, query, plan.setup.cores) else {
         return (Err(Memory), feed, drain);
     };
-    let join = QueryJoin::new(query);
-    let CrewPlan {
-        rt,
-        setup,
-        gate,
-        ..
-    } = *plan;
     match stores {
-        PlannedStores::Hash(Stores { left, right }) => {
-            run_threads(rt, alloc, setup, &join, left, right, feed, drain, gate)
-        }
-        PlannedStores::Ordered(Stores { left, right }) => {
-            run_threads(rt, alloc, setup, &join, left, right, feed, drain, gate)
-        }
-        PlannedStores::List(Stores { left, right }) => {
-            run_threads(rt, alloc, setup, &join, left, right, feed, drain, gate)
-        }
+        PlannedStores::Hash(stores) => run_over(alloc, query, plan, stores, feed, drain),
+        PlannedStores::Ordered(stores) => run_over(alloc, query, plan, stores, feed, drain),
+        PlannedStores::List(stores) => run_over(alloc, query, plan, stores, feed, drain),
     }
+}
+
+/// Runs a new chain on threads over these stores.
+fn run_over<
+    'a,
+    S: Store<SharedRow, QueryJoin<'a>> + Send + Drop,
+    T: Threads + Wait + Clock + Sync,
+    F: Feed<SharedRow> + Drop,
+    D: Drain<SharedRow> + Drop,
+    G: Gate + Sync,
+>(
+    alloc: Global,
+    query: &'a Query,
+    plan: &CrewPlan<'_, T, G>,
+    stores: Stores<S>,
+    feed: F,
+    drain: D,
+) -> (Result<Ran<SharedRow>, Memory>, F, D)
+    requires fresh { IsFresh (F.state feed) }
+    requires stores { AreReady S.entries S.suits query.now plan.now.setup.cores stores }
+    ensures runs { IfOk result.0 (RunsOnThreads F.gives F.state D.takes (holds query.now) plan.now.setup.cores plan.now.setup.flight feed result.1 drain result.2) }
+    ensures refused { OnErr result.0 ((result.1 ≡ feed) × (result.2 ≡ drain)) }
+{
+    let join = QueryJoin::new(query);
+    let Stores { left, right } = stores;
+    run_threads(plan.rt, alloc, plan.setup, &join, left, right, feed, drain, plan.gate)
 }

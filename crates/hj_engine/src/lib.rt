@@ -8,4 +8,5 @@ mod stores;
 mod threads;
 
 pub use serial::join_serial;
+pub use stores::{PlannedStores, Stores, planned_stores};
 pub use threads::join_threads;

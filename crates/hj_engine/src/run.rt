@@ -13,7 +13,7 @@ use hj_query::Query;
 use hj_value::SharedRow;
 use std::alloc::Global;
 
-/// How a join is run on a serial chain.
+/// Says how a join is run on a serial chain.
 #[derive(Clone, Copy)]
 pub(crate) struct Plan {
     pub(crate) cores: u16,

@@ -1,16 +1,16 @@
-ghost use Rattle.std.specs.Prelude.{◌≡◌, ◌≤◌, [], None, false, List, ℕ};
+ghost use Rattle.std.specs.Prelude.{◌≡◌, ◌≤◌, false, List, ℕ};
 ghost use Rattle.hj_base.specs.declared.outside.Role.TheVariants as role;
-ghost use Rattle.hj_output.specs.declared.output.Sent.TheVariants as sent;
 ghost use Rattle.hj_event.specs.Merger.{IsNew};
 ghost use Rattle.hj_event.specs.Roles.{IsInStep};
-ghost use Rattle.hj_stream.specs.Joining.{Joins, CountsSinkFault};
+ghost use Rattle.hj_stream.specs.Ends.{IsUnasked};
+ghost use Rattle.hj_stream.specs.Joining.{CountsSinkFault, Joins, JoinsBy};
 
 use crate::run::{Plan, run_chain};
 use hj_base::{Gate, Outside, Sink};
 use hj_chain::Chooser;
 use hj_event::Merger;
 use hj_query::Query;
-use hj_stream::{EventFeed, LineDrain, Outcome, outcome_of};
+use hj_stream::{EventFeed, JoinedLine, LineDrain, Outcome, PairLine, outcome_of};
 use std::alloc::Global;
 
 /// Joins the streams Left and Right of `outside` under a query, and writes the line of each pair to `out`: each pair of the
@@ -71,27 +71,24 @@ fn join_merged<O: Outside, K: Sink, G: Gate>(
 {
     let mut feed = EventFeed::new(merger, plan.limit, outside);
     let mut line = Vec::new(alloc);
-    let mut drain = LineDrain::new(out, &mut line);
+    let mut drain = LineDrain::new(out, &JoinedLine, &mut line);
     join_feed(alloc, query, plan, &mut feed, &mut drain, gate)
 }
 
 /// Joins the events of a feed that gave none yet, and writes the line of each pair.
-fn join_feed<O: Outside, K: Sink, G: Gate>(
+fn join_feed<O: Outside, K: Sink, L: PairLine, G: Gate>(
     alloc: Global,
     query: &Query,
     plan: Plan,
     feed: &mut EventFeed<'_, O>,
-    drain: &mut LineDrain<'_, K>,
+    drain: &mut LineDrain<'_, K, L>,
     gate: &G,
 ) -> Outcome
-    requires merger { IsNew query.now feed.old.limit feed.old.merger.now }
-    requires given { feed.old.given.items ≡ [] }
-    requires going { feed.old.ended ≡ None }
-    requires last { drain.old.last ≡ sent.Whole }
+    requires { IsUnasked query.now plan.limit feed.old }
     ensures same_outside { feed.new.outside.ghost_name ≡ feed.old.outside.ghost_name }
     ensures same_out { drain.new.out.ghost_name ≡ drain.old.out.ghost_name }
-    ensures joins { Joins result query.now feed.old.limit (O.state feed.old.outside.now) (O.state feed.new.outside.now)
-        (K.told drain.old.out.now) (K.told drain.new.out.now) }
+    ensures joins { JoinsBy (L.line drain.old.lines.now) result query.now plan.limit
+        (O.state feed.old.outside.now) (O.state feed.new.outside.now) (K.told drain.old.out.now) (K.told drain.new.out.now) }
     ensures faults { CountsSinkFault result (K.faults drain.old.out.now) (K.faults drain.new.out.now) }
     ensures names { (name : List ℕ) → O.under feed.new.outside.now name ≡ O.under feed.old.outside.now name }
 {

@@ -9,16 +9,16 @@ use hj_rows::ListStore;
 use hj_value::SharedRow;
 use std::alloc::Global;
 
-/// The stores of a chain's cores: a left one and a right one for each.
+/// Holds the stores of a chain's cores: a left one and a right one for each, by the place of the core.
 #[derive(Drop)]
-pub(crate) struct Stores<S> {
-    pub(crate) left: Vec<S>,
-    pub(crate) right: Vec<S>,
+pub struct Stores<S> {
+    pub left: Vec<S>,
+    pub right: Vec<S>,
 }
 
-/// The stores of a chain's cores, of the kind that a query's condition asks for.
+/// Holds the stores of a chain's cores, of the kind that a query's condition asks for.
 #[derive(Drop)]
-pub(crate) enum PlannedStores {
+pub enum PlannedStores {
     /// For the plan Equal.
     Hash(Stores<HashStore>),
     /// For the plan Band.
@@ -27,8 +27,9 @@ pub(crate) enum PlannedStores {
     List(Stores<ListStore<SharedRow>>),
 }
 
-/// New stores for so many cores, of the kind that the query's condition asks for.
-pub(crate) fn planned_stores(
+/// Makes the stores of a chain of `cores` cores, of the kind that the query's condition asks for. They have no rows, and the
+/// query's join may probe them. The error is that memory ran out.
+pub fn planned_stores(
     alloc: Global,
     query: &Query,
     cores: u16,
@@ -63,7 +64,7 @@ pub(crate) fn planned_stores(
     }
 }
 
-/// So many stores, each made anew.
+/// Makes `count` stores, each anew.
 fn repeat_with<S: Drop, M: Fn() -> S>(alloc: Global, count: u16, make: M) -> Result<Vec<S>, Memory>
     requires { M.IsAlwaysCallable make }
     ensures count { IfOk result (λ stores. length stores.items ≡ count) }

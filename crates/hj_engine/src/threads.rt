@@ -1,16 +1,17 @@
-ghost use Rattle.std.specs.Prelude.{◌≡◌, ◌≤◌, [], None, false, List, ℕ, IfNone, IfSome};
+ghost use Rattle.std.specs.Prelude.{◌≡◌, ◌≤◌, false, List, ℕ, IfNone, IfSome};
 ghost use Rattle.hj_base.specs.declared.outside.Role.TheVariants as role;
 ghost use Rattle.hj_event.specs.Merger.{IsNew};
 ghost use Rattle.hj_event.specs.Roles.{IsInStep};
-ghost use Rattle.hj_stream.specs.Joining.{CountsSinkFault, Joins};
-ghost use Rattle.hj_engine.specs.Showing.{ShowsJoin};
+ghost use Rattle.hj_stream.specs.Ends.{IsUnasked};
+ghost use Rattle.hj_stream.specs.Joining.{CountsSinkFault, Joins, JoinsBy};
+ghost use Rattle.hj_engine.specs.Showing.{ShowsJoin, ShowsJoinBy};
 
 use crate::crew::{CrewPlan, run_crew};
 use hj_base::{Gate, Memory, Outside, Setup, Sink};
 use hj_crew::Ran;
 use hj_event::Merger;
 use hj_query::Query;
-use hj_stream::{EventFeed, LineDrain, Outcome, outcome_of};
+use hj_stream::{EventFeed, JoinedLine, LineDrain, Outcome, PairLine, outcome_of};
 use hj_value::SharedRow;
 use std::alloc::Global;
 use std::sync::Wait;
@@ -81,40 +82,46 @@ fn join_merged<T: Threads + Wait + Clock + Sync, O: Outside, K: Sink, G: Gate + 
 {
     let feed = EventFeed::new(merger, plan.limit, outside);
     let mut line = Vec::new(alloc);
-    let drain = LineDrain::new(out, &mut line);
+    let drain = LineDrain::new(out, &JoinedLine, &mut line);
     let mut ran = None;
     let joined = join_feed(alloc, query, plan, feed, drain, &mut ran);
     (joined.ended, ran)
 }
 
-/// A join on threads that is over, and what it ran between.
+/// Holds how a join on threads ended, and what it ran between.
 #[derive(Drop)]
-struct Joined<'f, 'd, O: Outside, K: Sink> {
+struct Joined<'f, 'd, O: Outside, K: Sink, L: PairLine> {
     ended: Outcome,
     feed: EventFeed<'f, O>,
-    drain: LineDrain<'d, K>,
+    drain: LineDrain<'d, K, L>,
 }
 
 /// Joins the events of a feed that gave none yet, writes the line of each pair, and leaves the run in `ran`.
 // The run stands apart, since what the feed and the drain leave behind their references is known only where nothing that owns
 // memory is dropped with them.
-fn join_feed<'f, 'd, T: Threads + Wait + Clock + Sync, O: Outside, K: Sink, G: Gate + Sync>(
+fn join_feed<
+    'f,
+    'd,
+    T: Threads + Wait + Clock + Sync,
+    O: Outside,
+    K: Sink,
+    L: PairLine,
+    G: Gate + Sync,
+>(
     alloc: Global,
     query: &Query,
     plan: &CrewPlan<'_, T, G>,
     feed: EventFeed<'f, O>,
-    drain: LineDrain<'d, K>,
+    drain: LineDrain<'d, K, L>,
     ran: &mut Option<Ran<SharedRow>>,
-) -> Joined<'f, 'd, O, K>
-    requires merger { IsNew query.now feed.limit feed.merger.now }
-    requires given { feed.given.items ≡ [] }
-    requires going { feed.ended ≡ None }
+) -> Joined<'f, 'd, O, K, L>
+    requires { IsUnasked query.now plan.now.limit feed }
     ensures same_outside { result.feed.outside.ghost_name ≡ feed.entry.outside.ghost_name }
     ensures same_out { result.drain.out.ghost_name ≡ drain.entry.out.ghost_name }
-    ensures joins { (joins : Joins result.ended query.now feed.entry.limit
+    ensures joins { (joins : JoinsBy (L.line drain.entry.lines.now) result.ended query.now plan.now.limit
         (O.state feed.entry.outside.now) (O.state result.feed.outside.now)
         (K.told drain.entry.out.now) (K.told result.drain.out.now))
-        × IfSome ran.new (ShowsJoin joins plan.now.setup.cores plan.now.setup.flight) }
+        × IfSome ran.new (ShowsJoinBy joins plan.now.setup.cores plan.now.setup.flight) }
     ensures no_run { IfNone ran.new (result.ended ≡ Outcome.Memory) }
     ensures faults { CountsSinkFault result.ended (K.faults drain.entry.out.now) (K.faults result.drain.out.now) }
     ensures names { (name : List ℕ) → O.under result.feed.outside.now name ≡ O.under feed.entry.outside.now name }

@@ -7,7 +7,7 @@ use Rattle.hj_base.specs.Journals.{IsPrefix}
 use Rattle.hj_output.specs.declared.output.Sent.{Sent}
 use Rattle.hj_output.specs.declared.output.Sent.TheVariants as sent
 
--- A front of the bytes was appended.
+-- A prefix of the bytes was appended.
 pub record AppendsFront (bytes : List ℕ) (old new : Option (List ℕ)) : Type 0 where
   pub grown : List ℕ
   pub written : Appends old new grown

@@ -2,14 +2,14 @@ ghost use Rattle.hj_output.specs.Output.{Sends, CountsFaults, CountsRefusals};
 
 use hj_base::{Put, Sink};
 
-/// How the sending of a piece went.
+/// Says how the sending of a piece went.
 #[derive(Clone, Copy, Debug, PartialEq, Eq)]
 pub enum Sent {
     /// The sink took all of it.
     Whole,
-    /// The sink failed; it took a front of it.
+    /// The sink failed; it took a prefix of it.
     Failed,
-    /// Memory ran out; the sink took a front of it.
+    /// Memory ran out; the sink took a prefix of it.
     Memory,
 }
 

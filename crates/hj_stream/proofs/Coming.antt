@@ -1,4 +1,4 @@
--- The events of two streams may come one behind another, as those of every well-formed list do.
+-- The events of two streams may come one after another, as those of every well-formed list do.
 use Rattle.std.proofs.Common.{◌≡◌, ℕ, ◌+◌, ◌-◌, inl, inr, Bool, true, false, not, ◌&&◌, ◌==◌, List, [], ◌∷◌, ◌++◌, length, fold, refl, sym, ap, subst, ◌∙◌, append_assoc, length-append, Contains, arith}
 use Rattle.std.proofs.lemmas.Bool.{and_from, and_parts, eq-eqb, eqb-true, ne_eqb}
 use Rattle.std.proofs.lemmas.List.Elements.{Contains-append_left, Contains-append_right}
@@ -45,7 +45,7 @@ module _ {P : Type 0} (of : ℕ) where
   other at side named events stays same =
       stays at.0 (side, subst (λ n. Contains (Expire at side named ∷ events) (Expire at side (record { 0 = n }))) (sym same) (Contains-head (Expire at side named) events))
 
-  -- a live row stays live behind an event that doesn't name it
+  -- a live row stays live after an event that doesn't name it
   stays-after : (side : Side) (event : Event P) (events : List (Event P)) (numbering : Numbering) → Stays (event ∷ events) of → Contains (live_of side numbering) of → Contains (live_of side (numbering_after numbering event)) of
   stays-after Left (Arrive at Left row) events numbering stays live = Contains-append_left numbering.live_left (at.0 ∷ []) of live
   stays-after Right (Arrive at Left row) events numbering stays live = live
@@ -81,7 +81,7 @@ names-live before (Quiet at side) live = refl
 names-live before (Expire at Left of) live = any_of (λ n. n == of.0) (numbering_of before).live_left of.0 (is-live of.0 Left live.0.0 before first_numbering live.1 live.0.1) (eq-eqb of.0 of.0 refl)
 names-live before (Expire at Right of) live = any_of (λ n. n == of.0) (numbering_of before).live_right of.0 (is-live of.0 Right live.0.0 before first_numbering live.1 live.0.1) (eq-eqb of.0 of.0 refl)
 
--- the later ones of well-formed events may come behind the earlier ones
+-- the later ones of well-formed events may come after the earlier ones
 pub may-come : {P : Type 0} (before events : List (Event P)) → IsWellFormed (before ++ events) → may_come (numbering_of before) events ≡ true
 may-come before [] well = refl
 may-come {P} before (event ∷ events) well =
@@ -115,7 +115,7 @@ gives-first limit count stopped given items event later going may counted are =
       goes_on = going;
     }
 
--- the later ones may come behind it
+-- the later ones may come after it
 pub may-come-later : {P : Type 0} (limit : ℕ) (given : List (Event P)) (event : Event P) (later : List (Event P)) → MayComeBehind limit given (event ∷ later) → MayComeBehind limit (given ++ event ∷ []) later
 may-come-later limit given event later may = record {
   numbered = subst (λ (n : Numbering). may_come n later ≡ true) (sym (numbering-push given event)) (and_parts (number event == (numbering_of given).next && names_live (numbering_of given) event) (may_come (numbering_after (numbering_of given) event) later) may.numbered).1;

@@ -8,11 +8,10 @@ use Rattle.hj_msg.specs.declared.drain.Drained.{Drained}
 use Rattle.hj_msg.specs.declared.drain.Drained.TheVariants.{Kept, Refused}
 use Rattle.hj_msg.specs.declared.event.Pair.{Pair}
 use Rattle.hj_msg.specs.Drain.{Drainage, TakesAll, AreKept, pairs_in}
-use Rattle.hj_emit.specs.Line.{line_of}
 use Rattle.hj_output.specs.declared.output.Sent.{Sent}
 use Rattle.hj_output.specs.declared.output.Sent.TheVariants as sent
 use Rattle.hj_stream.specs.Draining.{TakesLine, answer_by}
-use Rattle.hj_stream.specs.JoinText.{text}
+use Rattle.hj_stream.specs.JoinText.{Line, text_by}
 use Rattle.hj_output.specs.Output.{AppendsFront, CountsFaults, Sends}
 
 -- What is seen of a drain: how its last line went, and what its sink tells and counts.
@@ -31,7 +30,7 @@ refused_apart sent.Whole is same = let wrong : Kept ≡ Refused = is in cc
 refused_apart sent.Failed is same = let wrong : sent.Failed ≡ sent.Whole = same in cc
 refused_apart sent.Memory is same = let wrong : sent.Memory ≡ sent.Whole = same in cc
 
--- A front of the text was sent, and its last line went so.
+-- A prefix of the text was sent, and its last line went so.
 pub record SendsFront (bytes : List ℕ) (old new : Draining) : Type 0 where
   pub sends : AppendsFront bytes old.told new.told
   pub faults : CountsFaults new.last old.faults new.faults
@@ -42,48 +41,51 @@ front_sent sent.Whole bytes old new apart sends = absurd (apart refl)
 front_sent sent.Failed bytes old new apart sends = sends
 front_sent sent.Memory bytes old new apart sends = sends
 
-module _ {D : Type 0} (takes : D → Pair (List Field) → Drained → D → Type 0) (view : D → Draining)
-    (each : (old : D) (pair : Pair (List Field)) (answer : Drained) (new : D) → takes old pair answer new → TakesLine pair answer (view new).last (view old).told (view new).told (view old).faults (view new).faults) where
+module _ {D : Type 0} (takes : D → Pair (List Field) → Drained → D → Type 0) (line : D → Line) (view : D → Draining) (same : (old : D) (pair : Pair (List Field)) (answer : Drained) (new : D) → takes old pair answer new → line new ≡ line old)
+    (each : (old : D) (pair : Pair (List Field)) (answer : Drained) (new : D) → takes old pair answer new → TakesLine (line old pair) answer (view new).last (view old).told (view new).told (view old).faults (view new).faults) where
   -- a pair that was kept
-  one_kept : (old : D) (pair : Pair (List Field)) (answer : Drained) (new : D) → takes old pair answer new → answer ≡ Kept → Appends (view old).told (view new).told (line_of pair.left pair.right) × ((view new).faults ≡ (view old).faults)
+  one_kept : (old : D) (pair : Pair (List Field)) (answer : Drained) (new : D) → takes old pair answer new → answer ≡ Kept → Appends (view old).told (view new).told (line old pair) × ((view new).faults ≡ (view old).faults)
   one_kept old pair answer new taken is =
-      let line = each old pair answer new taken in
-      let whole = kept_whole (view new).last (sym line.answered ∙ is) in (
-        subst (λ (last : Sent). Sends last (line_of pair.left pair.right) (view old).told (view new).told) whole line.sends,
-        subst (λ (last : Sent). CountsFaults last (view old).faults (view new).faults) whole line.faults,
+      let sent_so = each old pair answer new taken in
+      let whole = kept_whole (view new).last (sym sent_so.answered ∙ is) in (
+        subst (λ (last : Sent). Sends last (line old pair) (view old).told (view new).told) whole sent_so.sends,
+        subst (λ (last : Sent). CountsFaults last (view old).faults (view new).faults) whole sent_so.faults,
       )
 
-  pub all_kept : (taken : List (Drainage (List Field))) (from to : D) → TakesAll takes from taken to → AreKept taken → Appends (view from).told (view to).told (text (pairs_in taken)) × ((view to).faults ≡ (view from).faults)
+  pub all_kept : (taken : List (Drainage (List Field))) (from to : D) → TakesAll takes from taken to → AreKept taken → Appends (view from).told (view to).told (text_by (line from) (pairs_in taken)) × ((view to).faults ≡ (view from).faults)
   all_kept [] from to all kept = subst (λ (d : D). Appends (view from).told (view d).told [] × ((view d).faults ≡ (view from).faults)) (sym all) (Appends-nil (view from).told, refl)
   all_kept (one ∷ later) from to all kept =
       let first = one_kept from one.pair one.answer all.0 all.1 (cc) in
       let rest = all_kept later all.0 to all.2 (cc) in
-      (Appends-trans (view from).told (view all.0).told (view to).told (line_of one.pair.left one.pair.right) (text (pairs_in later)) first.0 rest.0, rest.1 ∙ first.1)
+      let written : Appends (view all.0).told (view to).told (text_by (line from) (pairs_in later)) =
+      subst (λ (l : Line). Appends (view all.0).told (view to).told (text_by l (pairs_in later))) (same from one.pair one.answer all.0 all.1) rest.0 in
+      (Appends-trans (view from).told (view all.0).told (view to).told (line from one.pair) (text_by (line from) (pairs_in later)) first.0 written, rest.1 ∙ first.1)
 
-  pub last_refused : (kept : ℕ) (taken : List (Drainage (List Field))) (from to : D) → TakesAll takes from taken to → map (λ one. one.answer) taken ≡ replicate kept Kept ++ Refused ∷ [] → SendsFront (text (pairs_in taken)) (view from) (view to)
+  pub last_refused : (kept : ℕ) (taken : List (Drainage (List Field))) (from to : D) → TakesAll takes from taken to → map (λ one. one.answer) taken ≡ replicate kept Kept ++ Refused ∷ [] → SendsFront (text_by (line from) (pairs_in taken)) (view from) (view to)
   last_refused zero [] from to all answers = absurd (let wrong : [] ≡ Refused ∷ [] = answers in cc)
   last_refused (suc kept) [] from to all answers = absurd (let wrong : [] ≡ Kept ∷ (replicate kept Kept ++ Refused ∷ []) = answers in cc)
   last_refused zero (one ∷ []) from to all answers =
-      let line = each from one.pair one.answer all.0 all.1 in
+      let sent_so = each from one.pair one.answer all.0 all.1 in
       let refused : one.answer ≡ Refused = cc in
-      let apart = refused_apart (view all.0).last (sym line.answered ∙ refused) in
-      let sends = front_sent (view all.0).last (line_of one.pair.left one.pair.right) (view from).told (view all.0).told apart line.sends in
-      subst (λ (d : D). SendsFront (text (one.pair ∷ [])) (view from) (view d)) (sym all.2)
+      let apart = refused_apart (view all.0).last (sym sent_so.answered ∙ refused) in
+      let sends = front_sent (view all.0).last (line from one.pair) (view from).told (view all.0).told apart sent_so.sends in
+      subst (λ (d : D). SendsFront (text_by (line from) (one.pair ∷ [])) (view from) (view d)) (sym all.2)
       (record {
-        sends = subst (λ bytes. AppendsFront bytes (view from).told (view all.0).told) (sym (append-nil (line_of one.pair.left one.pair.right))) sends;
-        faults = line.faults;
+        sends = subst (λ bytes. AppendsFront bytes (view from).told (view all.0).told) (sym (append-nil (line from one.pair))) sends;
+        faults = sent_so.faults;
         refused = apart;
       })
   last_refused zero (one ∷ other ∷ later) from to all answers = absurd (let wrong : one.answer ∷ other.answer ∷ map (λ o. o.answer) later ≡ Refused ∷ [] = answers in cc)
   last_refused (suc kept) (one ∷ later) from to all answers =
       let first = one_kept from one.pair one.answer all.0 all.1 (cc) in
-      let rest = last_refused kept later all.0 to all.2 (cc) in
-      let line = line_of one.pair.left one.pair.right in
+      let rest : SendsFront (text_by (line from) (pairs_in later)) (view all.0) (view to) =
+      subst (λ (l : Line). SendsFront (text_by l (pairs_in later)) (view all.0) (view to)) (same from one.pair one.answer all.0 all.1) (last_refused kept later all.0 to all.2 (cc)) in
+      let bytes = line from one.pair in
       record {
         sends = record {
-          grown = line ++ rest.sends.grown;
-          written = Appends-trans (view from).told (view all.0).told (view to).told line rest.sends.grown first.0 rest.sends.written;
-          front = record { rest = rest.sends.front.rest; is = ap (λ l. line ++ l) rest.sends.front.is ∙ sym (append_assoc line rest.sends.grown rest.sends.front.rest) };
+          grown = bytes ++ rest.sends.grown;
+          written = Appends-trans (view from).told (view all.0).told (view to).told bytes rest.sends.grown first.0 rest.sends.written;
+          front = record { rest = rest.sends.front.rest; is = ap (λ l. bytes ++ l) rest.sends.front.is ∙ sym (append_assoc bytes rest.sends.grown rest.sends.front.rest) };
         };
         faults = subst (λ n. CountsFaults (view to).last n (view to).faults) first.1 rest.faults;
         refused = rest.refused;

@@ -46,7 +46,7 @@ module _ (limit : ℕ) (given : List (Event (List Field))) (event : Event (List 
       (follows_before false takes.left_bytes old.sides.left.reading.ended new.sides.left.reading.ended (before role.Left) (now role.Left) at_its_end takes.left l)
       (follows_before false takes.right_bytes old.sides.right.reading.ended new.sides.right.reading.ended (before role.Right) (now role.Right) at_its_end takes.right r))
 
-  -- and behind it the merger goes on
+  -- and after it the merger goes on
   pub going_on : IsGoingOn limit new (given ++ event ∷ [])
   going_on = record {
     going = ap is_none takes.stays;

@@ -31,25 +31,25 @@ use Rattle.hj_output.specs.declared.output.Sent.{Sent}
 use Rattle.hj_output.specs.declared.output.Sent.TheVariants as sent
 use Rattle.hj_stream.specs.Draining.{refusal_of}
 use Rattle.hj_stream.specs.Feeding.{outcome_by}
-use Rattle.hj_stream.specs.JoinText.{JoinResult, text, text_of, join_result}
-use Rattle.hj_stream.specs.Joining.{CountsSinkFault, FailsOn, WritesText, AreEnded, Joins}
+use Rattle.hj_stream.specs.JoinText.{JoinResult, Line, joined_by, joined_text, text_by}
+use Rattle.hj_stream.specs.Joining.{CountsSinkFault, FailsOn, WritesText, AreEnded, JoinsBy}
 use Rattle.hj_output.specs.Output.{CountsFaults}
 use Rattle.hj_stream.proofs.Prefixes.{IsPrefix-trans}
 
--- The whole text goes on behind that of the first events.
-text-then : (query : Parts) (events : List (Event (List Field))) (all others : Numbered) → all ≡ then_events events others
-    → text_of query all.events ≡ text_of query events ++ text (kang_from (holds query) (windows_after events) others.events)
-text-then query events all others is =
-    ap (λ (n : Numbered). text_of query n.events) is
-    ∙ (ap text (join_of_both (holds query) events others.events) ∙ flat_map-append _ (kang (holds query) events) (kang_from (holds query) (windows_after events) others.events))
+-- The whole text goes on after that of the first events.
+text-then : (line : Line) (query : Parts) (events : List (Event (List Field))) (all others : Numbered) → all ≡ then_events events others
+    → joined_text line query all.events ≡ joined_text line query events ++ text_by line (kang_from (holds query) (windows_after events) others.events)
+text-then line query events all others is =
+    ap (λ (n : Numbered). joined_text line query n.events) is
+    ∙ (ap (text_by line) (join_of_both (holds query) events others.events) ∙ flat_map-append _ (kang (holds query) events) (kang_from (holds query) (windows_after events) others.events))
 
-begins_text : (query : Parts) (events : List (Event (List Field))) (all others : Numbered) → all ≡ then_events events others → IsPrefix (text_of query events) (text_of query all.events)
-begins_text query events all others is = record { rest = text (kang_from (holds query) (windows_after events) others.events); is = text-then query events all others is }
+begins_text : (line : Line) (query : Parts) (events : List (Event (List Field))) (all others : Numbered) → all ≡ then_events events others → IsPrefix (joined_text line query events) (joined_text line query all.events)
+begins_text line query events all others is = record { rest = text_by line (kang_from (holds query) (windows_after events) others.events); is = text-then line query events all others is }
 
-abbrev result_of : Parts → Numbered → JoinResult
-result_of query all = record { text = text_of query all.events; ending = all.ending; events = length all.events }
+abbrev result_of : Line → Parts → Numbered → JoinResult
+result_of line query all = record { text = joined_text line query all.events; ending = all.ending; events = length all.events }
 
--- the outcome that an answer makes, behind so many events
+-- the outcome that an answer makes, after this many events
 abbrev pub ended_by : ℕ → Next → Outcome
 ended_by count (next.Event event) = outcome.Memory
 ended_by count next.Done = outcome.Done count
@@ -96,21 +96,21 @@ sink_same count next.TooMany old new same = same
 sink_same count next.Memory old new same = same
 
 -- where no event is left, the whole text was written
-whole_text : (query : Parts) (events : List (Event (List Field))) (all : Numbered) (ending : Ending) → all ≡ then_events events (no_event ending) → (text_of query events ≡ text_of query all.events) × (all.ending ≡ ending)
-whole_text query events all ending is =
-    (sym (ap (λ (n : Numbered). text_of query n.events) is ∙ ap (text_of query) (append-nil events)), ap (λ (n : Numbered). n.ending) is)
+whole_text : (line : Line) (query : Parts) (events : List (Event (List Field))) (all : Numbered) (ending : Ending) → all ≡ then_events events (no_event ending) → (joined_text line query events ≡ joined_text line query all.events) × (all.ending ≡ ending)
+whole_text line query events all ending is =
+    (sym (ap (λ (n : Numbered). joined_text line query n.events) is ∙ ap (joined_text line query) (append-nil events)), ap (λ (n : Numbered). n.ending) is)
 
-pub writes_all : (query : Parts) (count : ℕ) (answer : Next) (events : List (Event (List Field))) (all others : Numbered) → all ≡ then_events events others → GivesAll answer events all → length events ≡ count
-    → WritesText (ended_by count answer) (text_of query events) (result_of query all)
-writes_all query count (next.Event event) events all others is gives counted = begins_text query events all others is
-writes_all query count next.Done events all others is gives counted =
-    let whole = whole_text query events all clean gives in
+pub writes_all : (line : Line) (query : Parts) (count : ℕ) (answer : Next) (events : List (Event (List Field))) (all others : Numbered) → all ≡ then_events events others → GivesAll answer events all → length events ≡ count
+    → WritesText (ended_by count answer) (joined_text line query events) (result_of line query all)
+writes_all line query count (next.Event event) events all others is gives counted = begins_text line query events all others is
+writes_all line query count next.Done events all others is gives counted =
+    let whole = whole_text line query events all clean gives in
     (whole.0, whole.1, ap (λ (n : Numbered). length n.events) gives ∙ (ap length (append-nil events) ∙ counted))
-writes_all query count (next.Bad side at why) events all others is gives counted = whole_text query events all (bad side at why) gives
-writes_all query count (next.Failed Left) events all others is gives counted = whole_text query events all (unread Left) gives
-writes_all query count (next.Failed Right) events all others is gives counted = whole_text query events all (unread Right) gives
-writes_all query count next.TooMany events all others is gives counted = whole_text query events all too_many gives
-writes_all query count next.Memory events all others is gives counted = begins_text query events all others is
+writes_all line query count (next.Bad side at why) events all others is gives counted = whole_text line query events all (bad side at why) gives
+writes_all line query count (next.Failed Left) events all others is gives counted = whole_text line query events all (unread Left) gives
+writes_all line query count (next.Failed Right) events all others is gives counted = whole_text line query events all (unread Right) gives
+writes_all line query count next.TooMany events all others is gives counted = whole_text line query events all too_many gives
+writes_all line query count next.Memory events all others is gives counted = begins_text line query events all others is
 
 pub are_ended : (count : ℕ) (answer : Next) (left right : Bool) → IsAllRead answer left right → AreEnded (ended_by count answer) left right
 are_ended count (next.Event event) left right read = tt
@@ -135,12 +135,12 @@ refusal_says sent.Failed = record { failed = λ left right one. one; writes = λ
 refusal_says sent.Memory = memory_says
 
 -- what begins the text of the first events begins the whole one
-pub front_of_all : (query : Parts) (events : List (Event (List Field))) (all others : Numbered) (grown : List ℕ) → all ≡ then_events events others → IsPrefix grown (text_of query events) → IsPrefix grown (text_of query all.events)
-front_of_all query events all others grown is front = IsPrefix-trans grown (text_of query events) (text_of query all.events) front (begins_text query events all others is)
+pub front_of_all : (line : Line) (query : Parts) (events : List (Event (List Field))) (all others : Numbered) (grown : List ℕ) → all ≡ then_events events others → IsPrefix grown (joined_text line query events) → IsPrefix grown (joined_text line query all.events)
+front_of_all line query events all others grown is front = IsPrefix-trans grown (joined_text line query events) (joined_text line query all.events) front (begins_text line query events all others is)
 
 -- memory ran out before anything was read
-pub joins_none : (query : Parts) (limit : ℕ) (now : Role → RoleState) (sink : Option (List ℕ)) → IsInStep false (now role.Left) → IsInStep false (now role.Right) → Joins outcome.Memory query limit now now sink sink
-joins_none query limit now sink left right = record {
+pub joins_none : (line : Line) (query : Parts) (limit : ℕ) (now : Role → RoleState) (sink : Option (List ℕ)) → IsInStep false (now role.Left) → IsInStep false (now role.Right) → JoinsBy line outcome.Memory query limit now now sink sink
+joins_none line query limit now sink left right = record {
   left_bytes = [];
   right_bytes = [];
   left_failed = false;
@@ -153,7 +153,7 @@ joins_none query limit now sink left right = record {
   query_role = refl;
   grown = [];
   written = Appends-nil sink;
-  text = λ l r l_follows r_follows. record { rest = (join_result query (in_front [] l) (in_front [] r) limit).text; is = refl };
+  text = λ l r l_follows r_follows. record { rest = (joined_by line query (in_front [] l) (in_front [] r) limit).text; is = refl };
   ends = tt;
 }
 
@@ -163,5 +163,5 @@ counts_refusal sent.Failed old new counts = counts
 counts_refusal sent.Memory old new counts = counts
 
 -- the text of the first pairs begins that of all
-pub text-front : (pairs all : List (Pair (List Field))) → IsPrefix pairs all → IsPrefix (text pairs) (text all)
-text-front pairs all front = record { rest = text front.rest; is = ap text front.is ∙ flat_map-append _ pairs front.rest }
+pub text-front : (line : Line) (pairs all : List (Pair (List Field))) → IsPrefix pairs all → IsPrefix (text_by line pairs) (text_by line all)
+text-front line pairs all front = record { rest = text_by line front.rest; is = ap (text_by line) front.is ∙ flat_map-append _ pairs front.rest }

@@ -37,8 +37,8 @@ use Rattle.hj_output.specs.declared.output.Sent.TheVariants as sent
 use Rattle.hj_stream.specs.Draining.{TakesLine, refusal_of}
 use Rattle.hj_stream.specs.Ending.{EndsAs}
 use Rattle.hj_stream.specs.Feeding.{Feeding, Gives}
-use Rattle.hj_stream.specs.Joining.{CountsSinkFault, Joins}
-use Rattle.hj_stream.specs.JoinText.{join_result, text, text_of}
+use Rattle.hj_stream.specs.Joining.{CountsSinkFault, JoinsBy}
+use Rattle.hj_stream.specs.JoinText.{Line, joined_by, joined_text, text_by}
 use Rattle.hj_output.specs.Output.{AppendsFront}
 use Rattle.hj_stream.specs.Runs.{EndsRun, OfEvents}
 use Rattle.hj_stream.proofs.Drained.{Draining, all_kept, last_refused}
@@ -53,13 +53,13 @@ Events = List (Event (List Field))
 abbrev Pairs : Type 0
 Pairs = List (Pair (List Field))
 
--- A join by a run that ended so: these events began those of its streams, and a front of the text of these pairs was written; where
+-- A join by a run that ended so: these events began those of its streams, and a prefix of the text of these pairs was written; where
 -- the events ended, these were all, and all of that text was written.
-pub record JoinsOver (made : Outcome) (ended : Fin) (query : Parts) (limit : ℕ) (before now : Role → RoleState) (old new : Option (List ℕ)) (events : Events) (pairs : Pairs) : Type 0 where
-  pub joins : Joins made query limit before now old new
+pub record JoinsOver (line : Line) (made : Outcome) (ended : Fin) (query : Parts) (limit : ℕ) (before now : Role → RoleState) (old new : Option (List ℕ)) (events : Events) (pairs : Pairs) : Type 0 where
+  pub joins : JoinsBy line made query limit before now old new
   pub begins : OfEvents joins (λ all. IsPrefix events all)
-  pub writes : IsPrefix joins.grown (text pairs)
-  pub ends : EndsRun made ended (OfEvents joins (λ all. events ≡ all) × (joins.grown ≡ text pairs))
+  pub writes : IsPrefix joins.grown (text_by line pairs)
+  pub ends : EndsRun made ended (OfEvents joins (λ all. events ≡ all) × (joins.grown ≡ text_by line pairs))
 
 no_more : (events : Events) (all others : Numbered) → all ≡ then_events events others → others.events ≡ [] → events ≡ all.events
 no_more events all others is none = sym (ap (λ (n : Numbered). n.events) is ∙ (ap (λ (l : Events). events ++ l) none ∙ append-nil events))
@@ -71,7 +71,7 @@ begins_all events all others is = record { rest = others.events; is = ap (λ (n 
 whole : {X : Type 0} (xs : List X) → IsPrefix xs xs
 whole xs = record { rest = []; is = sym (append-nil xs) }
 
--- Behind an answer that is no event all events were had, unless memory ran out.
+-- After an answer that is no event all events were had, unless memory ran out.
 ends_done : (count : ℕ) (last : Next) (events : Events) (left_follows right_follows : Stream → Type 0) (all : Stream → Stream → Numbered) (wrote : Type 0) → wrote
     → ((l r : Stream) → left_follows l → right_follows r → GivesAll last events (all l r))
     → EndsRun (ended_by count last) fin.Done (((l r : Stream) → left_follows l → right_follows r → events ≡ (all l r).events) × wrote)
@@ -83,9 +83,9 @@ ends_done count next.TooMany events left_follows right_follows all wrote written
 ends_done count next.Memory events left_follows right_follows all wrote written each = tt
 
 -- the events ended, and the lines of all were sent
-over_last : (query : Parts) (limit : ℕ) (events : Events) (last : Next) (merger later : Merging) (before mid now : Role → RoleState) (old new : Option (List ℕ))
-    → Reads query limit events merger before mid → TakesNext last merger later mid now → Appends old new (text_of query events) → JoinsOver (ended_by (length events) last) fin.Done query limit before now old new events (kang (holds query) events)
-over_last query limit events last merger later before mid now old new reads takes written = record {
+over_last : (line : Line) (query : Parts) (limit : ℕ) (events : Events) (last : Next) (merger later : Merging) (before mid now : Role → RoleState) (old new : Option (List ℕ))
+    → Reads query limit events merger before mid → TakesNext last merger later mid now → Appends old new (joined_text line query events) → JoinsOver line (ended_by (length events) last) fin.Done query limit before now old new events (kang (holds query) events)
+over_last line query limit events last merger later before mid now old new reads takes written = record {
   joins = record {
     left_bytes = reads.left_bytes ++ takes.left_bytes;
     right_bytes = reads.right_bytes ++ takes.right_bytes;
@@ -97,10 +97,10 @@ over_last query limit events last merger later before mid now old new reads take
     right = read_more (fails_next last Right) reads.right_bytes takes.right_bytes false merger.sides.right.reading.ended later.sides.right.reading.ended (before role.Right) (mid role.Right) (now role.Right) reads.right takes.right;
     failed = fails_so (length events) last;
     query_role = takes.query ∙ reads.query_role;
-    grown = text_of query events;
+    grown = joined_text line query events;
     written = written;
     text = λ l r left right.
-        writes_all query (length events) last events (events_of query (in_front (reads.left_bytes ++ takes.left_bytes) l) (in_front (reads.right_bytes ++ takes.right_bytes) r) limit) (events_from merger (in_front takes.left_bytes l) (in_front takes.right_bytes r))
+        writes_all line query (length events) last events (events_of query (in_front (reads.left_bytes ++ takes.left_bytes) l) (in_front (reads.right_bytes ++ takes.right_bytes) r) limit) (events_from merger (in_front takes.left_bytes l) (in_front takes.right_bytes r))
         (before_call query limit reads.left_bytes reads.right_bytes events last merger later mid now reads.given takes l r left right)
         (ends query limit reads.left_bytes reads.right_bytes events last merger later mid now reads.given takes l r left right)
         refl;
@@ -109,15 +109,15 @@ over_last query limit events last merger later before mid now old new reads take
   begins = λ l r left right.
       begins_all events (events_of query (in_front (reads.left_bytes ++ takes.left_bytes) l) (in_front (reads.right_bytes ++ takes.right_bytes) r) limit) (events_from merger (in_front takes.left_bytes l) (in_front takes.right_bytes r))
       (before_call query limit reads.left_bytes reads.right_bytes events last merger later mid now reads.given takes l r left right);
-  writes = whole (text_of query events);
+  writes = whole (joined_text line query events);
   ends = ends_done (length events) last events _ _ (λ l r. events_of query (in_front (reads.left_bytes ++ takes.left_bytes) l) (in_front (reads.right_bytes ++ takes.right_bytes) r) limit) _ refl
       (λ l r left right. ends query limit reads.left_bytes reads.right_bytes events last merger later mid now reads.given takes l r left right);
 }
 
--- a front of the lines of the events given was sent
-over_begun : (made : Outcome) (ended : Fin) → SaysBegun made → ((all : Type 0) → EndsRun made ended all) → (was : Option Outcome) (query : Parts) (limit : ℕ) (before : Role → RoleState) (events : Events) (pairs : Pairs) (now : Feeding) (old new : Option (List ℕ))
-    → Fed was query limit before events now → (sends : AppendsFront (text_of query events) old new) → IsPrefix sends.grown (text pairs) → JoinsOver made ended query limit before now.roles old new events pairs
-over_begun made ended says so None query limit before events pairs now old new fed sends front =
+-- a prefix of the lines of the events given was sent
+over_begun : (line : Line) (made : Outcome) (ended : Fin) → SaysBegun made → ((all : Type 0) → EndsRun made ended all) → (was : Option Outcome) (query : Parts) (limit : ℕ) (before : Role → RoleState) (events : Events) (pairs : Pairs) (now : Feeding) (old new : Option (List ℕ))
+    → Fed was query limit before events now → (sends : AppendsFront (joined_text line query events) old new) → IsPrefix sends.grown (text_by line pairs) → JoinsOver line made ended query limit before now.roles old new events pairs
+over_begun line made ended says so None query limit before events pairs now old new fed sends front =
     let reads = fed.reads in
     record {
       joins = record {
@@ -133,15 +133,15 @@ over_begun made ended says so None query limit before events pairs now old new f
         query_role = reads.query_role;
         grown = sends.grown;
         written = sends.written;
-        text = λ l r left right. says.writes sends.grown (join_result query (in_front reads.left_bytes l) (in_front reads.right_bytes r) limit)
-            (front_of_all query events (events_of query (in_front reads.left_bytes l) (in_front reads.right_bytes r) limit) (events_from now.merger l r) sends.grown (reads.given l r left right) sends.front);
+        text = λ l r left right. says.writes sends.grown (joined_by line query (in_front reads.left_bytes l) (in_front reads.right_bytes r) limit)
+            (front_of_all line query events (events_of query (in_front reads.left_bytes l) (in_front reads.right_bytes r) limit) (events_from now.merger l r) sends.grown (reads.given l r left right) sends.front);
         ends = says.ends now.merger.sides.left.reading.ended now.merger.sides.right.reading.ended;
       };
       begins = λ l r left right. begins_all events (events_of query (in_front reads.left_bytes l) (in_front reads.right_bytes r) limit) (events_from now.merger l r) (reads.given l r left right);
       writes = front;
       ends = so _;
     }
-over_begun made ended says so (Some kept) query limit before events pairs now old new fed sends front =
+over_begun line made ended says so (Some kept) query limit before events pairs now old new fed sends front =
     let reads = fed.reads in
     let takes = fed.takes in
     record {
@@ -158,8 +158,8 @@ over_begun made ended says so (Some kept) query limit before events pairs now ol
         query_role = takes.query ∙ reads.query_role;
         grown = sends.grown;
         written = sends.written;
-        text = λ l r left right. says.writes sends.grown (join_result query (in_front (reads.left_bytes ++ takes.left_bytes) l) (in_front (reads.right_bytes ++ takes.right_bytes) r) limit)
-            (front_of_all query events (events_of query (in_front (reads.left_bytes ++ takes.left_bytes) l) (in_front (reads.right_bytes ++ takes.right_bytes) r) limit) (events_from fed.merger (in_front takes.left_bytes l) (in_front takes.right_bytes r)) sends.grown
+        text = λ l r left right. says.writes sends.grown (joined_by line query (in_front (reads.left_bytes ++ takes.left_bytes) l) (in_front (reads.right_bytes ++ takes.right_bytes) r) limit)
+            (front_of_all line query events (events_of query (in_front (reads.left_bytes ++ takes.left_bytes) l) (in_front (reads.right_bytes ++ takes.right_bytes) r) limit) (events_from fed.merger (in_front takes.left_bytes l) (in_front takes.right_bytes r)) sends.grown
             (before_call query limit reads.left_bytes reads.right_bytes events fed.last fed.merger now.merger fed.roles now.roles reads.given takes l r left right) sends.front);
         ends = says.ends now.merger.sides.left.reading.ended now.merger.sides.right.reading.ended;
       };
@@ -176,11 +176,15 @@ refusal_ends sent.Failed all = refl
 refusal_ends sent.Memory all = tt
 
 -- A run of a chain between a feed over two streams that is seen so, and a drain to a sink that is seen so.
-module _ {F D : Type 0} (gives : F → Given (List Field) → F → Type 0) (state : F → FeedState) (takes : D → Pair (List Field) → Drained → D → Type 0) (view : F → Feeding) (seen : D → Draining)
+module _ {F D : Type 0} (gives : F → Given (List Field) → F → Type 0) (state : F → FeedState) (takes : D → Pair (List Field) → Drained → D → Type 0) (view : F → Feeding) (line_by : D → Line) (seen : D → Draining)
     (each_answer : (old : F) (answer : Given (List Field)) (new : F) → gives old answer new → Gives answer (view old) (view new))
-    (each_pair : (old : D) (pair : Pair (List Field)) (answer : Drained) (new : D) → takes old pair answer new → TakesLine pair answer (seen new).last (seen old).told (seen new).told (seen old).faults (seen new).faults)
+    (same_line : (old : D) (pair : Pair (List Field)) (answer : Drained) (new : D) → takes old pair answer new → line_by new ≡ line_by old)
+    (each_pair : (old : D) (pair : Pair (List Field)) (answer : Drained) (new : D) → takes old pair answer new → TakesLine (line_by old pair) answer (seen new).last (seen old).told (seen new).told (seen old).faults (seen new).faults)
     (query : Parts) (limit : ℕ) (from to : F) (unfilled filled : D) (new : IsNew query limit (view from).merger) (none : (view from).events ≡ 0) (going : (view from).ended ≡ None)
     (left : IsInStep false ((view from).roles role.Left)) (right : IsInStep false ((view from).roles role.Right)) where
+  abbrev line : Line
+  line = line_by unfilled
+
   abbrev Ran : Fin → Type 0
   Ran ended = RunsJoin gives state takes (holds query) ended from to unfilled filled
 
@@ -197,7 +201,7 @@ module _ {F D : Type 0} (gives : F → Given (List Field) → F → Type 0) (sta
   -- the join, and the sink's count of faults
   abbrev pub Over : (made : Outcome) (ended : Fin) → Ran ended → Type 0
   Over made ended ran =
-      JoinsOver made ended query limit (view from).roles (view to).roles (seen unfilled).told (seen filled).told (events_in ran.answers) (pairs_in ran.taken) × CountsSinkFault made (seen unfilled).faults (seen filled).faults
+      JoinsOver line made ended query limit (view from).roles (view to).roles (seen unfilled).told (seen filled).told (events_in ran.answers) (pairs_in ran.taken) × CountsSinkFault made (seen unfilled).faults (seen filled).faults
 
   pub has_stopped : (ended : Fin) → Ran ended → ended ≡ fin.Done → (state to).stopped ≡ true
   has_stopped fin.Done ran is = (ending fin.Done ran).0
@@ -208,20 +212,20 @@ module _ {F D : Type 0} (gives : F → Given (List Field) → F → Type 0) (sta
   was_refused fin.Done ran is = absurd (let wrong : fin.Done ≡ fin.Refused = is in cc)
   was_refused fin.Refused ran is =
       let refused = (ending fin.Refused ran).0 in
-      (last_refused takes seen each_pair refused.0 ran.taken unfilled filled ran.drain refused.1).refused
+      (last_refused takes line_by seen same_line each_pair refused.0 ran.taken unfilled filled ran.drain refused.1).refused
   was_refused fin.Memory ran is = absurd (let wrong : fin.Memory ≡ fin.Refused = is in cc)
 
   -- all is done
   over_done : (made : Outcome) (ran : Ran fin.Done) → HasEnded made query limit (view from).roles (events fin.Done ran) (view to) → Over made fin.Done ran
   over_done made ran over =
       let all = events fin.Done ran in
-      let kept = all_kept takes seen each_pair ran.taken unfilled filled ran.drain (ending fin.Done ran).1 in
+      let kept = all_kept takes line_by seen same_line each_pair ran.taken unfilled filled ran.drain (ending fin.Done ran).1 in
       let is = ended_is (length all) over.last made over.made in
-      let written : Appends (seen unfilled).told (seen filled).told (text_of query all) =
-      subst (λ (pairs : Pairs). Appends (seen unfilled).told (seen filled).told (text pairs)) (ending fin.Done ran).2 kept.0 in (
-        subst (λ (o : Outcome). JoinsOver o fin.Done query limit (view from).roles (view to).roles (seen unfilled).told (seen filled).told all (pairs_in ran.taken)) is
-            (subst (λ (pairs : Pairs). JoinsOver (ended_by (length all) over.last) fin.Done query limit (view from).roles (view to).roles (seen unfilled).told (seen filled).told all pairs) (sym (ending fin.Done ran).2)
-            (over_last query limit all over.last over.merger (view to).merger (view from).roles over.roles (view to).roles (seen unfilled).told (seen filled).told over.reads over.takes written)),
+      let written : Appends (seen unfilled).told (seen filled).told (joined_text line query all) =
+      subst (λ (pairs : Pairs). Appends (seen unfilled).told (seen filled).told (text_by line pairs)) (ending fin.Done ran).2 kept.0 in (
+        subst (λ (o : Outcome). JoinsOver line o fin.Done query limit (view from).roles (view to).roles (seen unfilled).told (seen filled).told all (pairs_in ran.taken)) is
+            (subst (λ (pairs : Pairs). JoinsOver line (ended_by (length all) over.last) fin.Done query limit (view from).roles (view to).roles (seen unfilled).told (seen filled).told all pairs) (sym (ending fin.Done ran).2)
+            (over_last line query limit all over.last over.merger (view to).merger (view from).roles over.roles (view to).roles (seen unfilled).told (seen filled).told over.reads over.takes written)),
         subst (λ (o : Outcome). CountsSinkFault o (seen unfilled).faults (seen filled).faults) is (sink_same (length all) over.last (seen unfilled).faults (seen filled).faults kept.1),
       )
 
@@ -230,9 +234,9 @@ module _ {F D : Type 0} (gives : F → Given (List Field) → F → Type 0) (sta
   over_refused ran =
       let all = events fin.Refused ran in
       let ends = ending fin.Refused ran in
-      let sent = last_refused takes seen each_pair ends.0.0 ran.taken unfilled filled ran.drain ends.0.1 in
-      let front : IsPrefix sent.sends.grown (text_of query all) = IsPrefix-trans sent.sends.grown (text (pairs_in ran.taken)) (text_of query all) sent.sends.front (text-front (pairs_in ran.taken) (kang (holds query) all) ends.1) in (
-        over_begun (refusal_of (seen filled).last) fin.Refused (refusal_says (seen filled).last) (refusal_ends (seen filled).last) (view to).ended query limit (view from).roles all (pairs_in ran.taken) (view to) (seen unfilled).told (seen filled).told (fed fin.Refused ran)
+      let sent = last_refused takes line_by seen same_line each_pair ends.0.0 ran.taken unfilled filled ran.drain ends.0.1 in
+      let front : IsPrefix sent.sends.grown (joined_text line query all) = IsPrefix-trans sent.sends.grown (text_by line (pairs_in ran.taken)) (joined_text line query all) sent.sends.front (text-front line (pairs_in ran.taken) (kang (holds query) all) ends.1) in (
+        over_begun line (refusal_of (seen filled).last) fin.Refused (refusal_says (seen filled).last) (refusal_ends (seen filled).last) (view to).ended query limit (view from).roles all (pairs_in ran.taken) (view to) (seen unfilled).told (seen filled).told (fed fin.Refused ran)
             (record { grown = sent.sends.grown; written = sent.sends.written; front = front }) sent.sends.front,
         counts_refusal (seen filled).last (seen unfilled).faults (seen filled).faults sent.faults,
       )
@@ -242,9 +246,9 @@ module _ {F D : Type 0} (gives : F → Given (List Field) → F → Type 0) (sta
   over_memory ran =
       let all = events fin.Memory ran in
       let ends = ending fin.Memory ran in
-      let kept = all_kept takes seen each_pair ran.taken unfilled filled ran.drain ends.0 in (
-        over_begun outcome.Memory fin.Memory memory_says (λ all. tt) (view to).ended query limit (view from).roles all (pairs_in ran.taken) (view to) (seen unfilled).told (seen filled).told (fed fin.Memory ran)
-            (record { grown = text (pairs_in ran.taken); written = kept.0; front = text-front (pairs_in ran.taken) (kang (holds query) all) ends.1 }) (whole (text (pairs_in ran.taken))),
+      let kept = all_kept takes line_by seen same_line each_pair ran.taken unfilled filled ran.drain ends.0 in (
+        over_begun line outcome.Memory fin.Memory memory_says (λ all. tt) (view to).ended query limit (view from).roles all (pairs_in ran.taken) (view to) (seen unfilled).told (seen filled).told (fed fin.Memory ran)
+            (record { grown = text_by line (pairs_in ran.taken); written = kept.0; front = text-front line (pairs_in ran.taken) (kang (holds query) all) ends.1 }) (whole (text_by line (pairs_in ran.taken))),
         kept.1,
       )
 

@@ -1,11 +1,8 @@
 -- The lines of pairs, as a drain sends them one after another.
 use Rattle.std.specs.Prelude.{◌≡◌, ℕ, List}
 use Rattle.std.specs.declared.option.Option.{Option}
-use Rattle.hj_value.specs.declared.field.Field.{Field}
 use Rattle.hj_msg.specs.declared.drain.Drained.{Drained}
 use Rattle.hj_msg.specs.declared.drain.Drained.TheVariants.{Kept, Refused}
-use Rattle.hj_msg.specs.declared.event.Pair.{Pair}
-use Rattle.hj_emit.specs.Line.{line_of}
 use Rattle.hj_stream.specs.declared.outcome.Outcome.{Outcome}
 use Rattle.hj_stream.specs.declared.outcome.Outcome.TheVariants as outcome
 use Rattle.hj_output.specs.declared.output.Sent.{Sent}
@@ -25,7 +22,7 @@ refusal_of sent.Failed = outcome.SinkFault
 refusal_of sent.Memory = outcome.Memory
 
 -- A drain took a pair with this answer: its line was sent so to a sink that tells its bytes, and counts its faults.
-pub record TakesLine (pair : Pair (List Field)) (answer : Drained) (last : Sent) (old new : Option (List ℕ)) (before now : ℕ) : Type 0 where
+pub record TakesLine (line : List ℕ) (answer : Drained) (last : Sent) (old new : Option (List ℕ)) (before now : ℕ) : Type 0 where
   pub answered : answer ≡ answer_by last
-  pub sends : Sends last (line_of pair.left pair.right) old new
+  pub sends : Sends last line old new
   pub faults : CountsFaults last before now

@@ -8,7 +8,7 @@ use Rattle.hj_stream.specs.declared.outcome.Outcome.TheVariants as outcome
 use Rattle.hj_output.specs.declared.output.Sent.{Sent}
 use Rattle.hj_stream.specs.Draining.{refusal_of}
 
--- The outcome of a run that ended so: that of the feed's end, or that of the last line, or want of memory.
+-- The outcome of a run that ended so: that of the feed's end, or that of the last line, or that memory ran out.
 abbrev pub EndsAs : Fin → Option Outcome → Sent → Outcome → Type 0
 EndsAs fin.Done ended last made = ended ≡ Some made
 EndsAs fin.Refused ended last made = made ≡ refusal_of last

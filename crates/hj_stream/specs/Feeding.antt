@@ -20,7 +20,7 @@ pub record Feeding : Type 0 where
   pub events : ℕ
   pub ended : Option Outcome
 
--- The outcome of a join of so many events, where the merger says this behind them and every line is written.
+-- The outcome of a join of this many events, where the merger says this after them and every line is written.
 abbrev pub outcome_by : ℕ → Next → Option Outcome
 outcome_by count (next.Event event) = None
 outcome_by count next.Done = Some (outcome.Done count)

@@ -13,13 +13,17 @@ use Rattle.hj_emit.specs.Line.{line_of}
 use Rattle.hj_event.specs.Arrivals.{Ending}
 use Rattle.hj_event.specs.Events.{events_of}
 
--- the lines of pairs, one after another
-abbrev pub text : List (Pair (List Field)) → List ℕ
-text pairs = flat_map (λ pair. line_of pair.left pair.right) pairs
+-- what is written for a pair
+abbrev pub Line : Type 0
+Line = Pair (List Field) → List ℕ
 
--- What a query's join of events writes.
-abbrev pub text_of : Parts → List (Event (List Field)) → List ℕ
-text_of query events = text (kang (holds query) events)
+-- the lines of pairs, one after another
+abbrev pub text_by : Line → List (Pair (List Field)) → List ℕ
+text_by line pairs = flat_map line pairs
+
+-- What a query's join of events writes, a line for each pair.
+abbrev pub joined_text : Line → Parts → List (Event (List Field)) → List ℕ
+joined_text line query events = text_by line (kang (holds query) events)
 
 -- What a join of two streams writes, how their events end, and how many they are.
 pub record JoinResult : Type 0 where
@@ -27,8 +31,24 @@ pub record JoinResult : Type 0 where
   pub ending : Ending
   pub events : ℕ
 
--- The join of two streams under a query, with this limit of events.
-abbrev pub join_result : Parts → Stream → Stream → ℕ → JoinResult
-join_result query left right limit =
+-- The join of two streams under a query, with this limit of events and a line for each pair.
+abbrev pub joined_by : Line → Parts → Stream → Stream → ℕ → JoinResult
+joined_by line query left right limit =
     let all = events_of query left right limit in
-    record { text = text_of query all.events; ending = all.ending; events = length all.events }
+    record { text = joined_text line query all.events; ending = all.ending; events = length all.events }
+
+-- the line of a pair in the output of a join: the fields of both rows
+abbrev pub pair_line : Line
+pair_line pair = line_of pair.left pair.right
+
+-- the text of pairs in the output of a join
+abbrev pub text : List (Pair (List Field)) → List ℕ
+text pairs = text_by pair_line pairs
+
+-- What a query's join of events writes to its output.
+abbrev pub text_of : Parts → List (Event (List Field)) → List ℕ
+text_of query events = joined_text pair_line query events
+
+-- The join of two streams under a query, with this limit of events, as its output has it.
+abbrev pub join_result : Parts → Stream → Stream → ℕ → JoinResult
+join_result query left right limit = joined_by pair_line query left right limit

@@ -16,7 +16,7 @@ use Rattle.hj_event.specs.Roles.{IsReadOn}
 use Rattle.hj_event.specs.Sides.{in_front, Follows}
 use Rattle.hj_stream.specs.declared.outcome.Outcome.{Outcome}
 use Rattle.hj_stream.specs.declared.outcome.Outcome.TheVariants as outcome
-use Rattle.hj_stream.specs.JoinText.{JoinResult, join_result}
+use Rattle.hj_stream.specs.JoinText.{JoinResult, Line, joined_by, pair_line}
 
 -- the outcome is that a read of this side failed
 abbrev pub fails_on : Outcome → Side → Bool
@@ -24,15 +24,15 @@ fails_on (outcome.SourceFault role.Left) Left = true
 fails_on (outcome.SourceFault role.Right) Right = true
 fails_on ended side = false
 
--- On which sides a read failed: on that of a source fault. A fault of the sink and want of memory may come behind a failed read,
+-- On which sides a read failed: on that of a source fault. A fault of the sink, or that memory ran out, may come after a failed read,
 -- and stand for it.
 abbrev pub FailsOn : Outcome → Bool → Bool → Type 0
 FailsOn outcome.SinkFault left right = (left && right) ≡ false
 FailsOn outcome.Memory left right = (left && right) ≡ false
 FailsOn ended left right = (left ≡ fails_on ended Left) × (right ≡ fails_on ended Right)
 
--- What was written, by the outcome: the whole text of events that end so; a front of it where the sink failed or memory ran
--- out.
+-- What was written, by the outcome: the whole text of events that end so; a prefix of it where the sink failed or memory
+-- ran out.
 abbrev pub WritesText : Outcome → List ℕ → JoinResult → Type 0
 WritesText (outcome.Done events) written joined =
     (written ≡ joined.text) × (joined.ending ≡ clean) × (joined.events ≡ events)
@@ -49,10 +49,10 @@ abbrev pub AreEnded : Outcome → Bool → Bool → Type 0
 AreEnded (outcome.Done events) left right = (left ≡ true) × (right ≡ true)
 AreEnded ended left right = Unit {0}
 
--- A join: these bytes of both streams were read, this text was written, and whatever comes behind the bytes, it is the
--- text that the outcome says. Nothing comes behind a read that answered the end, and behind a failed one the stream is cut
--- off.
-pub record Joins (ended : Outcome) (query : Parts) (limit : ℕ) (before now : Role → RoleState)
+-- A join with a line for each pair: these bytes of both streams were read, this text was written, and whatever comes after the
+-- bytes, it is the text that the outcome says. Nothing comes after a read that answered the end, and after a failed one the
+-- stream is cut off.
+pub record JoinsBy (line : Line) (ended : Outcome) (query : Parts) (limit : ℕ) (before now : Role → RoleState)
     (old new : Option (List ℕ)) : Type 0 where
   pub left_bytes : List ℕ
   pub right_bytes : List ℕ
@@ -67,8 +67,12 @@ pub record Joins (ended : Outcome) (query : Parts) (limit : ℕ) (before now : R
   pub grown : List ℕ
   pub written : Appends old new grown
   pub text : (l r : Stream) → Follows left_failed left_ended l → Follows right_failed right_ended r
-      → WritesText ended grown (join_result query (in_front left_bytes l) (in_front right_bytes r) limit)
+      → WritesText ended grown (joined_by line query (in_front left_bytes l) (in_front right_bytes r) limit)
   pub ends : AreEnded ended left_ended right_ended
+
+-- A join that writes the line of each pair as an output has it.
+abbrev pub Joins : Outcome → Parts → ℕ → (Role → RoleState) → (Role → RoleState) → Option (List ℕ) → Option (List ℕ) → Type 0
+Joins ended query limit before now old new = JoinsBy pair_line ended query limit before now old new
 
 -- The sink's count of faults rose where the outcome is its fault, and nowhere else.
 abbrev pub CountsSinkFault : Outcome → ℕ → ℕ → Type 0

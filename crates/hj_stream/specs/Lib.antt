@@ -1,6 +1,7 @@
 pub mod Ahead
 pub mod Draining
 pub mod Ending
+pub mod Ends
 pub mod Feeding
 pub mod InStep
 pub mod Joining

@@ -1,4 +1,4 @@
-ghost use Rattle.std.specs.Prelude.{◌≡◌, ◌-◌, ◌<◌, ◌^◌, [], List, ℕ, None, Some, false, true, is_some, length};
+ghost use Rattle.std.specs.Prelude.{◌≡◌, ◌-◌, ◌<◌, ◌^◌, List, ℕ, None, Some, false, true, is_some, length};
 ghost use Rattle.hj_base.specs.declared.outside.Role.TheVariants as role;
 ghost use Rattle.hj_msg.specs.Feed.{numbering_of};
 ghost use Rattle.hj_event.specs.Roles.{IsInStep};
@@ -14,11 +14,13 @@ use hj_event::{Merger, Next};
 use hj_msg::{Event, Feed, Given};
 use hj_value::SharedRow;
 
-/// The events of two streams, as a merger gives them, and how they ended.
+/// Gives the events of two streams, as a merger has them, and keeps how they ended.
 #[derive(Drop)]
 pub struct EventFeed<'a, O: Outside> {
     merger: &'a mut Merger,
-    outside: &'a mut O,
+    /// Where the streams are read.
+    pub outside: &'a mut O,
+    /// How many events are given at most.
     limit: u64,
     /// How many events were given.
     events: u64,
@@ -35,18 +37,17 @@ pub struct EventFeed<'a, O: Outside> {
 }
 
 impl<'a, O: Outside> EventFeed<'a, O> {
-    /// The events that a new merger gives of the open roles Left and Right, at most `limit`.
+    ghost use Rattle.hj_stream.specs.Ends.{IsUnasked};
+
+    /// Makes a feed that gave no event yet: it gives the events that a new merger finds in the open roles Left and Right of
+    /// `outside`, at most `limit` of them.
     pub fn new(merger: &'a mut Merger, limit: u64, outside: &'a mut O) -> Self
         requires new { (query : Parts) × IsNew query limit merger.old }
         requires left { IsInStep false (O.state outside.old role.Left) }
         requires right { IsInStep false (O.state outside.old role.Right) }
         ensures same_reference { result.outside.ghost_name ≡ outside.entry.ghost_name }
         ensures outside { result.outside.now ≡ outside.old }
-        ensures merger { result.merger.now ≡ merger.old }
-        ensures limit { result.limit ≡ limit }
-        ensures events { result.events ≡ 0 }
-        ensures given { result.given.items ≡ [] }
-        ensures going { result.ended ≡ None }
+        ensures unasked { (query : Parts) → IsNew query limit merger.old → IsUnasked query limit result }
     {
         EventFeed {
             merger,
@@ -59,8 +60,8 @@ impl<'a, O: Outside> EventFeed<'a, O> {
         }
     }
 
-    /// The outcome of a join of all events, where every line was written.
-    pub fn outcome(&self) -> Outcome
+    /// Returns the outcome of a join of all events, where every line was written.
+    pub(crate) fn outcome(&self) -> Outcome
         requires { is_some self.now.ended ≡ true }
         ensures { self.now.ended ≡ Some result }
     {

@@ -3,8 +3,8 @@ ghost use Rattle.std.specs.Borrow.{ftrue};
 
 use std::marker::{Model, PhantomData};
 
-/// What came so far, in its order. Only proofs read it, as `items`: it takes no memory, and its functions do nothing at run
-/// time.
+/// Keeps what came so far, in its order, for proofs alone, which read it as `items`: it takes no memory, and its functions do
+/// nothing at run time.
 #[derive(Drop)]
 pub(crate) struct History<T> {
     of: PhantomData<T>,
@@ -16,14 +16,14 @@ impl<T> Model for History<T> {
 }
 
 impl<T> History<T> {
-    /// Nothing came yet.
+    /// Makes a history in which nothing came yet.
     pub(crate) fn new() -> History<T>
         ensures { result.items ≡ [] }
     {
         History { of: PhantomData }
     }
 
-    /// The same with one more behind it.
+    /// Makes the same history with one more after it.
     pub(crate) fn and(&self, item: &T) -> History<T>
         ensures { result.items ≡ self.now.items ++ item.now ∷ [] }
     {

@@ -5,8 +5,10 @@
 mod drain;
 mod feed;
 mod history;
+mod line;
 mod outcome;
 
 pub use drain::LineDrain;
 pub use feed::EventFeed;
+pub use line::{JoinedLine, PairLine};
 pub use outcome::{Outcome, outcome_of};

@@ -2,14 +2,14 @@ ghost use Rattle.std.specs.Prelude.{◌≡◌, ◌≢◌, true, is_some};
 ghost use Rattle.hj_msg.specs.declared.fin.Fin.TheVariants as fin;
 ghost use Rattle.hj_output.specs.declared.output.Sent.TheVariants as sent;
 ghost use Rattle.hj_stream.specs.Ending.{EndsAs};
+ghost use Rattle.hj_stream.specs.Ends.{last_in, outcome_in};
 
-use crate::drain::LineDrain;
-use crate::feed::EventFeed;
+use crate::{EventFeed, LineDrain, PairLine};
 use hj_base::{Outside, Role, Side, Sink};
 use hj_event::RecordFault;
 use hj_msg::Fin;
 
-/// How a join ended.
+/// Says how a join ended.
 #[derive(Clone, Copy, Debug, PartialEq, Eq)]
 pub enum Outcome {
     /// Both streams ended, and every line was written.
@@ -32,15 +32,16 @@ pub enum Outcome {
     Memory,
 }
 
-/// The outcome of a join whose run ended so, between a feed and a drain.
-pub fn outcome_of<O: Outside, K: Sink>(
+/// Returns the outcome of a join, by how its run between a feed and a drain ended: with Done, what the feed's end makes it,
+/// since every line was written; with Refused, what was wrong with the last line; with Memory, that memory ran out.
+pub fn outcome_of<O: Outside, K: Sink, L: PairLine>(
     ended: Fin,
     feed: &EventFeed<'_, O>,
-    drain: &LineDrain<'_, K>,
+    drain: &LineDrain<'_, K, L>,
 ) -> Outcome
-    requires done { ended ≡ fin.Done → is_some feed.now.ended ≡ true }
-    requires refused { ended ≡ fin.Refused → drain.now.last ≢ sent.Whole }
-    ensures { EndsAs ended feed.now.ended drain.now.last result }
+    requires done { ended ≡ fin.Done → is_some (outcome_in feed.now) ≡ true }
+    requires refused { ended ≡ fin.Refused → last_in drain.now ≢ sent.Whole }
+    ensures { EndsAs ended (outcome_in feed.now) (last_in drain.now) result }
 {
     match ended {
         Fin::Done => feed.outcome(),

@@ -5,7 +5,7 @@ use Rattle.hj_engine.proofs.threads.join_merged.Goals as goal
 
 pub returns-clause-joins : goal.returns-clause-joins
 returns-clause-joins g c =
-    let joins = rw (c.new-feed.ensures.limit, c.new-feed.ensures.outside, c.new-drain.ensures.out) at c.join_feed-joined.ensures.joins in
+    let joins = rw (c.new-feed.ensures.outside, c.new-drain.ensures.out) at c.join_feed-joined.ensures.joins in
     let plan = c.args.plan.now in
     let outside = g.O.Outside.state c.args.outside.now in
     let out = g.K.Sink.told c.args.out.now in

@@ -1,0 +1,34 @@
+ghost use Rattle.std.specs.Prelude.{◌≡◌, List, ℕ, OnOk};
+ghost use Rattle.hj_value.specs.declared.field.Field.{Field};
+ghost use Rattle.hj_msg.specs.declared.event.Pair.{Pair};
+
+use hj_base::Memory;
+use hj_emit::fill_line;
+use hj_msg::Pair;
+use hj_value::SharedRow;
+
+/// Says what is written for a pair of rows that were joined.
+pub trait PairLine {
+    /// The bytes of a pair's line.
+    ghost line: { Self → Pair (List Field) → List ℕ };
+
+    /// Fills `buffer` with the line of a pair, in place of what it held. Takes memory only to grow the buffer; after an
+    /// error that holds a part of the line.
+    fn fill(&self, buffer: &mut Vec<u8>, pair: &Pair<SharedRow>) -> Result<(), Memory>
+        ensures { OnOk result (buffer.new.items ≡ line self.now pair.now) };
+}
+
+/// Writes both rows of a pair as one record: the line of a pair in the output of a join.
+#[derive(Clone, Copy, Debug)]
+pub struct JoinedLine;
+
+impl PairLine for JoinedLine {
+    ghost use Rattle.hj_stream.specs.JoinText.{pair_line};
+
+    ghost line = { λ _ pair. pair_line pair };
+
+    #[inline(always)]
+    fn fill(&self, buffer: &mut Vec<u8>, pair: &Pair<SharedRow>) -> Result<(), Memory> {
+        fill_line(buffer, pair.left.row(), pair.right.row())
+    }
+}
