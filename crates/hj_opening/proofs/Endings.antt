@@ -1,11 +1,11 @@
 -- What the run of a command promises, from the cause of its ending, what it wrote and the roles that it began.
-use Rattle.std.proofs.Common.{◌≡◌, ◌≢◌, ◌⊎◌, ℕ, List, [], Ok, Err, Result, sym, ◌∙◌, ap, inl, inr, refl, arith}
+use Rattle.std.proofs.Common.{◌≡◌, ◌≢◌, ◌⊎◌, ℕ, List, [], Ok, Err, Result, sym, ◌∙◌, ap, inl, inr, refl}
 use Rattle.std.specs.Io.KnownBytes.{Appends}
 use Rattle.hj_base.specs.declared.outside.Role.{Role}
 use Rattle.hj_base.specs.declared.outside.Role.TheVariants as role
 use Rattle.hj_base.specs.Counts.{Rose}
 use Rattle.hj_base.specs.Outside.{unbegun}
-use Rattle.hj_event.specs.Arrivals.{Ending, bad, clean, too_many}
+use Rattle.hj_event.specs.Arrivals.{Ending, bad, too_many}
 use Rattle.hj_notes.specs.declared.note.Note.{Note}
 use Rattle.hj_notes.specs.declared.note.Note.TheVariants as why
 use Rattle.hj_notes.specs.NoteText.{status_of_end, text_of_end}

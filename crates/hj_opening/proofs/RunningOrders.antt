@@ -9,7 +9,7 @@ use Rattle.hj_base.specs.Counts.{Rose}
 use Rattle.hj_base.specs.Journals.{IsPrefix}
 use Rattle.hj_base.specs.Outside.{RoleState, ChangesOnly, IsOpen, unbegun}
 use Rattle.hj_output.specs.declared.output.Sent.TheVariants as sent
-use Rattle.hj_output.specs.Output.{AppendsFront, CountsFaults, Sends}
+use Rattle.hj_output.specs.Output.{CountsFaults, Sends}
 use Rattle.hj_query.specs.Canonical.{canonical}
 use Rattle.hj_query.specs.Parts.{Parts}
 use Rattle.hj_notes.specs.declared.note.Note.{Note}

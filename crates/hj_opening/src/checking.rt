@@ -5,9 +5,9 @@ ghost use Rattle.hj_opening.specs.Calls.{call};
 ghost use Rattle.hj_opening.specs.Run.{RunsOrder};
 ghost use Rattle.hj_opening.specs.Words.{check_query};
 
-use hj_notes::Note;
 use crate::query::read_query;
 use hj_base::{Outside, Sink};
+use hj_notes::Note;
 use hj_output::{Sent, put_all};
 use hj_query::print;
 use std::alloc::Global;

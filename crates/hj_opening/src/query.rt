@@ -6,9 +6,9 @@ ghost use Rattle.hj_opening.specs.Opening.{GetsQuery, Opens, Parses, ReadsText, 
 ghost use Rattle.hj_opening.specs.Orders.{source_seen};
 ghost use Rattle.hj_opening.specs.Words.{named};
 
-use hj_notes::Note;
 use crate::source::Source;
 use hj_base::{Got, Opened, Outside, Role};
+use hj_notes::Note;
 use hj_query::{MOST_BYTES, Query, QueryFault, equi, parse};
 use std::alloc::Global;
 
