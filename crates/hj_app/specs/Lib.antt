@@ -1,4 +1,5 @@
 pub mod Crew
+pub mod Made
 pub mod OnCrew
 pub mod Orders
 pub mod Turning

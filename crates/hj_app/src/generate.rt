@@ -5,6 +5,7 @@ ghost use Rattle.hj_base.specs.Outside.{RoleState, unbegun};
 ghost use Rattle.hj_opening.specs.Calls.{call};
 ghost use Rattle.hj_app.specs.Crew.{ShowsMade};
 ghost use Rattle.hj_opening.specs.Generating.{IsSummary};
+ghost use Rattle.hj_app.specs.Made.{JoinsHeld};
 ghost use Rattle.hj_app.specs.OnCrew.{RunsOnCrew};
 ghost use Rattle.hj_app.specs.Orders.{recipe_seen};
 ghost use Rattle.hj_app.specs.Turning.{crew_seen};
@@ -18,9 +19,9 @@ use crate::recipe::Recipe;
 use hj_base::{Bytes, Gate, Memory, Sink};
 use hj_crew::Ran;
 use hj_engine::join_threads;
-use hj_gen::{streams, summary};
+use hj_gen::{TwoStreams, streams, summary};
 use hj_output::{Sent, put_all};
-use hj_query::equi;
+use hj_query::{Query, equi};
 use hj_stream::Outcome;
 use hj_value::SharedRow;
 use std::alloc::Global;
@@ -33,6 +34,14 @@ use std::time::Clock;
 struct Summary {
     line: Bytes,
     ran: Ran<SharedRow>,
+}
+
+/// The join of two streams in memory: how it ended, what it wrote, and the run that made it.
+#[derive(Drop)]
+struct HeldJoin {
+    outcome: Outcome,
+    text: KeptText,
+    ran: Option<Ran<SharedRow>>,
 }
 
 /// Makes the two streams of a recipe, joins them in memory on threads, which `rt` starts, and writes the line that sums up their
@@ -80,18 +89,7 @@ fn sum_up<T: Threads + Wait + Clock + Sync, G: Gate + Sync>(
 {
     let query = equi(alloc, recipe.window.rows)?;
     let made = streams(alloc, recipe.rows, recipe.keys, recipe.seed)?;
-    let mut held = HeldStreams::new(made.left, made.right);
-    let mut text = KeptText::new(alloc);
-    let (outcome, ran) = join_threads(
-        rt,
-        alloc,
-        &query,
-        plan.setup,
-        MOST_EVENTS,
-        &mut held,
-        &mut text,
-        gate,
-    );
+    let HeldJoin { outcome, text, ran } = join_held(rt, alloc, &query, made, plan, gate);
     match outcome {
         Outcome::Done { events } => {
             let Some(ran) = ran else {
@@ -107,4 +105,30 @@ fn sum_up<T: Threads + Wait + Clock + Sync, G: Gate + Sync>(
             unreachable!()
         }
     }
+}
+
+/// Joins two streams that stand in memory, on threads, which `rt` starts, and keeps the text in memory.
+fn join_held<T: Threads + Wait + Clock + Sync, G: Gate + Sync>(
+    rt: &T,
+    alloc: Global,
+    query: &Query,
+    made: TwoStreams,
+    plan: CrewPlan,
+    gate: &G,
+) -> HeldJoin
+    ensures { JoinsHeld query.now most_events made.left made.right (crew_seen plan) result.outcome result.text.text result.ran }
+{
+    let mut held = HeldStreams::new(made.left, made.right);
+    let mut text = KeptText::new(alloc);
+    let (outcome, ran) = join_threads(
+        rt,
+        alloc,
+        query,
+        plan.setup,
+        MOST_EVENTS,
+        &mut held,
+        &mut text,
+        gate,
+    );
+    HeldJoin { outcome, text, ran }
 }
