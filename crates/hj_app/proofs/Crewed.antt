@@ -1,5 +1,5 @@
 -- The run of an order whose chain threads turn, from that of its parts.
-use Rattle.std.proofs.Common.{◌≡◌, ◌≢◌, ℕ, List, Err, None, Some, sym, ap, subst, inl, inr, refl, arith}
+use Rattle.std.proofs.Common.{◌≡◌, ◌≢◌, ◌↔◌, ℕ, List, Err, None, Some, sym, ap, subst, inl, inr, refl, arith}
 use Rattle.std.specs.Prelude.{IsSome, IfSome, IfNone}
 use Rattle.std.specs.declared.option.Option.{Option}
 use Rattle.hj_base.specs.declared.outside.Role.TheVariants as role
@@ -10,17 +10,19 @@ use Rattle.hj_stream.specs.declared.outcome.Outcome.{Outcome}
 use Rattle.hj_stream.specs.declared.outcome.Outcome.TheVariants as outcome
 use Rattle.hj_stream.specs.Joining.{Joins}
 use Rattle.hj_engine.specs.Showing.{ShowsJoin}
-use Rattle.hj_app.specs.declared.notes.Note.{Note}
-use Rattle.hj_app.specs.Calls.{call}
-use Rattle.hj_app.specs.Crew.{CameToJoin, Crew, ShowsStreams}
-use Rattle.hj_app.specs.NoteText.{status_of, status_of_end}
+use Rattle.hj_notes.specs.declared.note.Note.{Note}
+use Rattle.hj_opening.specs.Calls.{Call, call}
+use Rattle.hj_app.specs.Crew.{CameToJoin, Crew, ShowsOrder, ShowsRun, ShowsStreams, crew_of}
+use Rattle.hj_app.specs.declared.ended.Ended.{Ended}
+use Rattle.hj_notes.specs.NoteText.{status_of, status_of_end}
+use Rattle.hj_words.specs.declared.order.Order as spelled
 use Rattle.hj_app.specs.OnCrew.{RunsOnCrew}
-use Rattle.hj_app.specs.Ready.{EndsEarly, IsReady}
-use Rattle.hj_app.specs.Run.{RunsOrder, end_of}
-use Rattle.hj_app.specs.Words.{Names, Order, Source, join_streams}
-use Rattle.hj_app.proofs.Joined.{query_stays}
-use Rattle.hj_app.proofs.Phases.{Roles, open-opened}
-use Rattle.hj_app.proofs.Serving.{End}
+use Rattle.hj_opening.specs.Ready.{EndsEarly, IsReady}
+use Rattle.hj_opening.specs.Run.{RunsOrder, end_of}
+use Rattle.hj_opening.specs.Words.{Names, Order, Source, asked_by, join_streams}
+use Rattle.hj_opening.proofs.Joined.{query_stays}
+use Rattle.hj_opening.proofs.Phases.{Roles, open-opened}
+use Rattle.hj_opening.proofs.Endings.{End}
 
 abbrev Shown : Type 0
 Shown = Option (RanSeen (List Field))
@@ -28,7 +30,7 @@ Shown = Option (RanSeen (List Field))
 -- ---- an order that ended before its join
 
 pub runs_early : (crew : Crew) (note : Note) (order : Order) (under : List ℕ → Option (List ℕ)) (before now : Roles) (told : Option (List ℕ)) (faults : ℕ) → EndsEarly note order under before now
-    → RunsOnCrew crew (record { end = Err note; ran = None }) order (call under before now told told) faults faults
+    → RunsOnCrew crew (record { end = Err note; ran = None }) order (call under before now told told faults faults)
 runs_early crew note order under before now told faults early = record {
   runs = early.runs told faults;
   ran = λ other. ((λ some. absurd cc), (λ came. absurd (too_early other came)));
@@ -52,7 +54,7 @@ not_refused limit outcome.TooMany = ((λ e. omega (arith, e)), (λ e. omega (ari
 not_refused limit outcome.Memory = ((λ e. omega (arith, e)), (λ e. omega (arith, e)))
 
 module _ (crew : Crew) (source : Source) (names : Names) (limit : ℕ) (under : List ℕ → Option (List ℕ)) (before mid now : Roles) (old new : Option (List ℕ)) (query : Parts) (ready : IsReady query source names under before mid)
-    (ended : Outcome) (joins : Joins ended query limit mid now old new) where
+    (ended : Outcome) (joins : Joins ended query limit mid now old new) (faults faults' : ℕ) where
   abbrev ends_with : ℕ
   ends_with = status_of_end (end_of limit ended)
 
@@ -66,10 +68,10 @@ module _ (crew : Crew) (source : Source) (names : Names) (limit : ℕ) (under : 
         streams = λ four. (open-opened _ joins.left_ended (now role.Left).phase joins.left.in_step.phase, open-opened _ joins.right_ended (now role.Right).phase joins.right.in_step.phase);
       }
 
-  shows_streams : (ran : RanSeen (List Field)) → ShowsJoin joins crew.cores crew.flight ran → ShowsStreams crew source names limit ends_with (call under before now old new) ran
+  shows_streams : (ran : RanSeen (List Field)) → ShowsJoin joins crew.cores crew.flight ran → ShowsStreams crew source names limit ends_with (call under before now old new faults faults') ran
   shows_streams ran shows = record {
     query = query;
-    accepted = query_stays query limit names under before mid now old new source ready ended joins;
+    accepted = query_stays query limit names under before mid now old new faults faults' source ready ended joins;
     opened = mid;
     are_opened = ready.opened;
     outcome = ended;
@@ -78,7 +80,7 @@ module _ (crew : Crew) (source : Source) (names : Names) (limit : ℕ) (under : 
     shows = shows;
   }
 
-  shown : (ran : Shown) → IfSome ran (ShowsJoin joins crew.cores crew.flight) → IfSome ran (ShowsStreams crew source names limit ends_with (call under before now old new))
+  shown : (ran : Shown) → IfSome ran (ShowsJoin joins crew.cores crew.flight) → IfSome ran (ShowsStreams crew source names limit ends_with (call under before now old new faults faults'))
   shown None shows = tt
   shown (Some ran) shows = shows_streams ran shows
 
@@ -86,11 +88,27 @@ module _ (crew : Crew) (source : Source) (names : Names) (limit : ℕ) (under : 
   handed None memory other back = absurd (other (ap (λ (o : Outcome). status_of_end (end_of limit o)) memory))
   handed (Some ran) memory other back = refl
 
-  pub runs_joined : (end : End) (ran : Shown) (faults faults' : ℕ) → end ≡ end_of limit ended → RunsOrder end (join_streams source names limit) (call under before now old new) faults faults'
+  pub runs_joined : (end : End) (ran : Shown) → end ≡ end_of limit ended → RunsOrder end (join_streams source names limit) (call under before now old new faults faults')
       → IfSome ran (ShowsJoin joins crew.cores crew.flight) → IfNone ran (ended ≡ outcome.Memory)
-      → RunsOnCrew crew (record { end = end; ran = ran }) (join_streams source names limit) (call under before now old new) faults faults'
-  runs_joined end ran faults faults' is runs shows memory =
-      subst (λ (e : End). RunsOrder e (join_streams source names limit) (call under before now old new) faults faults' → RunsOnCrew crew (record { end = e; ran = ran }) (join_streams source names limit) (call under before now old new) faults faults') (sym is)
+      → RunsOnCrew crew (record { end = end; ran = ran }) (join_streams source names limit) (call under before now old new faults faults')
+  runs_joined end ran is runs shows memory =
+      subst (λ (e : End). RunsOrder e (join_streams source names limit) (call under before now old new faults faults') → RunsOnCrew crew (record { end = e; ran = ran }) (join_streams source names limit) (call under before now old new faults faults')) (sym is)
       (λ so. record { runs = so; ran = λ other. ((λ some. all_came), (λ back. handed ran memory other back)); shows = shown ran shows }) runs
 
--- ---- `serve`'s clauses on the run
+-- ---- `serve`'s clauses on the run, of the order that the words spell
+
+module _ (order : spelled.Order) (asked : Order) (plan : Crew) (same : asked ≡ asked_by order) (turned : Some plan ≡ crew_of order) (ended : Ended) (call : Call) (status : ℕ) (is : status ≡ status_of_end ended.end) where
+  pub ran_so : RunsOnCrew plan ended asked call → status ≢ 6 → IsSome ended.ran ↔ CameToJoin (crew_of order) status call.now
+  ran_so runs =
+      subst (λ (crew : Option Crew). status ≢ 6 → IsSome ended.ran ↔ CameToJoin crew status call.now) turned
+      (subst (λ (n : ℕ). n ≢ 6 → IsSome ended.ran ↔ CameToJoin (Some plan) n call.now) (sym is) runs.ran)
+
+  shows_of : (ran : Shown) → IfSome ran (ShowsOrder plan asked (status_of_end ended.end) call) → IfSome ran (ShowsRun (Some order) status call)
+  shows_of None shows = tt
+  shows_of (Some ran) shows =
+      (plan, sym turned,
+      subst (λ (known : Order). ShowsOrder plan known status call ran) same
+      (subst (λ (n : ℕ). ShowsOrder plan asked n call ran) (sym is) shows))
+
+  pub shows_so : RunsOnCrew plan ended asked call → IfSome ended.ran (ShowsRun (Some order) status call)
+  shows_so runs = shows_of ended.ran runs.shows

@@ -1,15 +1,4 @@
 pub mod Crewed
-pub mod HeldRead
-pub mod Joined
-pub mod MadeEvents
 pub mod MadeJoin
-pub mod MadeLines
 pub mod MemoryRoles
-pub mod NoteFront
-pub mod Phases
-pub mod Prefixes
-pub mod QueryReading
-pub mod Readying
-pub mod RunningOrders
-pub mod Serving
 pub mod Summed

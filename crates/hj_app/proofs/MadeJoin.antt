@@ -1,6 +1,6 @@
 -- The join of two streams in memory: what it wrote is the text of the whole streams, and it ended well or memory ran out.
 use Rattle.std.proofs.Common.{◌≡◌, ℕ, ◌<◌, ◌≤◌, ◌^◌, Bool, true, false, List, [], Some, refl, sym, ap, ap₂, subst, ◌∙◌, arith}
-use Rattle.std.specs.Prelude.{IfSome}
+use Rattle.std.specs.Prelude.{IfNone, IfSome}
 use Rattle.std.specs.declared.option.Option.{Option}
 use Rattle.hj_base.specs.declared.numbers.Side.{Side}
 use Rattle.hj_base.specs.declared.outside.Role.{Role}
@@ -23,17 +23,11 @@ use Rattle.hj_query.specs.Keyed.{IsKeyed}
 use Rattle.hj_query.specs.Parts.{Parts}
 use Rattle.hj_record.specs.Pieces.{Stream}
 use Rattle.hj_app.specs.Crew.{Crew, ShowsMade, made_roles}
-use Rattle.hj_app.specs.Generating.{IsSummary, join_made, left_stream, whole}
-use Rattle.hj_app.specs.Held.{HeldState, KeptState, TwoHeld, held_role, open_role}
-use Rattle.hj_app.specs.Words.{Recipe, most_events}
-use Rattle.hj_app.proofs.MadeEvents.{ends_clean}
-
--- a stream of which nothing was read
-abbrev pub unread_stream : List ℕ → HeldState
-unread_stream bytes = record { rest = bytes; ended = false }
-
-abbrev pub unread_streams : List ℕ → List ℕ → TwoHeld
-unread_streams left right = record { left = unread_stream left; right = unread_stream right }
+use Rattle.hj_app.specs.Made.{JoinsHeld, unread_stream, unread_streams}
+use Rattle.hj_opening.specs.Generating.{IsSummary, join_made, left_stream, whole}
+use Rattle.hj_held.specs.Held.{HeldState, KeptState, TwoHeld, held_role, open_role}
+use Rattle.hj_opening.specs.Words.{Recipe, most_events}
+use Rattle.hj_opening.proofs.MadeEvents.{ends_clean}
 
 -- what is left of a stream follows what was read of it
 follows_rest : (failed ended : Bool) (rest : List ℕ) → failed ≡ false → (ended ≡ true → rest ≡ []) → Follows failed ended (whole rest)
@@ -72,46 +66,53 @@ IsDoneOrMemory (outcome.Done events) = Unit {0}
 IsDoneOrMemory outcome.Memory = Unit {0}
 IsDoneOrMemory other = ⊥
 
+-- ---- the join of streams that stand in memory, as it is seen
+
+pub held_joins : (query : Parts) (limit : ℕ) (left right : List ℕ) (crew : Crew) (before after : TwoHeld) (kept kept' : KeptState) → before ≡ unread_streams left right → kept ≡ record { text = []; refusals = 0 }
+    → (ended : Outcome) (ran : Option (RanSeen (List Field)))
+    → (joins : Joins ended query limit (held_role before) (held_role after) (Some kept.text) (Some kept'.text)) × IfSome ran (ShowsJoin joins crew.cores crew.flight)
+    → IfNone ran (ended ≡ outcome.Memory) → CountsSinkFault ended 0 0 → JoinsHeld query limit left right crew ended kept'.text ran
+held_joins query limit left right crew before after kept kept' is_before is_kept ended ran so no_run faults =
+    let made =
+        subst (λ (held : TwoHeld). (joins : Joins ended query limit (held_role held) (held_role after) (Some []) (Some kept'.text)) × IfSome ran (ShowsJoin joins crew.cores crew.flight)) is_before
+        (subst (λ (k : KeptState). (joins : Joins ended query limit (held_role before) (held_role after) (Some k.text) (Some kept'.text)) × IfSome ran (ShowsJoin joins crew.cores crew.flight)) is_kept so) in
+    record { after = after; joins = made.0; shows = made.1; no_run = no_run; faults = faults }
+
+-- ---- the streams of a recipe
+
 module _ (recipe : Recipe) (query : Parts) (few : recipe.rows ≤ 100000) (some : 0 < recipe.keys) (few_keys : recipe.keys ≤ 2 ^ 32) (keyed : IsKeyed recipe.window query)
-    (limit : ℕ) (most : limit ≡ most_events) (left right : List ℕ) (is_left : left ≡ stream_of recipe.rows recipe.keys recipe.seed) (is_right : right ≡ stream_of recipe.rows recipe.keys (right_seed recipe.seed)) where
+    (left right : List ℕ) (is_left : left ≡ stream_of recipe.rows recipe.keys recipe.seed) (is_right : right ≡ stream_of recipe.rows recipe.keys (right_seed recipe.seed)) where
   -- what is shown of the join of these streams holds of the join of those that are made, and the other way round
-  made_from : (P : JoinResult → Type 0) → P (join_result query (whole left) (whole right) limit) → P (join_made recipe query most_events)
+  made_from : (P : JoinResult → Type 0) → P (join_result query (whole left) (whole right) most_events) → P (join_made recipe query most_events)
   made_from P p =
-      subst (λ (n : ℕ). P (join_made recipe query n)) most
-      (subst (λ (bytes : List ℕ). P (join_result query (left_stream recipe) (whole bytes) limit)) is_right
-      (subst (λ (bytes : List ℕ). P (join_result query (whole bytes) (whole right) limit)) is_left p))
+      subst (λ (bytes : List ℕ). P (join_result query (left_stream recipe) (whole bytes) most_events)) is_right
+      (subst (λ (bytes : List ℕ). P (join_result query (whole bytes) (whole right) most_events)) is_left p)
 
-  ends : (join_result query (whole left) (whole right) limit).ending ≡ clean
-  ends = sym (made_from (λ joined. joined.ending ≡ (join_result query (whole left) (whole right) limit).ending) refl) ∙ ends_clean recipe query few some few_keys keyed
+  ends : (join_result query (whole left) (whole right) most_events).ending ≡ clean
+  ends = sym (made_from (λ joined. joined.ending ≡ (join_result query (whole left) (whole right) most_events).ending) refl) ∙ ends_clean recipe query few some few_keys keyed
 
-  module _ (before after : TwoHeld) (kept kept' : KeptState) (is_before : before ≡ unread_streams left right) (is_kept : kept ≡ record { text = []; refusals = 0 }) where
+  module _ (after : TwoHeld) (text : List ℕ) where
     abbrev Joined : Outcome → Type 0
-    Joined ended = Joins ended query limit (held_role before) (held_role after) (Some kept.text) (Some kept'.text)
+    Joined ended = Joins ended query most_events (held_role (unread_streams left right)) (held_role after) (Some []) (Some text)
 
-    abbrev Writes : Outcome → Type 0
-    Writes ended = WritesText ended kept'.text (join_result query (whole left) (whole right) limit)
-
-    text_as : (ended : Outcome) (joins : Joined ended) → joins.left_failed ≡ false → joins.right_failed ≡ false → Writes ended
-    text_as ended joins =
-        subst (λ (k : KeptState). (j : Joins ended query limit (held_role before) (held_role after) (Some k.text) (Some kept'.text)) → j.left_failed ≡ false → j.right_failed ≡ false → Writes ended) (sym is_kept)
-        (subst (λ (held : TwoHeld). (j : Joins ended query limit (held_role held) (held_role after) (Some []) (Some kept'.text)) → j.left_failed ≡ false → j.right_failed ≡ false → Writes ended) (sym is_before)
-        (λ j left_unfailed right_unfailed. text_of_whole ended query limit left right kept'.text after j left_unfailed right_unfailed)) joins
+    text_as : (ended : Outcome) (joins : Joined ended) → joins.left_failed ≡ false → joins.right_failed ≡ false → WritesText ended text (join_result query (whole left) (whole right) most_events)
+    text_as ended joins left_unfailed right_unfailed = text_of_whole ended query most_events left right text after joins left_unfailed right_unfailed
 
     no_fault : (failed : Bool) (came : List ℕ) (at_end : Bool) (was now : HeldState) → failed ≡ true → IsReadOn failed came false at_end (open_role was) (open_role now) → ⊥
     no_fault true came at_end was now e reads = omega (arith, reads.faults.1)
     no_fault false came at_end was now e reads = cc
 
-    pub only : (ended : Outcome) → Joined ended → CountsSinkFault ended 0 0 → IsDoneOrMemory ended
+    only : (ended : Outcome) → Joined ended → CountsSinkFault ended 0 0 → IsDoneOrMemory ended
     only (outcome.Done events) joins counts = tt
     only outcome.Memory joins counts = tt
     only (outcome.Bad of at found) joins counts = bad≢clean of at found (sym (text_as (outcome.Bad of at found) joins joins.failed.0 joins.failed.1).1 ∙ ends)
     only outcome.TooMany joins counts = too_many≢clean (sym (text_as outcome.TooMany joins joins.failed.0 joins.failed.1).1 ∙ ends)
     only outcome.SinkFault joins counts = omega (arith, counts.1)
     only (outcome.SourceFault role.Query) joins counts = text_as (outcome.SourceFault role.Query) joins joins.failed.0 joins.failed.1
-    only (outcome.SourceFault role.Left) joins counts = no_fault joins.left_failed joins.left_bytes joins.left_ended before.left after.left joins.failed.0 joins.left
-    only (outcome.SourceFault role.Right) joins counts = no_fault joins.right_failed joins.right_bytes joins.right_ended before.right after.right joins.failed.1 joins.right
+    only (outcome.SourceFault role.Left) joins counts = no_fault joins.left_failed joins.left_bytes joins.left_ended (unread_stream left) after.left joins.failed.0 joins.left
+    only (outcome.SourceFault role.Right) joins counts = no_fault joins.right_failed joins.right_bytes joins.right_ended (unread_stream right) after.right joins.failed.1 joins.right
 
-    summed : (line : List ℕ) (events : ℕ) → Joined (outcome.Done events) → line ≡ summary_of events kept'.text → IsSummary line recipe most_events
+    summed : (line : List ℕ) (events : ℕ) → Joined (outcome.Done events) → line ≡ summary_of events text → IsSummary line recipe most_events
     summed line events joins is =
         let wrote = text_as (outcome.Done events) joins joins.failed.0 joins.failed.1 in
         record {
@@ -123,31 +124,31 @@ module _ (recipe : Recipe) (query : Parts) (few : recipe.rows ≤ 100000) (some 
 
     -- the run that made the join
     module _ (crew : Crew) (events : ℕ) (ran : RanSeen (List Field)) where
-      abbrev Shown : ℕ → (Role → RoleState) → List ℕ → Type 0
-      Shown most from text =
-          (joins : Joins (outcome.Done events) query most from (held_role after) (Some text) (Some kept'.text)) × ShowsJoin joins crew.cores crew.flight ran
+      abbrev Shown : (Role → RoleState) → Type 0
+      Shown from = (joins : Joins (outcome.Done events) query most_events from (held_role after) (Some []) (Some text)) × ShowsJoin joins crew.cores crew.flight ran
 
-      shown_made : Shown limit (held_role before) kept.text → Shown most_events (made_roles recipe) []
+      shown_made : Shown (held_role (unread_streams left right)) → Shown (made_roles recipe)
       shown_made shown =
-          subst (λ (n : ℕ). Shown n (made_roles recipe) []) most
-          (subst (λ (bytes : List ℕ). Shown limit (held_role (unread_streams (stream_of recipe.rows recipe.keys recipe.seed) bytes)) []) is_right
-          (subst (λ (bytes : List ℕ). Shown limit (held_role (unread_streams bytes right)) []) is_left
-          (subst (λ (held : TwoHeld). Shown limit (held_role held) []) is_before
-          (subst (λ (k : KeptState). Shown limit (held_role before) k.text) is_kept shown))))
+          subst (λ (bytes : List ℕ). Shown (held_role (unread_streams (stream_of recipe.rows recipe.keys recipe.seed) bytes))) is_right
+          (subst (λ (bytes : List ℕ). Shown (held_role (unread_streams bytes right))) is_left shown)
 
-      shows_made : Shown limit (held_role before) kept.text → ShowsMade crew recipe most_events ran
+      shows_made : Shown (held_role (unread_streams left right)) → ShowsMade crew recipe most_events ran
       shows_made shown =
           let made = shown_made shown in
-          record { query = query; keyed = keyed; events = events; now = held_role after; text = kept'.text; joins = made.0; shows = made.1 }
+          record { query = query; keyed = keyed; events = events; now = held_role after; text = text; joins = made.0; shows = made.1 }
 
-    -- ---- a join that is done
+  -- ---- the join that was made
 
-    module _ (ended : Outcome) (events : ℕ) (done : ended ≡ outcome.Done events) where
-      pub done_summed : (line : List ℕ) → Joined ended → line ≡ summary_of events kept'.text → IsSummary line recipe most_events
-      done_summed line joins is = summed line events (subst Joined done joins) is
+  module _ (crew : Crew) (ended : Outcome) (text : List ℕ) (ran : Option (RanSeen (List Field))) (held : JoinsHeld query most_events left right crew ended text ran) where
+    pub is_done : IsDoneOrMemory ended
+    is_done = only held.after text ended held.joins held.faults
 
-      pub done_shows : (crew : Crew) (shown : Option (RanSeen (List Field))) (ran : RanSeen (List Field)) → shown ≡ Some ran → (joins : Joined ended) × IfSome shown (ShowsJoin joins crew.cores crew.flight) → ShowsMade crew recipe most_events ran
-      done_shows crew shown ran is so =
-          shows_made crew events ran
-          (subst (λ (r : Option (RanSeen (List Field))). (joins : Joined (outcome.Done events)) × IfSome r (ShowsJoin joins crew.cores crew.flight)) is
-          (subst (λ (o : Outcome). (joins : Joined o) × IfSome shown (ShowsJoin joins crew.cores crew.flight)) done so))
+    module _ (events : ℕ) (done : ended ≡ outcome.Done events) where
+      pub done_summed : (line : List ℕ) → line ≡ summary_of events text → IsSummary line recipe most_events
+      done_summed line is = summed held.after text line events (subst (Joined held.after text) done held.joins) is
+
+      pub done_shows : (one : RanSeen (List Field)) → ran ≡ Some one → ShowsMade crew recipe most_events one
+      done_shows one is =
+          shows_made held.after text crew events one
+          (subst (λ (r : Option (RanSeen (List Field))). (joins : Joined held.after text (outcome.Done events)) × IfSome r (ShowsJoin joins crew.cores crew.flight)) is
+          (subst (λ (o : Outcome). (joins : Joined held.after text o) × IfSome ran (ShowsJoin joins crew.cores crew.flight)) done (held.joins, held.shows)))

@@ -14,14 +14,14 @@ use Rattle.hj_stream.specs.declared.outcome.Outcome.{Outcome}
 use Rattle.hj_stream.specs.declared.outcome.Outcome.TheVariants as outcome
 use Rattle.hj_stream.specs.Joining.{Joins}
 use Rattle.hj_engine.specs.Showing.{ShowsJoin}
-use Rattle.hj_app.specs.Calls.{Call}
-use Rattle.hj_app.specs.Generating.{left_stream, right_stream}
-use Rattle.hj_app.specs.Held.{held_role}
-use Rattle.hj_app.specs.NoteText.{status_of_end}
-use Rattle.hj_app.specs.Opening.{AreOpened}
-use Rattle.hj_app.specs.Run.{end_of}
-use Rattle.hj_app.specs.Serve.{Accepts, AreOpen}
-use Rattle.hj_app.specs.Words.{Names, Order, Recipe, Source, asked_by, check_query, join_streams, most_events, sum_up}
+use Rattle.hj_opening.specs.Calls.{Call}
+use Rattle.hj_opening.specs.Generating.{left_stream, right_stream}
+use Rattle.hj_held.specs.Held.{held_role}
+use Rattle.hj_notes.specs.NoteText.{status_of_end}
+use Rattle.hj_opening.specs.Opening.{AreOpened}
+use Rattle.hj_opening.specs.Run.{end_of}
+use Rattle.hj_opening.specs.Serve.{Accepts, AreOpen}
+use Rattle.hj_opening.specs.Words.{Names, Order, Recipe, Source, asked_by, check_query, join_streams, most_events, sum_up}
 
 -- A chain that threads turn: how many cores it has, and how many events are under way in it at most.
 pub record Crew : Type 0 where

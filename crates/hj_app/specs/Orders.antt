@@ -4,21 +4,8 @@ use Rattle.std.specs.declared.option.Option.{Option}
 use Rattle.std.specs.declared.option.Option.TheVariants.{None, Some}
 use Rattle.hj_chain.specs.declared.serial.Chooser.{Chooser}
 use Rattle.hj_chain.specs.declared.serial.Chooser.TheVariants as chooser
+use Rattle.hj_opening.specs.Words as words
 use Rattle.hj_app.specs.declared.recipe.Recipe.{Recipe}
-use Rattle.hj_app.specs.declared.source.JoinOrder.{JoinOrder}
-use Rattle.hj_app.specs.declared.source.Source.{Source}
-use Rattle.hj_app.specs.declared.source.Source.TheVariants as source
-use Rattle.hj_app.specs.Words as words
-
-abbrev pub source_seen : Source → words.Source
-source_seen (source.Keyed keyed) = words.keyed keyed.rows
-source_seen (source.Named name) = words.named name.now
-
-abbrev pub names_seen : JoinOrder → words.Names
-names_seen join = record { left = join.left.now; right = join.right.now }
-
-abbrev pub join_seen : JoinOrder → words.Order
-join_seen join = words.join_streams (source_seen join.source) (names_seen join) join.limit
 
 abbrev pub recipe_seen : Recipe → words.Recipe
 recipe_seen recipe = record { rows = recipe.rows; keys = recipe.keys; seed = recipe.seed; window = recipe.window.rows }

@@ -1,4 +1,4 @@
-use crate::notes::Note;
+use hj_notes::Note;
 use hj_crew::Ran;
 use hj_value::SharedRow;
 

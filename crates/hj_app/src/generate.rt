@@ -1,26 +1,27 @@
-ghost use Rattle.std.specs.Prelude.{ℕ, List, IfOk};
+ghost use Rattle.std.specs.Prelude.{◌≡◌, ℕ, List, IfOk};
 ghost use Rattle.std.specs.declared.option.Option.{Option};
 ghost use Rattle.hj_base.specs.declared.outside.Role.{Role};
-ghost use Rattle.hj_base.specs.Outside.{RoleState};
-ghost use Rattle.hj_app.specs.Calls.{call};
+ghost use Rattle.hj_base.specs.Outside.{RoleState, unbegun};
+ghost use Rattle.hj_opening.specs.Calls.{call};
 ghost use Rattle.hj_app.specs.Crew.{ShowsMade};
-ghost use Rattle.hj_app.specs.Generating.{IsSummary};
+ghost use Rattle.hj_opening.specs.Generating.{IsSummary};
+ghost use Rattle.hj_app.specs.Made.{JoinsHeld};
 ghost use Rattle.hj_app.specs.OnCrew.{RunsOnCrew};
 ghost use Rattle.hj_app.specs.Orders.{recipe_seen};
 ghost use Rattle.hj_app.specs.Turning.{crew_seen};
-ghost use Rattle.hj_app.specs.Words.{most_events, sum_up};
+ghost use Rattle.hj_opening.specs.Words.{most_events, sum_up};
 
 use crate::ended::Ended;
-use crate::held::{HeldStreams, KeptText};
-use crate::notes::Note;
+use hj_held::{HeldStreams, KeptText};
+use hj_notes::Note;
 use crate::plan::{CrewPlan, MOST_EVENTS};
 use crate::recipe::Recipe;
 use hj_base::{Bytes, Gate, Memory, Sink};
 use hj_crew::Ran;
 use hj_engine::join_threads;
-use hj_gen::{streams, summary};
+use hj_gen::{TwoStreams, streams, summary};
 use hj_output::{Sent, put_all};
-use hj_query::equi;
+use hj_query::{Query, equi};
 use hj_stream::Outcome;
 use hj_value::SharedRow;
 use std::alloc::Global;
@@ -35,6 +36,14 @@ struct Summary {
     ran: Ran<SharedRow>,
 }
 
+/// The join of two streams in memory: how it ended, what it wrote, and the run that made it.
+#[derive(Drop)]
+struct HeldJoin {
+    outcome: Outcome,
+    text: KeptText,
+    ran: Option<Ran<SharedRow>>,
+}
+
 /// Makes the two streams of a recipe, joins them in memory on threads, which `rt` starts, and writes the line that sums up their
 /// join to `out`. The gate is passed before each turn of a core. The note of the ending says why that couldn't be done: the sink,
 /// or memory.
@@ -46,8 +55,9 @@ pub fn generate<T: Threads + Wait + Clock + Sync, K: Sink, G: Gate + Sync>(
     out: &mut K,
     gate: &G,
 ) -> Ended
-    ensures { (under : List ℕ → Option (List ℕ)) (roles : Role → RoleState) → RunsOnCrew (crew_seen plan) result (sum_up (recipe_seen recipe))
-        (call under roles roles (K.told out.old) (K.told out.new)) (K.faults out.old) (K.faults out.new) }
+    ensures { (under : List ℕ → Option (List ℕ)) (roles : Role → RoleState) → ((of : Role) → (roles of).phase ≡ unbegun)
+        → RunsOnCrew (crew_seen plan) result (sum_up (recipe_seen recipe))
+        (call under roles roles (K.told out.old) (K.told out.new) (K.faults out.old) (K.faults out.new)) }
 {
     let Ok(Summary { line, ran }) = sum_up(rt, alloc, recipe, plan, gate) else {
         return Ended {
@@ -79,18 +89,7 @@ fn sum_up<T: Threads + Wait + Clock + Sync, G: Gate + Sync>(
 {
     let query = equi(alloc, recipe.window.rows)?;
     let made = streams(alloc, recipe.rows, recipe.keys, recipe.seed)?;
-    let mut held = HeldStreams::new(made.left, made.right);
-    let mut text = KeptText::new(alloc);
-    let (outcome, ran) = join_threads(
-        rt,
-        alloc,
-        &query,
-        plan.setup,
-        MOST_EVENTS,
-        &mut held,
-        &mut text,
-        gate,
-    );
+    let HeldJoin { outcome, text, ran } = join_held(rt, alloc, &query, made, plan, gate);
     match outcome {
         Outcome::Done { events } => {
             let Some(ran) = ran else {
@@ -106,4 +105,30 @@ fn sum_up<T: Threads + Wait + Clock + Sync, G: Gate + Sync>(
             unreachable!()
         }
     }
+}
+
+/// Joins two streams that stand in memory, on threads, which `rt` starts, and keeps the text in memory.
+fn join_held<T: Threads + Wait + Clock + Sync, G: Gate + Sync>(
+    rt: &T,
+    alloc: Global,
+    query: &Query,
+    made: TwoStreams,
+    plan: CrewPlan,
+    gate: &G,
+) -> HeldJoin
+    ensures { JoinsHeld query.now most_events made.left made.right (crew_seen plan) result.outcome result.text.text result.ran }
+{
+    let mut held = HeldStreams::new(made.left, made.right);
+    let mut text = KeptText::new(alloc);
+    let (outcome, ran) = join_threads(
+        rt,
+        alloc,
+        query,
+        plan.setup,
+        MOST_EVENTS,
+        &mut held,
+        &mut text,
+        gate,
+    );
+    HeldJoin { outcome, text, ran }
 }

@@ -1,22 +1,18 @@
 ghost use Rattle.std.specs.Prelude.{◌≡◌};
 ghost use Rattle.hj_base.specs.declared.outside.Role.{Role};
 ghost use Rattle.hj_base.specs.Outside.{unbegun};
-ghost use Rattle.hj_app.specs.Calls.{call};
+ghost use Rattle.hj_opening.specs.Calls.{call};
 ghost use Rattle.hj_app.specs.OnCrew.{RunsOnCrew};
-ghost use Rattle.hj_app.specs.Orders.{join_seen};
-ghost use Rattle.hj_app.specs.Ready.{MakesReady};
-ghost use Rattle.hj_app.specs.Run.{end_of, RunsOrder};
+ghost use Rattle.hj_opening.specs.Orders.{join_seen};
+ghost use Rattle.hj_opening.specs.Run.{RunsOrder};
 ghost use Rattle.hj_app.specs.Turning.{crew_seen};
 
 use crate::ended::Ended;
-use crate::notes::Note;
 use crate::plan::{CrewPlan, SerialPlan};
-use crate::query::{open, query_of};
-use crate::source::JoinOrder;
-use hj_base::{Gate, Outside, Role, Sink};
+use hj_base::{Gate, Outside, Sink};
 use hj_engine::{join_serial, join_threads};
-use hj_query::Query;
-use hj_stream::Outcome;
+use hj_notes::Note;
+use hj_opening::{JoinOrder, end_of, make_ready};
 use std::alloc::Global;
 use std::sync::Wait;
 use std::thread::Threads;
@@ -35,8 +31,8 @@ pub fn join_alone<O: Outside, K: Sink, G: Gate>(
 ) -> Result<(), Note>
     requires { (of : Role) → (O.state outside.old of).phase ≡ unbegun }
     ensures { RunsOrder result (join_seen join.entry)
-        (call (O.under outside.old) (O.state outside.old) (O.state outside.new) (K.told out.old) (K.told out.new))
-        (K.faults out.old) (K.faults out.new) }
+        (call (O.under outside.old) (O.state outside.old) (O.state outside.new) (K.told out.old) (K.told out.new)
+        (K.faults out.old) (K.faults out.new)) }
 {
     let query = make_ready(alloc, join, outside)?;
     let outcome = join_serial(
@@ -66,8 +62,8 @@ pub fn join_on_threads<T: Threads + Wait + Clock + Sync, O: Outside, K: Sink, G:
 ) -> Ended
     requires { (of : Role) → (O.state outside.old of).phase ≡ unbegun }
     ensures { RunsOnCrew (crew_seen plan) result (join_seen join.entry)
-        (call (O.under outside.old) (O.state outside.old) (O.state outside.new) (K.told out.old) (K.told out.new))
-        (K.faults out.old) (K.faults out.new) }
+        (call (O.under outside.old) (O.state outside.old) (O.state outside.new) (K.told out.old) (K.told out.new)
+        (K.faults out.old) (K.faults out.new)) }
 {
     let query = match make_ready(alloc, join, outside) {
         Ok(query) => query,
@@ -84,34 +80,5 @@ pub fn join_on_threads<T: Threads + Wait + Clock + Sync, O: Outside, K: Sink, G:
     Ended {
         end: end_of(join.limit, outcome),
         ran,
-    }
-}
-
-/// Gets the query of a join, and opens its two streams, the left one first.
-fn make_ready<O: Outside>(
-    alloc: Global,
-    join: JoinOrder<'_>,
-    outside: &mut O,
-) -> Result<Query, Note>
-    requires { (of : Role) → (O.state outside.old of).phase ≡ unbegun }
-    ensures { MakesReady result (join_seen join.entry) (O.under outside.old) (O.state outside.old) (O.state outside.new) }
-{
-    let query = query_of(alloc, join.source, outside)?;
-    open(outside, Role::Left, join.left)?;
-    open(outside, Role::Right, join.right)?;
-    Ok(query)
-}
-
-/// The ending of a run whose join ended so.
-fn end_of(limit: u64, outcome: Outcome) -> Result<(), Note>
-    ensures { result ≡ end_of limit outcome }
-{
-    match outcome {
-        Outcome::Done { .. } => Ok(()),
-        Outcome::Bad { side, at, fault } => Err(Note::BadRecord { side, at, fault }),
-        Outcome::SourceFault(role) => Err(Note::Source(role)),
-        Outcome::SinkFault => Err(Note::Sink),
-        Outcome::TooMany => Err(Note::TooManyEvents(limit)),
-        Outcome::Memory => Err(Note::Memory),
     }
 }

@@ -2,27 +2,23 @@
 //! sums up the join of two streams that a seed determines.
 #![tactic(auto)]
 
-mod check;
 mod ended;
 mod generate;
-mod held;
 mod join;
-mod keyed;
-mod notes;
+#[cfg(test)]
+mod note_tests;
 #[cfg(test)]
 mod peer;
 mod plan;
-mod query;
 mod recipe;
 mod serial;
 mod serve;
-mod source;
 #[cfg(test)]
 mod tests;
 
 use hj_base::OpenGate;
 use hj_net::{Output, RealOutside, RealSink};
-use notes::{Note, write_note};
+use hj_notes::{Note, write_note};
 use serve::serve;
 use std::env;
 use std::io::ErrorKind;
@@ -44,7 +40,7 @@ fn main(rt: HostRuntime) -> ExitCode {
     ExitCode::from(status)
 }
 
-/// Serves the words and hands on the output; the status, or a note that wasn't written yet. `threads` may start threads.
+/// Serves the words and hands on the output. Returns the status, or a note that wasn't written yet. `threads` may start threads.
 fn run<T: Threads + Wait + Clock + Sync>(rt: HostRuntime, threads: &T) -> Result<u8, Note> {
     let alloc = rt.alloc();
     let words = words_after_name(&rt)?;
@@ -61,12 +57,12 @@ fn run<T: Threads + Wait + Clock + Sync>(rt: HostRuntime, threads: &T) -> Result
         &mut notes,
         &OpenGate,
     );
-    // Where output was refused, no note was written behind it.
+    // Where output was refused, no note was written after it.
     output.hand_on().map_err(|_| Note::Sink)?;
     Ok(served.status)
 }
 
-/// The words after the program's name, or the note that says why they couldn't be read.
+/// Returns the words after the program's name, or the note that says why they couldn't be read.
 fn words_after_name(rt: &HostRuntime) -> Result<Vec<String>, Note> {
     let words = match env::args(rt) {
         Ok(words) => words,

@@ -2,21 +2,43 @@ ghost use Rattle.std.specs.Prelude.{◌≡◌, ◌≤◌};
 ghost use Rattle.hj_words.specs.Ranges.{IsFrom, IsInRange};
 ghost use Rattle.hj_app.specs.Crew.{crew_of, threads_of, usual_crew};
 ghost use Rattle.hj_app.specs.Orders.{chooser_of};
+ghost use Rattle.hj_opening.specs.Orders.{join_seen, source_seen};
+ghost use Rattle.hj_opening.specs.Words.{join_streams};
 
-use hj_base::Setup;
+use crate::recipe::Recipe;
+use hj_base::{Name, Setup};
 use hj_chain::Chooser;
+use hj_opening::{JoinOrder, Keyed, Source};
 use hj_words::Order;
 
 /// How many events a join numbers at most, where no option says otherwise.
 pub const MOST_EVENTS: u64 = 4_294_967_295;
 
-/// Who turns the cores of an order's chain.
+/// Who does what an order says, with the parts of it that they take.
 #[derive(Clone, Copy, Debug)]
-pub enum Turning {
-    /// The calling thread alone, if there is a chain at all.
-    Alone,
-    /// Threads, while the calling thread reads and writes.
-    Threads(CrewPlan),
+pub enum Turning<'a> {
+    /// The calling thread alone.
+    Alone(AloneOrder<'a>),
+    /// Threads turn the cores of a chain by this plan, while the calling thread reads and writes.
+    Threads(ThreadsOrder<'a>, CrewPlan),
+}
+
+/// What the calling thread does alone.
+#[derive(Clone, Copy, Debug)]
+pub enum AloneOrder<'a> {
+    /// The check of the query under this name.
+    Check(&'a str),
+    /// A join, run by this plan.
+    Join(JoinOrder<'a>, SerialPlan),
+}
+
+/// What is done on threads.
+#[derive(Clone, Copy, Debug)]
+pub enum ThreadsOrder<'a> {
+    /// A join of two streams.
+    Join(JoinOrder<'a>),
+    /// The summary of a join of two streams that are made.
+    Gen(Recipe),
 }
 
 /// How a join is run on threads.
@@ -45,30 +67,69 @@ pub struct SerialPlan {
     ghost low_flight: { flight ≤ 256 },
 }
 
-impl Turning {
-    ghost use Rattle.hj_app.specs.Turning.{crew_turning, threads_turning};
+impl<'a> Turning<'a> {
+    ghost use Rattle.hj_opening.specs.Words.{asked_by};
+    ghost use Rattle.hj_app.specs.Turning.{asked_turning, crew_turning, threads_turning};
 
-    /// Who turns the cores of an order's chain: the calling thread for `join --threads 0` and for `check`, threads for every other
-    /// order.
-    pub fn of(order: &Order) -> Turning
+    /// Gives the one who does what an order says: the calling thread for `join --threads 0` and for `check`, threads for every
+    /// other order.
+    pub fn of(order: &'a Order) -> Turning<'a>
         requires { IsInRange order.now }
+        ensures asked { asked_turning result ≡ asked_by order.now }
         ensures crew { crew_turning result ≡ crew_of order.now }
         ensures threads { threads_turning result ≡ threads_of order.now }
     {
         match order {
-            Order::Equi { .. } | Order::Gen { .. } => Turning::Threads(CrewPlan::usual()),
-            Order::Join { setup, .. } if setup.threads > 0 => {
-                Turning::Threads(CrewPlan { setup: *setup })
+            Order::Equi { w, left, right } => {
+                let source = Source::Keyed(Keyed { rows: *w });
+                let join = join_of(source, left, right, MOST_EVENTS);
+                Turning::Threads(ThreadsOrder::Join(join), CrewPlan::usual())
             }
-            Order::Join { .. } | Order::Check { .. } => Turning::Alone,
+            Order::Join {
+                setup,
+                limit,
+                schedule,
+                query,
+                left,
+                right,
+            } => {
+                let join = join_of(Source::Named(query.text()), left, right, *limit);
+                if setup.threads > 0 {
+                    Turning::Threads(ThreadsOrder::Join(join), CrewPlan { setup: *setup })
+                } else {
+                    Turning::Alone(AloneOrder::Join(join, SerialPlan::of(*setup, *schedule)))
+                }
+            }
+            Order::Check { query } => Turning::Alone(AloneOrder::Check(query.text())),
+            Order::Gen { n, keys, seed, w } => {
+                let recipe = Recipe {
+                    rows: *n,
+                    keys: *keys,
+                    seed: *seed,
+                    window: Keyed { rows: *w },
+                };
+                Turning::Threads(ThreadsOrder::Gen(recipe), CrewPlan::usual())
+            }
         }
+    }
+}
+
+/// Gives the join of the streams under two names, by the query from this source, with this many events at most.
+fn join_of<'a>(source: Source<'a>, left: &'a Name, right: &'a Name, limit: u64) -> JoinOrder<'a>
+    ensures { join_seen result ≡ join_streams (source_seen source.entry) (record { left = left.now; right = right.now }) limit }
+{
+    JoinOrder {
+        source,
+        left: left.text(),
+        right: right.text(),
+        limit,
     }
 }
 
 impl CrewPlan {
     ghost use Rattle.hj_app.specs.Turning.{crew_seen};
 
-    /// The plan of a join without options.
+    /// Gives the plan of a join without options.
     pub fn usual() -> CrewPlan
         ensures crew { crew_seen result ≡ usual_crew }
         ensures threads { result.setup.threads ≡ 4 }
@@ -84,7 +145,7 @@ impl CrewPlan {
 }
 
 impl SerialPlan {
-    /// The plan of a join with these options.
+    /// Gives the plan of a join with these options.
     pub fn of(setup: Setup, schedule: Option<u64>) -> SerialPlan
         requires cores { IsFrom 1 64 setup.cores }
         requires flight { IsFrom 1 256 setup.flight }
@@ -100,7 +161,7 @@ impl SerialPlan {
     }
 }
 
-/// A seed draws the order of the steps; where none is given, the actors take turns.
+/// Gives the order of the steps: a seed draws it; where none is given, the actors take turns.
 fn chooser(schedule: Option<u64>) -> Chooser
     ensures { result ≡ chooser_of schedule }
 {

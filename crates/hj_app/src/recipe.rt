@@ -1,6 +1,6 @@
 ghost use Rattle.std.specs.Prelude.{◌≤◌};
 
-use crate::keyed::Keyed;
+use hj_opening::Keyed;
 
 /// The two streams that `gen N KEYS SEED W` makes and joins on equal keys.
 #[derive(Clone, Copy, Debug)]

@@ -2,24 +2,21 @@ ghost use Rattle.std.specs.Prelude.{◌≡◌, ◌≢◌, ◌↔◌, IsSome, IfS
 ghost use Rattle.hj_base.specs.declared.outside.Role.{Role};
 ghost use Rattle.hj_base.specs.Outside.{unbegun};
 ghost use Rattle.hj_words.specs.Ranges.{IsInRange};
-ghost use Rattle.hj_app.specs.Calls.{call};
+ghost use Rattle.hj_opening.specs.Calls.{call};
 ghost use Rattle.hj_app.specs.Crew.{CameToJoin, ShowsRun, crew_in, crew_of, spelled_in};
-ghost use Rattle.hj_app.specs.NoteText.{note_text, status_of};
-ghost use Rattle.hj_app.specs.NoteWritten.{NoteWritten};
+ghost use Rattle.hj_notes.specs.NoteText.{note_text, status_of};
+ghost use Rattle.hj_notes.specs.NoteWritten.{NoteWritten};
 ghost use Rattle.hj_app.specs.OnCrew.{RunsOnCrew};
-ghost use Rattle.hj_app.specs.Serve.{Serves};
-ghost use Rattle.hj_app.specs.Turning.{crew_seen};
-ghost use Rattle.hj_app.specs.Words.{asked_by, order_of};
+ghost use Rattle.hj_opening.specs.Serve.{Serves};
+ghost use Rattle.hj_app.specs.Turning.{asked_threads, crew_seen};
+ghost use Rattle.hj_opening.specs.Words.{asked_by, order_of};
 
 use crate::ended::Ended;
 use crate::generate::generate;
 use crate::join::join_on_threads;
-use crate::keyed::Keyed;
-use crate::notes::{Note, report};
-use crate::plan::{CrewPlan, MOST_EVENTS, Turning};
-use crate::recipe::Recipe;
+use hj_notes::{Note, report};
+use crate::plan::{CrewPlan, ThreadsOrder, Turning};
 use crate::serial::serve_serial;
-use crate::source::{JoinOrder, Source};
 use hj_base::{Gate, Outside, Sink};
 use hj_crew::Ran;
 use hj_value::SharedRow;
@@ -47,7 +44,7 @@ pub struct Served {
 /// key, on equal keys, over windows of the last W rows of each side. `check QUERY` writes the canonical text of a query. `gen N
 /// KEYS SEED W` makes two streams of N rows each in memory, joins them as `equi W` does, and writes one line that sums the join up.
 /// `rt` starts the threads. `outside` opens and reads the streams, `out` gets the joined lines, the text or the line, and `notes` a
-/// line that says why a run ended otherwise than well; `gate` is passed before each step of a core. The statuses: 0 done, 1 the
+/// line that says why a run didn't end well; `gate` is passed before each step of a core. The statuses: 0 done, 1 the
 /// words are no order, 2 the text is no query, 3 a bad record, 4 a stream couldn't be opened or read, 5 `out` failed, 6 memory ran
 /// out, 7 more events than the limit. The lines are those of the pairs of the sequential sliding-window join (Kang, Naughton and
 /// Viglas, ICDE 2003) over the streams' numbered events, each once, in its order, whatever the options. The call waits for the
@@ -65,15 +62,16 @@ pub fn serve<T: Threads + Wait + Clock + Sync, O: Outside, K: Sink, N: Sink, G: 
 
     // What is served, by the status.
     ensures serves { Serves result.status (order_of (map string_bytes words.now))
-        (call (O.under outside.old) (O.state outside.old) (O.state outside.new) (K.told out.old) (K.told out.new))
-        (K.faults out.old) (K.faults out.new) (N.told notes.old) (N.told notes.new) (N.refusals notes.old) (N.refusals notes.new) }
+        (call (O.under outside.old) (O.state outside.old) (O.state outside.new) (K.told out.old) (K.told out.new)
+        (K.faults out.old) (K.faults out.new)) (N.told notes.old) (N.told notes.new) (N.refusals notes.old) (N.refusals notes.new) }
 
     // Unless memory ran out, a run is handed back exactly where threads turn the order's chain and the call came to the join. A run
     // that is handed back made this join.
     ensures ran { result.status ≢ 6
         → (IsSome result.ran ↔ CameToJoin (crew_in (map string_bytes words.now)) result.status (O.state outside.new)) }
     ensures shows { IfSome result.ran (ShowsRun (spelled_in (map string_bytes words.now)) result.status
-        (call (O.under outside.old) (O.state outside.old) (O.state outside.new) (K.told out.old) (K.told out.new))) }
+        (call (O.under outside.old) (O.state outside.old) (O.state outside.new) (K.told out.old) (K.told out.new)
+        (K.faults out.old) (K.faults out.new))) }
 {
     match read_words(alloc, words) {
         Ok(order) => serve_order(rt, alloc, &order, outside, out, notes, gate),
@@ -95,19 +93,20 @@ fn serve_order<T: Threads + Wait + Clock + Sync, O: Outside, K: Sink, N: Sink, G
     requires ranges { IsInRange order.now }
     requires roles { (of : Role) → (O.state outside.old of).phase ≡ unbegun }
     ensures serves { Serves result.status (Some (asked_by order.now))
-        (call (O.under outside.old) (O.state outside.old) (O.state outside.new) (K.told out.old) (K.told out.new))
-        (K.faults out.old) (K.faults out.new) (N.told notes.old) (N.told notes.new) (N.refusals notes.old) (N.refusals notes.new) }
+        (call (O.under outside.old) (O.state outside.old) (O.state outside.new) (K.told out.old) (K.told out.new)
+        (K.faults out.old) (K.faults out.new)) (N.told notes.old) (N.told notes.new) (N.refusals notes.old) (N.refusals notes.new) }
     ensures ran { result.status ≢ 6 → (IsSome result.ran ↔ CameToJoin (crew_of order.now) result.status (O.state outside.new)) }
     ensures shows { IfSome result.ran (ShowsRun (Some order.now) result.status
-        (call (O.under outside.old) (O.state outside.old) (O.state outside.new) (K.told out.old) (K.told out.new))) }
+        (call (O.under outside.old) (O.state outside.old) (O.state outside.new) (K.told out.old) (K.told out.new)
+        (K.faults out.old) (K.faults out.new))) }
 {
     match Turning::of(order) {
-        Turning::Alone => Served {
-            status: serve_serial(alloc, order, outside, out, notes, gate),
+        Turning::Alone(asked) => Served {
+            status: serve_serial(alloc, asked, outside, out, notes, gate),
             ran: None,
         },
-        Turning::Threads(plan) => {
-            let ended = run_on_threads(rt, alloc, order, plan, outside, out, gate);
+        Turning::Threads(asked, plan) => {
+            let ended = run_on_threads(rt, alloc, asked, plan, outside, out, gate);
             Served {
                 status: report(notes, ended.end),
                 ran: ended.ran,
@@ -116,59 +115,24 @@ fn serve_order<T: Threads + Wait + Clock + Sync, O: Outside, K: Sink, N: Sink, G
     }
 }
 
-/// Runs an order whose chain threads turn.
+/// Runs an order whose chain threads turn by a plan.
 fn run_on_threads<T: Threads + Wait + Clock + Sync, O: Outside, K: Sink, G: Gate + Sync>(
     rt: &T,
     alloc: Global,
-    order: &Order,
+    order: ThreadsOrder<'_>,
     plan: CrewPlan,
     outside: &mut O,
     out: &mut K,
     gate: &G,
 ) -> Ended
-    requires crew { crew_of order.now ≡ Some (crew_seen plan) }
-    requires ranges { IsInRange order.now }
     requires roles { (of : Role) → (O.state outside.old of).phase ≡ unbegun }
-    ensures { RunsOnCrew (crew_seen plan) result (asked_by order.now)
-        (call (O.under outside.old) (O.state outside.old) (O.state outside.new) (K.told out.old) (K.told out.new))
-        (K.faults out.old) (K.faults out.new) }
+    ensures { RunsOnCrew (crew_seen plan) result (asked_threads order.entry)
+        (call (O.under outside.old) (O.state outside.old) (O.state outside.new) (K.told out.old) (K.told out.new)
+        (K.faults out.old) (K.faults out.new)) }
 {
     match order {
-        Order::Equi { w, left, right } => {
-            let join = JoinOrder {
-                source: Source::Keyed(Keyed { rows: *w }),
-                left: left.text(),
-                right: right.text(),
-                limit: MOST_EVENTS,
-            };
-            join_on_threads(rt, alloc, join, plan, outside, out, gate)
-        }
-        Order::Join {
-            limit,
-            query,
-            left,
-            right,
-            ..
-        } => {
-            let join = JoinOrder {
-                source: Source::Named(query.text()),
-                left: left.text(),
-                right: right.text(),
-                limit: *limit,
-            };
-            join_on_threads(rt, alloc, join, plan, outside, out, gate)
-        }
-        Order::Gen { n, keys, seed, w } => {
-            let recipe = Recipe {
-                rows: *n,
-                keys: *keys,
-                seed: *seed,
-                window: Keyed { rows: *w },
-            };
-            generate(rt, alloc, recipe, plan, out, gate)
-        }
-        // No chain is turned for a check.
-        Order::Check { .. } => unreachable!(),
+        ThreadsOrder::Join(join) => join_on_threads(rt, alloc, join, plan, outside, out, gate),
+        ThreadsOrder::Gen(recipe) => generate(rt, alloc, recipe, plan, out, gate),
     }
 }
 

@@ -1,32 +1,26 @@
-use Rattle.std.proofs.Common.{◌∙◌, ap, arith, subst, inl, inr, refl}
+use Rattle.std.proofs.Common.{◌∙◌, ap, arith, subst, inl, inr}
 use Rattle.hj_gen.specs.Summary.{summary_of}
 use Rattle.hj_app.specs.Orders.{recipe_seen}
 use Rattle.hj_app.specs.Turning.{crew_seen}
-use Rattle.hj_app.specs.Words.{most_events}
-use Rattle.hj_app.proofs.MadeJoin.{IsDoneOrMemory, done_shows, done_summed, only}
+use Rattle.hj_app.proofs.MadeJoin.{IsDoneOrMemory, done_shows, done_summed, is_done}
 use Rattle.hj_app.proofs.generate.sum_up.Goals as goal
 
 pub returns-in-Done-clause-line : goal.returns-in-Done-clause-line
-unfolding most_events
 returns-in-Done-clause-line g c =
-    done_summed (recipe_seen c.args.recipe) c.in_ok-query.query c.args.recipe.few_rows c.args.recipe.some_keys (omega (arith, c.args.recipe.few_keys)) c.in_ok-query.ensures 4294967295 refl c.in_ok-made.made.left c.in_ok-made.made.right c.in_ok-made.ensures.left c.in_ok-made.ensures.right
-    c.new-held.result c.join_threads-outcome.new.outside c.new-text.result c.join_threads-outcome.new.out c.new-held.ensures c.new-text.ensures
-    c.join_threads-outcome.result.0 c.in-Done.events c.in-Done.is c.in_ok-line-in-Done.line c.join_threads-outcome.ensures.joins.0 (c.in_ok-line-in-Done.ensures ∙ ap (summary_of c.in-Done.events) c.bytes.ensures)
+    done_summed (recipe_seen c.args.recipe) c.in_ok-query.query c.args.recipe.few_rows c.args.recipe.some_keys (omega (arith, c.args.recipe.few_keys)) c.in_ok-query.ensures c.in_ok-made.made.left c.in_ok-made.made.right c.in_ok-made.ensures.left c.in_ok-made.ensures.right
+    (crew_seen c.args.plan) c.join_held.result.outcome c.join_held.result.text.text c.join_held.result.ran c.join_held.ensures c.in-Done.events c.in-Done.is
+    c.in_ok-line-in-Done.line (c.in_ok-line-in-Done.ensures ∙ ap (summary_of c.in-Done.events) c.bytes.ensures)
 
 pub returns-in-Done-clause-shows : goal.returns-in-Done-clause-shows
-unfolding most_events
 returns-in-Done-clause-shows g c =
-    done_shows (recipe_seen c.args.recipe) c.in_ok-query.query c.args.recipe.few_rows c.args.recipe.some_keys (omega (arith, c.args.recipe.few_keys)) c.in_ok-query.ensures 4294967295 refl c.in_ok-made.made.left c.in_ok-made.made.right c.in_ok-made.ensures.left c.in_ok-made.ensures.right
-    c.new-held.result c.join_threads-outcome.new.outside c.new-text.result c.join_threads-outcome.new.out c.new-held.ensures c.new-text.ensures
-    c.join_threads-outcome.result.0 c.in-Done.events c.in-Done.is (crew_seen c.args.plan) c.join_threads-outcome.result.1 c.in-Some.ran c.in-Some.is c.join_threads-outcome.ensures.joins
+    done_shows (recipe_seen c.args.recipe) c.in_ok-query.query c.args.recipe.few_rows c.args.recipe.some_keys (omega (arith, c.args.recipe.few_keys)) c.in_ok-query.ensures c.in_ok-made.made.left c.in_ok-made.made.right c.in_ok-made.ensures.left c.in_ok-made.ensures.right
+    (crew_seen c.args.plan) c.join_held.result.outcome c.join_held.result.text.text c.join_held.result.ran c.join_held.ensures c.in-Done.events c.in-Done.is c.in-Some.ran c.in-Some.is
 
 pub unreachable-requires-in-Bad : goal.unreachable-requires-in-Bad
-unfolding most_events
 unreachable-requires-in-Bad g c =
-    let is : IsDoneOrMemory c.join_threads-outcome.result.0 =
-    only (recipe_seen c.args.recipe) c.in_ok-query.query c.args.recipe.few_rows c.args.recipe.some_keys (omega (arith, c.args.recipe.few_keys)) c.in_ok-query.ensures 4294967295 refl c.in_ok-made.made.left c.in_ok-made.made.right c.in_ok-made.ensures.left c.in_ok-made.ensures.right
-    c.new-held.result c.join_threads-outcome.new.outside c.new-text.result c.join_threads-outcome.new.out c.new-held.ensures c.new-text.ensures
-    c.join_threads-outcome.result.0 c.join_threads-outcome.ensures.joins.0 c.join_threads-outcome.ensures.faults in
+    let is : IsDoneOrMemory c.join_held.result.outcome =
+    is_done (recipe_seen c.args.recipe) c.in_ok-query.query c.args.recipe.few_rows c.args.recipe.some_keys (omega (arith, c.args.recipe.few_keys)) c.in_ok-query.ensures c.in_ok-made.made.left c.in_ok-made.made.right c.in_ok-made.ensures.left c.in_ok-made.ensures.right
+    (crew_seen c.args.plan) c.join_held.result.outcome c.join_held.result.text.text c.join_held.result.ran c.join_held.ensures in
     elim c.in-Bad.is [
       | inl bad ↦ subst IsDoneOrMemory bad.3 is
       | inr others ↦ elim others [

@@ -1,6 +1,6 @@
 use Rattle.std.proofs.lemmas.Result.{err_from_is_err_and}
-use Rattle.hj_app.specs.Orders.{names_seen, source_seen}
-use Rattle.hj_app.proofs.Joined.{joins_so}
+use Rattle.hj_opening.specs.Orders.{names_seen, source_seen}
+use Rattle.hj_opening.proofs.Joined.{joins_so}
 use Rattle.hj_app.proofs.join.join_alone.Goals as goal
 
 pub returns-in_err-query : goal.returns-in_err-query
@@ -10,5 +10,5 @@ returns-in_err-query g c =
 
 pub returns : goal.returns
 returns g c =
-    joins_so c.in_ok-query.query c.args.join.limit (names_seen c.args.join) (g.O.Outside.under c.args.outside.now) (g.O.Outside.state c.args.outside.now) (g.O.Outside.state c.make_ready.new.outside) (g.O.Outside.state c.join_serial-outcome.new.outside) (g.K.Sink.told c.args.out.now) (g.K.Sink.told c.join_serial-outcome.new.out)
-    (source_seen c.args.join.source) c.in_ok-query.ensures c.end_of.result c.join_serial-outcome.result (g.K.Sink.faults c.args.out.now) (g.K.Sink.faults c.join_serial-outcome.new.out) c.end_of.ensures c.join_serial-outcome.ensures.joins c.join_serial-outcome.ensures.faults
+    joins_so c.in_ok-query.query c.args.join.limit (names_seen c.args.join) (g.O.Outside.under c.args.outside.now) (g.O.Outside.state c.args.outside.now) (g.O.Outside.state c.make_ready.new.outside) (g.O.Outside.state c.join_serial-outcome.new.outside) (g.K.Sink.told c.args.out.now) (g.K.Sink.told c.join_serial-outcome.new.out) (g.K.Sink.faults c.args.out.now) (g.K.Sink.faults c.join_serial-outcome.new.out)
+    (source_seen c.args.join.source) c.in_ok-query.ensures c.end_of.result c.join_serial-outcome.result c.end_of.ensures c.join_serial-outcome.ensures.joins c.join_serial-outcome.ensures.faults

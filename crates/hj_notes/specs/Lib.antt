@@ -1,0 +1,4 @@
+pub mod NoteText
+pub mod NoteWritten
+pub mod Notes
+pub mod Parts

@@ -1,0 +1,72 @@
+ghost use Rattle.std.specs.Prelude.{◌≡◌};
+ghost use Rattle.std.specs.List.{flat_map};
+ghost use Rattle.hj_notes.specs.Notes.{piece_text, row_text, fault_text, record_note};
+ghost use Rattle.hj_notes.specs.NoteWritten.{NoteWritten};
+ghost use Rattle.hj_notes.specs.Parts.{part_text};
+
+use crate::parts::{NOTHING, Part, put_parts, side_name};
+use hj_base::{Side, Sink};
+use hj_event::{RecordFault, RowFault};
+use hj_record::PieceFault;
+
+/// Writes the note of a bad record: its side, its number from 1, and its fault.
+pub fn put_record<N: Sink>(notes: &mut N, side: Side, at: u64, fault: RecordFault)
+    ensures { NoteWritten (record_note side at fault) (N.told notes.old) (N.told notes.new) (N.refusals notes.old) (N.refusals notes.new) }
+{
+    let [kind, first, between, second] = fault_parts(fault);
+    let parts = [
+        side_name(side),
+        Part::Words(" record "),
+        Part::Number(at),
+        Part::Words(": "),
+        kind,
+        first,
+        between,
+        second,
+        Part::Words("\n"),
+    ];
+    put_parts(notes, &parts)
+}
+
+/// Spells the fault of a record.
+fn fault_parts(fault: RecordFault) -> [Part; 4]
+    ensures { flat_map part_text result ≡ fault_text fault }
+{
+    match fault {
+        RecordFault::Piece(found) => [piece_name(found), NOTHING, NOTHING, NOTHING],
+        RecordFault::Row(found) => row_parts(found),
+        RecordFault::TimeBack(before, found) => [
+            Part::Words("TimeBack "),
+            Part::Signed(before),
+            Part::Words(" "),
+            Part::Signed(found),
+        ],
+    }
+}
+
+/// Names the fault of a piece.
+fn piece_name(fault: PieceFault) -> Part
+    ensures { part_text result ≡ piece_text fault }
+{
+    Part::Words(match fault {
+        PieceFault::OpenQuote => "OpenQuote",
+        PieceFault::NotOneRecord => "NotOneRecord",
+        PieceFault::TooLong => "TooLong",
+        PieceFault::StreamLong => "StreamLong",
+        PieceFault::Memory => "Memory",
+    })
+}
+
+/// Spells the fault of a row.
+fn row_parts(fault: RowFault) -> [Part; 4]
+    ensures { flat_map part_text result ≡ row_text fault }
+{
+    let (kind, number) = match fault {
+        RowFault::FieldCount(found) => ("FieldCount ", found as u64),
+        RowFault::NotNumber(column) => ("NotNumber column ", u64::from(column)),
+        RowFault::NumberRange(column) => ("NumberRange column ", u64::from(column)),
+        RowFault::NotText(column) => ("NotText column ", u64::from(column)),
+        RowFault::Memory => return [Part::Words("Memory"), NOTHING, NOTHING, NOTHING],
+    };
+    [Part::Words(kind), Part::Number(number), NOTHING, NOTHING]
+}

@@ -1,0 +1,198 @@
+-- What the run of a command promises, from the cause of its ending, what it wrote and the roles that it began.
+use Rattle.std.proofs.Common.{◌≡◌, ◌≢◌, ◌⊎◌, ℕ, List, [], Ok, Err, Result, sym, ◌∙◌, ap, inl, inr, refl}
+use Rattle.std.specs.Io.KnownBytes.{Appends}
+use Rattle.hj_base.specs.declared.outside.Role.{Role}
+use Rattle.hj_base.specs.declared.outside.Role.TheVariants as role
+use Rattle.hj_base.specs.Counts.{Rose}
+use Rattle.hj_base.specs.Outside.{unbegun}
+use Rattle.hj_event.specs.Arrivals.{Ending, bad, too_many}
+use Rattle.hj_notes.specs.declared.note.Note.{Note}
+use Rattle.hj_notes.specs.declared.note.Note.TheVariants as why
+use Rattle.hj_notes.specs.NoteText.{status_of_end, text_of_end}
+use Rattle.hj_notes.specs.Notes.{source_note}
+use Rattle.hj_query.specs.declared.fault.QueryFault.{QueryFault}
+use Rattle.hj_opening.specs.Calls.{Call}
+use Rattle.hj_opening.specs.Check.{BeginsCanonical, WritesCanonical}
+use Rattle.hj_opening.specs.Generating.{BeginsSummary, WritesSummary}
+use Rattle.hj_opening.specs.Run.{RunsOrder}
+use Rattle.hj_opening.specs.Serve.{BeginsInOrder, BeginsSource, Ends, EndsBy, EndsCheck, EndsGen, EndsJoin, FailsJoin, IsJoinDecided, IsJoinFront, IsJoinRole, JoinsAll, JoinsWhole, NothingFails, RefusesNamed, RefusesQuery, status_of_ending}
+use Rattle.hj_opening.specs.Serve as says
+use Rattle.hj_opening.specs.Streams.{Fails, IsBegunUnder}
+use Rattle.hj_opening.specs.Words.{Names, Recipe, Source, check_query, join_streams, keyed, most_events, named, sum_up}
+use Rattle.hj_opening.proofs.Phases.{Roles}
+
+abbrev pub End : Type 0
+End = Result (Unit {0}) Note
+
+-- A fault of the sink is the one ending with which its count rose.
+abbrev pub CountsSink : End → ℕ → ℕ → Type 0
+CountsSink (Err why.Sink) before now = Rose before now
+CountsSink ended before now = now ≡ before
+
+sink_kept : (ended : End) (before now : ℕ) → CountsSink ended before now → status_of_end ended ≢ 5 → now ≡ before
+sink_kept (Err why.Sink) before now counts other = absurd (other refl)
+sink_kept _ before now counts other = counts
+
+-- ---- a join
+
+join_others : (source : Source) (now : Roles) → BeginsSource source (now role.Query).phase → (of : Role) → ¬ (IsJoinRole source of) → (now of).phase ≡ unbegun
+join_others (keyed rows) now begun role.Query unread = begun
+join_others (keyed rows) now begun role.Left unread = absurd (unread (λ e. cc))
+join_others (keyed rows) now begun role.Right unread = absurd (unread (λ e. cc))
+join_others (named name) now begun of unread = absurd (unread tt)
+
+module _ (source : Source) (names : Names) (limit : ℕ) (call : Call) where
+  abbrev pub JoinCause : End → Type 0
+  JoinCause (Ok done) = JoinsWhole source names limit call
+  JoinCause (Err why.Usage) = ⊥
+  JoinCause (Err (why.BadQuery found)) = RefusesNamed found source call
+  JoinCause (Err (why.BadRecord side at found)) = JoinsAll (λ ending. ending ≡ bad side at found) source names limit call
+  JoinCause (Err (why.Source of)) = FailsJoin of source names limit call
+  JoinCause (Err why.Sink) = Unit {0}
+  JoinCause (Err why.Memory) = Unit {0}
+  JoinCause (Err (why.TooManyEvents most)) = (most ≡ limit) × JoinsAll (λ ending. ending ≡ too_many) source names limit call
+
+  join_ends : (ended : End) → JoinCause ended → CountsSink ended call.faults_before call.faults_now → Ends (EndsJoin source names limit call) (status_of_end ended) (text_of_end ended) call
+  join_ends (Ok done) cause counts = says.own (says.joined refl refl cause)
+  join_ends (Err why.Usage) cause counts = absurd cause
+  join_ends (Err (why.BadQuery found)) cause counts = says.own (says.bad_query found refl refl cause)
+  join_ends (Err (why.BadRecord side at found)) cause counts = says.own (says.bad_record side at found refl refl cause)
+  join_ends (Err (why.Source of)) cause counts = says.own (says.failed_source of refl refl cause)
+  join_ends (Err why.Sink) cause counts = says.failed_sink refl refl counts
+  join_ends (Err why.Memory) cause counts = says.memory refl refl
+  join_ends (Err (why.TooManyEvents most)) cause counts = says.own (says.events refl (ap (λ (n : ℕ). text_of_end (Err (why.TooManyEvents n))) cause.0) cause.1)
+
+  ends_by : (status : ℕ) (ending : Ending) → status ≡ status_of_ending ending → JoinsAll (λ e. e ≡ ending) source names limit call → EndsBy status source names limit call
+  ends_by status ending is all =
+      let w = all.2 in
+      record { query = all.0; accepted = all.1; left = w.left; right = w.right; streams = w.streams; ending = is ∙ sym (ap status_of_ending w.ending) }
+
+  ends_clean : (status : ℕ) → status ≡ 0 → JoinsWhole source names limit call → EndsBy status source names limit call
+  ends_clean status is all =
+      let w = all.2 in
+      record { query = all.0; accepted = all.1; left = w.left; right = w.right; streams = w.streams; ending = is ∙ sym (ap status_of_ending w.ending) }
+
+  own_decides : (status : ℕ) (note : List ℕ) → EndsJoin source names limit call status note → NothingFails call → IsJoinDecided status source names limit call
+  own_decides status note (says.joined is told whole) none = inr (ends_clean status is whole)
+  own_decides status note (says.bad_query found is told refuses) none = inl (is, (found, refuses))
+  own_decides status note (says.bad_record side at found is told all) none = inr (ends_by status (bad side at found) is all)
+  own_decides status note (says.failed_source of is told fails) none = absurd (none.roles of fails.fails)
+  own_decides status note (says.events is told all) none = inr (ends_by status too_many is all)
+
+  join_decides : (status : ℕ) (note : List ℕ) → Ends (EndsJoin source names limit call) status note call → NothingFails call → (status ≡ 6) ⊎ IsJoinDecided status source names limit call
+  join_decides status note (says.own how) none = inr (own_decides status note how none)
+  join_decides status note (says.failed_sink is told rose) none = absurd (none.sink rose)
+  join_decides status note (says.memory is told) none = inl is
+
+  pub join_runs : (ended : End) → JoinCause ended → CountsSink ended call.faults_before call.faults_now → (grown : List ℕ) → Appends call.old call.new grown → (grown ≡ []) ⊎ IsJoinFront source names limit call grown
+      → BeginsInOrder source names call → RunsOrder ended (join_streams source names limit) call
+  join_runs ended cause counts grown written front roles = record {
+    keeps = record {
+      ends = join_ends ended cause counts;
+      grown = grown;
+      written = written;
+      front = front;
+      others = join_others source call.now roles.query;
+      sink = sink_kept ended call.faults_before call.faults_now counts;
+    };
+    roles = roles;
+    complete = join_decides (status_of_end ended) (text_of_end ended) (join_ends ended cause counts);
+  }
+
+-- ---- a check
+
+query_alone : (now : Roles) → (now role.Left).phase ≡ unbegun → (now role.Right).phase ≡ unbegun → (of : Role) → ¬ (of ≡ role.Query) → (now of).phase ≡ unbegun
+query_alone now left right role.Query other = absurd (other refl)
+query_alone now left right role.Left other = left
+query_alone now left right role.Right other = right
+
+module _ (name : List ℕ) (call : Call) where
+  abbrev pub CheckCause : End → Type 0
+  CheckCause (Ok done) = WritesCanonical name call
+  CheckCause (Err why.Usage) = ⊥
+  CheckCause (Err (why.BadQuery found)) = RefusesQuery found name call
+  CheckCause (Err (why.BadRecord side at found)) = ⊥
+  CheckCause (Err (why.Source of)) = (of ≡ role.Query) × Fails role.Query call.before call.now × Appends call.old call.new []
+  CheckCause (Err why.Sink) = Unit {0}
+  CheckCause (Err why.Memory) = Unit {0}
+  CheckCause (Err (why.TooManyEvents most)) = ⊥
+
+  check_ends : (ended : End) → CheckCause ended → CountsSink ended call.faults_before call.faults_now → Ends (EndsCheck name call) (status_of_end ended) (text_of_end ended) call
+  check_ends (Ok done) cause counts = says.own (says.checked refl refl cause)
+  check_ends (Err why.Usage) cause counts = absurd cause
+  check_ends (Err (why.BadQuery found)) cause counts = says.own (says.refused found refl refl cause)
+  check_ends (Err (why.BadRecord side at found)) cause counts = absurd cause
+  check_ends (Err (why.Source of)) cause counts = says.own (says.failed_query refl (ap source_note cause.0) cause.1 cause.2)
+  check_ends (Err why.Sink) cause counts = says.failed_sink refl refl counts
+  check_ends (Err why.Memory) cause counts = says.memory refl refl
+  check_ends (Err (why.TooManyEvents most)) cause counts = absurd cause
+
+  abbrev CheckDecided : ℕ → Type 0
+  CheckDecided status = ((status ≡ 2) × ((found : QueryFault) × RefusesQuery found name call)) ⊎ ((status ≡ 0) × WritesCanonical name call)
+
+  own_check : (status : ℕ) (note : List ℕ) → EndsCheck name call status note → NothingFails call → CheckDecided status
+  own_check status note (says.checked is told written) none = inr (is, written)
+  own_check status note (says.refused found is told refuses) none = inl (is, (found, refuses))
+  own_check status note (says.failed_query is told fails nothing) none = absurd (none.roles role.Query fails)
+
+  check_decides : (status : ℕ) (note : List ℕ) → Ends (EndsCheck name call) status note call → NothingFails call → (status ≡ 6) ⊎ CheckDecided status
+  check_decides status note (says.own how) none = inr (own_check status note how none)
+  check_decides status note (says.failed_sink is told rose) none = absurd (none.sink rose)
+  check_decides status note (says.memory is told) none = inl is
+
+  pub check_runs : (ended : End) → CheckCause ended → CountsSink ended call.faults_before call.faults_now → (grown : List ℕ) → Appends call.old call.new grown → (grown ≡ []) ⊎ BeginsCanonical grown name call
+      → IsBegunUnder name (call.now role.Query).phase → (call.now role.Left).phase ≡ unbegun → (call.now role.Right).phase ≡ unbegun → RunsOrder ended (check_query name) call
+  check_runs ended cause counts grown written front query left right = record {
+    keeps = record {
+      ends = check_ends ended cause counts;
+      grown = grown;
+      written = written;
+      front = front;
+      others = query_alone call.now left right;
+      sink = sink_kept ended call.faults_before call.faults_now counts;
+    };
+    query = query;
+    complete = check_decides (status_of_end ended) (text_of_end ended) (check_ends ended cause counts);
+  }
+
+-- ---- a summary
+
+module _ (recipe : Recipe) (call : Call) where
+  abbrev pub GenCause : End → Type 0
+  GenCause (Ok done) = WritesSummary recipe most_events call
+  GenCause (Err why.Sink) = Unit {0}
+  GenCause (Err why.Memory) = Unit {0}
+  GenCause (Err other) = ⊥
+
+  gen_ends : (ended : End) → GenCause ended → CountsSink ended call.faults_before call.faults_now → Ends (EndsGen recipe call) (status_of_end ended) (text_of_end ended) call
+  gen_ends (Ok done) cause counts = says.own (says.summed refl refl cause)
+  gen_ends (Err why.Sink) cause counts = says.failed_sink refl refl counts
+  gen_ends (Err why.Memory) cause counts = says.memory refl refl
+  gen_ends (Err why.Usage) cause counts = absurd cause
+  gen_ends (Err (why.BadQuery found)) cause counts = absurd cause
+  gen_ends (Err (why.BadRecord side at found)) cause counts = absurd cause
+  gen_ends (Err (why.Source of)) cause counts = absurd cause
+  gen_ends (Err (why.TooManyEvents most)) cause counts = absurd cause
+
+  own_summed : (status : ℕ) (note : List ℕ) → EndsGen recipe call status note → (status ≡ 0) × WritesSummary recipe most_events call
+  own_summed status note (says.summed is told written) = (is, written)
+
+  gen_decides : (status : ℕ) (note : List ℕ) → Ends (EndsGen recipe call) status note call → NothingFails call → (status ≡ 6) ⊎ ((status ≡ 0) × WritesSummary recipe most_events call)
+  gen_decides status note (says.own how) none = inr (own_summed status note how)
+  gen_decides status note (says.failed_sink is told rose) none = absurd (none.sink rose)
+  gen_decides status note (says.memory is told) none = inl is
+
+  pub gen_runs : (ended : End) → GenCause ended → CountsSink ended call.faults_before call.faults_now → (grown : List ℕ) → Appends call.old call.new grown → (grown ≡ []) ⊎ BeginsSummary grown recipe most_events
+      → ((of : Role) → call.now of ≡ call.before of) → ((of : Role) → (call.now of).phase ≡ unbegun) → RunsOrder ended (sum_up recipe) call
+  gen_runs ended cause counts grown written front untouched unbegun_now = record {
+    keeps = record {
+      ends = gen_ends ended cause counts;
+      grown = grown;
+      written = written;
+      front = front;
+      others = λ of no. unbegun_now of;
+      sink = sink_kept ended call.faults_before call.faults_now counts;
+    };
+    untouched = untouched;
+    complete = gen_decides (status_of_end ended) (text_of_end ended) (gen_ends ended cause counts);
+  }

@@ -1,0 +1,10 @@
+pub mod Endings
+pub mod Joined
+pub mod MadeEvents
+pub mod MadeLines
+pub mod Phases
+pub mod Prefixes
+pub mod QueryReading
+pub mod Readying
+pub mod RunningOrders
+pub mod Serving

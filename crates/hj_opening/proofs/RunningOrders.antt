@@ -1,0 +1,153 @@
+-- The run of an order whose query wasn't got, and of a check.
+use Rattle.std.proofs.Common.{◌≡◌, ◌≢◌, ◌⊎◌, ℕ, List, [], Ok, Err, sym, ◌∙◌, ap, subst, inl, inr, refl}
+use Rattle.std.proofs.KnownBytes.{Appends-nil}
+use Rattle.std.specs.Io.KnownBytes.{Appends}
+use Rattle.std.specs.declared.option.Option.{Option}
+use Rattle.hj_base.specs.declared.outside.Role.{Role}
+use Rattle.hj_base.specs.declared.outside.Role.TheVariants as role
+use Rattle.hj_base.specs.Counts.{Rose}
+use Rattle.hj_base.specs.Journals.{IsPrefix}
+use Rattle.hj_base.specs.Outside.{RoleState, ChangesOnly, IsOpen, unbegun}
+use Rattle.hj_output.specs.declared.output.Sent.TheVariants as sent
+use Rattle.hj_output.specs.Output.{CountsFaults, Sends}
+use Rattle.hj_query.specs.Canonical.{canonical}
+use Rattle.hj_query.specs.Parts.{Parts}
+use Rattle.hj_notes.specs.declared.note.Note.{Note}
+use Rattle.hj_notes.specs.declared.note.Note.TheVariants as why
+use Rattle.hj_opening.specs.Calls.{Call, call}
+use Rattle.hj_opening.specs.Check.{BeginsCanonical}
+use Rattle.hj_opening.specs.Opening.{GetsQuery, QueryCause}
+use Rattle.hj_opening.specs.Queries.{IsRefused}
+use Rattle.hj_opening.specs.Run.{RunsOrder}
+use Rattle.hj_opening.specs.Serve.{IsJoinRole}
+use Rattle.hj_opening.specs.Streams.{Fails}
+use Rattle.hj_opening.specs.Words.{Names, Source, check_query, join_streams, keyed, named}
+use Rattle.hj_opening.proofs.Endings.{CheckCause, CountsSink, End, JoinCause, check_runs, join_runs}
+use Rattle.hj_opening.proofs.Phases.{Roles, begun-unbegun}
+use Rattle.hj_opening.proofs.Prefixes.{begins_all}
+
+not_open : (state : RoleState) → state.phase ≡ unbegun → ¬ (IsOpen state.phase)
+not_open state e o = subst IsOpen e o
+
+-- ---- an order whose query wasn't got
+
+query_role-fails : (failed : Role) (before now : Roles) → failed ≡ role.Query → Rose (before role.Query).faults (now role.Query).faults → Fails failed before now
+query_role-fails failed before now e rose = subst (λ (r : Role). Fails r before now) (sym e) rose
+
+-- the role of a query that is read under a name is one of a join's
+reads_query : (source : Source) (name : List ℕ) (of : Role) → source ≡ named name → IsJoinRole source of
+reads_query (keyed rows) name of e = absurd cc
+reads_query (named given) name of e = tt
+
+name_of : Source → List ℕ
+name_of (keyed rows) = []
+name_of (named name) = name
+
+same_name : (name given : List ℕ) → named name ≡ named given → given ≡ name
+unfolding name_of
+same_name name given e = sym (ap name_of e)
+
+stays_unbegun : (before now : Roles) (of : Role) → of ≢ role.Query → ChangesOnly role.Query before now → (before of).phase ≡ unbegun → (now of).phase ≡ unbegun
+stays_unbegun before now of other others none = ap (λ (s : RoleState). s.phase) (others of other) ∙ none
+
+module _ (under : List ℕ → Option (List ℕ)) (before now : Roles) (told : Option (List ℕ)) (faults : ℕ) where
+  abbrev this : Call
+  this = call under before now told told faults faults
+
+  -- such an ending is no fault of the sink
+  no_fault : (note : Note) (source : Source) → QueryCause (Err note) source under (before role.Query) (now role.Query) → CountsSink (Err note) faults faults
+  no_fault (why.BadQuery found) source cause = refl
+  no_fault (why.Source failed) source cause = refl
+  no_fault why.Memory source cause = refl
+  no_fault why.Usage source cause = absurd cause
+  no_fault (why.BadRecord of at found) source cause = absurd cause
+  no_fault why.Sink source cause = absurd cause
+  no_fault (why.TooManyEvents limit) source cause = absurd cause
+
+  module _ (left : (now role.Left).phase ≡ unbegun) (right : (now role.Right).phase ≡ unbegun) where
+    join_cause : (source : Source) (names : Names) (limit : ℕ) (note : Note) → QueryCause (Err note) source under (before role.Query) (now role.Query) → JoinCause source names limit this (Err note)
+    join_cause source names limit (why.BadQuery found) cause = record {
+      name = cause.0;
+      named_so = cause.1;
+      refuses = record { refused = cause.2; left = left; right = right; nothing = Appends-nil told };
+    }
+    join_cause source names limit (why.Source failed) cause = record {
+      has = reads_query source cause.0 failed cause.1;
+      fails = query_role-fails failed before now cause.2 cause.3;
+      unopened = λ no. Appends-nil told;
+      opened = λ are. absurd (not_open (now role.Left) left are.0);
+    }
+    join_cause source names limit why.Memory cause = tt
+    join_cause source names limit why.Usage cause = absurd cause
+    join_cause source names limit (why.BadRecord of at found) cause = absurd cause
+    join_cause source names limit why.Sink cause = absurd cause
+    join_cause source names limit (why.TooManyEvents most) cause = absurd cause
+
+    check_cause : (name : List ℕ) (note : Note) → QueryCause (Err note) (named name) under (before role.Query) (now role.Query) → CheckCause name this (Err note)
+    check_cause name (why.BadQuery found) cause = record {
+      refused = subst (λ (n : List ℕ). IsRefused found n (under n) (before role.Query) (now role.Query)) (same_name name cause.0 cause.1) cause.2;
+      left = left;
+      right = right;
+      nothing = Appends-nil told;
+    }
+    check_cause name (why.Source failed) cause = (cause.2, cause.3, Appends-nil told)
+    check_cause name why.Memory cause = tt
+    check_cause name why.Usage cause = absurd cause
+    check_cause name (why.BadRecord of at found) cause = absurd cause
+    check_cause name why.Sink cause = absurd cause
+    check_cause name (why.TooManyEvents most) cause = absurd cause
+
+  module _ (unbegun_before : (of : Role) → (before of).phase ≡ unbegun) where
+    -- a join
+    pub join_refused : (source : Source) (names : Names) (limit : ℕ) (note : Note) → GetsQuery (Err note) source under before now
+        → RunsOrder (Err note) (join_streams source names limit) (call under before now told told faults faults)
+    join_refused source names limit note gets =
+        let left : (now role.Left).phase ≡ unbegun = stays_unbegun before now role.Left (λ e. cc) gets.others (unbegun_before role.Left) in
+        let right : (now role.Right).phase ≡ unbegun = stays_unbegun before now role.Right (λ e. cc) gets.others (unbegun_before role.Right) in
+        join_runs source names limit this (Err note) (join_cause left right source names limit note gets.cause) (no_fault note source gets.cause) [] (Appends-nil told) (inl refl)
+        (record {
+          query = gets.begun;
+          left = begun-unbegun names.left (now role.Left).phase left;
+          right = begun-unbegun names.right (now role.Right).phase right;
+          query_first = λ begun. absurd (begun left);
+          left_first = λ begun. absurd (begun right);
+        })
+
+    -- a check
+    pub check_refused : (name : List ℕ) (note : Note) → GetsQuery (Err note) (named name) under before now
+        → RunsOrder (Err note) (check_query name) (call under before now told told faults faults)
+    check_refused name note gets =
+        let left : (now role.Left).phase ≡ unbegun = stays_unbegun before now role.Left (λ e. cc) gets.others (unbegun_before role.Left) in
+        let right : (now role.Right).phase ≡ unbegun = stays_unbegun before now role.Right (λ e. cc) gets.others (unbegun_before role.Right) in
+        check_runs name this (Err note) (check_cause left right name note gets.cause) (no_fault note (named name) gets.cause) [] (Appends-nil told) (inl refl) gets.begun left right
+
+-- ---- a check that got its query
+
+module _ (name : List ℕ) (under : List ℕ → Option (List ℕ)) (before now : Roles) (unbegun_before : (of : Role) → (before of).phase ≡ unbegun) (query : Parts) (gets : GetsQuery (Ok query) (named name) under before now) where
+  abbrev ended_so : Option (List ℕ) → Option (List ℕ) → ℕ → ℕ → Call
+  ended_so old new faults faults' = call under before now old new faults faults'
+
+  runs_check : (old new : Option (List ℕ)) (faults faults' : ℕ) (ended : End) → CheckCause name (ended_so old new faults faults') ended → CountsSink ended faults faults'
+      → (grown : List ℕ) → Appends old new grown → (grown ≡ []) ⊎ BeginsCanonical grown name (ended_so old new faults faults') → RunsOrder ended (check_query name) (ended_so old new faults faults')
+  runs_check old new faults faults' ended cause counts grown written front =
+      check_runs name (ended_so old new faults faults') ended cause counts grown written front gets.begun
+      (stays_unbegun before now role.Left (λ e. cc) gets.others (unbegun_before role.Left)) (stays_unbegun before now role.Right (λ e. cc) gets.others (unbegun_before role.Right))
+
+  -- the text couldn't be made
+  pub check_unmade : (told : Option (List ℕ)) (faults : ℕ) → RunsOrder (Err why.Memory) (check_query name) (call under before now told told faults faults)
+  check_unmade told faults = runs_check told told faults faults (Err why.Memory) tt refl [] (Appends-nil told) (inl refl)
+
+  module _ (text : List ℕ) (is : text ≡ canonical query) (old new : Option (List ℕ)) (faults faults' : ℕ) where
+    begins : (grown : List ℕ) → IsPrefix grown text → BeginsCanonical grown name (ended_so old new faults faults')
+    begins grown front = record { query = query; accepted = gets.cause.0; begins = subst (λ (all : List ℕ). IsPrefix grown all) is front }
+
+    pub check_whole : Sends sent.Whole text old new → CountsFaults sent.Whole faults faults' → RunsOrder (Ok tt) (check_query name) (call under before now old new faults faults')
+    check_whole w counts =
+        runs_check old new faults faults' (Ok tt) (record { query = query; accepted = gets.cause.0; written = subst (λ (all : List ℕ). Appends old new all) is w }) counts
+        text w (inr (begins text (begins_all text text refl)))
+
+    pub check_failed : Sends sent.Failed text old new → CountsFaults sent.Failed faults faults' → RunsOrder (Err why.Sink) (check_query name) (call under before now old new faults faults')
+    check_failed w counts = runs_check old new faults faults' (Err why.Sink) tt counts.1 w.grown w.written (inr (begins w.grown w.front))
+
+    pub check_memory : Sends sent.Memory text old new → CountsFaults sent.Memory faults faults' → RunsOrder (Err why.Memory) (check_query name) (call under before now old new faults faults')
+    check_memory w counts = runs_check old new faults faults' (Err why.Memory) tt counts w.grown w.written (inr (begins w.grown w.front))

@@ -1,0 +1,97 @@
+-- What a run says of the call of `serve` that made it.
+use Rattle.std.proofs.Common.{◌≡◌, ◌≤◌, ℕ, List, [], Ok, Err, None, Some, sym, subst, inl, inr, refl, arith}
+use Rattle.std.proofs.KnownBytes.{Appends-nil}
+use Rattle.std.specs.declared.option.Option.{Option}
+use Rattle.hj_base.specs.declared.outside.Role.{Role}
+use Rattle.hj_base.specs.declared.outside.Role.TheVariants as role
+use Rattle.hj_base.specs.Outside.{unbegun}
+use Rattle.hj_notes.specs.declared.note.Note.TheVariants as why
+use Rattle.hj_notes.specs.NoteText.{status_of_end, text_of_end}
+use Rattle.hj_notes.specs.NoteWritten.{NoteWritten}
+use Rattle.hj_notes.specs.Notes.{memory_note, usage_note}
+use Rattle.hj_opening.specs.Calls.{Call}
+use Rattle.hj_opening.specs.Calls.{call as as_call}
+use Rattle.hj_opening.specs.Run.{RunsOrder}
+use Rattle.hj_opening.specs.Serve.{BeginsInOrder, BeginsSource, Serves, ServesOrder}
+use Rattle.hj_opening.specs.Serve as says
+use Rattle.hj_opening.specs.Words.{Names, Order, Source, check_query, join_streams, keyed, named, sum_up}
+use Rattle.hj_opening.proofs.Endings.{End, check_runs, gen_runs, join_runs}
+use Rattle.hj_opening.proofs.Phases.{Roles, begun-unbegun}
+
+at_most_seven : (ended : End) → status_of_end ended ≤ 7
+at_most_seven (Ok done) = omega arith
+at_most_seven (Err why.Usage) = omega arith
+at_most_seven (Err (why.BadQuery found)) = omega arith
+at_most_seven (Err (why.BadRecord side at found)) = omega arith
+at_most_seven (Err (why.Source of)) = omega arith
+at_most_seven (Err why.Sink) = omega arith
+at_most_seven (Err why.Memory) = omega arith
+at_most_seven (Err (why.TooManyEvents limit)) = omega arith
+
+-- an ending whose status was answered, and whose note was written
+serves_end : (call : Call) (status : ℕ) (ended : End) (order : Option Order) (told told' : Option (List ℕ)) (refused refused' : ℕ) → status ≡ status_of_end ended → ServesOrder order (status_of_end ended) (text_of_end ended) call
+    → NoteWritten (text_of_end ended) told told' refused refused' → Serves status order call told told' refused refused'
+serves_end call status ended order told told' refused refused' is serves w =
+    subst (λ (n : ℕ). Serves n order call told told' refused refused') (sym is) (record { note = text_of_end ended; serves = serves; noted = w; statuses = at_most_seven ended })
+
+-- an order that ran
+pub serves_order : (call : Call) (status : ℕ) (ended : End) (order : Order) (told told' : Option (List ℕ)) (refused refused' : ℕ) → status ≡ status_of_end ended → RunsOrder ended order call
+    → NoteWritten (text_of_end ended) told told' refused refused' → Serves status (Some order) call told told' refused refused'
+serves_order call status ended order told told' refused refused' is runs w = serves_end call status ended (Some order) told told' refused refused' is runs w
+
+-- ---- words that were read as no order
+
+module _ (under : List ℕ → Option (List ℕ)) (before : Roles) (old : Option (List ℕ)) (faults : ℕ) (unbegun_before : (of : Role) → (before of).phase ≡ unbegun) where
+  abbrev untouched : Call
+  untouched = as_call under before before old old faults faults
+
+  begins_source : (source : Source) → BeginsSource source (before role.Query).phase
+  begins_source (keyed rows) = unbegun_before role.Query
+  begins_source (named name) = begun-unbegun name (before role.Query).phase (unbegun_before role.Query)
+
+  begins_none : (source : Source) (names : Names) → BeginsInOrder source names untouched
+  begins_none source names = record {
+    query = begins_source source;
+    left = begun-unbegun names.left (before role.Left).phase (unbegun_before role.Left);
+    right = begun-unbegun names.right (before role.Right).phase (unbegun_before role.Right);
+    query_first = λ begun. absurd (begun (unbegun_before role.Left));
+    left_first = λ begun. absurd (begun (unbegun_before role.Right));
+  }
+
+  no_memory : (order : Option Order) → ServesOrder order 6 memory_note untouched
+  no_memory None = record {
+    keeps = record {
+      ends = says.memory refl refl;
+      grown = [];
+      written = Appends-nil old;
+      front = inl refl;
+      others = λ of no. unbegun_before of;
+      sink = λ other. refl;
+    };
+    no_order = inr refl;
+  }
+  no_memory (Some (join_streams source names limit)) = join_runs source names limit untouched (Err why.Memory) tt refl [] (Appends-nil old) (inl refl) (begins_none source names)
+  no_memory (Some (check_query name)) =
+      check_runs name untouched (Err why.Memory) tt refl [] (Appends-nil old) (inl refl) (begun-unbegun name (before role.Query).phase (unbegun_before role.Query)) (unbegun_before role.Left) (unbegun_before role.Right)
+  no_memory (Some (sum_up recipe)) = gen_runs recipe untouched (Err why.Memory) tt refl [] (Appends-nil old) (inl refl) (λ of. refl) unbegun_before
+
+  no_words : ServesOrder None 1 usage_note untouched
+  no_words = record {
+    keeps = record {
+      ends = says.own (says.usage refl refl);
+      grown = [];
+      written = Appends-nil old;
+      front = inl refl;
+      others = λ of no. unbegun_before of;
+      sink = λ other. refl;
+    };
+    no_order = inl refl;
+  }
+
+  module _ (status : ℕ) (order : Option Order) (told told' : Option (List ℕ)) (refused refused' : ℕ) where
+    pub serves_memory : status ≡ 6 → NoteWritten memory_note told told' refused refused' → Serves status order untouched told told' refused refused'
+    serves_memory is w = serves_end untouched status (Err why.Memory) order told told' refused refused' is (no_memory order) w
+
+    pub serves_usage : order ≡ None → status ≡ 1 → NoteWritten usage_note told told' refused refused' → Serves status order untouched told told' refused refused'
+    serves_usage none is w =
+        subst (λ (o : Option Order). Serves status o untouched told told' refused refused') (sym none) (serves_end untouched status (Err why.Usage) None told told' refused refused' is no_words w)

@@ -1,0 +1,12 @@
+pub mod Calls
+pub mod Check
+pub mod Generating
+pub mod Joining
+pub mod Opening
+pub mod Orders
+pub mod Queries
+pub mod Ready
+pub mod Run
+pub mod Serve
+pub mod Streams
+pub mod Words

@@ -1,0 +1,207 @@
+-- What a call of `serve` promises, by the status that it answers and the note that goes with it.
+-- Each command has its endings, each with its status, its note and its cause, and a record of what it promises; what all
+-- commands promise is said once, in `Keeps`.
+use Rattle.std.specs.Prelude.{◌≡◌, ◌≢◌, ◌≤◌, ◌⊎◌, ℕ, List, [], None, Some}
+use Rattle.std.specs.Io.KnownBytes.{Appends}
+use Rattle.std.specs.declared.option.Option.{Option}
+use Rattle.hj_base.specs.declared.numbers.Side.{Side}
+use Rattle.hj_base.specs.declared.outside.Role.{Role}
+use Rattle.hj_base.specs.declared.outside.Role.TheVariants as role
+use Rattle.hj_base.specs.Counts.{Rose}
+use Rattle.hj_base.specs.Outside.{RoleState, Phase, unbegun, IsOpen, role_of}
+use Rattle.hj_event.specs.declared.fault.RecordFault.{RecordFault}
+use Rattle.hj_event.specs.Arrivals.{Ending, clean, bad, unread, too_many}
+use Rattle.hj_notes.specs.NoteWritten.{NoteWritten}
+use Rattle.hj_notes.specs.Notes.{events_note, memory_note, query_note, record_note, sink_note, source_note, usage_note}
+use Rattle.hj_query.specs.declared.fault.QueryFault.{QueryFault}
+use Rattle.hj_query.specs.Parts.{Parts}
+use Rattle.hj_record.specs.Pieces.{Stream}
+use Rattle.hj_stream.specs.JoinText.{join_result}
+use Rattle.hj_opening.specs.Calls.{Call}
+use Rattle.hj_opening.specs.Check.{BeginsCanonical, WritesCanonical}
+use Rattle.hj_opening.specs.Generating.{BeginsSummary, WritesSummary}
+use Rattle.hj_opening.specs.Joining.{BeginsText, WritesAll, WritesWhole}
+use Rattle.hj_opening.specs.Queries.{IsQueryOf, IsRefused}
+use Rattle.hj_opening.specs.Streams.{AreStreams, Fails, IsBegunUnder, NoneFails}
+use Rattle.hj_opening.specs.Words.{Names, Order, Recipe, Source, check_query, join_streams, keyed, most_events, named, sum_up}
+
+-- ---- What all commands promise.
+
+-- Why a command ends: by one of its own endings, or because the output failed, or because memory ran out.
+pub data Ends (EndsSo : ℕ → List ℕ → Type 0) (status : ℕ) (note : List ℕ) (call : Call) : Type 0 where
+  own : EndsSo status note → Ends EndsSo status note call
+  failed_sink : status ≡ 5 → note ≡ sink_note → Rose call.faults_before call.faults_now → Ends EndsSo status note call
+  memory : status ≡ 6 → note ≡ memory_note → Ends EndsSo status note call
+
+-- A command with these endings, with these beginnings of its text, and with these roles.
+pub record Keeps (EndsSo : ℕ → List ℕ → Type 0) (IsFront : List ℕ → Type 0) (Reads : Role → Type 0)
+    (status : ℕ) (note : List ℕ) (call : Call) : Type 0 where
+  -- The status and the note have a cause.
+  pub ends : Ends EndsSo status note call
+  -- Whatever the status, nothing was written, or a front of the text.
+  pub grown : List ℕ
+  pub written : Appends call.old call.new grown
+  pub front : (grown ≡ []) ⊎ IsFront grown
+  -- No other role is begun.
+  pub others : (of : Role) → ¬ (Reads of) → (call.now of).phase ≡ unbegun
+  -- A fault of the sink is told as such.
+  pub sink : status ≢ 5 → call.faults_now ≡ call.faults_before
+
+-- Nothing failed: no role's count of faults rose, and that of the sink didn't.
+pub record NothingFails (call : Call) : Type 0 where
+  pub roles : NoneFails call.before call.now
+  pub sink : ¬ (Rose call.faults_before call.faults_now)
+
+-- The text of the query under this name was read and has this first fault. No stream was begun, and nothing written.
+pub record RefusesQuery (found : QueryFault) (name : List ℕ) (call : Call) : Type 0 where
+  pub refused : IsRefused found name (call.under name) (call.before role.Query) (call.now role.Query)
+  pub left : (call.now role.Left).phase ≡ unbegun
+  pub right : (call.now role.Right).phase ≡ unbegun
+  pub nothing : Appends call.old call.new []
+
+-- ---- Words that spell no order.
+
+pub data EndsUsage (status : ℕ) (note : List ℕ) : Type 0 where
+  usage : status ≡ 1 → note ≡ usage_note → EndsUsage status note
+
+-- They have no text and no roles: nothing is written, and nothing begun.
+pub record ServesNone (status : ℕ) (note : List ℕ) (call : Call) : Type 0 where
+  pub keeps : Keeps EndsUsage (λ grown. ⊥) (λ of. ⊥) status note call
+  pub no_order : (status ≡ 1) ⊎ (status ≡ 6)
+
+-- ---- `join` and `equi`: a join of streams under a query.
+
+-- the query by which a call joins
+abbrev pub Accepts : Source → Parts → Call → Type 0
+Accepts source query call = IsQueryOf source query call.under (call.before role.Query) (call.now role.Query)
+
+-- The roles of its streams, and of a query that is read under a name.
+abbrev pub IsJoinRole : Source → Role → Type 0
+IsJoinRole (keyed rows) of = of ≢ role.Query
+IsJoinRole (named name) of = Unit {0}
+
+-- both streams are open
+abbrev pub AreOpen : (Role → RoleState) → Type 0
+AreOpen now = IsOpen (now role.Left).phase × IsOpen (now role.Right).phase
+
+-- It was made under the accepted query, of streams whose events end so; the whole text was written.
+abbrev pub JoinsAll : (Ending → Type 0) → Source → Names → ℕ → Call → Type 0
+JoinsAll EndsSo source names limit call = (query : Parts) × Accepts source query call × WritesAll EndsSo query limit names call
+
+-- And both streams were read to their ends.
+abbrev pub JoinsWhole : Source → Names → ℕ → Call → Type 0
+JoinsWhole source names limit call = (query : Parts) × Accepts source query call × WritesWhole query limit names call
+
+-- The bytes are a front of its text.
+abbrev pub IsJoinFront : Source → Names → ℕ → Call → List ℕ → Type 0
+IsJoinFront source names limit call grown = (query : Parts) × Accepts source query call × BeginsText grown query limit names call
+
+-- The query that is read under a name was refused.
+pub record RefusesNamed (found : QueryFault) (source : Source) (call : Call) : Type 0 where
+  pub name : List ℕ
+  pub named_so : source ≡ named name
+  pub refuses : RefusesQuery found name call
+
+-- This role failed. Where both streams are open, it is the one in whose missing read the events end, and the whole text of
+-- these events was written; else nothing was written.
+pub record FailsJoin (of : Role) (source : Source) (names : Names) (limit : ℕ) (call : Call) : Type 0 where
+  pub has : IsJoinRole source of
+  pub fails : Fails of call.before call.now
+  pub unopened : ¬ (AreOpen call.now) → Appends call.old call.new []
+  pub opened : AreOpen call.now
+      → (side : Side) × (of ≡ role_of side) × JoinsAll (λ ending. ending ≡ unread side) source names limit call
+
+pub data EndsJoin (source : Source) (names : Names) (limit : ℕ) (call : Call) (status : ℕ) (note : List ℕ) : Type 0 where
+  joined : status ≡ 0 → note ≡ [] → JoinsWhole source names limit call → EndsJoin source names limit call status note
+  bad_query : (found : QueryFault) → status ≡ 2 → note ≡ query_note found
+      → RefusesNamed found source call → EndsJoin source names limit call status note
+  bad_record : (side : Side) (at : ℕ) (found : RecordFault) → status ≡ 3 → note ≡ record_note side at found
+      → JoinsAll (λ ending. ending ≡ bad side at found) source names limit call → EndsJoin source names limit call status note
+  failed_source : (of : Role) → status ≡ 4 → note ≡ source_note of
+      → FailsJoin of source names limit call → EndsJoin source names limit call status note
+  events : status ≡ 7 → note ≡ events_note limit
+      → JoinsAll (λ ending. ending ≡ too_many) source names limit call → EndsJoin source names limit call status note
+
+abbrev pub BeginsSource : Source → Phase → Type 0
+BeginsSource (keyed rows) phase = phase ≡ unbegun
+BeginsSource (named name) phase = IsBegunUnder name phase
+
+-- Each role is begun under its own name: the query first, the left stream only once the query is accepted, and the right
+-- one only once the left one is open.
+pub record BeginsInOrder (source : Source) (names : Names) (call : Call) : Type 0 where
+  pub query : BeginsSource source (call.now role.Query).phase
+  pub left : IsBegunUnder names.left (call.now role.Left).phase
+  pub right : IsBegunUnder names.right (call.now role.Right).phase
+  pub query_first : (call.now role.Left).phase ≢ unbegun → (query : Parts) × Accepts source query call
+  pub left_first : (call.now role.Right).phase ≢ unbegun → IsOpen (call.now role.Left).phase
+
+abbrev pub status_of_ending : Ending → ℕ
+status_of_ending clean = 0
+status_of_ending (bad side at found) = 3
+status_of_ending (unread side) = 4
+status_of_ending too_many = 7
+
+-- The status is the one of the ending of the events of the streams.
+pub record EndsBy (status : ℕ) (source : Source) (names : Names) (limit : ℕ) (call : Call) : Type 0 where
+  pub query : Parts
+  pub accepted : Accepts source query call
+  pub left : Stream
+  pub right : Stream
+  pub streams : AreStreams names call.under call.before call.now left right
+  pub ending : status ≡ status_of_ending (join_result query left right limit).ending
+
+-- The query is refused, or accepted; and then the ending of the events decides.
+abbrev pub IsJoinDecided : ℕ → Source → Names → ℕ → Call → Type 0
+IsJoinDecided status source names limit call =
+    ((status ≡ 2) × ((found : QueryFault) × RefusesNamed found source call)) ⊎ EndsBy status source names limit call
+
+pub record ServesJoin (source : Source) (names : Names) (limit : ℕ) (status : ℕ) (note : List ℕ) (call : Call) : Type 0 where
+  pub keeps : Keeps (EndsJoin source names limit call) (IsJoinFront source names limit call) (IsJoinRole source) status note call
+  pub roles : BeginsInOrder source names call
+  -- Where nothing fails, the query and the ending of the events decide the status, or memory ran out.
+  pub complete : NothingFails call → (status ≡ 6) ⊎ IsJoinDecided status source names limit call
+
+-- ---- `check`: the canonical text of a query.
+
+pub data EndsCheck (name : List ℕ) (call : Call) (status : ℕ) (note : List ℕ) : Type 0 where
+  checked : status ≡ 0 → note ≡ [] → WritesCanonical name call → EndsCheck name call status note
+  refused : (found : QueryFault) → status ≡ 2 → note ≡ query_note found → RefusesQuery found name call → EndsCheck name call status note
+  failed_query : status ≡ 4 → note ≡ source_note role.Query
+      → Fails role.Query call.before call.now → Appends call.old call.new [] → EndsCheck name call status note
+
+pub record ServesCheck (name : List ℕ) (status : ℕ) (note : List ℕ) (call : Call) : Type 0 where
+  pub keeps : Keeps (EndsCheck name call) (λ grown. BeginsCanonical grown name call) (λ of. of ≡ role.Query) status note call
+  -- The query is begun under its own name.
+  pub query : IsBegunUnder name (call.now role.Query).phase
+  -- Where nothing fails, the query decides the status, or memory ran out.
+  pub complete : NothingFails call
+      → (status ≡ 6) ⊎ (((status ≡ 2) × ((found : QueryFault) × RefusesQuery found name call)) ⊎ ((status ≡ 0) × WritesCanonical name call))
+
+-- ---- `gen`: the line that sums up the join of two streams that it makes.
+
+pub data EndsGen (recipe : Recipe) (call : Call) (status : ℕ) (note : List ℕ) : Type 0 where
+  summed : status ≡ 0 → note ≡ [] → WritesSummary recipe most_events call → EndsGen recipe call status note
+
+pub record ServesGen (recipe : Recipe) (status : ℕ) (note : List ℕ) (call : Call) : Type 0 where
+  pub keeps : Keeps (EndsGen recipe call) (λ grown. BeginsSummary grown recipe most_events) (λ of. ⊥) status note call
+  -- Every role stays as it is.
+  pub untouched : (of : Role) → call.now of ≡ call.before of
+  -- Where nothing fails, the line is written, or memory ran out: the streams end well.
+  pub complete : NothingFails call → (status ≡ 6) ⊎ ((status ≡ 0) × WritesSummary recipe most_events call)
+
+-- ---- Whatever the words order.
+
+abbrev pub ServesOrder : Option Order → ℕ → List ℕ → Call → Type 0
+ServesOrder None status note call = ServesNone status note call
+ServesOrder (Some (join_streams source names limit)) status note call = ServesJoin source names limit status note call
+ServesOrder (Some (check_query name)) status note call = ServesCheck name status note call
+ServesOrder (Some (sum_up recipe)) status note call = ServesGen recipe status note call
+
+-- What a call does for an order, or for words that spell none: what its command promises, with a note of which a front stands
+-- among the notes, and all of it unless a write of it was refused.
+pub record Serves (status : ℕ) (order : Option Order) (call : Call) (notes_before notes_now : Option (List ℕ))
+    (refused_before refused_now : ℕ) : Type 0 where
+  pub note : List ℕ
+  pub serves : ServesOrder order status note call
+  pub noted : NoteWritten note notes_before notes_now refused_before refused_now
+  pub statuses : status ≤ 7

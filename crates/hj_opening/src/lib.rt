@@ -1,0 +1,16 @@
+//! What the words order, what each order promises, and what is done before a join: its query is read, and its streams are
+//! opened. A check needs no more.
+#![tactic(auto)]
+
+mod checking;
+mod ending;
+mod keyed;
+mod query;
+mod ready;
+mod source;
+
+pub use checking::check;
+pub use ending::end_of;
+pub use keyed::Keyed;
+pub use ready::make_ready;
+pub use source::{JoinOrder, Source};
