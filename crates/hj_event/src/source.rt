@@ -185,8 +185,8 @@ impl Source {
         Ok(Found::Row(row))
     }
 
-    /// Reads rows in the bytes that were read until the next one is known. So `is_ready` can tell, and no more rows wait than the
-    /// slack holds back.
+    /// Reads rows in the bytes that were read, at least one, until the next one is known. So `is_ready` can tell, and the rows that
+    /// wait grow in number only where the slack holds them back.
     #[inline(always)]
     fn read_on(&mut self) -> Result<(), Memory>
         requires late { self.old.reading.slack ≢ 0 }
