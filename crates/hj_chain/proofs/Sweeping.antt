@@ -106,7 +106,7 @@ module _ {P : Type 0} (chain : ChainState P) where
     passed = λ actor is passed. same ∙ named-behind (would_wait ready chain) at actor is put passed ∙ ap (λ (p : ℕ). chosen (from_place p) ready chain) (let e : suc at ≡ at + 1 = omega arith in e);
   }
 
-  -- the place behind all is the first one
+  -- the place after all is the first one
   pub wrapped : (ready : Bool) → chosen (from_place (length (actors n))) ready chain ≡ chosen (from_place 0) ready chain
   wrapped ready = named-wrapped (would_wait ready chain)
 
@@ -173,7 +173,7 @@ module _ {P J F : Type 0} (gives : F → Given P → F → Type 0) (is_ready : F
   can Memory other step = ap (λ (o : Option NotNow). is_none o) step.chain.0
 
 module _ {P J F D : Type 0} (gives : F → Given P → F → Type 0) (is_ready : F → Bool) (takes : D → Pair P → Drained → D → Type 0) (state : F → FeedState) (predicate : J → P → P → Bool) (old : Contents P J) (from : F) (unfilled : D) where
-  -- The sweep has come to this place: the rule, which stands at the place behind the last step, names what it names from here on.
+  -- The sweep has come to this place: the rule, which stands at the place after the last step, names what it names from here on.
   pub record Sweeping (place : ℕ) (now : Contents P J) (to : F) (filled : D) : Type 0 where
     pub stood : ℕ
     pub running : Running gives is_ready takes state predicate chooser.InTurn old from unfilled (from_place stood) now to filled

@@ -96,7 +96,7 @@ IsWithin n (from_place place) = place ≤ length (actors n)
 IsWithin n (by_draw held) = Unit {0}
 
 -- A place that may be tried next where a rule stands at this one: the rule names the actor there if it is enabled; else it names
--- the same one from the place behind it on.
+-- the same one from the next place on.
 pub record MayBeTried {P : Type 0} (place : ℕ) (ready : Bool) (chain : ChainState P) (at : ℕ) : Type 0 where
   pub within : at < length (actors (length chain.cores))
   pub named : (actor : Actor) → slice_get (actors (length chain.cores)) at ≡ Some actor → is_enabled chain actor ≡ true → chosen (from_place place) ready chain ≡ Some actor
