@@ -1,5 +1,5 @@
 -- The run of an order whose chain threads turn, from that of its parts.
-use Rattle.std.proofs.Common.{◌≡◌, ◌≢◌, ◌↔◌, ℕ, List, Err, None, Some, sym, ap, subst, inl, inr, refl, arith}
+use Rattle.std.proofs.Common.{◌≡◌, ◌≢◌, ℕ, List, Err, None, Some, sym, ap, subst, inl, inr, refl, arith}
 use Rattle.std.specs.Prelude.{IsSome, IfSome, IfNone}
 use Rattle.std.specs.declared.option.Option.{Option}
 use Rattle.hj_base.specs.declared.outside.Role.TheVariants as role
@@ -11,15 +11,13 @@ use Rattle.hj_stream.specs.declared.outcome.Outcome.TheVariants as outcome
 use Rattle.hj_stream.specs.Joining.{Joins}
 use Rattle.hj_engine.specs.Showing.{ShowsJoin}
 use Rattle.hj_notes.specs.declared.note.Note.{Note}
-use Rattle.hj_opening.specs.Calls.{Call, call}
-use Rattle.hj_app.specs.Crew.{CameToJoin, Crew, ShowsOrder, ShowsRun, ShowsStreams, crew_of}
-use Rattle.hj_app.specs.declared.ended.Ended.{Ended}
+use Rattle.hj_opening.specs.Calls.{call}
+use Rattle.hj_app.specs.Crew.{CameToJoin, Crew, ShowsStreams}
 use Rattle.hj_notes.specs.NoteText.{status_of, status_of_end}
-use Rattle.hj_words.specs.declared.order.Order as spelled
 use Rattle.hj_app.specs.OnCrew.{RunsOnCrew}
 use Rattle.hj_opening.specs.Ready.{EndsEarly, IsReady}
 use Rattle.hj_opening.specs.Run.{RunsOrder, end_of}
-use Rattle.hj_opening.specs.Words.{Names, Order, Source, asked_by, join_streams}
+use Rattle.hj_opening.specs.Words.{Names, Order, Source, join_streams}
 use Rattle.hj_opening.proofs.Joined.{query_stays}
 use Rattle.hj_opening.proofs.Phases.{Roles, open-opened}
 use Rattle.hj_opening.proofs.Endings.{End}
@@ -94,21 +92,3 @@ module _ (crew : Crew) (source : Source) (names : Names) (limit : ℕ) (under : 
   runs_joined end ran is runs shows memory =
       subst (λ (e : End). RunsOrder e (join_streams source names limit) (call under before now old new faults faults') → RunsOnCrew crew (record { end = e; ran = ran }) (join_streams source names limit) (call under before now old new faults faults')) (sym is)
       (λ so. record { runs = so; ran = λ other. ((λ some. all_came), (λ back. handed ran memory other back)); shows = shown ran shows }) runs
-
--- ---- `serve`'s clauses on the run, of the order that the words spell
-
-module _ (order : spelled.Order) (asked : Order) (plan : Crew) (same : asked ≡ asked_by order) (turned : Some plan ≡ crew_of order) (ended : Ended) (call : Call) (status : ℕ) (is : status ≡ status_of_end ended.end) where
-  pub ran_so : RunsOnCrew plan ended asked call → status ≢ 6 → IsSome ended.ran ↔ CameToJoin (crew_of order) status call.now
-  ran_so runs =
-      subst (λ (crew : Option Crew). status ≢ 6 → IsSome ended.ran ↔ CameToJoin crew status call.now) turned
-      (subst (λ (n : ℕ). n ≢ 6 → IsSome ended.ran ↔ CameToJoin (Some plan) n call.now) (sym is) runs.ran)
-
-  shows_of : (ran : Shown) → IfSome ran (ShowsOrder plan asked (status_of_end ended.end) call) → IfSome ran (ShowsRun (Some order) status call)
-  shows_of None shows = tt
-  shows_of (Some ran) shows =
-      (plan, sym turned,
-      subst (λ (known : Order). ShowsOrder plan known status call ran) same
-      (subst (λ (n : ℕ). ShowsOrder plan asked n call ran) (sym is) shows))
-
-  pub shows_so : RunsOnCrew plan ended asked call → IfSome ended.ran (ShowsRun (Some order) status call)
-  shows_so runs = shows_of ended.ran runs.shows

@@ -74,8 +74,8 @@ pub held_joins : (query : Parts) (limit : ℕ) (left right : List ℕ) (crew : C
     → IfNone ran (ended ≡ outcome.Memory) → CountsSinkFault ended 0 0 → JoinsHeld query limit left right crew ended kept'.text ran
 held_joins query limit left right crew before after kept kept' is_before is_kept ended ran so no_run faults =
     let made =
-        subst (λ (held : TwoHeld). (joins : Joins ended query limit (held_role held) (held_role after) (Some []) (Some kept'.text)) × IfSome ran (ShowsJoin joins crew.cores crew.flight)) is_before
-        (subst (λ (k : KeptState). (joins : Joins ended query limit (held_role before) (held_role after) (Some k.text) (Some kept'.text)) × IfSome ran (ShowsJoin joins crew.cores crew.flight)) is_kept so) in
+    subst (λ (held : TwoHeld). (joins : Joins ended query limit (held_role held) (held_role after) (Some []) (Some kept'.text)) × IfSome ran (ShowsJoin joins crew.cores crew.flight)) is_before
+    (subst (λ (k : KeptState). (joins : Joins ended query limit (held_role before) (held_role after) (Some k.text) (Some kept'.text)) × IfSome ran (ShowsJoin joins crew.cores crew.flight)) is_kept so) in
     record { after = after; joins = made.0; shows = made.1; no_run = no_run; faults = faults }
 
 -- ---- the streams of a recipe

@@ -1,5 +1,6 @@
 -- The run of an order that sums up the join of two streams that it makes, once the line is there.
-use Rattle.std.proofs.Common.{◌≡◌, ℕ, List, Ok, Err, Some, sym, subst, inr, refl, arith}
+use Rattle.std.proofs.Common.{◌≡◌, ℕ, List, [], Ok, Err, None, Some, sym, subst, inl, inr, refl, arith}
+use Rattle.std.proofs.KnownBytes.{Appends-nil}
 use Rattle.std.specs.declared.option.Option.{Option}
 use Rattle.std.specs.Io.KnownBytes.{Appends}
 use Rattle.hj_base.specs.declared.outside.Role.{Role}
@@ -50,3 +51,12 @@ module _ (recipe : Recipe) (line : List ℕ) (summary : IsSummary line recipe mo
   summed_runs crew ran shows sending end is sends counts =
       subst (λ (e : End). RunsOnCrew crew (record { end = e; ran = Some ran }) (sum_up recipe) this) (sym is)
       (record { runs = runs_sent sending sends counts; ran = λ other. ((λ some. came crew sending), (λ back. refl)); shows = shows })
+
+-- the line couldn't be made
+pub unmade_runs : (recipe : Recipe) (under : List ℕ → Option (List ℕ)) (roles : Roles) → ((of : Role) → (roles of).phase ≡ unbegun) → (told : Option (List ℕ)) (faults : ℕ) (crew : Crew)
+    → RunsOnCrew crew (record { end = Err why.Memory; ran = None }) (sum_up recipe) (call under roles roles told told faults faults)
+unmade_runs recipe under roles none told faults crew = record {
+  runs = gen_runs recipe (call under roles roles told told faults faults) (Err why.Memory) tt refl [] (Appends-nil told) (inl refl) (λ of. refl) none;
+  ran = λ other. absurd (other refl);
+  shows = tt;
+}

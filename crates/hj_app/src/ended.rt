@@ -1,5 +1,5 @@
-use hj_notes::Note;
 use hj_crew::Ran;
+use hj_notes::Note;
 use hj_value::SharedRow;
 
 /// How an order ended whose join threads make.

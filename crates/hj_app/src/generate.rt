@@ -12,14 +12,14 @@ ghost use Rattle.hj_app.specs.Turning.{crew_seen};
 ghost use Rattle.hj_opening.specs.Words.{most_events, sum_up};
 
 use crate::ended::Ended;
-use hj_held::{HeldStreams, KeptText};
-use hj_notes::Note;
 use crate::plan::{CrewPlan, MOST_EVENTS};
 use crate::recipe::Recipe;
 use hj_base::{Bytes, Gate, Memory, Sink};
 use hj_crew::Ran;
 use hj_engine::join_threads;
 use hj_gen::{TwoStreams, streams, summary};
+use hj_held::{HeldStreams, KeptText};
+use hj_notes::Note;
 use hj_output::{Sent, put_all};
 use hj_query::{Query, equi};
 use hj_stream::Outcome;

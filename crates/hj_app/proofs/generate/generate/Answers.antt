@@ -4,7 +4,7 @@ use Rattle.hj_opening.specs.Generating.{IsSummary}
 use Rattle.hj_app.specs.Orders.{recipe_seen}
 use Rattle.hj_app.specs.Turning.{crew_seen}
 use Rattle.hj_opening.specs.Words.{most_events}
-use Rattle.hj_app.proofs.Summed.{summed_runs}
+use Rattle.hj_app.proofs.Summed.{summed_runs, unmade_runs}
 use Rattle.hj_app.proofs.generate.generate.Goals.{in-Whole, in-Failed, in-Memory}
 use Rattle.hj_app.proofs.generate.generate.Goals as goal
 
@@ -18,3 +18,6 @@ returns g c = λ under roles none.
       | in-Failed w ↦ runs sent.Failed c.match-put_all.end w.end-is w.in-Failed.ensures.sends w.in-Failed.ensures.faults
       | in-Memory w ↦ runs sent.Memory c.match-put_all.end w.end-is w.in-Memory.ensures.sends w.in-Memory.ensures.faults
     ]
+
+pub returns-in_default : goal.returns-in_default
+returns-in_default g c = λ under roles none. unmade_runs (recipe_seen c.args.recipe) under roles none (g.K.Sink.told c.args.out.now) (g.K.Sink.faults c.args.out.now) (crew_seen c.args.plan)

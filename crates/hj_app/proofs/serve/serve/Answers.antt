@@ -1,6 +1,6 @@
 use Rattle.std.specs.Prelude.{map, string_bytes}
 use Rattle.hj_opening.specs.Words.{order_of}
-use Rattle.hj_opening.proofs.Serving.{serves_memory, serves_usage}
+use Rattle.hj_opening.proofs.Serving.{serves_memory}
 use Rattle.hj_app.proofs.serve.serve.Goals as goal
 
 pub returns-in-Err-Memory-clause-serves : goal.returns-in-Err-Memory-clause-serves

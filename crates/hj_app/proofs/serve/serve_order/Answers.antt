@@ -1,10 +1,9 @@
-use Rattle.std.proofs.Common.{Some, ap, sym, subst, ◌∙◌}
+use Rattle.std.proofs.Common.{Some, subst}
 use Rattle.hj_opening.specs.Calls.{call}
 use Rattle.hj_opening.specs.Serve.{Serves}
-use Rattle.hj_opening.specs.Words.{Order, asked_by}
+use Rattle.hj_opening.specs.Words.{Order}
 use Rattle.hj_opening.proofs.Serving.{serves_order}
-use Rattle.hj_app.specs.Turning.{asked_threads, crew_seen}
-use Rattle.hj_app.proofs.Crewed.{ran_so, shows_so}
+use Rattle.hj_app.specs.Turning.{asked_threads}
 use Rattle.hj_app.proofs.serve.serve_order.Goals as goal
 
 pub returns-in-Threads-clause-serves : goal.returns-in-Threads-clause-serves
