@@ -50,7 +50,7 @@ pub(crate) fn drive<
                 return fin;
             }
             Round::GotOn => {
-                ring_teams(signals, !own.is_empty());
+                ring_teams(signals);
                 pause.reset();
             }
             Round::Waits => pause.wait(rt, Awaits::Message),
@@ -66,15 +66,26 @@ fn wake_all(signals: &[Signals]) {
     }
 }
 
-/// Rings the threads after a round of the calling thread: it may have put messages for the first and the last team, and made
-/// room for the reports of all. Where it turned teams of its own, these may have put messages for any.
-fn ring_teams(signals: &[Signals], has_own: bool) {
-    for (place, signals_of_team) in signals.iter().enumerate() {
-        if has_own || place == 0 || place == signals.len() - 1 {
-            signals_of_team.bell.ring();
+/// Rings the threads after a round of the calling thread: it may have put messages for the teams beside its ends and its own, and made
+/// room for the reports of all.
+fn ring_teams(signals: &[Signals]) {
+    for (place, of_team) in signals.iter().enumerate() {
+        let is_beside = place == 0
+            || is_callers(signals.get(place - 1))
+            || is_callers(signals.get(place + 1));
+        if is_beside {
+            of_team.bell.ring();
         } else {
-            signals_of_team.bell.ring_for_room();
+            of_team.bell.ring_for_room();
         }
+    }
+}
+
+/// Returns whether what stands at a place is the calling thread's: its end of the chain, or a team that it turns.
+fn is_callers(signals: Option<&Signals>) -> bool {
+    match signals {
+        Some(signals) => signals.leave.load(Ordering::SeqCst),
+        None => true,
     }
 }
 

@@ -38,12 +38,14 @@ pub(crate) struct Shared<'s, G, T> {
     pub(crate) signals: &'s [Signals],
     /// The bell of the calling thread.
     pub(crate) bell: &'s Bell,
+    /// How many teams, the first ones, the calling thread turns itself.
+    pub(crate) kept: usize,
     pub(crate) gate: &'s G,
 }
 
 /// Starts a thread for the last of these teams, does so for the others, and lets the calling thread run once no team
-/// is left. Then it joins its thread, whose team goes after those that are `done`. Where no thread can be made, the
-/// team goes among the calling thread's `own` until the run is over.
+/// is left. Then it joins its thread, whose team goes after those that are `done`. Where no thread can be made, or the
+/// calling thread is to turn the team, that goes among its `own` until the run is over.
 pub(crate) fn levels<
     's,
     E,
@@ -86,7 +88,7 @@ pub(crate) fn levels<
             shared.gate,
         );
     };
-    match start(scope, shared, teams.len(), team) {
+    match start_or_keep(scope, shared, teams.len(), team) {
         Ok(child) => {
             let fin = levels(scope, shared, caller, teams, own, done);
             done.push_reserved(child.join(shared.rt));
@@ -122,6 +124,34 @@ fn neighbours_of<'s, G, T>(shared: &Shared<'s, G, T>, place: usize) -> Neighbour
         right,
         caller: shared.bell,
     }
+}
+
+/// Starts the thread of a team, unless the calling thread is to turn it. Where it is, or no thread can be made, the team comes back
+/// at once.
+fn start_or_keep<
+    's,
+    E,
+    P: Share + Send + Drop + 's,
+    J: Join<P> + Send + Drop + 's,
+    L: Store<P, J> + Send + Drop + 's,
+    R: Store<P, J> + Send + Drop + 's,
+    G: Gate + Sync + 's,
+    T: Threads + Wait + Clock + Sync + 's,
+>(
+    scope: &'s Scope<'s, E>,
+    shared: &Shared<'s, G, T>,
+    place: usize,
+    team: Team<P, J, L, R>,
+) -> Result<PromisedHandle<Team<P, J, L, R>, SameTeam<Team<P, J, L, R>>>, Team<P, J, L, R>>
+    requires { place < length shared.now.signals.now }
+    ensures started { IfOk result (λ child. child.promise.0.value ≡ team) }
+    ensures refused { IfErr result (TeamStays team) }
+{
+    if place < shared.kept {
+        shared.signals[place].leave.store(true, Ordering::SeqCst);
+        return Err(team);
+    }
+    start(scope, shared, place, team)
 }
 
 /// Starts the thread of a team, which gets the signals at a place. Where none can be made, the team

@@ -1,16 +1,21 @@
 //! How a thread waits that finds nothing to do.
 use crate::bell::{Awaits, Bell};
+use std::hint::spin_loop;
 use std::sync::Wait;
 use std::thread::yield_now;
 use std::time::{Clock, Duration, Instant};
 
-/// So often in a row a thread that finds nothing lets others run, before it sleeps.
-const YIELDS: u32 = 16;
+/// How often in a row a thread that finds nothing lets others run, before it sleeps.
+const YIELDS: u32 = 64;
 
-/// A thread that got the processor back after so many microseconds, or more, gave it to another program.
+/// How many hints that it waits it gives the processor before each of them. Meanwhile more may come, and who puts it
+/// isn't disturbed by a look.
+const HINTS: u32 = 20;
+
+/// After how many microseconds, or more, a thread that gets the processor back has given it to another program.
 const LATE: u64 = 500;
 
-/// So many waits then go by in which it doesn't let others run, but sleeps at once.
+/// In how many waits after that it doesn't let others run, but sleeps at once.
 const PARKS: u32 = 4000;
 
 /// What a thread does that found nothing to do.
@@ -21,12 +26,12 @@ pub(crate) struct Pause<'b> {
     yields: u32,
     /// Whether its bell says that it waits. Then it has looked once more, and sleeps where it still found nothing.
     is_set: bool,
-    /// In so many waits it sleeps at once.
+    /// In how many waits to come it sleeps at once.
     parks: u32,
 }
 
 impl<'b> Pause<'b> {
-    /// A pause that a bell ends.
+    /// Makes a pause that a bell ends.
     pub(crate) fn new(bell: &'b Bell) -> Self {
         Pause {
             bell,
@@ -36,7 +41,7 @@ impl<'b> Pause<'b> {
         }
     }
 
-    /// There was something to do.
+    /// Notes that there was something to do.
     pub(crate) fn reset(&mut self) {
         self.yields = 0;
         if self.is_set {
@@ -45,7 +50,7 @@ impl<'b> Pause<'b> {
         }
     }
 
-    /// Where nothing was found: lets others run; after some such calls says what is waited for; and where then
+    /// Waits where nothing was found: lets others run; after some such calls says what is waited for; and where then
     /// still nothing was found, sleeps until the bell rings.
     pub(crate) fn wait<R: Wait + Clock>(&mut self, rt: &R, awaits: Awaits) {
         if self.is_set {
@@ -63,6 +68,9 @@ impl<'b> Pause<'b> {
     /// Lets others run. Where that took long, other programs want the processor, and each time would cost as much.
     fn give_way<R: Clock>(&mut self, rt: &R) {
         self.yields = self.yields.saturating_add(1);
+        for _ in 0..HINTS {
+            spin_loop();
+        }
         let begun = Instant::now(rt);
         yield_now();
         let is_late = match begun {

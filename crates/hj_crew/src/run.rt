@@ -24,12 +24,13 @@ use std::alloc::Global;
 use std::sync::Wait;
 use std::sync::atomic::AtomicBool;
 use std::thread;
-use std::thread::{Scope, Threads};
+use std::thread::{Scope, Threads, available_parallelism};
 use std::time::Clock;
 
 /// Runs a chain of cores between a feed and a drain, on threads. The calling thread drives the
 /// chain at its two ends, and up to `setup.threads` threads, no more than there are cores, turn its
-/// cores. Where a thread can't be started, the calling thread turns its cores too.
+/// cores. The calling thread is one of these where they are at least two, and as many as processors.
+/// Where a thread can't be started, the calling thread turns its cores too.
 ///
 /// - `rt` is the handle of the runtime. It starts the threads, and lets them wait. `alloc` gives
 ///   the memory.
@@ -220,6 +221,7 @@ fn run_in_scope<
         stop: &stop,
         signals,
         bell: &bell,
+        kept: kept_teams(rt, signals.len()),
         gate,
     };
     thread::scope(
@@ -230,6 +232,15 @@ fn run_in_scope<
             ensures { HasRun F.gives F.state D.takes begun result }
         { all_levels(scope, &shared, begun) },
     )
+}
+
+/// Returns how many of the teams the calling thread turns itself: none, or one where else there were more threads than
+/// processors.
+fn kept_teams<T: Threads>(rt: &T, teams: usize) -> usize {
+    match available_parallelism(rt) {
+        Ok(processors) if teams > 1 && teams >= processors.get() => 1,
+        _ => 0,
+    }
 }
 
 /// Starts the thread of each team, makes the calling thread's rounds, and joins the threads.

@@ -100,7 +100,7 @@ fn after(turns: u32, last: Progress) -> Progress {
 /// What a started thread is told.
 #[derive(Drop)]
 pub(crate) struct Signals {
-    /// Whether it is to hand its team back at once.
+    /// Whether the calling thread turns the team. Then a thread is to hand it back at once.
     pub(crate) leave: AtomicBool,
     /// Rings where there may be something to do.
     pub(crate) bell: Bell,
