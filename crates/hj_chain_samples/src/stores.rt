@@ -3,8 +3,9 @@ ghost use Rattle.hj_base.specs.declared.numbers.Side.TheVariants as sides;
 
 use crate::rows::sent;
 use hj_base::{EventNo, Side};
-use hj_eval::{QueryJoin, StorePlan, plan};
-use hj_index::{HashStore, OrderedStore};
+use hj_columns::ColumnStore;
+use hj_eval::{QueryJoin, StorePlan, filters, plan};
+use hj_index::{HashStore, ListStore, OrderedStore};
 use hj_msg::Store;
 use hj_query::{Query, parse};
 use hj_value::{Field, Row, SharedRow, Text};
@@ -22,6 +23,12 @@ const OF_NEAR_NUMBERS: &str =
 
 fn query(rt: &impl Abort, alloc: Global, text: &str) -> Query {
     parse(alloc, text.as_bytes()).expect(rt, "a query")
+}
+
+fn join_of<'q>(rt: &impl Abort, alloc: Global, query: &'q Query) -> QueryJoin<'q>
+    ensures { result ≡ query.now }
+{
+    QueryJoin::new(alloc, query).expect(rt, "memory")
 }
 
 /// A row of a time and a value: a text in quotes, or a number, or `none`.
@@ -135,7 +142,7 @@ fn run_hash(rt: &impl Abort, alloc: Global, text: &str, steps: &str) {
     let StorePlan::Equal { left, right } = plan(&query) else {
         panic!(rt; "another plan");
     };
-    let join = QueryJoin::new(&query);
+    let join = join_of(rt, alloc, &query);
     let mut store = sent(HashStore::new(alloc, left, right));
     run(rt, alloc, &mut store, &join, steps);
 }
@@ -188,7 +195,7 @@ fn run_ordered(rt: &impl Abort, alloc: Global, steps: &str) {
     else {
         panic!(rt; "another plan");
     };
-    let join = QueryJoin::new(&query);
+    let join = join_of(rt, alloc, &query);
     let mut store = sent(OrderedStore::new(alloc, left, right, within));
     run(rt, alloc, &mut store, &join, steps);
 }
@@ -217,4 +224,110 @@ find 5: [9]";
 #[test]
 fn near_numbers_are_found(rt: HostRuntime) {
     run_ordered(&rt, rt.alloc(), NEAR_NUMBERS);
+}
+
+fn run_columns(rt: &impl Abort, alloc: Global, text: &str, steps: &str) {
+    let query = query(rt, alloc, text);
+    let filters = filters(alloc, &query).expect(rt, "memory");
+    let join = join_of(rt, alloc, &query);
+    let mut store = sent(ColumnStore::new(alloc, Side::Left, filters.as_slice()).expect(
+        rt, "memory",
+    ));
+    run(rt, alloc, &mut store, &join, steps);
+}
+
+fn run_list(rt: &impl Abort, alloc: Global, text: &str, steps: &str) {
+    let query = query(rt, alloc, text);
+    let join = join_of(rt, alloc, &query);
+    let mut store = ListStore::new(alloc);
+    run(rt, alloc, &mut store, &join, steps);
+}
+
+const OF_SUMS: &str =
+    "left (ts int, k int) right (ts int, k int) window left rows 1 window right rows 1 \
+    on l.k < r.k and 100 >= l.k + r.k";
+
+/// Rows are removed until their places are swept out, and put again.
+const SUMS: &str = "\
+settled 1: 5
+settled 2: 60
+unsettled 3: 7
+settled 4: none
+settled 5: '6'
+settled 6: 45
+find 50: [1, 6]
+find 5: []
+find none: []
+settle 3: true
+find 50: [1, 3, 6]
+remove 1: true
+remove 4: true
+remove 5: true
+remove 2: true
+find 50: [3, 6]
+settled 1: 8
+settled 7: 9
+settled 3: 70
+find 50: [1, 6, 7]
+find 40: [1, 7]
+remove 6: true
+settled 6: 1
+find 50: [1, 6, 7]";
+
+const OF_FAR_SUM: &str =
+    "left (ts int, k int) right (ts int, k int) window left rows 1 window right rows 1 \
+    on l.k + 9223372036854775807 < r.k";
+
+const FAR_SUM: &str = "\
+settled 0: -9223372036854775808
+settled 1: 9223372036854775807
+settled 2: -1
+settled 3: 0
+settled 4: none
+find 9223372036854775807: [0, 2]
+find 0: [0]
+find -1: []
+find -9223372036854775808: []";
+
+const OF_FAR_NUMBERS: &str =
+    "left (ts int, k int) right (ts int, k int) window left rows 1 window right rows 1 \
+    on l.k within 9223372036854775807 of r.k";
+
+const FAR_NUMBERS: &str = "\
+settled 0: -9223372036854775808
+settled 1: 9223372036854775807
+settled 2: -1
+find 0: [1, 2]
+find -1: [0, 2]
+find -9223372036854775808: [0, 2]
+find 9223372036854775807: [1]
+find none: []";
+
+const OF_NAMES: &str =
+    "left (ts int, k text) right (ts int, k text) window left rows 1 window right rows 1 on l.k < r.k and l.ts >= r.ts";
+
+const NAMES: &str = "\
+settled 1: 'a'
+settled 2: 'c'
+settled 3: ''
+settled 4: 7
+find 'b': [1, 3]
+find '': []
+find 7: []";
+
+#[test]
+fn columns_find_what_a_list_finds(rt: HostRuntime) {
+    let alloc = rt.alloc();
+    for (text, steps) in [
+        (OF_NUMBERS, EQUAL_NUMBERS),
+        (OF_TEXTS, EQUAL_TEXTS),
+        (OF_NEAR_NUMBERS, NEAR_NUMBERS),
+        (OF_SUMS, SUMS),
+        (OF_FAR_SUM, FAR_SUM),
+        (OF_FAR_NUMBERS, FAR_NUMBERS),
+        (OF_NAMES, NAMES),
+    ] {
+        run_columns(&rt, alloc, text, steps);
+        run_list(&rt, alloc, text, steps);
+    }
 }
