@@ -56,7 +56,7 @@ fn case_of<'a>(rt: &impl Abort, line: &'a str) -> Case<'a> {
     }
 }
 
-/// A text of a table, as it is meant.
+/// Returns a text of a table, as it is meant.
 fn unescaped(rt: &impl Abort, alloc: Global, text: &str) -> String {
     let mut whole = String::new(alloc);
     if text.starts_with("on ") {
@@ -79,7 +79,7 @@ enum Failing {
     Note(u64),
 }
 
-/// `start ROLE`, `read ROLE N`, `write N` or `note N`.
+/// Reads what fails: `start ROLE`, `read ROLE N`, `write N` or `note N`.
 fn failing_of(rt: &impl Abort, text: &str) -> Failing {
     let (kind, what) = text.split_once(' ').expect(rt, "a failure");
     match kind {
@@ -181,7 +181,7 @@ impl World {
     }
 }
 
-/// The outside of a case.
+/// Makes the outside of a case.
 fn world_of(rt: &impl Abort, alloc: Global, case: Case<'_>, chunks: Chunks) -> World
     ensures { (of : Role) → (role_at result.outside of).phase ≡ unbegun }
 {
@@ -195,7 +195,7 @@ fn world_of(rt: &impl Abort, alloc: Global, case: Case<'_>, chunks: Chunks) -> W
     world
 }
 
-/// The words of a text.
+/// Returns the words of a text.
 pub fn words_of(rt: &impl Abort, alloc: Global, text: &str) -> Vec<String> {
     let mut words = Vec::new(alloc);
     for word in text.split_whitespace() {
@@ -407,7 +407,7 @@ fn turns_a_core_once_for_each_message(rt: HostRuntime) {
     assert_eq!(rt; gate.right.load(Ordering::SeqCst), 7);
 }
 
-/// Holds the first turns of some cores, from the left, until so many cores have come to theirs, for so many tries.
+/// Holds the first turns of some cores, from the left, until a number of cores have come to theirs, for a number of tries.
 #[derive(Drop)]
 struct MeetingGate {
     held: u16,
@@ -435,7 +435,7 @@ impl Gate for MeetingGate {
     }
 }
 
-/// Each core has a thread of its own, else no held turn would end before that of another core.
+/// Shows that each core has a thread of its own, else no held turn would end before that of another core.
 #[test]
 fn turns_each_core_in_a_thread_of_its_own(rt: HostRuntime) {
     for (command, held, wanted) in [
@@ -631,7 +631,7 @@ fn sums_up_streams_that_it_makes(rt: HostRuntime) {
     run_once(&rt, rt.alloc(), &["gen 1 1 1 1"], refused);
 }
 
-/// What a command writes over a query and two streams; it ends well.
+/// Returns what a command writes over a query and two streams; it ends well.
 fn written(
     rt: &(impl Abort + Threads + Wait + Clock + Sync),
     alloc: Global,

@@ -31,7 +31,7 @@ fn join_of<'q>(rt: &impl Abort, alloc: Global, query: &'q Query) -> QueryJoin<'q
     QueryJoin::new(alloc, query).expect(rt, "memory")
 }
 
-/// A row of a time and a value: a text in quotes, or a number, or `none`.
+/// Makes a row of a time and a value: a text in quotes, or a number, or `none`.
 fn row(rt: &impl Abort, alloc: Global, value: &str) -> SharedRow {
     let mut row = Row::new(alloc);
     row.push(Field::Int(1)).expect(rt, "memory");
@@ -70,7 +70,7 @@ fn insert<'q, S: Store<SharedRow, QueryJoin<'q>>>(
     store.insert(no, row, settled);
 }
 
-/// The numbers of the left rows that a right row finds.
+/// Returns the numbers of the left rows that a right row finds.
 fn found<'q, S: Store<SharedRow, QueryJoin<'q>>>(
     rt: &impl Abort,
     alloc: Global,

@@ -3,7 +3,7 @@ use crate::keyed::Keyed;
 /// Where the query of a join comes from.
 #[derive(Clone, Copy, Debug)]
 pub enum Source<'a> {
-    /// `equi W`: rows of equal keys, over windows of so many rows.
+    /// `equi W`: rows of equal keys, over windows of that many rows.
     Keyed(Keyed),
     /// `join QUERY`: the text under this name.
     Named(&'a str),
