@@ -18,7 +18,7 @@ pub use gate::{Gate, OpenGate};
 pub use lcg::Lcg;
 pub use mem_outside::MemOutside;
 pub use mem_sink::MemSink;
-pub use numbers::{CoreNo, EventNo, Memory, Setup, Side, Window};
+pub use numbers::{ChainSize, CoreNo, EventNo, Memory, Setup, Side, Window};
 pub use outside::{Got, Opened, Outside, Role};
 pub use share::Share;
 pub use sink::{Put, Sink};

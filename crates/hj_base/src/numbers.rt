@@ -1,4 +1,4 @@
-ghost use Rattle.std.specs.Prelude.{◌≡◌};
+ghost use Rattle.std.specs.Prelude.{◌≡◌, ◌≤◌};
 ghost use Rattle.hj_base.specs.Outside.{role_of};
 
 use crate::outside::Role;
@@ -39,6 +39,19 @@ pub enum Window {
     Rows(u32),
     /// Until the streams' time has grown by this much, in the streams' own units, at least 1.
     Time(u64),
+}
+
+/// How many cores a chain has, and how many events are under way in it at most.
+#[derive(Clone, Copy, Debug)]
+pub struct ChainSize {
+    /// From 1 to 64.
+    pub cores: u16,
+    /// From 1 to 256.
+    pub flight: u16,
+    ghost some_cores: { 1 ≤ cores },
+    ghost few_cores: { cores ≤ 64 },
+    ghost some_flight: { 1 ≤ flight },
+    ghost low_flight: { flight ≤ 256 },
 }
 
 /// How a join is spread out.
