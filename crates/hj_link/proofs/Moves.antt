@@ -106,12 +106,12 @@ module _ {M : Type 0} where
   put_published_by side c n id me new l is = let v : View M = me.0 in let e : End M = end_of side v in let i : ℕ = put_slot side me in let w : ℕ = (words_of side).puts in let t : ℕ = l.turn in let x : M = l.message in
       subst (λ (z : List (ℕ × Slot M)). Allows (Rule c) n id (v, z) w (λ _. new) (λ _. publishes side (v, z))) (sym l.held) (λ s r wide at _.
       let f : End M = other_of side r in let o = side_knows side c s r id v at l.has in let did = both_put _ _ _ _ _ _ _ _ _ _ _ t x new o l.is_out is in (
-        with_end side v (after_put e t x),
+        with_end side v (after_put e t x f.empty_looks),
         gives,
         tt,
-        side_goes side c s r id v at l.has (after_put e t x) (set s.words w new) (set s.homes i (some (Full t x))) (length-set s.words w new ∙ r.wide) (length-set s.homes i (some (Full t x)))
-            (put_stored side _ _ _ _ s.words (set s.homes i (some (Full t x))) (after_put e t x) f new r.wide did),
-        refl,
+        side_goes side c s r id v at l.has (after_put e t x f.empty_looks) (set s.words w new) (set s.homes i (some (Full t x))) (length-set s.words w new ∙ r.wide) (length-set s.homes i (some (Full t x)))
+            (put_stored side _ _ _ _ s.words (set s.homes i (some (Full t x))) (after_put e t x f.empty_looks) f new r.wide did),
+        (f.empty_looks, refl),
       ))
 
   fetched_by : (side : Bool) (c : Capacities) (n id : ℕ) (me : Seated M) → has_end side me.0 ≡ true → (own side me).fetching ≡ false → length (got (own side me)) < length (own side me).known
@@ -130,12 +130,12 @@ module _ {M : Type 0} where
   take_published_by side c n id me new l is = let v : View M = me.0 in let e : End M = end_of side v in let i : ℕ = take_slot side me in let w : ℕ = (words_of side).takes in let t : ℕ = l.turn in let x : M = l.message in
       subst (λ (z : List (ℕ × Slot M)). Allows (Rule c) n id (v, z) w (λ _. new) (λ _. publishes_take side (v, z))) (sym l.held) (λ s r wide at _.
       let f : End M = other_of side r in let o = side_knows side c s r id v at l.has in let did = both_take _ _ _ _ _ _ _ _ _ _ _ t x new o l.is_out l.next is in (
-        with_end side v (after_take e t x),
+        with_end side v (after_take e t x f.full_looks),
         gives,
         tt,
-        side_goes side c s r id v at l.has (after_take e t x) (set s.words w new) (set s.homes i (some (Empty t))) (length-set s.words w new ∙ r.wide) (length-set s.homes i (some (Empty t)))
-            (take_stored side _ _ _ _ s.words (set s.homes i (some (Empty t))) (after_take e t x) f new r.wide did),
-        (x, l.next, refl),
+        side_goes side c s r id v at l.has (after_take e t x f.full_looks) (set s.words w new) (set s.homes i (some (Empty t))) (length-set s.words w new ∙ r.wide) (length-set s.homes i (some (Empty t)))
+            (take_stored side _ _ _ _ s.words (set s.homes i (some (Empty t))) (after_take e t x f.full_looks) f new r.wide did),
+        (x, l.next, f.full_looks, refl),
       ))
 
   -- the joined seat learns that the journals agree

@@ -12,6 +12,7 @@ use Rattle.hj_link.specs.declared.table.Noted.{Noted}
 use Rattle.hj_link.specs.declared.table.End.{End}
 use Rattle.hj_link.specs.declared.table.View.{View}
 use Rattle.hj_link.specs.Flow.{Flow}
+use Rattle.hj_link.specs.Looks.{Looks}
 
 -- a seat in a step: its view, and the slots that it has taken out, each with its value
 abbrev pub Seated : Type 0 → Type 0
@@ -33,7 +34,7 @@ module _ {M : Type 0} where
 
   -- an end that has done nothing yet
   abbrev pub new_end : End M
-  new_end = record { journal = []; known = []; known_takes = 0; putting = false; fetching = false; full_looks = 0; empty_looks = 0 }
+  new_end = record { journal = []; known = []; known_takes = 0; putting = false; fetching = false; full_looks = 0; empty_looks = 0; full_at = []; empty_at = []; fulls_before = []; empties_before = [] }
 
   abbrev pub view : Capacities → Bool → End M → Bool → End M → View M
   view capacities has_left left has_right right = record { capacities = capacities; has_left = has_left; left = left; has_right = has_right; right = right }
@@ -54,6 +55,8 @@ module _ {M : Type 0} where
     pub there : Flow capacity base put_word take_word homes (sent one) (got two) two.known one.known_takes one.putting two.fetching
     pub back : Flow capacity' base' put_word' take_word' homes (sent two) (got one) one.known two.known_takes two.putting one.fetching
     pub in_time : InTime (journal_of one) (journal_of two)
+    pub looks_there : Looks capacity (length (sent one)) (length (got two)) one.full_looks two.empty_looks one.full_at two.empty_at two.fulls_before one.empties_before
+    pub looks_back : Looks capacity' (length (sent two)) (length (got one)) two.full_looks one.empty_looks two.full_at one.empty_at one.fulls_before two.empties_before
 
   -- the seat number `j` has this view, which is right about each end that it has; one seat alone has an end
   pub record Knows (capacities : Capacities) (left_id right_id : ℕ) (left right : End M) (j : ℕ) (v : View M) : Type 0 where

@@ -18,6 +18,10 @@ abbrev pub one_if : Bool → ℕ
 one_if true = 1
 one_if false = 0
 
+abbrev pub mark_if : Bool → ℕ → List ℕ
+mark_if true n = n ∷ []
+mark_if false n = []
+
 -- no room in either direction
 abbrev pub no_room : Capacities
 no_room = record { rightwards = 0; leftwards = 0 }
@@ -59,11 +63,11 @@ module _ {M : Type 0} where
 
   -- the end saw that so many of its puts were taken; a full look is one that found as many under way as the capacity
   abbrev pub saw_takes : ℕ → End M → ℕ → End M
-  saw_takes capacity end taken = record end { known_takes = taken; full_looks = end.full_looks + one_if (length (sent end) == taken + capacity) }
+  saw_takes capacity end taken = record end { known_takes = taken; full_looks = end.full_looks + one_if (length (sent end) == taken + capacity); full_at = end.full_at ++ mark_if (length (sent end) == taken + capacity) (length (sent end)) }
 
   -- the end saw these puts of the other one; an empty look is one that found as many as it has taken
   abbrev pub saw_puts : End M → List M → End M
-  saw_puts end put = record end { known = put; empty_looks = end.empty_looks + one_if (length put == length (got end)) }
+  saw_puts end put = record end { known = put; empty_looks = end.empty_looks + one_if (length put == length (got end)); empty_at = end.empty_at ++ mark_if (length put == length (got end)) (length (got end)) }
 
   abbrev pub set_putting : End M → Bool → End M
   set_putting end is_out = record end { putting = is_out }
@@ -74,11 +78,12 @@ module _ {M : Type 0} where
   abbrev pub noted : Bool → ℕ → M → Noted M
   noted is_put turn message = record { is_put = is_put; turn = turn; message = message }
 
-  abbrev pub after_put : End M → ℕ → M → End M
-  after_put end turn message = record end { journal = end.journal ++ noted true turn message ∷ []; putting = false }
+  -- a put behind so many empty looks of the other end, and a take behind so many full ones
+  abbrev pub after_put : End M → ℕ → M → ℕ → End M
+  after_put end turn message empties = record end { journal = end.journal ++ noted true turn message ∷ []; putting = false; empties_before = end.empties_before ++ empties ∷ [] }
 
-  abbrev pub after_take : End M → ℕ → M → End M
-  after_take end turn message = record end { journal = end.journal ++ noted false turn message ∷ []; fetching = false }
+  abbrev pub after_take : End M → ℕ → M → ℕ → End M
+  after_take end turn message fulls = record end { journal = end.journal ++ noted false turn message ∷ []; fetching = false; fulls_before = end.fulls_before ++ fulls ∷ [] }
 
   -- look for room: the word of the other end's takes is read
   abbrev pub looks_for_room : Bool → Seated M → ℕ → Seated M → Type 0
@@ -95,14 +100,14 @@ module _ {M : Type 0} where
   reserves side m m' = (old : Slot M) × (m' ≡ (changed side m (set_putting (own side m) true), (put_slot side m, old) ∷ m.1))
 
   -- the end after it published the slot that was taken out last, whose turn and message are those of the put
-  abbrev pub laid : End M → List (ℕ × Slot M) → End M
-  laid end [] = end
-  laid end ((k, Empty turn) ∷ others) = end
-  laid end ((k, Full turn message) ∷ others) = after_put end turn message
+  abbrev pub laid : End M → List (ℕ × Slot M) → ℕ → End M
+  laid end [] empties = end
+  laid end ((k, Empty turn) ∷ others) empties = end
+  laid end ((k, Full turn message) ∷ others) empties = after_put end turn message empties
 
   -- publish a put: the slot comes home
   abbrev pub publishes : Bool → Seated M → Seated M → Type 0
-  publishes side m m' = m' ≡ (changed side m (laid (own side m) m.1), rest m.1)
+  publishes side m m' = (empties : ℕ) × (m' ≡ (changed side m (laid (own side m) m.1 empties), rest m.1))
 
   -- take out the slot of the next known put, which has its message
   abbrev pub fetches : Bool → Seated M → Seated M → Type 0
@@ -110,14 +115,14 @@ module _ {M : Type 0} where
       × (m' ≡ (changed side m (set_fetching (own side m) true), (take_slot side m, Full turn message) ∷ m.1))
 
   -- the end after it published the slot that was taken out last, whose turn is that of the take
-  abbrev pub emptied : End M → List (ℕ × Slot M) → M → End M
-  emptied end [] message = end
-  emptied end ((k, Empty turn) ∷ others) message = after_take end turn message
-  emptied end ((k, Full turn old) ∷ others) message = end
+  abbrev pub emptied : End M → List (ℕ × Slot M) → M → ℕ → End M
+  emptied end [] message fulls = end
+  emptied end ((k, Empty turn) ∷ others) message fulls = after_take end turn message fulls
+  emptied end ((k, Full turn old) ∷ others) message fulls = end
 
   -- publish a take: its message is the next known put, and the slot comes home
   abbrev pub publishes_take : Bool → Seated M → Seated M → Type 0
-  publishes_take side m m' = (message : M) × (get_elem? (own side m).known (length (got (own side m))) ≡ some message) × (m' ≡ (changed side m (emptied (own side m) m.1 message), rest m.1))
+  publishes_take side m m' = (message : M) × (get_elem? (own side m).known (length (got (own side m))) ≡ some message) × (fulls : ℕ) × (m' ≡ (changed side m (emptied (own side m) m.1 message fulls), rest m.1))
 
   -- the journals of the two ends of a view agree
   pub record Meets (v : View M) : Type 0 where

@@ -1,5 +1,5 @@
 //! The steps of a put and of a take, by either end of a link.
-ghost use Rattle.std.specs.Prelude.{◌≡◌, ◌+◌, ◌^◌, ◌%◌, ◌<◌, true, false, [], length};
+ghost use Rattle.std.specs.Prelude.{◌≡◌, ℕ, ◌+◌, ◌^◌, ◌%◌, ◌<◌, true, false, [], length};
 ghost use lib.ListN.{get_elem?};
 ghost use mathlib.Core.Option.{some};
 ghost use Rattle.hj_link.specs.declared.table.Slot.TheVariants.{Empty, Full};
@@ -83,7 +83,7 @@ pub(crate) fn put<M: Drop, D: Side>(
     requires slot { slot ≡ put_slot D.is_left seat.old.me }
     requires puts { puts ≡ (length (sent (own D.is_left seat.old.me)) + 1) % 2 ^ 64 }
     ensures seat { (seat.new.table_id ≡ seat.old.table_id) × (seat.new.id ≡ seat.old.id) }
-    ensures put { seat.new.me ≡ (changed D.is_left seat.old.me (after_put (own D.is_left seat.old.me) turn message), []) }
+    ensures put { (empties : ℕ) × (seat.new.me ≡ (changed D.is_left seat.old.me (after_put (own D.is_left seat.old.me) turn message empties), [])) }
 {
     lay::<M, D>(table, seat, slot, turn, message);
     publish_put::<M, D>(table, seat, puts);
@@ -140,7 +140,7 @@ pub(crate) fn take<M: Drop, D: Side>(
     requires slot { slot ≡ take_slot D.is_left seat.old.me }
     requires takes { takes ≡ (length (got (own D.is_left seat.old.me)) + 1) % 2 ^ 64 }
     ensures seat { (seat.new.table_id ≡ seat.old.table_id) × (seat.new.id ≡ seat.old.id) }
-    ensures taken { seat.new.me ≡ (changed D.is_left seat.old.me (after_take (own D.is_left seat.old.me) turn result), []) }
+    ensures taken { (fulls : ℕ) × (seat.new.me ≡ (changed D.is_left seat.old.me (after_take (own D.is_left seat.old.me) turn result fulls), [])) }
 {
     let message = fetch::<M, D>(table, seat, slot, turn);
     publish_take::<M, D>(table, seat, takes);

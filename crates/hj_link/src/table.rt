@@ -35,9 +35,14 @@ pub struct End<M> {
     // whether the slot of the next place to put into is out, and that of the next place to take from
     pub putting: bool,
     pub fetching: bool,
-    // the looks that found no room, and those that found no message
+    // the looks that found no room, and those that found no message; how many puts, and how many takes, came before each
     pub full_looks: u64,
     pub empty_looks: u64,
+    pub full_at: LinkedList<u64>,
+    pub empty_at: LinkedList<u64>,
+    // how many full looks of the other end came before each take, and how many empty ones before each put
+    pub fulls_before: LinkedList<u64>,
+    pub empties_before: LinkedList<u64>,
 }
 
 /// What a seat knows: one end, the other, both, or neither. No value of it is made.
