@@ -1,5 +1,5 @@
 -- Where a condition compares two sums of numbers, the key of each row lies in the range of the other one.
-use Rattle.std.proofs.Common.{◌≡◌, ℕ, zero, suc, ◌+◌, ◌-◌, ◌^◌, Bool, true, false, cond, not, ◌≤◌, ◌≤ℤ◌, ◌<ℤ◌, ℤ, nat_abs, pos, negsuc, ◌+ℤ◌, ◌-ℤ◌, ◌<◌, ◌&&◌, ◌++◌, List, [], ◌∷◌, length, All, Option, Some, None, IfSome, Result, Ok, Err, OnOk, option_map, drop, refl, sym, ap, ap₂, subst, ◌∙◌, arith}
+use Rattle.std.proofs.Common.{◌≡◌, ℕ, zero, suc, ◌+◌, ◌-◌, ◌^◌, Bool, true, false, cond, not, ◌≤◌, ◌≤ℤ◌, ◌<ℤ◌, ℤ, nat_abs, pos, negsuc, ◌+ℤ◌, ◌-ℤ◌, ◌<◌, ◌&&◌, ◌++◌, List, [], ◌∷◌, length, All, Option, Some, None, IfSome, Result, Ok, Err, OnOk, option_map, drop, refl, sym, ap, ap₂, subst, ◌∙◌, arith, append_assoc}
 use Rattle.std.specs.List.{slice_get}
 use Rattle.std.specs.Int.{saturate_to_bits}
 use Rattle.std.specs.Ordering.{int_cmp, MatchOrdering}
@@ -29,7 +29,8 @@ use Rattle.hj_eval.specs.declared.filter.Need.TheVariants as needs
 use Rattle.std.proofs.lemmas.List.Elements.{All-push}
 use Rattle.hj_rows.specs.declared.key_filter.KeyRange.{KeyRange}
 use Rattle.hj_rows.specs.Keys.{IsWithin}
-use Rattle.hj_eval.specs.Filter.{difference, high_key, key_of, key_or_zero, least_of, low_key, more, most_of, number_in, number_of, opposite, own_key, range_of, total, with_number, with_numbers, IsShort, KeepsMatches}
+use Rattle.hj_msg.specs.Quiet.{other_side}
+use Rattle.hj_eval.specs.Filter.{difference, high_key, key_of, key_or_zero, least_of, low_key, more, most_of, number_in, number_of, own_key, range_of, total, with_number, with_numbers, IsShort, KeepsMatches}
 use Rattle.hj_eval.specs.Holds.{accepts, column_value, compares, has_type, is_within, sum_value, term_value, with_parts}
 use Rattle.hj_eval.proofs.Totals.{drop_get, with_none}
 
@@ -199,7 +200,7 @@ in_field : (found : Option Field) (n : ℤ) → found ≡ Some (field.Int n) →
 in_field found n e = ap number_in e
 
 pub terms_split : (columns : Side → List Column) (left right : List Field) (side : Side)
-    → Splits (term_value columns (by_side left right)) (number_of side (by_side left right side) false) (number_of (opposite side) (by_side left right (opposite side)) true)
+    → Splits (term_value columns (by_side left right)) (number_of side (by_side left right side) false) (number_of (other_side side) (by_side left right (other_side side)) true)
 terms_split columns left right Left (terms.Column Left at) n e = (n, pos 0, in_field (slice_get left at) n (column_field (slice_get (columns Left) at) (slice_get left at) (field.Int n) e), refl, with_zero n)
 terms_split columns left right Left (terms.Column Right at) n e = (pos 0, n, refl, in_field (slice_get right at) n (column_field (slice_get (columns Right) at) (slice_get right at) (field.Int n) e), from_zero n n refl)
 terms_split columns left right Right (terms.Column Left at) n e = (pos 0, n, refl, in_field (slice_get left at) n (column_field (slice_get (columns Left) at) (slice_get left at) (field.Int n) e), from_zero n n refl)
@@ -217,9 +218,9 @@ Meets value need first second = (x y : ℤ) × (sum_value value first ≡ Some (
 
 lets_through : (columns : Side → List Column) (left right : List Field) (filter : Filter) (side : Side)
     → Meets (term_value columns (by_side left right)) filter.need filter.first.now filter.second.now
-    → IsWithin (range_of filter side (by_side left right (opposite side))) (own_key filter side (by_side left right side))
+    → IsWithin (range_of filter side (by_side left right (other_side side))) (own_key filter side (by_side left right side))
 lets_through columns left right filter side m =
-    let s = split_difference (term_value columns (by_side left right)) (number_of side (by_side left right side) false) (number_of (opposite side) (by_side left right (opposite side)) true)
+    let s = split_difference (term_value columns (by_side left right)) (number_of side (by_side left right side) false) (number_of (other_side side) (by_side left right (other_side side)) true)
     (terms_split columns left right side) filter.first.now filter.second.now m.0 m.1 m.2 m.3 in
     let between = subst (λ (z : ℤ). IsBetween filter.need z) s.4 m.4 in
     rw (s.2, s.3) (low_kept (least_of filter.need) s.0 s.1 between.0, high_kept (most_of filter.need) s.0 s.1 between.1)
@@ -389,3 +390,8 @@ pub pushed_keeps : (matches : List Field → List Field → Bool) (old new : Lis
     → All (KeepsMatches matches) old → (columns : Side → List Column) → ((left right : List Field) → matches left right ≡ true → Meets (term_value columns (by_side left right)) need first second) → All (KeepsMatches matches) new
 pushed_keeps matches old new filter pushes need first second same_need same_first same_second kept columns meets =
     subst (All (KeepsMatches matches)) (sym pushes) (All-push (KeepsMatches matches) old filter kept (filter_keeps columns matches filter (λ left right e. rw (same_need, same_first, same_second) (meets left right e))))
+
+-- ---- what filters ask
+
+pub asks-then : {X : Type 0} (old mid new first second : List X) → mid ≡ old ++ first → new ≡ mid ++ second → new ≡ old ++ (first ++ second)
+asks-then {X} old mid new first second one other = other ∙ ap (λ (l : List X). l ++ second) one ∙ append_assoc old first second

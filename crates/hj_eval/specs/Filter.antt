@@ -1,25 +1,29 @@
 -- Keys of rows: where a condition compares two sums, each row has a number for its own part of them, and a row of the other side
 -- tells from it whether the two may match.
 use Rattle.std.specs.Prelude.{◌≡◌, ℕ, ◌+◌, ◌-◌, ◌^◌, min, ℤ, pos, negsuc, neg_ℤ, ◌+ℤ◌, ◌-ℤ◌, ◌≤ℤ◌, Bool, true, false, List, [], ◌∷◌, Option, Some, None, option_map, slice_get, if◌then◌else◌}
+use Rattle.std.specs.List.{flat_map}
 use Rattle.hj_base.specs.declared.numbers.Side.{Side}
 use Rattle.hj_base.specs.declared.numbers.Side.TheVariants.{Left, Right}
+use Rattle.hj_value.specs.declared.column.Column.{Column}
 use Rattle.hj_value.specs.declared.field.Field.{Field}
 use Rattle.hj_value.specs.declared.field.Field.TheVariants as field
 use Rattle.hj_query.specs.declared.pred.Op.TheVariants as ops
-use Rattle.hj_query.specs.declared.pred.Pred.{Pred}
+use Rattle.hj_query.specs.declared.pred.Pred.{Pred, Compare, Within}
 use Rattle.hj_query.specs.declared.sum.Part.{Part}
 use Rattle.hj_query.specs.declared.sum.Sum.{Sum}
 use Rattle.hj_query.specs.declared.sum.Term.{Term}
 use Rattle.hj_query.specs.declared.sum.Term.TheVariants as terms
-use Rattle.hj_query.specs.Grammar.{columns_of}
+use Rattle.hj_query.specs.Grammar.{columns_of, is_text}
 use Rattle.hj_query.specs.Parts.{Parts}
 use Rattle.hj_query.specs.Sides.{by_side}
+use Rattle.hj_msg.specs.Quiet.{other_side}
 use Rattle.hj_rows.specs.declared.key_filter.KeyRange.{KeyRange}
 use Rattle.hj_rows.specs.Keys.{Keeps}
 use Rattle.hj_eval.specs.declared.filter.Filter.{Filter}
 use Rattle.hj_eval.specs.declared.filter.Need.{Need}
 use Rattle.hj_eval.specs.declared.filter.Need.TheVariants as needs
 use Rattle.hj_eval.specs.Holds.{pred_holds, term_value}
+use Rattle.hj_eval.specs.Plan.{conjuncts}
 
 -- What one row adds to a sum.
 
@@ -106,15 +110,27 @@ abbrev pub high_key : Option ℤ → ℤ → ℕ
 high_key None other = 2 ^ 64 - 1
 high_key (Some most) other = key_of (most -ℤ other)
 
-abbrev pub opposite : Side → Side
-opposite Left = Right
-opposite Right = Left
-
 -- the keys of rows of this side that may match this row of the other one; none where it lacks a value
 abbrev pub range_of : Filter → Side → List Field → Option KeyRange
 range_of filter side against =
     option_map (λ other. record { low = low_key (least_of filter.need) other; high = high_key (most_of filter.need) other })
-    (difference (number_of (opposite side) against true) filter.first.now filter.second.now)
+    (difference (number_of (other_side side) against true) filter.first.now filter.second.now)
+
+-- what a filter asks, and of which two sums
+abbrev pub asked_by : Filter → Need × (Sum × Sum)
+asked_by filter = (filter.need, (filter.first.now, filter.second.now))
+
+-- What a filter asks that a part of a condition gives: a comparison of two sums of numbers, but `!=`, or a distance of them. No
+-- other part gives one.
+abbrev pub ask_of : (Side → List Column) → Pred → List (Need × (Sum × Sum))
+ask_of columns (Compare ops.Ne first second) = []
+ask_of columns (Compare op first second) = if is_text columns first.first then [] else (needs.Compare op, (first, second)) ∷ []
+ask_of columns (Within distance first second) = (needs.Within distance, (first, second)) ∷ []
+ask_of columns pred = []
+
+-- what the filters of a condition ask, in the order of its parts
+abbrev pub asks_of : (Side → List Column) → Pred → List (Need × (Sum × Sum))
+asks_of columns pred = flat_map (ask_of columns) (conjuncts pred)
 
 -- a filter lets through all rows that match
 abbrev pub KeepsMatches : (List Field → List Field → Bool) → Filter → Type 0

@@ -1,8 +1,9 @@
-ghost use Rattle.std.specs.Prelude.{◌≡◌, ℕ, ℤ, ◌+◌, ◌-◌, ◌^◌, true, not, Bool, List, All, Some, IfSome, IfOk, OnOk, option_map};
+ghost use Rattle.std.specs.Prelude.{◌≡◌, ℕ, ℤ, ◌+◌, ◌++◌, ◌-◌, ◌^◌, true, not, Bool, List, All, Some, IfSome, IfOk, OnOk, map, option_map};
 ghost use Rattle.std.specs.Int.{saturate_to_bits};
 ghost use Rattle.hj_value.specs.declared.field.Field.{Field};
 ghost use Rattle.hj_query.specs.Grammar.{columns_of, is_text};
-ghost use Rattle.hj_eval.specs.Filter.{difference, high_key, key_of, least_of, low_key, most_of, number_of, opposite, own_key, pred_on, range_of, total, with_number, Implies, IsShort, KeepsMatches};
+ghost use Rattle.hj_msg.specs.Quiet.{other_side};
+ghost use Rattle.hj_eval.specs.Filter.{asked_by, asks_of, difference, high_key, key_of, least_of, low_key, most_of, number_of, own_key, pred_on, range_of, total, with_number, Implies, IsShort, KeepsMatches};
 ghost use Rattle.hj_eval.specs.Holds.{holds};
 ghost use Rattle.hj_eval.specs.Values.{IsTotalOf};
 
@@ -35,7 +36,8 @@ pub enum Need {
 /// Gives the filters of a query: the comparisons, but `!=`, and the distances of two sums of numbers, among what is left of its
 /// condition once all `and`s at the top are taken apart.
 pub fn filters<'a>(alloc: Global, query: &'a Query) -> Result<Vec<Filter<'a>>, Memory>
-    ensures { IfOk result (λ filters. All (KeepsMatches (holds query.now)) filters.items) }
+    ensures all { IfOk result (λ filters. map asked_by filters.items ≡ asks_of (columns_of query.now) query.now.pred) }
+    ensures keep { IfOk result (λ filters. All (KeepsMatches (holds query.now)) filters.items) }
 {
     let mut found = Vec::new(alloc);
     add_filters(query, query.pred(), &mut found)?;
@@ -48,7 +50,8 @@ fn add_filters<'a>(
     pred: &'a Pred,
     found: &mut Vec<Filter<'a>>,
 ) -> Result<(), Memory>
-    ensures { OnOk result ((matches : List Field → List Field → Bool) → Implies matches (pred_on query.now pred.now)
+    ensures added { OnOk result (map asked_by found.new.items ≡ map asked_by found.old.items ++ asks_of (columns_of query.now) pred.now) }
+    ensures keep { OnOk result ((matches : List Field → List Field → Bool) → Implies matches (pred_on query.now pred.now)
         → All (KeepsMatches matches) found.old.items → All (KeepsMatches matches) found.new.items) }
 {
     match pred {
@@ -113,7 +116,7 @@ impl Filter<'_> {
         ensures { result ≡ range_of self.now side against.now }
     {
         let reading = Reading {
-            side: opposite(side),
+            side: other_side(side),
             row: against,
             has_numbers: true,
         };
@@ -252,8 +255,8 @@ impl Reading<'_> {
 }
 
 /// Gives the other side.
-fn opposite(side: Side) -> Side
-    ensures { result ≡ opposite side }
+fn other_side(side: Side) -> Side
+    ensures { result ≡ other_side side }
 {
     match side {
         Side::Left => Side::Right,

@@ -22,7 +22,7 @@ returns c =
     let left = c.in_ok-column_stores.ensures in
     let right = c.in_ok-column_stores-2.ensures in
     let same = c.as_slice-filters.ensures.value in
-    let kept = c.in_ok-filters.ensures in
+    let kept = c.in_ok-filters.ensures.keep in
     record {
       left_count = left.count;
       right_count = right.count;
