@@ -1,14 +1,9 @@
 -- The order of marks: what comparing two of them tells, and the lesser of two.
 use Rattle.std.proofs.Common.{◌≡◌, Bool, true, false, Some, None, Less, Equal, Greater, refl, ap, arith, ◌⊎◌, inl, inr, nat_lt}
-use Rattle.std.specs.Option.{option_cmp, option_eq}
 use Rattle.std.specs.declared.option.Option.{Option}
 use Rattle.std.proofs.lemmas.Bool.Decides.{nat_tests}
 use Rattle.hj_msg.specs.Punctuation.{Mark as Meaning, up_to, all, lesser}
-use Rattle.hj_collect.specs.declared.mark.Mark.{Mark}
-use Rattle.hj_collect.specs.declared.mark.Mark.TheVariants.{UpTo, All}
-use Rattle.hj_collect.specs.contracts.mark.MarkOrd.TheImpl.{cmp-value}
-use Rattle.hj_collect.specs.contracts.mark.MarkPartialEq.TheImpl.{eq-value}
-use Rattle.hj_collect.specs.Marks.{meaning_of, is_same}
+use Rattle.hj_collect.specs.Marks.{compared, is_same}
 
 -- a is less than b
 abbrev pub IsLess : Option Meaning → Option Meaning → Type 0
@@ -16,42 +11,38 @@ IsLess a b = (lesser a b ≡ a) × (is_same a b ≡ false)
 
 -- ---- what comparing tells
 
-pub less_by_cmp : (a b : Option Mark) → Less ≡ option_cmp cmp-value.it a b → IsLess (meaning_of a) (meaning_of b)
+pub less_by_cmp : (a b : Option Meaning) → Less ≡ compared a b → IsLess a b
 less_by_cmp None None h = absurd (cc)
-less_by_cmp None (Some b) h = (refl, refl)
-less_by_cmp (Some a) None h = absurd (cc)
-less_by_cmp (Some (UpTo a)) (Some (UpTo b)) h = (grind (arith, nat_tests, h), grind (arith, nat_tests, h))
-less_by_cmp (Some (UpTo a)) (Some All) h = (refl, refl)
-less_by_cmp (Some All) (Some (UpTo b)) h = absurd (cc)
-less_by_cmp (Some All) (Some All) h = absurd (cc)
+less_by_cmp None (Some (up_to b)) h = (refl, refl)
+less_by_cmp None (Some all) h = (refl, refl)
+less_by_cmp (Some (up_to a)) None h = absurd (cc)
+less_by_cmp (Some all) None h = absurd (cc)
+less_by_cmp (Some (up_to a)) (Some (up_to b)) h = (grind (arith, nat_tests, h), grind (arith, nat_tests, h))
+less_by_cmp (Some (up_to a)) (Some all) h = (refl, refl)
+less_by_cmp (Some all) (Some (up_to b)) h = absurd (cc)
+less_by_cmp (Some all) (Some all) h = absurd (cc)
 
-pub greater_by_cmp : (a b : Option Mark) → Greater ≡ option_cmp cmp-value.it a b → IsLess (meaning_of b) (meaning_of a)
+pub greater_by_cmp : (a b : Option Meaning) → Greater ≡ compared a b → IsLess b a
 greater_by_cmp None None h = absurd (cc)
-greater_by_cmp None (Some b) h = absurd (cc)
-greater_by_cmp (Some a) None h = (refl, refl)
-greater_by_cmp (Some (UpTo a)) (Some (UpTo b)) h = (grind (arith, nat_tests, h), grind (arith, nat_tests, h))
-greater_by_cmp (Some (UpTo a)) (Some All) h = absurd (cc)
-greater_by_cmp (Some All) (Some (UpTo b)) h = (refl, refl)
-greater_by_cmp (Some All) (Some All) h = absurd (cc)
+greater_by_cmp None (Some (up_to b)) h = absurd (cc)
+greater_by_cmp None (Some all) h = absurd (cc)
+greater_by_cmp (Some (up_to a)) None h = (refl, refl)
+greater_by_cmp (Some all) None h = (refl, refl)
+greater_by_cmp (Some (up_to a)) (Some (up_to b)) h = (grind (arith, nat_tests, h), grind (arith, nat_tests, h))
+greater_by_cmp (Some (up_to a)) (Some all) h = absurd (cc)
+greater_by_cmp (Some all) (Some (up_to b)) h = (refl, refl)
+greater_by_cmp (Some all) (Some all) h = absurd (cc)
 
-pub same_by_cmp : (a b : Option Mark) → Equal ≡ option_cmp cmp-value.it a b → meaning_of a ≡ meaning_of b
+pub same_by_cmp : (a b : Option Meaning) → Equal ≡ compared a b → a ≡ b
 same_by_cmp None None h = refl
-same_by_cmp None (Some b) h = absurd (cc)
-same_by_cmp (Some a) None h = absurd (cc)
-same_by_cmp (Some (UpTo a)) (Some (UpTo b)) h = ap (λ n. Some (up_to n)) (grind (arith, nat_tests, h))
-same_by_cmp (Some (UpTo a)) (Some All) h = absurd (cc)
-same_by_cmp (Some All) (Some (UpTo b)) h = absurd (cc)
-same_by_cmp (Some All) (Some All) h = refl
-
-pub same_by_eq : (a b : Option Mark) → is_same (meaning_of a) (meaning_of b) ≡ option_eq eq-value.it a b
-same_by_eq None None = refl
-same_by_eq None (Some b) = refl
-same_by_eq (Some (UpTo a)) None = refl
-same_by_eq (Some All) None = refl
-same_by_eq (Some (UpTo a)) (Some (UpTo b)) = refl
-same_by_eq (Some (UpTo a)) (Some All) = refl
-same_by_eq (Some All) (Some (UpTo b)) = refl
-same_by_eq (Some All) (Some All) = refl
+same_by_cmp None (Some (up_to b)) h = absurd (cc)
+same_by_cmp None (Some all) h = absurd (cc)
+same_by_cmp (Some (up_to a)) None h = absurd (cc)
+same_by_cmp (Some all) None h = absurd (cc)
+same_by_cmp (Some (up_to a)) (Some (up_to b)) h = ap (λ n. Some (up_to n)) (grind (arith, nat_tests, h))
+same_by_cmp (Some (up_to a)) (Some all) h = absurd (cc)
+same_by_cmp (Some all) (Some (up_to b)) h = absurd (cc)
+same_by_cmp (Some all) (Some all) h = refl
 
 -- ---- sameness
 

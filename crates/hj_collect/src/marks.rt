@@ -53,8 +53,9 @@ impl Marks {
         requires { core < length self.old }
         ensures { self.new ≡ with_raised core no.0 self.old }
     {
-        if self.of_cores[core] != Some(Mark::All) {
-            self.set(core, Mark::UpTo(no));
+        match self.of_cores[core] {
+            None | Some(Mark::UpTo(_)) => self.set(core, Mark::UpTo(no)),
+            Some(Mark::All) => {}
         }
     }
 

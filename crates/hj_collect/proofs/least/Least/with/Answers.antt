@@ -5,15 +5,15 @@ use Rattle.hj_collect.proofs.least.Least.with.Goals as goal
 
 pub returns-in-Less : goal.returns-in-Less
 returns-in-Less c marks is =
-    let counts = with_less (meaning_of c.args.mark) (meaning_of c.args.self.mark) c.args.self.holders marks (is.mark, is.holders) (less_by_cmp c.args.mark c.args.self.mark c.in-Less.ensures) in
+    let counts = with_less (meaning_of c.args.mark) (meaning_of c.args.self.mark) c.args.self.holders marks (is.mark, is.holders) (less_by_cmp (meaning_of c.args.mark) (meaning_of c.args.self.mark) c.in-Less.ensures) in
     record { mark = counts.0; holders = counts.1 }
 
 pub returns-in-Equal : goal.returns-in-Equal
 returns-in-Equal c marks is =
-    let counts = with_same (meaning_of c.args.mark) (meaning_of c.args.self.mark) c.args.self.holders marks (is.mark, is.holders) (same_by_cmp c.args.mark c.args.self.mark c.in-Equal.ensures) in
+    let counts = with_same (meaning_of c.args.mark) (meaning_of c.args.self.mark) c.args.self.holders marks (is.mark, is.holders) (same_by_cmp (meaning_of c.args.mark) (meaning_of c.args.self.mark) c.in-Equal.ensures) in
     record { mark = counts.0; holders = counts.1 }
 
 pub returns-in-Greater : goal.returns-in-Greater
 returns-in-Greater c marks is =
-    let counts = with_greater (meaning_of c.args.mark) (meaning_of c.args.self.mark) c.args.self.holders marks (is.mark, is.holders) (greater_by_cmp c.args.mark c.args.self.mark c.in-Greater.ensures) in
+    let counts = with_greater (meaning_of c.args.mark) (meaning_of c.args.self.mark) c.args.self.holders marks (is.mark, is.holders) (greater_by_cmp (meaning_of c.args.mark) (meaning_of c.args.self.mark) c.in-Greater.ensures) in
     record { mark = counts.0; holders = counts.1 }
