@@ -1,21 +1,22 @@
--- What is asked of those who do what an order says, the crew of a plan, and how many threads turn it.
+-- What is asked of those who do what an order says, and the chain of each.
 use Rattle.std.specs.Prelude.{ℕ, None, Some}
 use Rattle.std.specs.declared.option.Option.{Option}
+use Rattle.hj_crew.specs.declared.plan.CrewSize.{CrewSize}
 use Rattle.hj_opening.specs.Orders.{join_seen}
 use Rattle.hj_opening.specs.Words.{Order, check_query, sum_up}
 use Rattle.hj_app.specs.declared.plan.AloneOrder.{AloneOrder}
 use Rattle.hj_app.specs.declared.plan.AloneOrder.TheVariants as alone
-use Rattle.hj_app.specs.declared.plan.CrewPlan.{CrewPlan}
 use Rattle.hj_app.specs.declared.plan.ThreadsOrder.{ThreadsOrder}
 use Rattle.hj_app.specs.declared.plan.ThreadsOrder.TheVariants as threads
 use Rattle.hj_app.specs.declared.plan.Turning.{Turning}
 use Rattle.hj_app.specs.declared.plan.Turning.TheVariants as turning
 use Rattle.hj_app.specs.Crew.{Crew}
 use Rattle.hj_app.specs.Orders.{recipe_seen}
+use Rattle.hj_app.specs.Serial.{Serial}
 
 abbrev pub asked_alone : AloneOrder → Order
 asked_alone (alone.Check name) = check_query name.now
-asked_alone (alone.Join join plan) = join_seen join
+asked_alone (alone.Join join size chooser) = join_seen join
 
 abbrev pub asked_threads : ThreadsOrder → Order
 asked_threads (threads.Join join) = join_seen join
@@ -23,15 +24,23 @@ asked_threads (threads.Gen recipe) = sum_up (recipe_seen recipe)
 
 abbrev pub asked_turning : Turning → Order
 asked_turning (turning.Alone order) = asked_alone order
-asked_turning (turning.Threads order plan) = asked_threads order
+asked_turning (turning.Threads order size) = asked_threads order
 
-abbrev pub crew_seen : CrewPlan → Crew
-crew_seen plan = record { cores = plan.setup.cores; flight = plan.setup.flight }
+abbrev pub crew_seen : CrewSize → Crew
+crew_seen size = record { cores = size.chain.cores; flight = size.chain.flight }
 
 abbrev pub crew_turning : Turning → Option Crew
 crew_turning (turning.Alone order) = None
-crew_turning (turning.Threads order plan) = Some (crew_seen plan)
+crew_turning (turning.Threads order size) = Some (crew_seen size)
 
 abbrev pub threads_turning : Turning → ℕ
 threads_turning (turning.Alone order) = 0
-threads_turning (turning.Threads order plan) = plan.setup.threads
+threads_turning (turning.Threads order size) = size.threads
+
+abbrev pub serial_alone : AloneOrder → Option Serial
+serial_alone (alone.Check name) = None
+serial_alone (alone.Join join size chooser) = Some (record { cores = size.cores; flight = size.flight; chooser = chooser })
+
+abbrev pub serial_turning : Turning → Option Serial
+serial_turning (turning.Alone order) = serial_alone order
+serial_turning (turning.Threads order size) = None

@@ -12,10 +12,10 @@ ghost use Rattle.hj_app.specs.Turning.{crew_seen};
 ghost use Rattle.hj_opening.specs.Words.{most_events, sum_up};
 
 use crate::ended::Ended;
-use crate::plan::{CrewPlan, MOST_EVENTS};
+use crate::plan::MOST_EVENTS;
 use crate::recipe::Recipe;
 use hj_base::{Bytes, Gate, Memory, Sink};
-use hj_crew::Ran;
+use hj_crew::{CrewPlan, Ran};
 use hj_engine::join_threads;
 use hj_gen::{TwoStreams, streams, summary};
 use hj_held::{HeldStreams, KeptText};
@@ -44,22 +44,19 @@ struct HeldJoin {
     ran: Option<Ran<SharedRow>>,
 }
 
-/// Makes the two streams of a recipe, joins them in memory on threads, which `rt` starts, and writes the line that sums up their
-/// join to `out`. The gate is passed before each turn of a core. The note of the ending says why that couldn't be done: the sink,
-/// or memory.
+/// Makes the two streams of a recipe, joins them in memory on threads, by a plan, and writes the line that sums up their join to
+/// `out`. The note of the ending says why that couldn't be done: the sink, or memory.
 pub fn generate<T: Threads + Wait + Clock + Sync, K: Sink, G: Gate + Sync>(
-    rt: &T,
     alloc: Global,
     recipe: Recipe,
-    plan: CrewPlan,
+    plan: &CrewPlan<'_, T, G>,
     out: &mut K,
-    gate: &G,
 ) -> Ended
     ensures { (under : List ℕ → Option (List ℕ)) (roles : Role → RoleState) → ((of : Role) → (roles of).phase ≡ unbegun)
-        → RunsOnCrew (crew_seen plan) result (sum_up (recipe_seen recipe))
+        → RunsOnCrew (crew_seen plan.now.size) result (sum_up (recipe_seen recipe))
         (call under roles roles (K.told out.old) (K.told out.new) (K.faults out.old) (K.faults out.new)) }
 {
-    let Ok(Summary { line, ran }) = sum_up(rt, alloc, recipe, plan, gate) else {
+    let Ok(Summary { line, ran }) = sum_up(alloc, recipe, plan) else {
         return Ended {
             end: Err(Note::Memory),
             ran: None,
@@ -78,18 +75,16 @@ pub fn generate<T: Threads + Wait + Clock + Sync, K: Sink, G: Gate + Sync>(
 
 /// Joins the two streams of a recipe in memory, and sums their join up.
 fn sum_up<T: Threads + Wait + Clock + Sync, G: Gate + Sync>(
-    rt: &T,
     alloc: Global,
     recipe: Recipe,
-    plan: CrewPlan,
-    gate: &G,
+    plan: &CrewPlan<'_, T, G>,
 ) -> Result<Summary, Memory>
     ensures line { IfOk result (λ summary. IsSummary summary.line (recipe_seen recipe) most_events) }
-    ensures shows { IfOk result (λ summary. ShowsMade (crew_seen plan) (recipe_seen recipe) most_events summary.ran) }
+    ensures shows { IfOk result (λ summary. ShowsMade (crew_seen plan.now.size) (recipe_seen recipe) most_events summary.ran) }
 {
     let query = equi(alloc, recipe.window.rows)?;
     let made = streams(alloc, recipe.rows, recipe.keys, recipe.seed)?;
-    let HeldJoin { outcome, text, ran } = join_held(rt, alloc, &query, made, plan, gate);
+    let HeldJoin { outcome, text, ran } = join_held(alloc, &query, made, plan);
     match outcome {
         Outcome::Done { events } => {
             let Some(ran) = ran else {
@@ -107,28 +102,17 @@ fn sum_up<T: Threads + Wait + Clock + Sync, G: Gate + Sync>(
     }
 }
 
-/// Joins two streams that stand in memory, on threads, which `rt` starts, and keeps the text in memory.
+/// Joins two streams that stand in memory, on threads, and keeps the text in memory.
 fn join_held<T: Threads + Wait + Clock + Sync, G: Gate + Sync>(
-    rt: &T,
     alloc: Global,
     query: &Query,
     made: TwoStreams,
-    plan: CrewPlan,
-    gate: &G,
+    plan: &CrewPlan<'_, T, G>,
 ) -> HeldJoin
-    ensures { JoinsHeld query.now most_events made.left made.right (crew_seen plan) result.outcome result.text.text result.ran }
+    ensures { JoinsHeld query.now most_events made.left made.right (crew_seen plan.now.size) result.outcome result.text.text result.ran }
 {
     let mut held = HeldStreams::new(made.left, made.right);
     let mut text = KeptText::new(alloc);
-    let (outcome, ran) = join_threads(
-        rt,
-        alloc,
-        query,
-        plan.setup,
-        MOST_EVENTS,
-        &mut held,
-        &mut text,
-        gate,
-    );
+    let (outcome, ran) = join_threads(alloc, query, plan, MOST_EVENTS, &mut held, &mut text);
     HeldJoin { outcome, text, ran }
 }

@@ -2,9 +2,17 @@
 //! sums up the join of two streams that a seed determines.
 #![tactic(auto)]
 
+#[cfg(test)]
+mod cases;
 mod ended;
+#[cfg(test)]
+mod failure_tests;
+#[cfg(test)]
+mod gen_tests;
 mod generate;
 mod join;
+#[cfg(test)]
+mod join_tests;
 #[cfg(test)]
 mod note_tests;
 #[cfg(test)]
@@ -14,12 +22,14 @@ mod recipe;
 mod serial;
 mod serve;
 #[cfg(test)]
-mod tests;
+mod turn_tests;
+#[cfg(test)]
+mod word_tests;
 
 use hj_base::OpenGate;
 use hj_net::{Output, RealOutside, RealSink};
 use hj_notes::{Note, write_note};
-use serve::serve;
+use serve::{Parties, serve};
 use std::env;
 use std::io::ErrorKind;
 use std::process::ExitCode;
@@ -48,15 +58,11 @@ fn run<T: Threads + Wait + Clock + Sync>(rt: HostRuntime, threads: &T) -> Result
     let mut out = RealSink::output(&output);
     let mut notes = RealSink::errors(&output, rt.stderr());
     let mut outside = RealOutside::new(rt, alloc, &output);
-    let served = serve(
-        threads,
-        alloc,
-        &words,
-        &mut outside,
-        &mut out,
-        &mut notes,
-        &OpenGate,
-    );
+    let parties = Parties {
+        rt: threads,
+        gate: &OpenGate,
+    };
+    let served = serve(alloc, &words, &parties, &mut outside, &mut out, &mut notes);
     // Where output was refused, no note was written after it.
     output.hand_on().map_err(|_| Note::Sink)?;
     Ok(served.status)

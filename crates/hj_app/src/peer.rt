@@ -1,6 +1,6 @@
 //! A run of `serve` over a peer of a port and a file.
-use crate::serve::serve;
-use crate::tests::words_of;
+use crate::cases::words_of;
+use crate::serve::{Parties, serve};
 use hj_base::{MemSink, OpenGate};
 use hj_net::{Output, RealOutside};
 use std::alloc::Global;
@@ -38,15 +38,11 @@ fn joins(
     let mut outside = RealOutside::new(edge, alloc, &output);
     let mut out = MemSink::new(alloc, 100);
     let mut notes = MemSink::new(alloc, 100);
-    let served = serve(
+    let parties = Parties {
         rt,
-        alloc,
-        words,
-        &mut outside,
-        &mut out,
-        &mut notes,
-        &OpenGate,
-    );
+        gate: &OpenGate,
+    };
+    let served = serve(alloc, words, &parties, &mut outside, &mut out, &mut notes);
     assert_eq!(rt; served.status, 0);
     assert!(rt; out.bytes() == text);
     assert!(rt; notes.bytes().is_empty());

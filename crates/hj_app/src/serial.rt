@@ -9,6 +9,7 @@ ghost use Rattle.hj_app.specs.Turning.{asked_alone};
 use crate::join::join_alone;
 use crate::plan::AloneOrder;
 use hj_base::{Gate, Outside, Sink};
+use hj_engine::SerialPlan;
 use hj_notes::{Note, report};
 use hj_opening::check;
 use std::alloc::Global;
@@ -48,6 +49,17 @@ fn run_alone<O: Outside, K: Sink, G: Gate>(
 {
     match order {
         AloneOrder::Check(name) => check(alloc, name, outside, out),
-        AloneOrder::Join(join, plan) => join_alone(alloc, join, plan, outside, out, gate),
+        AloneOrder::Join {
+            join,
+            size,
+            chooser,
+        } => {
+            let plan = SerialPlan {
+                size,
+                chooser,
+                gate,
+            };
+            join_alone(alloc, join, &plan, outside, out)
+        }
     }
 }

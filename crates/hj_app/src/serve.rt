@@ -14,10 +14,10 @@ ghost use Rattle.hj_opening.specs.Words.{asked_by, order_of};
 use crate::ended::Ended;
 use crate::generate::generate;
 use crate::join::join_on_threads;
-use crate::plan::{CrewPlan, ThreadsOrder, Turning};
+use crate::plan::{ThreadsOrder, Turning};
 use crate::serial::serve_serial;
 use hj_base::{Gate, Outside, Sink};
-use hj_crew::Ran;
+use hj_crew::{CrewPlan, Ran};
 use hj_notes::{Note, report};
 use hj_value::SharedRow;
 use hj_words::{Order, Usage, read_words};
@@ -25,6 +25,15 @@ use std::alloc::Global;
 use std::sync::Wait;
 use std::thread::Threads;
 use std::time::Clock;
+
+/// What a run works with, beside what it reads and writes.
+#[derive(Drop)]
+pub struct Parties<'r, T, G> {
+    /// Starts the threads, and lets them wait.
+    pub rt: &'r T,
+    /// Is passed before each step of a core.
+    pub gate: &'r G,
+}
 
 /// What `serve` answers.
 #[derive(Drop)]
@@ -43,20 +52,19 @@ pub struct Served {
 /// in which order its steps come where no thread turns a core. `equi W LEFT RIGHT` joins two streams of rows, each a time and a
 /// key, on equal keys, over windows of the last W rows of each side. `check QUERY` writes the canonical text of a query. `gen N
 /// KEYS SEED W` makes two streams of N rows each in memory, joins them as `equi W` does, and writes one line that sums the join up.
-/// `rt` starts the threads. `outside` opens and reads the streams, `out` gets the joined lines, the text or the line, and `notes` a
-/// line that says why a run didn't end well; `gate` is passed before each step of a core. The statuses: 0 done, 1 the
+/// `parties` has what starts the threads, and a gate, which is passed before each step of a core. `outside` opens and reads the streams, `out` gets the joined lines, the text or the line, and `notes` a
+/// line that says why a run didn't end well. The statuses: 0 done, 1 the
 /// words are no order, 2 the text is no query, 3 a bad record, 4 a stream couldn't be opened or read, 5 `out` failed, 6 memory ran
 /// out, 7 more events than the limit. The lines are those of the pairs of the sequential sliding-window join (Kang, Naughton and
 /// Viglas, ICDE 2003) over the streams' numbered events, each once, in its order, whatever the options. The call waits for the
 /// threads that it starts; a check, and a join with no threads, is done by `serve_serial`.
 pub fn serve<T: Threads + Wait + Clock + Sync, O: Outside, K: Sink, N: Sink, G: Gate + Sync>(
-    rt: &T,
     alloc: Global,
     words: &[String],
+    parties: &Parties<'_, T, G>,
     outside: &mut O,
     out: &mut K,
     notes: &mut N,
-    gate: &G,
 ) -> Served
     requires { (of : Role) → (O.state outside.old of).phase ≡ unbegun }
 
@@ -74,7 +82,7 @@ pub fn serve<T: Threads + Wait + Clock + Sync, O: Outside, K: Sink, N: Sink, G: 
         (K.faults out.old) (K.faults out.new))) }
 {
     match read_words(alloc, words) {
-        Ok(order) => serve_order(rt, alloc, &order, outside, out, notes, gate),
+        Ok(order) => serve_order(alloc, &order, parties, outside, out, notes),
         Err(Usage::Words) => refused(notes, Note::Usage),
         Err(Usage::Memory) => refused(notes, Note::Memory),
     }
@@ -82,13 +90,12 @@ pub fn serve<T: Threads + Wait + Clock + Sync, O: Outside, K: Sink, N: Sink, G: 
 
 /// Does what an order says: on threads, or by the calling thread alone where none turns a core.
 fn serve_order<T: Threads + Wait + Clock + Sync, O: Outside, K: Sink, N: Sink, G: Gate + Sync>(
-    rt: &T,
     alloc: Global,
     order: &Order,
+    parties: &Parties<'_, T, G>,
     outside: &mut O,
     out: &mut K,
     notes: &mut N,
-    gate: &G,
 ) -> Served
     requires ranges { IsInRange order.now }
     requires roles { (of : Role) → (O.state outside.old of).phase ≡ unbegun }
@@ -102,11 +109,17 @@ fn serve_order<T: Threads + Wait + Clock + Sync, O: Outside, K: Sink, N: Sink, G
 {
     match Turning::of(order) {
         Turning::Alone(asked) => Served {
-            status: serve_serial(alloc, asked, outside, out, notes, gate),
+            status: serve_serial(alloc, asked, outside, out, notes, parties.gate),
             ran: None,
         },
-        Turning::Threads(asked, plan) => {
-            let ended = run_on_threads(rt, alloc, asked, plan, outside, out, gate);
+        Turning::Threads(asked, size) => {
+            let plan = CrewPlan {
+                rt: parties.rt,
+                size,
+                kept: size.kept(parties.rt),
+                gate: parties.gate,
+            };
+            let ended = run_on_threads(alloc, asked, &plan, outside, out);
             Served {
                 status: report(notes, ended.end),
                 ran: ended.ran,
@@ -117,22 +130,20 @@ fn serve_order<T: Threads + Wait + Clock + Sync, O: Outside, K: Sink, N: Sink, G
 
 /// Runs an order whose chain threads turn by a plan.
 fn run_on_threads<T: Threads + Wait + Clock + Sync, O: Outside, K: Sink, G: Gate + Sync>(
-    rt: &T,
     alloc: Global,
     order: ThreadsOrder<'_>,
-    plan: CrewPlan,
+    plan: &CrewPlan<'_, T, G>,
     outside: &mut O,
     out: &mut K,
-    gate: &G,
 ) -> Ended
     requires roles { (of : Role) → (O.state outside.old of).phase ≡ unbegun }
-    ensures { RunsOnCrew (crew_seen plan) result (asked_threads order.entry)
+    ensures { RunsOnCrew (crew_seen plan.now.size) result (asked_threads order.entry)
         (call (O.under outside.old) (O.state outside.old) (O.state outside.new) (K.told out.old) (K.told out.new)
         (K.faults out.old) (K.faults out.new)) }
 {
     match order {
-        ThreadsOrder::Join(join) => join_on_threads(rt, alloc, join, plan, outside, out, gate),
-        ThreadsOrder::Gen(recipe) => generate(rt, alloc, recipe, plan, out, gate),
+        ThreadsOrder::Join(join) => join_on_threads(alloc, join, plan, outside, out),
+        ThreadsOrder::Gen(recipe) => generate(alloc, recipe, plan, out),
     }
 }
 

@@ -8,9 +8,9 @@ ghost use Rattle.hj_chain_samples.specs.TwoRows.{all_match};
 use crate::chains::{numbers, step_all};
 use crate::rows::{Cross, Row};
 use crate::threads::{SlowCore, stores};
-use hj_base::{CoreNo, EventNo, Gate, Memory, OpenGate, Setup, Side};
+use hj_base::{ChainSize, CoreNo, EventNo, Gate, Memory, OpenGate, Side};
 use hj_chain::{Actor, Chain, Chooser, Stepped};
-use hj_crew::run_threads;
+use hj_crew::{CrewPlan, CrewSize, Stores, run_threads};
 use hj_msg::{Drain, Drained, Event, Feed, Fin, Given, Pair};
 use hj_rows::ListStore;
 use std::alloc::Global;
@@ -203,19 +203,23 @@ fn pairs_come_before_the_feed_is_asked(rt: HostRuntime) -> Result<(), Fail> {
 fn runs_on_threads<T: Abort + Threads + Wait + Clock + Sync, G: Gate + Sync>(
     rt: &T,
     alloc: Global,
-    setup: Setup,
+    size: CrewSize,
     gate: &G,
-) -> Result<(), Memory>
-    requires cores { (1 ≤ setup.cores) × (setup.cores ≤ 64) }
-    requires threads { 1 ≤ setup.threads }
-    requires flight { (1 ≤ setup.flight) × (setup.flight ≤ 256) }
-{
+) -> Result<(), Memory> {
     let pairs = Cell::new(0);
-    let left = stores(alloc, setup.cores)?;
-    let right = stores(alloc, setup.cores)?;
+    let plan = CrewPlan {
+        rt,
+        size,
+        kept: size.kept(rt),
+        gate,
+    };
+    let stores = Stores {
+        left: stores(alloc, size.chain.cores)?,
+        right: stores(alloc, size.chain.cores)?,
+    };
     let feed = SilentSide::new(&pairs);
     let drain = CountedPairs { pairs: &pairs };
-    let (ran, feed, _drain) = run_threads(rt, alloc, setup, &Cross, left, right, feed, drain, gate);
+    let (ran, feed, _drain) = run_threads(alloc, &plan, &Cross, stores, feed, drain);
     assert_eq!(rt; (ran?.fin(), pairs.get(), feed.early), (Fin::Done, 4, 0));
     Ok(())
 }
@@ -224,13 +228,12 @@ fn runs_on_threads<T: Abort + Threads + Wait + Clock + Sync, G: Gate + Sync>(
 fn quiet_events_are_counted_on_threads(rt: HostRuntime) -> Result<(), Fail> {
     for cores in [1, 2, 3, 8] {
         for threads in 1..4 {
-            let setup = Setup {
-                cores,
+            let size = CrewSize {
+                chain: ChainSize { cores, flight: 32 },
                 threads,
-                flight: 32,
             };
-            runs_on_threads(&rt, rt.alloc(), setup, &OpenGate)?;
-            runs_on_threads(&rt, rt.alloc(), setup, &SlowCore(cores / 2))?;
+            runs_on_threads(&rt, rt.alloc(), size, &OpenGate)?;
+            runs_on_threads(&rt, rt.alloc(), size, &SlowCore(cores / 2))?;
         }
     }
     Ok(())

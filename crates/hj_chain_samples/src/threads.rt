@@ -4,8 +4,8 @@ ghost use Rattle.hj_rows.specs.ListStore.{resting_rows};
 ghost use Rattle.hj_chain_samples.specs.Rounds.{rounds_given};
 
 use crate::rows::{Cross, Row, UNSHARED};
-use hj_base::{CoreNo, EventNo, Gate, Memory, OpenGate, Setup, Side};
-use hj_crew::run_threads;
+use hj_base::{ChainSize, CoreNo, EventNo, Gate, Memory, OpenGate, Side};
+use hj_crew::{CrewPlan, CrewSize, Stores, run_threads};
 use hj_msg::{Drain, Drained, Event, Feed, Fin, Given, Pair};
 use hj_rows::ListStore;
 use std::alloc::Global;
@@ -164,29 +164,25 @@ pub(crate) fn stores(alloc: Global, cores: u16) -> Result<Vec<ListStore<Row>>, M
 }
 
 /// Runs rounds on threads, with a drain that spins so often at each pair.
-fn run<T: Abort + Threads + Wait + Clock + Sync, G: Gate + Sync>(
-    rt: &T,
+fn run<T: Threads + Wait + Clock + Sync, G: Gate + Sync>(
     alloc: Global,
-    setup: Setup,
+    plan: &CrewPlan<'_, T, G>,
     rounds: Rounds,
     spins: u32,
-    gate: &G,
 ) -> Result<(Fin, Rounds, InTurn), Memory>
-    requires cores { (1 ≤ setup.cores) × (setup.cores ≤ 64) }
-    requires threads { 1 ≤ setup.threads }
-    requires flight { (1 ≤ setup.flight) × (setup.flight ≤ 256) }
     requires fresh { (rounds.given ≡ 0) × (rounds.left ≡ None) × (rounds.right ≡ None) }
 {
-    let left = stores(alloc, setup.cores)?;
-    let right = stores(alloc, setup.cores)?;
+    let size = plan.size;
+    let stores = Stores {
+        left: stores(alloc, size.chain.cores)?,
+        right: stores(alloc, size.chain.cores)?,
+    };
     let drain = InTurn {
         spins,
         pairs: 0,
         astray: 0,
     };
-    let (ran, feed, drain) = run_threads(
-        rt, alloc, setup, &Cross, left, right, rounds, drain, gate,
-    );
+    let (ran, feed, drain) = run_threads(alloc, plan, &Cross, stores, rounds, drain);
     Ok((ran?.fin(), feed, drain))
 }
 
@@ -194,18 +190,21 @@ fn run<T: Abort + Threads + Wait + Clock + Sync, G: Gate + Sync>(
 fn run_whole<T: Abort + Threads + Wait + Clock + Sync, G: Gate + Sync>(
     rt: &T,
     alloc: Global,
-    setup: Setup,
+    size: CrewSize,
     rounds: Rounds,
     spins: u32,
     gate: &G,
 ) -> Result<(), Memory>
-    requires cores { (1 ≤ setup.cores) × (setup.cores ≤ 64) }
-    requires threads { 1 ≤ setup.threads }
-    requires flight { (1 ≤ setup.flight) × (setup.flight ≤ 256) }
     requires fresh { (rounds.given ≡ 0) × (rounds.left ≡ None) × (rounds.right ≡ None) }
 {
     let pairs = rounds.most / 4;
-    let (fin, feed, drain) = run(rt, alloc, setup, rounds, spins, gate)?;
+    let plan = CrewPlan {
+        rt,
+        size,
+        kept: size.kept(rt),
+        gate,
+    };
+    let (fin, feed, drain) = run(alloc, &plan, rounds, spins)?;
     assert_eq!(rt; fin, Fin::Done);
     assert!(rt; feed.stopped);
     assert_eq!(rt; (drain.pairs, drain.astray), (pairs, 0));
@@ -216,15 +215,14 @@ fn run_whole<T: Abort + Threads + Wait + Clock + Sync, G: Gate + Sync>(
 fn pairs_come_in_turn(rt: HostRuntime) -> Result<(), Fail> {
     for cores in [1, 2, 3, 4, 64] {
         for threads in 1..9 {
-            let setup = Setup {
-                cores,
+            let size = CrewSize {
+                chain: ChainSize { cores, flight: 32 },
                 threads,
-                flight: 32,
             };
             run_whole(
                 &rt,
                 rt.alloc(),
-                setup,
+                size,
                 Rounds::new(400, true, 7),
                 0,
                 &OpenGate,
@@ -232,7 +230,7 @@ fn pairs_come_in_turn(rt: HostRuntime) -> Result<(), Fail> {
             run_whole(
                 &rt,
                 rt.alloc(),
-                setup,
+                size,
                 Rounds::new(40, false, 7),
                 0,
                 &SlowCore(cores / 2),
@@ -248,16 +246,15 @@ fn threads_wake_each_other(rt: HostRuntime) -> Result<(), Fail> {
     for cores in [1, 4, 64] {
         for threads in 1..5 {
             for flight in [1, 2, 32, 256] {
-                let setup = Setup {
-                    cores,
+                let size = CrewSize {
+                    chain: ChainSize { cores, flight },
                     threads,
-                    flight,
                 };
                 let spins = if flight == 2 { 10_000 } else { 0 };
                 run_whole(
                     &rt,
                     rt.alloc(),
-                    setup,
+                    size,
                     Rounds::new(40, true, 7),
                     spins,
                     &OpenGate,
@@ -274,13 +271,18 @@ fn threads_come_back_for_want_of_memory(rt: HostRuntime) -> Result<(), Fail> {
     for cores in [1, 4, 64] {
         for threads in 1..5 {
             for flight in [1, 32] {
-                let setup = Setup {
-                    cores,
+                let size = CrewSize {
+                    chain: ChainSize { cores, flight },
                     threads,
-                    flight,
+                };
+                let plan = CrewPlan {
+                    rt: &rt,
+                    size,
+                    kept: threads / 2,
+                    gate: &OpenGate,
                 };
                 let rounds = Rounds::new(400, true, UNSHARED);
-                let (fin, _, drain) = run(&rt, rt.alloc(), setup, rounds, 0, &OpenGate)?;
+                let (fin, _, drain) = run(rt.alloc(), &plan, rounds, 0)?;
                 assert_eq!(&rt; fin, Fin::Memory);
                 assert_eq!(&rt; (drain.pairs, drain.astray), (0, 0));
             }

@@ -1,7 +1,6 @@
 -- A crew before its threads are started, and what comes back of them.
 use Rattle.std.specs.Prelude.{◌≡◌, ℕ, ◌≤◌, length, min}
 use Rattle.std.specs.List.{AllZip}
-use Rattle.hj_base.specs.declared.numbers.Setup.{Setup}
 use Rattle.hj_msg.specs.declared.drain.Drained.{Drained}
 use Rattle.hj_msg.specs.declared.event.Pair.{Pair}
 use Rattle.hj_msg.specs.declared.feed.Given.{Given}
@@ -9,18 +8,19 @@ use Rattle.hj_msg.specs.Feed.{FeedState, IsFresh}
 use Rattle.hj_desk.specs.Caller.{Ends}
 use Rattle.hj_desk.specs.Desk.{Stands, StandsFor, nothing_happened}
 use Rattle.hj_crew.specs.declared.making.Crew.{Crew}
+use Rattle.hj_crew.specs.declared.plan.CrewSize.{CrewSize}
 use Rattle.hj_crew.specs.declared.run.Begun.{Begun}
 use Rattle.hj_crew.specs.declared.run.Returned.{Returned}
 use Rattle.hj_crew.specs.Cores.{AreCrew}
 use Rattle.hj_crew.specs.Room.{IsRoomOf}
 use Rattle.hj_crew.specs.Teams.{TeamStays}
 
--- The crew of a chain of this setup, before it runs: nothing happened yet. It makes as many teams as there are threads and cores, and
+-- The crew of a chain of this size, before it runs: nothing happened yet. It makes as many teams as there are threads and cores, and
 -- for each there are signals, and room to be turned by the calling thread and to come back.
-pub record IsManned {P J L R : Type 0} (join : J) (setup : Setup) (crew : Crew P J L R) : Type 0 where
-  pub chain : AreCrew join setup.cores setup.flight crew.desk crew.teams.items
+pub record IsManned {P J L R : Type 0} (join : J) (size : CrewSize) (crew : Crew P J L R) : Type 0 where
+  pub chain : AreCrew join size.chain.cores size.chain.flight crew.desk crew.teams.items
   pub stands : (feed : FeedState) → IsFresh feed → StandsFor crew.desk feed nothing_happened
-  pub teams : length crew.teams.items ≡ min setup.threads setup.cores
+  pub teams : length crew.teams.items ≡ min size.threads size.chain.cores
   pub signals : length crew.signals.items ≡ length crew.teams.items
   pub own : IsRoomOf (length crew.teams.items) crew.own
   pub done : IsRoomOf (length crew.teams.items) crew.done

@@ -5,4 +5,5 @@ pub mod Ends
 pub mod Links
 pub mod Ran
 pub mod Room
+pub mod Stores
 pub mod Teams

@@ -9,12 +9,12 @@ use crate::ends::ChainEnds;
 use crate::ran::Ran;
 use crate::room::{ChainRoom, Room};
 use crate::team::Team;
-use hj_base::Share;
+use hj_base::{ChainSize, Share};
 use hj_desk::Desk;
 use hj_msg::{Fin, Join, Store};
 use hj_worker::Worker;
 
-/// Returns the run of a crew that came back: `cores` workers, and at most `flight` events outstanding.
+/// Returns the run of a crew that came back, over a chain of this size.
 pub(crate) fn close_crew<
     P: Share + Drop,
     J: Join<P> + Drop,
@@ -23,21 +23,20 @@ pub(crate) fn close_crew<
 >(
     desk: Desk<P>,
     teams: Vec<Team<P, J, L, R>>,
-    cores: u16,
-    flight: u16,
+    size: ChainSize,
     ended: Fin,
     room: Room<P, J, L, R>,
 ) -> Ran<P>
-    requires crew { (join : J) × AreCrew join cores flight desk teams.items }
-    requires room { IsRoomFor cores room }
-    ensures closed { (join : J) → (crew : AreCrew join cores flight desk teams.items)
+    requires crew { (join : J) × AreCrew join size.cores size.flight desk teams.items }
+    requires room { IsRoomFor size.cores room }
+    ensures closed { (join : J) → (crew : AreCrew join size.cores size.flight desk teams.items)
         → AreClosed J.predicate desk crew.workers result }
-    ensures flight { result.flight ≡ flight }
+    ensures flight { result.flight ≡ size.flight }
     ensures ended { result.ended ≡ ended }
 {
     let Room { workers, chain } = room;
     let workers = gather(teams, workers);
-    close_run(desk, workers, flight, ended, chain)
+    close_run(desk, workers, size.flight, ended, chain)
 }
 
 /// Returns the run of a desk and workers, in the order of their cores.

@@ -10,10 +10,12 @@ mod levels;
 mod links;
 mod making;
 mod pause;
+mod plan;
 mod ran;
 mod room;
 mod run;
 mod team;
 
+pub use plan::{CrewPlan, CrewSize, Stores};
 pub use ran::Ran;
 pub use run::run_threads;

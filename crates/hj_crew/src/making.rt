@@ -7,11 +7,13 @@ ghost use Rattle.hj_core.specs.Contents.{state_of};
 ghost use Rattle.hj_desk.specs.Desk.{StandsFor, nothing_happened};
 ghost use Rattle.hj_crew.specs.Cores.{AreCrew, AreEndsFor, AreUnused, GivesEnds, MakesTeams};
 ghost use Rattle.hj_crew.specs.Room.{IsRoomOf};
+ghost use Rattle.hj_crew.specs.Stores.{AreReadyOn};
 
 use crate::deal::{deal, empty_teams, team_of};
 use crate::ends::ChainEnds;
+use crate::plan::{CrewSize, Stores};
 use crate::team::{Signals, Team};
-use hj_base::{CoreNo, Memory, Setup, Share};
+use hj_base::{ChainSize, CoreNo, Memory, Share};
 use hj_core::Core;
 use hj_desk::Desk;
 use hj_link::RightEnd;
@@ -39,27 +41,19 @@ impl<P: Share + Drop, J: Join<P> + Drop, L: Store<P, J> + Drop, R: Store<P, J> +
 > {
     ghost use Rattle.hj_crew.specs.Begun.{IsManned};
 
-    /// Makes the crew of a chain of as many cores as there are stores of each stream, in as many teams as there are
-    /// threads and cores.
+    /// Makes the crew of a chain of this size over these stores, in as many teams as there are threads and cores.
     pub(crate) fn new(
         alloc: Global,
-        setup: Setup,
+        size: CrewSize,
         join: &J,
-        left: Vec<L>,
-        right: Vec<R>,
+        stores: Stores<L, R>,
     ) -> Result<Self, Memory>
-        requires cores { (1 ≤ setup.cores) × (setup.cores ≤ 64) × (length left.items ≡ setup.cores)
-            × (length right.items ≡ setup.cores) }
-        requires threads { 1 ≤ setup.threads }
-        requires flight { (1 ≤ setup.flight) × (setup.flight ≤ 256) }
-        requires left_empty { All (λ store. L.entries store ≡ []) left.items }
-        requires right_empty { All (λ store. R.entries store ≡ []) right.items }
-        requires left_suits { All (λ store. L.suits store Left join.now) left.items }
-        requires right_suits { All (λ store. R.suits store Right join.now) right.items }
-        ensures { IfOk result (IsManned join.now setup) }
+        requires left { AreReadyOn L.entries L.suits Left join.now size.chain.cores stores.left.items }
+        requires right { AreReadyOn R.entries R.suits Right join.now size.chain.cores stores.right.items }
+        ensures { IfOk result (IsManned join.now size) }
     {
-        let count = usize::from(setup.threads.min(setup.cores));
-        let (desk, teams) = desk_and_teams(alloc, setup, join, left, right, count)?;
+        let count = usize::from(size.threads.min(size.chain.cores));
+        let (desk, teams) = desk_and_teams(alloc, size.chain, join, stores, count)?;
         let (signals, own, done) = signals_and_room(alloc, count)?;
         Ok(Crew {
             desk,
@@ -101,32 +95,27 @@ fn make_signals(alloc: Global, count: usize) -> Result<Vec<Signals>, Memory>
 /// Makes the desk of a chain, and its workers in this many teams.
 fn desk_and_teams<P: Share + Drop, J: Join<P> + Drop, L: Store<P, J> + Drop, R: Store<P, J> + Drop>(
     alloc: Global,
-    setup: Setup,
+    size: ChainSize,
     join: &J,
-    left: Vec<L>,
-    right: Vec<R>,
+    stores: Stores<L, R>,
     count: usize,
 ) -> Result<(Desk<P>, Vec<Team<P, J, L, R>>), Memory>
-    requires cores { (1 ≤ setup.cores) × (setup.cores ≤ 64) × (length left.items ≡ setup.cores)
-        × (length right.items ≡ setup.cores) }
+    requires left { AreReadyOn L.entries L.suits Left join.now size.cores stores.left.items }
+    requires right { AreReadyOn R.entries R.suits Right join.now size.cores stores.right.items }
     requires teams { (0 < count) × (count ≤ 64) }
-    requires flight { (1 ≤ setup.flight) × (setup.flight ≤ 256) }
-    requires left_empty { All (λ store. L.entries store ≡ []) left.items }
-    requires right_empty { All (λ store. R.entries store ≡ []) right.items }
-    requires left_suits { All (λ store. L.suits store Left join.now) left.items }
-    requires right_suits { All (λ store. R.suits store Right join.now) right.items }
     ensures crew { IfOk result (λ made.
-        AreCrew join.now setup.cores setup.flight made.0 made.1.items) }
+        AreCrew join.now size.cores size.flight made.0 made.1.items) }
     ensures stands { IfOk result (λ made. (feed : FeedState) → IsFresh feed
         → StandsFor made.0 feed nothing_happened) }
     ensures count { IfOk result (λ made. length made.1.items ≡ count) }
 {
-    let mut ends = ChainEnds::new(alloc, setup.cores, setup.flight)?;
+    let mut ends = ChainEnds::new(alloc, size.cores, size.flight)?;
     let Some(last) = ends.right.pop() else {
         unreachable!()
     };
+    let Stores { left, right } = stores;
     let teams = make_teams(alloc, join, left, right, &mut ends, count)?;
-    let desk = desk_at(alloc, setup.flight, ends, last)?;
+    let desk = desk_at(alloc, size.flight, ends, last)?;
     Ok((desk, teams))
 }
 

@@ -1,5 +1,5 @@
 //! A run of a chain on threads.
-ghost use Rattle.std.specs.Prelude.{◌≡◌, ◌≤◌, [], All, length, IfOk, OnErr};
+ghost use Rattle.std.specs.Prelude.{◌≡◌, ◌≤◌, length, IfOk, OnErr};
 ghost use Rattle.std.specs.List.{AllZip};
 ghost use Rattle.hj_base.specs.declared.numbers.Side.TheVariants.{Left, Right};
 ghost use Rattle.hj_msg.specs.Feed.{IsFresh};
@@ -8,40 +8,38 @@ ghost use Rattle.hj_desk.specs.Desk.{Stands};
 ghost use Rattle.hj_crew.specs.Begun.{CanStart, HasRun, IsManned};
 ghost use Rattle.hj_crew.specs.Ran.{RunsOnThreads};
 ghost use Rattle.hj_crew.specs.Room.{IsRoomFor, IsRoomOf};
+ghost use Rattle.hj_crew.specs.Stores.{AreReadyOn};
 ghost use Rattle.hj_crew.specs.Teams.{TeamStays};
 
 use crate::bell::Bell;
 use crate::closing::close_crew;
 use crate::levels::{Shared, levels};
 use crate::making::Crew;
+use crate::plan::{CrewPlan, Stores};
 use crate::ran::Ran;
 use crate::room::Room;
 use crate::team::{Signals, Team};
-use hj_base::{Gate, Memory, Setup, Share};
+use hj_base::{Gate, Memory, Share};
 use hj_desk::Caller;
 use hj_msg::{Drain, Feed, Fin, Join, Store};
 use std::alloc::Global;
 use std::sync::Wait;
 use std::sync::atomic::AtomicBool;
 use std::thread;
-use std::thread::{Scope, Threads, available_parallelism};
+use std::thread::{Scope, Threads};
 use std::time::Clock;
 
 /// Runs a chain of cores between a feed and a drain, on threads. The calling thread drives the
-/// chain at its two ends, and up to `setup.threads` threads, no more than there are cores, turn its
-/// cores. The calling thread is one of these where they are at least two, and as many as processors.
-/// Where a thread can't be started, the calling thread turns its cores too.
+/// chain at its two ends, and as many threads as the plan says, no more than there are cores, turn its
+/// cores. The calling thread stands for as many of them as the plan says. Where a thread can't be
+/// started, the calling thread turns its cores too.
 ///
-/// - `rt` is the handle of the runtime. It starts the threads, and lets them wait. `alloc` gives
-///   the memory.
-/// - `setup` says how many cores the chain has, 1 to 64, on how many threads, at least 1, and how
-///   many events may be outstanding in it, 1 to 256.
+/// - `alloc` gives the memory.
+/// - `plan` says how large the chain is, what starts the threads, and what is passed before each turn of a core.
 /// - `join` says which rows match. Each core gets a share of it.
-/// - `left` and `right` are the stores for the rows of each stream, one for each core, by its
-///   place. The caller makes them for this join. They are empty.
+/// - `stores` are for the rows of each stream. The caller makes them for this join. They are empty.
 /// - `feed` gives the events, in the order of their numbers. It hasn't given one yet.
 /// - `drain` gets the pairs, one at a time, in the order of the sequential join of these events.
-/// - `gate` is passed before each turn of a core.
 ///
 /// The feed and the drain come back with every answer.
 ///
@@ -64,36 +62,27 @@ pub fn run_threads<
     G: Gate + Sync,
     T: Threads + Wait + Clock + Sync,
 >(
-    rt: &T,
     alloc: Global,
-    setup: Setup,
+    plan: &CrewPlan<'_, T, G>,
     join: &J,
-    left: Vec<L>,
-    right: Vec<R>,
+    stores: Stores<L, R>,
     feed: F,
     drain: D,
-    gate: &G,
 ) -> (Result<Ran<P>, Memory>, F, D)
-    requires cores { (1 ≤ setup.cores) × (setup.cores ≤ 64) × (length left.items ≡ setup.cores)
-        × (length right.items ≡ setup.cores) }
-    requires threads { 1 ≤ setup.threads }
-    requires flight { (1 ≤ setup.flight) × (setup.flight ≤ 256) }
-    requires left_empty { All (λ store. L.entries store ≡ []) left.items }
-    requires right_empty { All (λ store. R.entries store ≡ []) right.items }
-    requires left_suits { All (λ store. L.suits store Left join.now) left.items }
-    requires right_suits { All (λ store. R.suits store Right join.now) right.items }
+    requires left { AreReadyOn L.entries L.suits Left join.now plan.now.size.chain.cores stores.left.items }
+    requires right { AreReadyOn R.entries R.suits Right join.now plan.now.size.chain.cores stores.right.items }
     requires fresh { IsFresh (F.state feed) }
     ensures runs { IfOk result.0 (RunsOnThreads F.gives F.state D.takes (J.predicate join.now)
-        setup.cores setup.flight feed result.1 drain result.2) }
+        plan.now.size.chain.cores plan.now.size.chain.flight feed result.1 drain result.2) }
     ensures memory { OnErr result.0 ((result.1 ≡ feed) × (result.2 ≡ drain)) }
 {
-    let Ok(crew) = Crew::new(alloc, setup, join, left, right) else {
+    let Ok(crew) = Crew::new(alloc, plan.size, join, stores) else {
         return (Err(Memory), feed, drain);
     };
-    let Ok(room) = Room::new(alloc, setup.cores) else {
+    let Ok(room) = Room::new(alloc, plan.size.chain.cores) else {
         return (Err(Memory), feed, drain);
     };
-    let (ran, feed, drain) = run_and_close(rt, setup, crew, room, feed, drain, gate);
+    let (ran, feed, drain) = run_and_close(plan, crew, room, feed, drain);
     (Ok(ran), feed, drain)
 }
 
@@ -108,30 +97,26 @@ fn run_and_close<
     G: Gate + Sync,
     T: Threads + Wait + Clock + Sync,
 >(
-    rt: &T,
-    setup: Setup,
+    plan: &CrewPlan<'_, T, G>,
     crew: Crew<P, J, L, R>,
     room: Room<P, J, L, R>,
     feed: F,
     drain: D,
-    gate: &G,
 ) -> (Ran<P>, F, D)
-    requires cores { (1 ≤ setup.cores) × (setup.cores ≤ 64) }
-    requires threads { 1 ≤ setup.threads }
-    requires crew { (join : J) × IsManned join setup crew }
-    requires room { IsRoomFor setup.cores room }
+    requires crew { (join : J) × IsManned join plan.now.size crew }
+    requires room { IsRoomFor plan.now.size.chain.cores room }
     requires fresh { IsFresh (F.state feed) }
-    ensures { (join : J) → IsManned join setup crew → RunsOnThreads F.gives F.state D.takes
-        (J.predicate join) setup.cores setup.flight feed result.1 drain result.2 result.0 }
+    ensures { (join : J) → IsManned join plan.now.size crew → RunsOnThreads F.gives F.state D.takes
+        (J.predicate join) plan.now.size.chain.cores plan.now.size.chain.flight feed result.1 drain result.2 result.0 }
 {
-    let Returned { caller, teams, fin } = run_crew(rt, crew, feed, drain, gate);
+    let Returned { caller, teams, fin } = run_crew(plan, crew, feed, drain);
     let Caller {
         desk,
         feed,
         drain,
         ..
     } = caller;
-    let ran = close_crew(desk, teams, setup.cores, setup.flight, fin, room);
+    let ran = close_crew(desk, teams, plan.size.chain, fin, room);
     (ran, feed, drain)
 }
 
@@ -162,7 +147,12 @@ fn run_crew<
     D: Drain<P> + Drop,
     G: Gate + Sync,
     T: Threads + Wait + Clock + Sync,
->(rt: &T, crew: Crew<P, J, L, R>, feed: F, drain: D, gate: &G) -> Returned<P, J, L, R, F, D>
+>(
+    plan: &CrewPlan<'_, T, G>,
+    crew: Crew<P, J, L, R>,
+    feed: F,
+    drain: D,
+) -> Returned<P, J, L, R, F, D>
     requires stands { Stands crew.desk (F.state feed) }
     requires cores { length crew.desk.reports.items ≤ 64 }
     requires teams { length crew.teams.items ≤ 64 }
@@ -192,10 +182,10 @@ fn run_crew<
         own,
         done,
     };
-    run_in_scope(rt, signals.as_slice(), begun, gate)
+    run_in_scope(plan, signals.as_slice(), begun)
 }
 
-/// Starts the threads of a run, and joins them when it has ended.
+/// Makes what the threads of a run use, and lets them run.
 fn run_in_scope<
     P: Share + Send + Drop,
     J: Join<P> + Send + Drop,
@@ -206,10 +196,9 @@ fn run_in_scope<
     G: Gate + Sync,
     T: Threads + Wait + Clock + Sync,
 >(
-    rt: &T,
+    plan: &CrewPlan<'_, T, G>,
     signals: &[Signals],
     begun: Begun<P, J, L, R, F, D>,
-    gate: &G,
 ) -> Returned<P, J, L, R, F, D>
     requires { CanStart F.state (length signals.now) begun }
     ensures { HasRun F.gives F.state D.takes begun result }
@@ -217,30 +206,38 @@ fn run_in_scope<
     let stop = AtomicBool::new(false);
     let bell = Bell::new();
     let shared = Shared {
-        rt,
+        rt: plan.rt,
         stop: &stop,
         signals,
         bell: &bell,
-        kept: kept_teams(rt, signals.len()),
-        gate,
+        kept: usize::from(plan.kept),
+        gate: plan.gate,
     };
-    thread::scope(
-        thread::scope_env(),
-        rt,
-        move |scope| -> Returned<P, J, L, R, F, D>
-            requires { CanStart F.state (length shared.signals.now) begun }
-            ensures { HasRun F.gives F.state D.takes begun result }
-        { all_levels(scope, &shared, begun) },
-    )
+    scoped(&shared, begun)
 }
 
-/// Returns how many of the teams the calling thread turns itself: none, or one where else there were more threads than
-/// processors.
-fn kept_teams<T: Threads>(rt: &T, teams: usize) -> usize {
-    match available_parallelism(rt) {
-        Ok(processors) if teams > 1 && teams >= processors.get() => 1,
-        _ => 0,
-    }
+/// Starts the threads of a run, and joins them when it has ended.
+fn scoped<
+    P: Share + Send + Drop,
+    J: Join<P> + Send + Drop,
+    L: Store<P, J> + Send + Drop,
+    R: Store<P, J> + Send + Drop,
+    F: Feed<P> + Drop,
+    D: Drain<P> + Drop,
+    G: Gate + Sync,
+    T: Threads + Wait + Clock + Sync,
+>(shared: &Shared<'_, G, T>, begun: Begun<P, J, L, R, F, D>) -> Returned<P, J, L, R, F, D>
+    requires { CanStart F.state (length shared.now.signals.now) begun }
+    ensures { HasRun F.gives F.state D.takes begun result }
+{
+    thread::scope(
+        thread::scope_env(),
+        shared.rt,
+        move |scope| -> Returned<P, J, L, R, F, D>
+            requires { CanStart F.state (length shared.now.signals.now) begun }
+            ensures { HasRun F.gives F.state D.takes begun result }
+        { all_levels(scope, shared, begun) },
+    )
 }
 
 /// Starts the thread of each team, makes the calling thread's rounds, and joins the threads.

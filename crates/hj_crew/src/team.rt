@@ -80,15 +80,22 @@ fn turn_on<
         }
         match worker.turn(gate) {
             Turn::Did => (),
-            Turn::Idle => return after(turns, Progress::Waits(Awaits::Message)),
-            Turn::Blocked(Place::Reports) => return after(turns, Progress::Waits(Awaits::Room)),
-            // links have room for all that may be outstanding
-            Turn::Blocked(Place::Link(_)) => return Progress::GotOn,
-            Turn::Ended => return after(turns, Progress::Over),
-            Turn::NoMemory => return after(turns, Progress::NoMemory),
+            last => return after(turns, left_by(last)),
         }
     }
     Progress::GotOn
+}
+
+/// Returns what there is to do after a turn.
+fn left_by(turn: Turn) -> Progress {
+    match turn {
+        // links have room for all that may be outstanding
+        Turn::Did | Turn::Blocked(Place::Link(_)) => Progress::GotOn,
+        Turn::Idle => Progress::Waits(Awaits::Message),
+        Turn::Blocked(Place::Reports) => Progress::Waits(Awaits::Room),
+        Turn::Ended => Progress::Over,
+        Turn::NoMemory => Progress::NoMemory,
+    }
 }
 
 /// Turns a worker this many times and a last time, and returns how far it came; the last turn is one in which it put

@@ -1,5 +1,7 @@
 -- A chain that was just made stands for no step, and for the first event of its feed.
-use Rattle.std.proofs.Common.{◌≡◌, ℕ, ◌≤◌, List, [], length, replicate, Some, sym, ap, subst, ◌∙◌, arith}
+use Rattle.std.proofs.Common.{◌≡◌, ℕ, ◌≤◌, List, [], length, replicate, Ok, Err, Some, sym, ap, subst, ◌∙◌, arith}
+use Rattle.std.specs.Prelude.{IfOk}
+use Rattle.std.specs.declared.result.Result.{Result}
 use Rattle.std.specs.List.Sorted.{IsPermutation}
 use Rattle.std.proofs.lemmas.List.{length-replicate}
 use Rattle.std.proofs.lemmas.List.Sorted.{IsPermutation-refl}
@@ -38,7 +40,7 @@ stands_first query n flight first some =
       released = subst (λ (pairs : List (Pair (List Field))). IsPermutation [] pairs) (sym nothing_met) (IsPermutation-refl []);
     }
 
-pub has_begun : {F : Type 0} (gives : F → Given (List Field) → F → Type 0) (query join : Parts) (n flight : ℕ) (chain : Contents (List Field) Parts) (from to : F) → 1 ≤ n → join ≡ query
+has_begun : {F : Type 0} (gives : F → Given (List Field) → F → Type 0) (query join : Parts) (n flight : ℕ) (chain : Contents (List Field) Parts) (from to : F) → 1 ≤ n → join ≡ query
     → (first : Given (List Field)) × (chain ≡ record { join = join; state = empty_chain n flight first; collector = nothing_taken n; kept = [] }) × gives from first to
     → IsBegun gives query chain from to
 has_begun gives query join n flight chain from to some is (first, made, given) = record {
@@ -47,3 +49,10 @@ has_begun gives query join n flight chain from to some is (first, made, given) =
   given = given;
   stands = subst (λ (c : Contents (List Field) Parts). StandsFor holds c [] (event_in (Some first)) 0) (sym made) (stands_first join n flight first some);
 }
+
+-- where one was made
+pub all_begun : {F E : Type 0} (gives : F → Given (List Field) → F → Type 0) (query join : Parts) (n flight : ℕ) (made : Result (Contents (List Field) Parts) E) (from to : F) → 1 ≤ n → join ≡ query
+    → IfOk made (λ chain. (first : Given (List Field)) × (chain ≡ record { join = join; state = empty_chain n flight first; collector = nothing_taken n; kept = [] }) × gives from first to)
+    → IfOk made (λ chain. IsBegun gives query chain from to)
+all_begun gives query join n flight (Ok chain) from to some is made = has_begun gives query join n flight chain from to some is made
+all_begun gives query join n flight (Err none) from to some is made = tt

@@ -1,10 +1,12 @@
 -- The stores that a chain begins with.
-use Rattle.std.specs.Prelude.{◌≡◌, ℕ, List, [], length, All}
+use Rattle.std.specs.Prelude.{◌≡◌, ℕ, List, [], All}
 use Rattle.hj_base.specs.declared.numbers.Side.{Side}
 use Rattle.hj_base.specs.declared.numbers.Side.TheVariants.{Left, Right}
 use Rattle.hj_msg.specs.Store.{Resting}
 use Rattle.hj_query.specs.Parts.{Parts}
 use Rattle.hj_value.specs.declared.field.Field.{Field}
+use Rattle.hj_crew.specs.declared.plan.Stores.{Stores}
+use Rattle.hj_crew.specs.Stores.{AreReadyOn}
 use Rattle.hj_columns.specs.Store.{ColumnRows}
 use Rattle.hj_eval.specs.declared.filter.Filter.{Filter}
 use Rattle.hj_eval.specs.Filter.{KeepsMatches}
@@ -14,17 +16,11 @@ use Rattle.hj_index.specs.HashStore.{JoinsEqual}
 use Rattle.hj_index.specs.OrderedStore.{JoinsNear}
 use Rattle.hj_engine.specs.declared.stores.PlannedStores.{PlannedStores}
 use Rattle.hj_engine.specs.declared.stores.PlannedStores.TheVariants as planned
-use Rattle.hj_engine.specs.declared.stores.Stores.{Stores}
 
--- Stores are ready for a chain of this many cores that joins so: each core has a left and a right one, they have no rows, and
--- probes may be made by the join.
-pub record AreReady {P J S : Type 0} (entries : S → List (Resting P)) (suits : S → Side → J → Type 0) (join : J) (cores : ℕ) (stores : Stores S) : Type 0 where
-  pub left_count : length stores.left.items ≡ cores
-  pub right_count : length stores.right.items ≡ cores
-  pub left_empty : All (λ store. entries store ≡ []) stores.left.items
-  pub right_empty : All (λ store. entries store ≡ []) stores.right.items
-  pub left_suit : All (λ store. suits store Left join) stores.left.items
-  pub right_suit : All (λ store. suits store Right join) stores.right.items
+-- The stores of both sides, of one kind, are ready for a chain of this many cores that joins so.
+pub record AreReady {P J S : Type 0} (entries : S → List (Resting P)) (suits : S → Side → J → Type 0) (join : J) (cores : ℕ) (stores : Stores S S) : Type 0 where
+  pub left : AreReadyOn entries suits Left join cores stores.left.items
+  pub right : AreReadyOn entries suits Right join cores stores.right.items
 
 -- Planned stores are ready for a chain of this many cores under a query, whatever their kind.
 abbrev pub AreReadyFor : Parts → ℕ → PlannedStores → Type 0

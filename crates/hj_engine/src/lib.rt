@@ -7,6 +7,7 @@ mod serial;
 mod stores;
 mod threads;
 
+pub use run::SerialPlan;
 pub use serial::join_serial;
-pub use stores::{PlannedStores, Stores, planned_stores};
+pub use stores::{PlannedStores, planned_stores};
 pub use threads::join_threads;

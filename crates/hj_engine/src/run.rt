@@ -1,12 +1,15 @@
-ghost use Rattle.std.specs.Prelude.{◌≡◌, ◌≤◌, IfOk, OnErr};
+ghost use Rattle.std.specs.Prelude.{◌≡◌, IfOk, OnErr};
 ghost use Rattle.hj_msg.specs.Feed.{IsFresh};
 ghost use Rattle.hj_eval.specs.Holds.{holds};
 ghost use Rattle.hj_msg.specs.RunsJoin.{RunsJoin};
+ghost use Rattle.hj_chain.specs.Steps.{GoesWith};
+ghost use Rattle.hj_engine.specs.Running.{IsBegun};
 ghost use Rattle.hj_engine.specs.Stores.{AreReady};
 
-use crate::stores::{PlannedStores, Stores, planned_stores};
-use hj_base::{Gate, Memory};
+use crate::stores::{PlannedStores, planned_stores};
+use hj_base::{ChainSize, Gate, Memory};
 use hj_chain::{Chain, Chooser};
+use hj_crew::Stores;
 use hj_eval::QueryJoin;
 use hj_msg::{Drain, Feed, Fin, Store};
 use hj_query::Query;
@@ -14,32 +17,27 @@ use hj_value::SharedRow;
 use std::alloc::Global;
 
 /// Says how a join is run on a serial chain.
-#[derive(Clone, Copy)]
-pub(crate) struct Plan {
-    pub(crate) cores: u16,
-    pub(crate) flight: u16,
-    /// How many events are numbered at most.
-    pub(crate) limit: u64,
-    pub(crate) chooser: Chooser,
-    ghost some_cores: { 1 ≤ cores },
-    ghost few_cores: { cores ≤ 64 },
-    ghost some_flight: { 1 ≤ flight },
-    ghost low_flight: { flight ≤ 256 },
+#[derive(Drop)]
+pub struct SerialPlan<'g, G> {
+    pub size: ChainSize,
+    /// The order of the steps.
+    pub chooser: Chooser,
+    /// Is passed before each step of a core.
+    pub gate: &'g G,
 }
 
 /// Runs a new chain between a feed that gave no event yet and a drain.
 pub(crate) fn run_chain<F: Feed<SharedRow>, D: Drain<SharedRow>, G: Gate>(
     alloc: Global,
     query: &Query,
-    plan: Plan,
+    plan: &SerialPlan<'_, G>,
     feed: &mut F,
     drain: &mut D,
-    gate: &G,
 ) -> Fin
     requires { IsFresh (F.state feed.old) }
     ensures { RunsJoin F.gives F.state D.takes (holds query.now) result feed.old feed.new drain.old drain.new }
 {
-    match run_planned(alloc, query, plan, feed, drain, gate) {
+    match run_planned(alloc, query, plan, feed, drain) {
         Ok(fin) => fin,
         Err(Memory) => Fin::Memory,
     }
@@ -50,20 +48,19 @@ pub(crate) fn run_chain<F: Feed<SharedRow>, D: Drain<SharedRow>, G: Gate>(
 fn run_planned<F: Feed<SharedRow>, D: Drain<SharedRow>, G: Gate>(
     alloc: Global,
     query: &Query,
-    plan: Plan,
+    plan: &SerialPlan<'_, G>,
     feed: &mut F,
     drain: &mut D,
-    gate: &G,
 ) -> Result<Fin, Memory>
     requires { IsFresh (F.state feed.old) }
     ensures runs { IfOk result (λ fin. RunsJoin F.gives F.state D.takes (holds query.now) fin feed.old feed.new drain.old drain.new) }
     ensures refused { OnErr result ((feed.new ≡ feed.old) × (drain.new ≡ drain.old)) }
 {
-    match planned_stores(alloc, query, plan.cores)? {
-        PlannedStores::Hash(stores) => run_over(alloc, query, plan, stores, feed, drain, gate),
-        PlannedStores::Ordered(stores) => run_over(alloc, query, plan, stores, feed, drain, gate),
-        PlannedStores::Columns(stores) => run_over(alloc, query, plan, stores, feed, drain, gate),
-        PlannedStores::List(stores) => run_over(alloc, query, plan, stores, feed, drain, gate),
+    match planned_stores(alloc, query, plan.size.cores)? {
+        PlannedStores::Hash(stores) => run_over(alloc, query, plan, stores, feed, drain),
+        PlannedStores::Ordered(stores) => run_over(alloc, query, plan, stores, feed, drain),
+        PlannedStores::Columns(stores) => run_over(alloc, query, plan, stores, feed, drain),
+        PlannedStores::List(stores) => run_over(alloc, query, plan, stores, feed, drain),
     }
 }
 
@@ -77,18 +74,34 @@ fn run_over<
 >(
     alloc: Global,
     query: &'a Query,
-    plan: Plan,
-    stores: Stores<S>,
+    plan: &SerialPlan<'_, G>,
+    stores: Stores<S, S>,
     feed: &mut F,
     drain: &mut D,
-    gate: &G,
 ) -> Result<Fin, Memory>
     requires fresh { IsFresh (F.state feed.old) }
-    requires stores { AreReady S.entries S.suits query.now plan.cores stores }
+    requires stores { AreReady S.entries S.suits query.now plan.now.size.cores stores }
     ensures runs { IfOk result (λ fin. RunsJoin F.gives F.state D.takes (holds query.now) fin feed.old feed.new drain.old drain.new) }
     ensures refused { OnErr result ((feed.new ≡ feed.old) × (drain.new ≡ drain.old)) }
 {
+    let mut chain = begun(alloc, query, plan.size, stores, feed)?;
+    Ok(chain.run_serial(plan.chooser, feed, drain, plan.gate))
+}
+
+/// Makes a chain of this size over these stores, and asks the feed for the first event.
+fn begun<'a, S: Store<SharedRow, QueryJoin<'a>> + Drop, F: Feed<SharedRow>>(
+    alloc: Global,
+    query: &'a Query,
+    size: ChainSize,
+    stores: Stores<S, S>,
+    feed: &mut F,
+) -> Result<Chain<SharedRow, QueryJoin<'a>, S, S>, Memory>
+    requires fresh { IsFresh (F.state feed.old) }
+    requires stores { AreReady S.entries S.suits query.now size.cores stores }
+    ensures begun { IfOk result (λ chain. IsBegun F.gives query.now chain feed.old feed.new) }
+    ensures goes { IfOk result (λ chain. GoesWith holds chain (F.state feed.new)) }
+    ensures refused { OnErr result (feed.new ≡ feed.old) }
+{
     let join = QueryJoin::new(alloc, query)?;
-    let mut chain = Chain::new(alloc, join, stores.left, stores.right, plan.flight, feed)?;
-    Ok(chain.run_serial(plan.chooser, feed, drain, gate))
+    Chain::new(alloc, join, stores.left, stores.right, size.flight, feed)
 }

@@ -1,13 +1,12 @@
-ghost use Rattle.std.specs.Prelude.{◌≡◌, ◌≤◌, false, List, ℕ};
+ghost use Rattle.std.specs.Prelude.{◌≡◌, false, List, ℕ};
 ghost use Rattle.hj_base.specs.declared.outside.Role.TheVariants as role;
 ghost use Rattle.hj_event.specs.Merger.{IsNew};
 ghost use Rattle.hj_event.specs.Roles.{IsInStep};
 ghost use Rattle.hj_stream.specs.Ends.{IsUnasked};
 ghost use Rattle.hj_stream.specs.Joining.{CountsSinkFault, Joins, JoinsBy};
 
-use crate::run::{Plan, run_chain};
+use crate::run::{SerialPlan, run_chain};
 use hj_base::{Gate, Outside, Sink};
-use hj_chain::Chooser;
 use hj_event::Merger;
 use hj_query::Query;
 use hj_stream::{EventFeed, JoinedLine, LineDrain, Outcome, PairLine, outcome_of};
@@ -15,23 +14,16 @@ use std::alloc::Global;
 
 /// Joins the streams Left and Right of `outside` under a query, and writes the line of each pair to `out`: each pair of the
 /// sequential sliding-window join (Kang, Naughton and Viglas, ICDE 2003) over the streams' numbered events once, in its order.
-/// At most `limit` events are numbered. The rows pass along the serial chain of 1 to 64 cores, with two stores each, of a kind that
-/// suits the query's condition, and at most `flight` events outstanding, from 1 to 256; `chooser` is the order of its steps, and
-/// `gate` is passed before each step of a core. Either stream is read only as far as its next row. `Outcome` says why the join
-/// ended.
+/// At most `limit` events are numbered. The rows pass along the serial chain that `plan` says, whose cores have two stores each, of a
+/// kind that suits the query's condition. Either stream is read only as far as its next row. `Outcome` says why the join ended.
 pub fn join_serial<O: Outside, K: Sink, G: Gate>(
     alloc: Global,
     query: &Query,
-    cores: u16,
-    flight: u16,
+    plan: &SerialPlan<'_, G>,
     limit: u64,
-    chooser: Chooser,
     outside: &mut O,
     out: &mut K,
-    gate: &G,
 ) -> Outcome
-    requires cores { (1 ≤ cores) × (cores ≤ 64) }
-    requires flight { (1 ≤ flight) × (flight ≤ 256) }
     requires left { IsInStep false (O.state outside.old role.Left) }
     requires right { IsInStep false (O.state outside.old role.Right) }
     ensures joins { Joins result query.now limit (O.state outside.old) (O.state outside.new)
@@ -42,56 +34,49 @@ pub fn join_serial<O: Outside, K: Sink, G: Gate>(
     let Ok(mut merger) = Merger::new(alloc, query, limit) else {
         return Outcome::Memory;
     };
-    let plan = Plan {
-        cores,
-        flight,
-        limit,
-        chooser,
-    };
-    join_merged(alloc, query, plan, &mut merger, outside, out, gate)
+    join_merged(alloc, query, plan, limit, &mut merger, outside, out)
 }
 
 /// Joins the events of a new merger.
 fn join_merged<O: Outside, K: Sink, G: Gate>(
     alloc: Global,
     query: &Query,
-    plan: Plan,
+    plan: &SerialPlan<'_, G>,
+    limit: u64,
     merger: &mut Merger,
     outside: &mut O,
     out: &mut K,
-    gate: &G,
 ) -> Outcome
-    requires merger { IsNew query.now plan.limit merger.old }
+    requires merger { IsNew query.now limit merger.old }
     requires left { IsInStep false (O.state outside.old role.Left) }
     requires right { IsInStep false (O.state outside.old role.Right) }
-    ensures joins { Joins result query.now plan.limit (O.state outside.old) (O.state outside.new)
+    ensures joins { Joins result query.now limit (O.state outside.old) (O.state outside.new)
         (K.told out.old) (K.told out.new) }
     ensures faults { CountsSinkFault result (K.faults out.old) (K.faults out.new) }
     ensures names { (name : List ℕ) → O.under outside.new name ≡ O.under outside.old name }
 {
-    let mut feed = EventFeed::new(merger, plan.limit, outside);
+    let mut feed = EventFeed::new(merger, limit, outside);
     let mut line = Vec::new(alloc);
     let mut drain = LineDrain::new(out, &JoinedLine, &mut line);
-    join_feed(alloc, query, plan, &mut feed, &mut drain, gate)
+    join_feed(alloc, query, plan, &mut feed, &mut drain)
 }
 
 /// Joins the events of a feed that gave none yet, and writes the line of each pair.
 fn join_feed<O: Outside, K: Sink, L: PairLine, G: Gate>(
     alloc: Global,
     query: &Query,
-    plan: Plan,
+    plan: &SerialPlan<'_, G>,
     feed: &mut EventFeed<'_, O>,
     drain: &mut LineDrain<'_, K, L>,
-    gate: &G,
 ) -> Outcome
-    requires { IsUnasked query.now plan.limit feed.old }
+    requires { (limit : ℕ) × IsUnasked query.now limit feed.old }
     ensures same_outside { feed.new.outside.ghost_name ≡ feed.old.outside.ghost_name }
     ensures same_out { drain.new.out.ghost_name ≡ drain.old.out.ghost_name }
-    ensures joins { JoinsBy (L.line drain.old.lines.now) result query.now plan.limit
+    ensures joins { (limit : ℕ) → IsUnasked query.now limit feed.old → JoinsBy (L.line drain.old.lines.now) result query.now limit
         (O.state feed.old.outside.now) (O.state feed.new.outside.now) (K.told drain.old.out.now) (K.told drain.new.out.now) }
     ensures faults { CountsSinkFault result (K.faults drain.old.out.now) (K.faults drain.new.out.now) }
     ensures names { (name : List ℕ) → O.under feed.new.outside.now name ≡ O.under feed.old.outside.now name }
 {
-    let fin = run_chain(alloc, query, plan, feed, drain, gate);
+    let fin = run_chain(alloc, query, plan, feed, drain);
     outcome_of(fin, feed, drain)
 }

@@ -3,6 +3,7 @@ ghost use Rattle.hj_engine.specs.Stores.{AreReadyFor, IsNewFor};
 
 use hj_base::{Memory, Side};
 use hj_columns::ColumnStore;
+use hj_crew::Stores;
 use hj_eval::{Filter, StorePlan};
 use hj_index::{HashStore, OrderedStore};
 use hj_query::Query;
@@ -10,24 +11,17 @@ use hj_rows::ListStore;
 use hj_value::SharedRow;
 use std::alloc::Global;
 
-/// Holds the stores of a chain's cores: a left one and a right one for each, by the place of the core.
-#[derive(Drop)]
-pub struct Stores<S> {
-    pub left: Vec<S>,
-    pub right: Vec<S>,
-}
-
 /// Holds the stores of a chain's cores, of the kind that a query's condition asks for.
 #[derive(Drop)]
 pub enum PlannedStores<'a> {
     /// For the plan Equal.
-    Hash(Stores<HashStore>),
+    Hash(Stores<HashStore, HashStore>),
     /// For the plan Band.
-    Ordered(Stores<OrderedStore>),
+    Ordered(Stores<OrderedStore, OrderedStore>),
     /// For the plan Scan, under a condition with filters.
-    Columns(Stores<ColumnStore<SharedRow, Filter<'a>>>),
+    Columns(Stores<ColumnStore<SharedRow, Filter<'a>>, ColumnStore<SharedRow, Filter<'a>>>),
     /// For the plan Scan, under any other condition.
-    List(Stores<ListStore<SharedRow>>),
+    List(Stores<ListStore<SharedRow>, ListStore<SharedRow>>),
 }
 
 /// Makes the stores of a chain of `cores` cores, of the kind that the query's condition asks for. They have no rows, and the

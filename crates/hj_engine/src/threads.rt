@@ -1,4 +1,4 @@
-ghost use Rattle.std.specs.Prelude.{◌≡◌, ◌≤◌, false, List, ℕ, IfNone, IfSome};
+ghost use Rattle.std.specs.Prelude.{◌≡◌, false, List, ℕ, IfNone, IfSome};
 ghost use Rattle.hj_base.specs.declared.outside.Role.TheVariants as role;
 ghost use Rattle.hj_event.specs.Merger.{IsNew};
 ghost use Rattle.hj_event.specs.Roles.{IsInStep};
@@ -6,9 +6,9 @@ ghost use Rattle.hj_stream.specs.Ends.{IsUnasked};
 ghost use Rattle.hj_stream.specs.Joining.{CountsSinkFault, Joins, JoinsBy};
 ghost use Rattle.hj_engine.specs.Showing.{ShowsJoin, ShowsJoinBy};
 
-use crate::crew::{CrewPlan, run_crew};
-use hj_base::{Gate, Memory, Outside, Setup, Sink};
-use hj_crew::Ran;
+use crate::crew::run_crew;
+use hj_base::{Gate, Memory, Outside, Sink};
+use hj_crew::{CrewPlan, Ran};
 use hj_event::Merger;
 use hj_query::Query;
 use hj_stream::{EventFeed, JoinedLine, LineDrain, Outcome, PairLine, outcome_of};
@@ -21,45 +21,33 @@ use std::time::Clock;
 /// Joins the streams Left and Right of `outside` under a query, as `join_serial` does, and writes the same text to `out`; but the
 /// cores of the chain are turned by threads. The call waits for them.
 ///
-/// - `rt` starts the threads, and lets them wait.
-/// - `setup` says how many cores the chain has, 1 to 64, on how many threads, at least 1, and how many events are outstanding at
-///   most, 1 to 256. There are no more threads than cores, and none has more than one core more than another.
+/// - `plan` says how large the chain is, what starts the threads, and what is passed before each turn of a core. There are no more
+///   threads than cores, and none has more than one core more than another.
 /// - At most `limit` events are numbered.
-/// - `gate` is passed before each turn of a core.
 ///
 /// `Outcome` says why the join ended. Beside it stands the run, whose journals show that it made the join; there is none only where
-/// memory ran out before a thread was started.
+/// memory ran out before a thread was started, so that nothing was read and nothing written.
 pub fn join_threads<T: Threads + Wait + Clock + Sync, O: Outside, K: Sink, G: Gate + Sync>(
-    rt: &T,
     alloc: Global,
     query: &Query,
-    setup: Setup,
+    plan: &CrewPlan<'_, T, G>,
     limit: u64,
     outside: &mut O,
     out: &mut K,
-    gate: &G,
 ) -> (Outcome, Option<Ran<SharedRow>>)
-    requires cores { (1 ≤ setup.cores) × (setup.cores ≤ 64) }
-    requires threads { 1 ≤ setup.threads }
-    requires flight { (1 ≤ setup.flight) × (setup.flight ≤ 256) }
     requires left { IsInStep false (O.state outside.old role.Left) }
     requires right { IsInStep false (O.state outside.old role.Right) }
     ensures joins { (joins : Joins result.0 query.now limit (O.state outside.old) (O.state outside.new)
-        (K.told out.old) (K.told out.new)) × IfSome result.1 (ShowsJoin joins setup.cores setup.flight) }
+        (K.told out.old) (K.told out.new)) × IfSome result.1 (ShowsJoin joins plan.now.size.chain.cores plan.now.size.chain.flight) }
     ensures no_run { IfNone result.1 (result.0 ≡ Outcome.Memory) }
+    ensures untouched { IfNone result.1 ((O.state outside.new ≡ O.state outside.old) × (K.told out.new ≡ K.told out.old)) }
     ensures faults { CountsSinkFault result.0 (K.faults out.old) (K.faults out.new) }
     ensures names { (name : List ℕ) → O.under outside.new name ≡ O.under outside.old name }
 {
     let Ok(mut merger) = Merger::new(alloc, query, limit) else {
         return (Outcome::Memory, None);
     };
-    let plan = CrewPlan {
-        rt,
-        setup,
-        limit,
-        gate,
-    };
-    join_merged(alloc, query, &plan, &mut merger, outside, out)
+    join_merged(alloc, query, plan, limit, &mut merger, outside, out)
 }
 
 /// Joins the events of a new merger.
@@ -67,20 +55,22 @@ fn join_merged<T: Threads + Wait + Clock + Sync, O: Outside, K: Sink, G: Gate + 
     alloc: Global,
     query: &Query,
     plan: &CrewPlan<'_, T, G>,
+    limit: u64,
     merger: &mut Merger,
     outside: &mut O,
     out: &mut K,
 ) -> (Outcome, Option<Ran<SharedRow>>)
-    requires merger { IsNew query.now plan.now.limit merger.old }
+    requires merger { IsNew query.now limit merger.old }
     requires left { IsInStep false (O.state outside.old role.Left) }
     requires right { IsInStep false (O.state outside.old role.Right) }
-    ensures joins { (joins : Joins result.0 query.now plan.now.limit (O.state outside.old) (O.state outside.new)
-        (K.told out.old) (K.told out.new)) × IfSome result.1 (ShowsJoin joins plan.now.setup.cores plan.now.setup.flight) }
+    ensures joins { (joins : Joins result.0 query.now limit (O.state outside.old) (O.state outside.new)
+        (K.told out.old) (K.told out.new)) × IfSome result.1 (ShowsJoin joins plan.now.size.chain.cores plan.now.size.chain.flight) }
     ensures no_run { IfNone result.1 (result.0 ≡ Outcome.Memory) }
+    ensures untouched { IfNone result.1 ((O.state outside.new ≡ O.state outside.old) × (K.told out.new ≡ K.told out.old)) }
     ensures faults { CountsSinkFault result.0 (K.faults out.old) (K.faults out.new) }
     ensures names { (name : List ℕ) → O.under outside.new name ≡ O.under outside.old name }
 {
-    let feed = EventFeed::new(merger, plan.limit, outside);
+    let feed = EventFeed::new(merger, limit, outside);
     let mut line = Vec::new(alloc);
     let drain = LineDrain::new(out, &JoinedLine, &mut line);
     let mut ran = None;
@@ -115,14 +105,17 @@ fn join_feed<
     drain: LineDrain<'d, K, L>,
     ran: &mut Option<Ran<SharedRow>>,
 ) -> Joined<'f, 'd, O, K, L>
-    requires unasked { IsUnasked query.now plan.now.limit feed }
+    requires unasked { (limit : ℕ) × IsUnasked query.now limit feed }
     ensures same_outside { result.feed.outside.ghost_name ≡ feed.entry.outside.ghost_name }
     ensures same_out { result.drain.out.ghost_name ≡ drain.entry.out.ghost_name }
-    ensures joins { (joins : JoinsBy (L.line drain.entry.lines.now) result.ended query.now plan.now.limit
+    ensures joins { (limit : ℕ) → IsUnasked query.now limit feed.entry
+        → (joins : JoinsBy (L.line drain.entry.lines.now) result.ended query.now limit
         (O.state feed.entry.outside.now) (O.state result.feed.outside.now)
         (K.told drain.entry.out.now) (K.told result.drain.out.now))
-        × IfSome ran.new (ShowsJoinBy joins plan.now.setup.cores plan.now.setup.flight) }
+        × IfSome ran.new (ShowsJoinBy joins plan.now.size.chain.cores plan.now.size.chain.flight) }
     ensures no_run { IfNone ran.new (result.ended ≡ Outcome.Memory) }
+    ensures untouched { IfNone ran.new ((O.state result.feed.outside.now ≡ O.state feed.entry.outside.now)
+        × (K.told result.drain.out.now ≡ K.told drain.entry.out.now)) }
     ensures faults { CountsSinkFault result.ended (K.faults drain.entry.out.now) (K.faults result.drain.out.now) }
     ensures names { (name : List ℕ) → O.under result.feed.outside.now name ≡ O.under feed.entry.outside.now name }
 {

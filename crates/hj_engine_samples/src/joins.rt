@@ -1,14 +1,15 @@
-ghost use Rattle.std.specs.Prelude.{◌≡◌, ◌≤◌, IfOk, Some};
+ghost use Rattle.std.specs.Prelude.{◌≡◌, IfOk, Some};
 ghost use Rattle.hj_base.specs.Outside.{unbegun};
 ghost use Rattle.hj_base.specs.MemOutside.{role_at, told_under};
 ghost use Rattle.hj_base.specs.declared.outside.Role.TheVariants as role;
 
 use hj_base::{
-    CoreNo, Gate, Got, MemOutside, MemSink, Memory, OpenGate, Opened, Outside, Put, Role, Setup,
-    Sink,
+    ChainSize, CoreNo, Gate, Got, MemOutside, MemSink, Memory, OpenGate, Opened, Outside, Put,
+    Role, Sink,
 };
 use hj_chain::Chooser;
-use hj_engine::{join_serial, join_threads};
+use hj_crew::{CrewPlan, CrewSize};
+use hj_engine::{SerialPlan, join_serial, join_threads};
 use hj_msg::Fin;
 use hj_query::parse;
 use hj_stream::Outcome;
@@ -32,14 +33,6 @@ struct Streams {
     right: &'static str,
 }
 
-/// The chain that joins.
-#[derive(Clone, Copy)]
-struct Engine {
-    cores: u16,
-    flight: u16,
-    chooser: Chooser,
-}
-
 /// Rows at 1, 3, .. and at 2, 4, .., of which each is joined with the one before it and the one after it.
 const NEIGHBOURS: Streams = Streams {
     query: "left (ts int, k int) right (ts int, k int) window left rows 1 window right rows 1 on l.k = r.k",
@@ -57,12 +50,12 @@ const NEXT_TO_EACH_OTHER: &str =
 #[test]
 fn joins_neighbours_one_event_at_a_time(rt: HostRuntime) -> Result<(), Fail> {
     for cores in [4, 1] {
-        let engine = Engine {
-            cores,
-            flight: 1,
+        let plan = SerialPlan {
+            size: ChainSize { cores, flight: 1 },
             chooser: Chooser::InTurn,
+            gate: &OpenGate,
         };
-        let (ended, written) = joined(rt.alloc(), engine, NEIGHBOURS, &OpenGate)?;
+        let (ended, written) = joined(rt.alloc(), &plan, NEIGHBOURS)?;
         assert_eq!(rt; ended, Some(Outcome::Done { events: 78 }));
         assert_eq!(rt; written.bytes(), NEXT_TO_EACH_OTHER.as_bytes());
     }
@@ -90,12 +83,12 @@ const TRADES_WITH_QUOTES: &str = "1000,AB,100,50,1000,AB,101,40\n1000,AB,100,50,
 fn joins_trades_with_quotes_by_every_chain(rt: HostRuntime) -> Result<(), Fail> {
     for cores in [1, 4, 64] {
         for chooser in [Chooser::InTurn, Chooser::Seeded(1), Chooser::Seeded(2)] {
-            let engine = Engine {
-                cores,
-                flight: 32,
+            let plan = SerialPlan {
+                size: ChainSize { cores, flight: 32 },
                 chooser,
+                gate: &OpenGate,
             };
-            let (ended, written) = joined(rt.alloc(), engine, TRADES_AND_QUOTES, &OpenGate)?;
+            let (ended, written) = joined(rt.alloc(), &plan, TRADES_AND_QUOTES)?;
             assert_eq!(rt; ended, Some(Outcome::Done { events: 20 }));
             assert_eq!(rt; written.bytes(), TRADES_WITH_QUOTES.as_bytes());
         }
@@ -121,10 +114,13 @@ const CONDITIONS: [(&str, &str); 3] = [
 
 #[test]
 fn joins_by_each_kind_of_condition(rt: HostRuntime) -> Result<(), Fail> {
-    let engine = Engine {
-        cores: 2,
-        flight: 32,
+    let plan = SerialPlan {
+        size: ChainSize {
+            cores: 2,
+            flight: 32,
+        },
         chooser: Chooser::InTurn,
+        gate: &OpenGate,
     };
     for (query, text) in CONDITIONS {
         let streams = Streams {
@@ -133,7 +129,7 @@ fn joins_by_each_kind_of_condition(rt: HostRuntime) -> Result<(), Fail> {
             left: "1,5\n3,9\n",
             right: "2,0,7\n4,0,9\n",
         };
-        let (ended, written) = joined(rt.alloc(), engine, streams, &OpenGate)?;
+        let (ended, written) = joined(rt.alloc(), &plan, streams)?;
         assert_eq!(rt; ended, Some(Outcome::Done { events: 4 }));
         assert_eq!(rt; written.bytes(), text.as_bytes());
     }
@@ -166,16 +162,19 @@ fn passes_the_gate_before_each_step_of_a_core(rt: HostRuntime) -> Result<(), Fai
         left: "1,7\n3,7\n",
         right: "2,7\n",
     };
-    let engine = Engine {
-        cores: 2,
-        flight: 32,
-        chooser: Chooser::InTurn,
-    };
     let gate = CountingGate {
         first: Cell::new(0),
         second: Cell::new(0),
     };
-    let (ended, written) = joined(rt.alloc(), engine, streams, &gate)?;
+    let plan = SerialPlan {
+        size: ChainSize {
+            cores: 2,
+            flight: 32,
+        },
+        chooser: Chooser::InTurn,
+        gate: &gate,
+    };
+    let (ended, written) = joined(rt.alloc(), &plan, streams)?;
     assert_eq!(rt; ended, Some(Outcome::Done { events: 3 }));
     assert_eq!(rt; written.bytes(), b"1,7,2,7\n3,7,2,7\n".as_slice());
     assert_eq!(rt; (gate.first.get(), gate.second.get()), (7, 7));
@@ -185,16 +184,12 @@ fn passes_the_gate_before_each_step_of_a_core(rt: HostRuntime) -> Result<(), Fai
 /// Tells how a join of streams in memory ends, and the sink that it writes to; None where it can't begin.
 fn joined<G: Gate>(
     alloc: Global,
-    engine: Engine,
+    plan: &SerialPlan<'_, G>,
     streams: Streams,
-    gate: &G,
-) -> Result<(Option<Outcome>, MemSink), Memory>
-    requires cores { (1 ≤ engine.cores) × (engine.cores ≤ 64) }
-    requires flight { (1 ≤ engine.flight) × (engine.flight ≤ 256) }
-{
+) -> Result<(Option<Outcome>, MemSink), Memory> {
     let mut outside = stored(alloc, streams)?;
     let mut sink = MemSink::new(alloc, 100);
-    let ended = join_named(alloc, engine, streams, &mut outside, &mut sink, gate);
+    let ended = join_named(alloc, plan, streams, &mut outside, &mut sink);
     Ok((ended, sink))
 }
 
@@ -212,14 +207,11 @@ fn stored(alloc: Global, streams: Streams) -> Result<MemOutside, Memory>
 /// Tells how a join of the streams under the names `l` and `r` ends; None where it can't begin.
 fn join_named<O: Outside, K: Sink, G: Gate>(
     alloc: Global,
-    engine: Engine,
+    plan: &SerialPlan<'_, G>,
     streams: Streams,
     outside: &mut O,
     sink: &mut K,
-    gate: &G,
 ) -> Option<Outcome>
-    requires cores { (1 ≤ engine.cores) × (engine.cores ≤ 64) }
-    requires flight { (1 ≤ engine.flight) × (engine.flight ≤ 256) }
     requires left { (O.state outside.old role.Left).phase ≡ unbegun }
     requires right { (O.state outside.old role.Right).phase ≡ unbegun }
 {
@@ -231,13 +223,10 @@ fn join_named<O: Outside, K: Sink, G: Gate>(
         (Ok(query), (Opened::Ready, Opened::Ready)) => Some(join_serial(
             alloc,
             &query,
-            engine.cores,
-            engine.flight,
+            plan,
             streams.limit,
-            engine.chooser,
             outside,
             sink,
-            gate,
         )),
         _ => None,
     }
@@ -297,10 +286,13 @@ fn watched<'a>(
         left: "1,7\n3,7\n5,7\n",
         right: "2,7\n4,7\n",
     };
-    let engine = Engine {
-        cores: 4,
-        flight: 32,
+    let plan = SerialPlan {
+        size: ChainSize {
+            cores: 4,
+            flight: 32,
+        },
         chooser: Chooser::InTurn,
+        gate: &OpenGate,
     };
     let mut outside = WatchedStreams {
         streams: stored(alloc, streams)?,
@@ -311,7 +303,7 @@ fn watched<'a>(
         sink: MemSink::new(alloc, 100),
         lines,
     };
-    let ended = join_named(alloc, engine, streams, &mut outside, &mut sink, &OpenGate);
+    let ended = join_named(alloc, &plan, streams, &mut outside, &mut sink);
     Ok((ended, outside))
 }
 
@@ -330,12 +322,16 @@ fn writes_what_is_due_before_it_reads_on(rt: HostRuntime) -> Result<(), Fail> {
 #[test]
 fn joins_neighbours_on_threads_one_event_at_a_time(rt: HostRuntime) -> Result<(), Fail> {
     for cores in [4, 1] {
-        let setup = Setup {
-            cores,
-            threads: 4,
-            flight: 1,
+        let plan = CrewPlan {
+            rt: &rt,
+            size: CrewSize {
+                chain: ChainSize { cores, flight: 1 },
+                threads: 4,
+            },
+            kept: 0,
+            gate: &OpenGate,
         };
-        let (ended, written) = joined_on_threads(&rt, rt.alloc(), setup, NEIGHBOURS, &OpenGate)?;
+        let (ended, written) = joined_on_threads(rt.alloc(), &plan, NEIGHBOURS)?;
         assert_eq!(rt;
             ended,
             Some((Outcome::Done { events: 78 }, Some(Fin::Done)))
@@ -345,21 +341,20 @@ fn joins_neighbours_on_threads_one_event_at_a_time(rt: HostRuntime) -> Result<()
     Ok(())
 }
 
+/// Shows that nothing changes where the calling thread turns the first team, or all of them, so that no thread is started.
 #[test]
 fn joins_trades_with_quotes_on_three_threads(rt: HostRuntime) -> Result<(), Fail> {
-    for cores in [1, 4, 64] {
-        let setup = Setup {
-            cores,
-            threads: 3,
-            flight: 32,
+    for (cores, kept) in [(1, 0), (4, 0), (64, 0), (4, 1), (1, 3), (4, 3), (64, 3)] {
+        let plan = CrewPlan {
+            rt: &rt,
+            size: CrewSize {
+                chain: ChainSize { cores, flight: 32 },
+                threads: 3,
+            },
+            kept,
+            gate: &OpenGate,
         };
-        let (ended, written) = joined_on_threads(
-            &rt,
-            rt.alloc(),
-            setup,
-            TRADES_AND_QUOTES,
-            &OpenGate,
-        )?;
+        let (ended, written) = joined_on_threads(rt.alloc(), &plan, TRADES_AND_QUOTES)?;
         assert_eq!(rt;
             ended,
             Some((Outcome::Done { events: 20 }, Some(Fin::Done)))
@@ -403,17 +398,24 @@ fn turns_each_core_in_a_thread_of_its_own(rt: HostRuntime) -> Result<(), Fail> {
         right: "2,7\n",
     };
     for count in [2, 4] {
-        let setup = Setup {
-            cores: count,
-            threads: count,
-            flight: 32,
-        };
         let gate = MeetingGate {
             cores: u64::from(count),
             came: AtomicU64::new(0),
             gave_up: AtomicBool::new(false),
         };
-        let (ended, written) = joined_on_threads(&rt, rt.alloc(), setup, streams, &gate)?;
+        let plan = CrewPlan {
+            rt: &rt,
+            size: CrewSize {
+                chain: ChainSize {
+                    cores: count,
+                    flight: 32,
+                },
+                threads: count,
+            },
+            kept: 0,
+            gate: &gate,
+        };
+        let (ended, written) = joined_on_threads(rt.alloc(), &plan, streams)?;
         assert_eq!(rt; ended, Some((Outcome::Done { events: 3 }, Some(Fin::Done))));
         assert_eq!(rt; written.bytes(), b"1,7,2,7\n3,7,2,7\n".as_slice());
         assert!(rt; !gate.gave_up.load(Ordering::SeqCst));
@@ -424,16 +426,10 @@ fn turns_each_core_in_a_thread_of_its_own(rt: HostRuntime) -> Result<(), Fail> {
 /// Tells how a join on threads of streams in memory ends, and its run, and the sink that it writes to; None where it
 /// can't begin.
 fn joined_on_threads<R: Threads + Wait + Clock + Sync, G: Gate + Sync>(
-    rt: &R,
     alloc: Global,
-    setup: Setup,
+    plan: &CrewPlan<'_, R, G>,
     streams: Streams,
-    gate: &G,
-) -> Result<(Option<(Outcome, Option<Fin>)>, MemSink), Memory>
-    requires cores { (1 ≤ setup.cores) × (setup.cores ≤ 64) }
-    requires threads { 1 ≤ setup.threads }
-    requires flight { (1 ≤ setup.flight) × (setup.flight ≤ 256) }
-{
+) -> Result<(Option<(Outcome, Option<Fin>)>, MemSink), Memory> {
     let mut outside = stored(alloc, streams)?;
     let mut sink = MemSink::new(alloc, 100);
     let begun = (
@@ -446,15 +442,6 @@ fn joined_on_threads<R: Threads + Wait + Clock + Sync, G: Gate + Sync>(
     ) else {
         return Ok((None, sink));
     };
-    let (ended, ran) = join_threads(
-        rt,
-        alloc,
-        &query,
-        setup,
-        streams.limit,
-        &mut outside,
-        &mut sink,
-        gate,
-    );
+    let (ended, ran) = join_threads(alloc, &query, plan, streams.limit, &mut outside, &mut sink);
     Ok((Some((ended, ran.map(|ran| ran.fin()))), sink))
 }

@@ -9,14 +9,14 @@ make_teams-requires-clause-unused g c =
     let ends = c.in_ok-ends.ends in
     let others : ChainEnds g.row.P.Denot = record ends { right = c.pop.new.self } in
     let off : IsTakenOff c.in-Some.last ends others = record { right = c.in-Some.ensures.items; left = refl; senders = refl; receivers = refl } in
-    others_unused c.args.setup.cores (2 * c.args.setup.flight + 2) ends others c.in-Some.last c.in_ok-ends.ensures off
+    others_unused c.args.size.cores (2 * c.args.size.flight + 2) ends others c.in-Some.last c.in_ok-ends.ensures off
 
 pub make_teams-requires-clause-ends : goal.make_teams-requires-clause-ends
 make_teams-requires-clause-ends g c =
     let ends = c.in_ok-ends.ends in
     let others : ChainEnds g.row.P.Denot = record ends { right = c.pop.new.self } in
     let off : IsTakenOff c.in-Some.last ends others = record { right = c.in-Some.ensures.items; left = refl; senders = refl; receivers = refl } in
-    subst (λ (n : ℕ). AreEndsFor n others) (sym c.requires.cores.2) (ends_for c.args.setup.cores (2 * c.args.setup.flight + 2) ends others c.in-Some.last c.in_ok-ends.ensures off)
+    subst (λ (n : ℕ). AreEndsFor n others) (sym c.requires.left.count) (ends_for c.args.size.cores (2 * c.args.size.flight + 2) ends others c.in-Some.last c.in_ok-ends.ensures off)
 
 pub desk_at-requires-clause-first : goal.desk_at-requires-clause-first
 desk_at-requires-clause-first g c =
@@ -24,8 +24,8 @@ desk_at-requires-clause-first g c =
     let others : ChainEnds g.row.P.Denot = record ends { right = c.pop.new.self } in
     let off : IsTakenOff c.in-Some.last ends others = record { right = c.in-Some.ensures.items; left = refl; senders = refl; receivers = refl } in
     let makes =
-    subst (λ (n : ℕ). MakesTeams c.args.join.now n 0 others c.make_teams.new.ends c.in_ok-teams.teams.items) c.requires.cores.2 c.in_ok-teams.ensures.teams in
-    one_left c.args.setup.cores (2 * c.args.setup.flight + 2) ends others c.in-Some.last c.in_ok-ends.ensures off c.args.join.now c.make_teams.new.ends c.in_ok-teams.teams.items makes
+    subst (λ (n : ℕ). MakesTeams c.args.join.now n 0 others c.make_teams.new.ends c.in_ok-teams.teams.items) c.requires.left.count c.in_ok-teams.ensures.teams in
+    one_left c.args.size.cores (2 * c.args.size.flight + 2) ends others c.in-Some.last c.in_ok-ends.ensures off c.args.join.now c.make_teams.new.ends c.in_ok-teams.teams.items makes
 
 pub desk_at-requires-clause-left_unused : goal.desk_at-requires-clause-left_unused
 desk_at-requires-clause-left_unused g c =
@@ -33,15 +33,15 @@ desk_at-requires-clause-left_unused g c =
     let others : ChainEnds g.row.P.Denot = record ends { right = c.pop.new.self } in
     let off : IsTakenOff c.in-Some.last ends others = record { right = c.in-Some.ensures.items; left = refl; senders = refl; receivers = refl } in
     let makes =
-    subst (λ (n : ℕ). MakesTeams c.args.join.now n 0 others c.make_teams.new.ends c.in_ok-teams.teams.items) c.requires.cores.2 c.in_ok-teams.ensures.teams in
-    left_unused c.args.setup.cores (2 * c.args.setup.flight + 2) ends others c.in-Some.last c.in_ok-ends.ensures off c.args.join.now c.make_teams.new.ends c.in_ok-teams.teams.items makes
+    subst (λ (n : ℕ). MakesTeams c.args.join.now n 0 others c.make_teams.new.ends c.in_ok-teams.teams.items) c.requires.left.count c.in_ok-teams.ensures.teams in
+    left_unused c.args.size.cores (2 * c.args.size.flight + 2) ends others c.in-Some.last c.in_ok-ends.ensures off c.args.join.now c.make_teams.new.ends c.in_ok-teams.teams.items makes
 
 pub desk_at-requires-clause-last_unused : goal.desk_at-requires-clause-last_unused
 desk_at-requires-clause-last_unused g c =
     let ends = c.in_ok-ends.ends in
     let others : ChainEnds g.row.P.Denot = record ends { right = c.pop.new.self } in
     let off : IsTakenOff c.in-Some.last ends others = record { right = c.in-Some.ensures.items; left = refl; senders = refl; receivers = refl } in
-    last_unused c.args.setup.cores (2 * c.args.setup.flight + 2) ends others c.in-Some.last c.in_ok-ends.ensures off
+    last_unused c.args.size.cores (2 * c.args.size.flight + 2) ends others c.in-Some.last c.in_ok-ends.ensures off
 
 pub desk_at-requires-clause-few : goal.desk_at-requires-clause-few
 desk_at-requires-clause-few g c =
@@ -49,8 +49,8 @@ desk_at-requires-clause-few g c =
     let others : ChainEnds g.row.P.Denot = record ends { right = c.pop.new.self } in
     let off : IsTakenOff c.in-Some.last ends others = record { right = c.in-Some.ensures.items; left = refl; senders = refl; receivers = refl } in
     let makes =
-    subst (λ (n : ℕ). MakesTeams c.args.join.now n 0 others c.make_teams.new.ends c.in_ok-teams.teams.items) c.requires.cores.2 c.in_ok-teams.ensures.teams in
-    omega (arith, few_receivers c.args.setup.cores (2 * c.args.setup.flight + 2) ends others c.in-Some.last c.in_ok-ends.ensures off c.args.join.now c.make_teams.new.ends c.in_ok-teams.teams.items makes, c.requires.cores.1)
+    subst (λ (n : ℕ). MakesTeams c.args.join.now n 0 others c.make_teams.new.ends c.in_ok-teams.teams.items) c.requires.left.count c.in_ok-teams.ensures.teams in
+    omega (arith, few_receivers c.args.size.cores (2 * c.args.size.flight + 2) ends others c.in-Some.last c.in_ok-ends.ensures off c.args.join.now c.make_teams.new.ends c.in_ok-teams.teams.items makes, c.args.size.few_cores)
 
 pub desk_at-requires-clause-receivers_unused : goal.desk_at-requires-clause-receivers_unused
 desk_at-requires-clause-receivers_unused g c =
@@ -58,8 +58,8 @@ desk_at-requires-clause-receivers_unused g c =
     let others : ChainEnds g.row.P.Denot = record ends { right = c.pop.new.self } in
     let off : IsTakenOff c.in-Some.last ends others = record { right = c.in-Some.ensures.items; left = refl; senders = refl; receivers = refl } in
     let makes =
-    subst (λ (n : ℕ). MakesTeams c.args.join.now n 0 others c.make_teams.new.ends c.in_ok-teams.teams.items) c.requires.cores.2 c.in_ok-teams.ensures.teams in
-    receivers_unused c.args.setup.cores (2 * c.args.setup.flight + 2) ends others c.in-Some.last c.in_ok-ends.ensures off c.args.join.now c.make_teams.new.ends c.in_ok-teams.teams.items makes
+    subst (λ (n : ℕ). MakesTeams c.args.join.now n 0 others c.make_teams.new.ends c.in_ok-teams.teams.items) c.requires.left.count c.in_ok-teams.ensures.teams in
+    receivers_unused c.args.size.cores (2 * c.args.size.flight + 2) ends others c.in-Some.last c.in_ok-ends.ensures off c.args.join.now c.make_teams.new.ends c.in_ok-teams.teams.items makes
 
 pub returns-clause-crew : goal.returns-clause-crew
 returns-clause-crew g c =
@@ -67,5 +67,5 @@ returns-clause-crew g c =
     let others : ChainEnds g.row.P.Denot = record ends { right = c.pop.new.self } in
     let off : IsTakenOff c.in-Some.last ends others = record { right = c.in-Some.ensures.items; left = refl; senders = refl; receivers = refl } in
     let makes =
-    subst (λ (n : ℕ). MakesTeams c.args.join.now n 0 others c.make_teams.new.ends c.in_ok-teams.teams.items) c.requires.cores.2 c.in_ok-teams.ensures.teams in
-    crew c.args.setup.cores (2 * c.args.setup.flight + 2) ends others c.in-Some.last c.in_ok-ends.ensures off c.args.join.now c.make_teams.new.ends c.in_ok-teams.teams.items makes c.args.setup.flight c.in_ok-desk.desk refl c.in_ok-desk.ensures.left c.in_ok-desk.ensures.right c.in_ok-desk.ensures.reports c.in_ok-desk.ensures.flight
+    subst (λ (n : ℕ). MakesTeams c.args.join.now n 0 others c.make_teams.new.ends c.in_ok-teams.teams.items) c.requires.left.count c.in_ok-teams.ensures.teams in
+    crew c.args.size.cores (2 * c.args.size.flight + 2) ends others c.in-Some.last c.in_ok-ends.ensures off c.args.join.now c.make_teams.new.ends c.in_ok-teams.teams.items makes c.args.size.flight c.in_ok-desk.desk refl c.in_ok-desk.ensures.left c.in_ok-desk.ensures.right c.in_ok-desk.ensures.reports c.in_ok-desk.ensures.flight

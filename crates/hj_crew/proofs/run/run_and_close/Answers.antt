@@ -9,17 +9,17 @@ run_crew-caller-requires-clause-stands g c κs within = (nothing_happened, c.req
 
 pub run_crew-caller-requires-clause-cores : goal.run_crew-caller-requires-clause-cores
 run_crew-caller-requires-clause-cores g c κs within =
-    omega (arith, as-many_cores c.requires.crew.0 c.args.setup.cores c.args.setup.flight c.args.crew.desk c.args.crew.teams.items c.requires.crew.1.chain, c.requires.cores.1)
+    omega (arith, as-many_cores c.requires.crew.0 c.args.plan.now.size.chain.cores c.args.plan.now.size.chain.flight c.args.crew.desk c.args.crew.teams.items c.requires.crew.1.chain, c.args.plan.now.size.chain.few_cores)
 
 pub run_crew-caller-requires-clause-teams : goal.run_crew-caller-requires-clause-teams
-run_crew-caller-requires-clause-teams g c κs within = omega (arith, c.requires.crew.1.teams, c.requires.cores.1)
+run_crew-caller-requires-clause-teams g c κs within = omega (arith, c.requires.crew.1.teams, c.args.plan.now.size.chain.few_cores)
 
 pub close_crew-ran-requires-clause-crew : goal.close_crew-ran-requires-clause-crew
 close_crew-ran-requires-clause-crew g c =
     let back = c.run_crew-caller.result in
     let manned = c.requires.crew.1 in (
       c.requires.crew.0,
-      crew-back g.F.Feed.gives g.F.Feed.state g.D.Drain.takes c.requires.crew.0 c.args.setup.cores c.args.setup.flight
+      crew-back g.F.Feed.gives g.F.Feed.state g.D.Drain.takes c.requires.crew.0 c.args.plan.now.size.chain.cores c.args.plan.now.size.chain.flight
           (record { desk = c.args.crew.desk; feed = c.args.feed; drain = c.args.drain; awaited = 0 }) back.caller back.fin c.run_crew-caller.ensures.ends c.args.crew.teams.items back.teams.items manned.chain
           c.run_crew-caller.ensures.teams,
     )
@@ -29,9 +29,9 @@ returns g c = λ join manned.
     let begun : Caller g.row.P.Denot g.row.F.Denot g.row.D.Denot = record { desk = c.args.crew.desk; feed = c.args.feed; drain = c.args.drain; awaited = 0 } in
     let back = c.run_crew-caller.result in
     let crew =
-    crew-back g.F.Feed.gives g.F.Feed.state g.D.Drain.takes join c.args.setup.cores c.args.setup.flight begun back.caller back.fin c.run_crew-caller.ensures.ends c.args.crew.teams.items back.teams.items manned.chain
+    crew-back g.F.Feed.gives g.F.Feed.state g.D.Drain.takes join c.args.plan.now.size.chain.cores c.args.plan.now.size.chain.flight begun back.caller back.fin c.run_crew-caller.ensures.ends c.args.crew.teams.items back.teams.items manned.chain
     c.run_crew-caller.ensures.teams
     in
-    shows-run g.F.Feed.gives g.F.Feed.state g.D.Drain.takes join c.args.setup.cores c.args.setup.flight begun back.caller back.fin c.run_crew-caller.ensures.ends c.args.crew.teams.items back.teams.items manned.chain
-    c.run_crew-caller.ensures.teams g.J.Join.predicate c.close_crew-ran.result (manned.stands (g.F.Feed.state c.args.feed) c.requires.fresh) c.requires.cores.0 (c.close_crew-ran.ensures.closed join crew)
+    shows-run g.F.Feed.gives g.F.Feed.state g.D.Drain.takes join c.args.plan.now.size.chain.cores c.args.plan.now.size.chain.flight begun back.caller back.fin c.run_crew-caller.ensures.ends c.args.crew.teams.items back.teams.items manned.chain
+    c.run_crew-caller.ensures.teams g.J.Join.predicate c.close_crew-ran.result (manned.stands (g.F.Feed.state c.args.feed) c.requires.fresh) c.args.plan.now.size.chain.some_cores (c.close_crew-ran.ensures.closed join crew)
     c.close_crew-ran.ensures.flight c.close_crew-ran.ensures.ended

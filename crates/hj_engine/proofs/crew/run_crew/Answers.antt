@@ -6,12 +6,12 @@ use Rattle.hj_engine.proofs.crew.run_crew.Goals as goal
 
 pub run_over-requires-clause-stores : goal.run_over-requires-clause-stores
 run_over-requires-clause-stores g c κs within =
-    subst₂ (λ (query : Parts) (stores : PlannedStores). AreReadyFor query c.args.plan.now.setup.cores stores) (sym c.in-Ok-new.ensures) c.in-Hash.is c.in-Ok.ensures
+    subst₂ (λ (query : Parts) (stores : PlannedStores). AreReadyFor query c.args.plan.now.size.chain.cores stores) (sym c.in-Ok-new.ensures) c.in-Hash.is c.in-Ok.ensures
 
 pub run_over-requires-in-Ordered-clause-stores : goal.run_over-requires-in-Ordered-clause-stores
 run_over-requires-in-Ordered-clause-stores g c κs within =
-    subst₂ (λ (query : Parts) (stores : PlannedStores). AreReadyFor query c.args.plan.now.setup.cores stores) (sym c.in-Ok-new.ensures) c.in-Ordered.is c.in-Ok.ensures
+    subst₂ (λ (query : Parts) (stores : PlannedStores). AreReadyFor query c.args.plan.now.size.chain.cores stores) (sym c.in-Ok-new.ensures) c.in-Ordered.is c.in-Ok.ensures
 
 pub run_over-requires-in-Columns-clause-stores : goal.run_over-requires-in-Columns-clause-stores
 run_over-requires-in-Columns-clause-stores g c κs within =
-    subst₂ (λ (query : Parts) (stores : PlannedStores). AreReadyFor query c.args.plan.now.setup.cores stores) (sym c.in-Ok-new.ensures) c.in-Columns.is c.in-Ok.ensures
+    subst₂ (λ (query : Parts) (stores : PlannedStores). AreReadyFor query c.args.plan.now.size.chain.cores stores) (sym c.in-Ok-new.ensures) c.in-Columns.is c.in-Ok.ensures

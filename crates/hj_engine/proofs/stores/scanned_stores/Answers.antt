@@ -9,12 +9,16 @@ returns-then-is_empty c =
     let left = c.in_ok-repeat_with.ensures in
     let right = c.in_ok-repeat_with-2.ensures in
     record {
-      left_count = left.count;
-      right_count = right.count;
-      left_empty = λ k d lt. let made = left.made k d lt in search rules;
-      right_empty = λ k d lt. let made = right.made k d lt in search rules;
-      left_suit = λ k d lt. tt;
-      right_suit = λ k d lt. tt;
+      left = record {
+        count = left.count;
+        empty = λ k d lt. let made = left.made k d lt in search rules;
+        suit = λ k d lt. tt;
+      };
+      right = record {
+        count = right.count;
+        empty = λ k d lt. let made = right.made k d lt in search rules;
+        suit = λ k d lt. tt;
+      };
     }
 
 pub returns : goal.returns
@@ -24,14 +28,18 @@ returns c =
     let same = c.as_slice-filters.ensures.value in
     let kept = c.in_ok-filters.ensures.keep in
     record {
-      left_count = left.count;
-      right_count = right.count;
-      left_empty = λ k d lt. (left.made k d lt).rows;
-      right_empty = λ k d lt. (right.made k d lt).rows;
-      left_suit = λ k d lt.
-          let made = left.made k d lt in
-          (made.side, subst (λ (filters : List Filter). All (KeepsMatches (holds c.args.query.now)) filters) (sym (made.filters ∙ same)) kept);
-      right_suit = λ k d lt.
-          let made = right.made k d lt in
-          (made.side, subst (λ (filters : List Filter). All (KeepsMatches (holds c.args.query.now)) filters) (sym (made.filters ∙ same)) kept);
+      left = record {
+        count = left.count;
+        empty = λ k d lt. (left.made k d lt).rows;
+        suit = λ k d lt.
+            let made = left.made k d lt in
+            (made.side, subst (λ (filters : List Filter). All (KeepsMatches (holds c.args.query.now)) filters) (sym (made.filters ∙ same)) kept);
+      };
+      right = record {
+        count = right.count;
+        empty = λ k d lt. (right.made k d lt).rows;
+        suit = λ k d lt.
+            let made = right.made k d lt in
+            (made.side, subst (λ (filters : List Filter). All (KeepsMatches (holds c.args.query.now)) filters) (sym (made.filters ∙ same)) kept);
+      };
     }

@@ -1,7 +1,7 @@
 use Rattle.std.proofs.Common.{◌∷◌, ◌++◌, [], true, refl}
 use Rattle.hj_base.specs.MemOutside.{stream_at}
 use Rattle.hj_app.proofs.MemoryRoles.{unbegun-with}
-use Rattle.hj_app.proofs.tests.World.fail.Goals as goal
+use Rattle.hj_app.proofs.cases.World.fail.Goals as goal
 
 pub returns-in-Start : goal.returns-in-Start
 returns-in-Start g c =

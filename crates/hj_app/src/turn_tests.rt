@@ -1,0 +1,95 @@
+//! Which threads turn the cores of a chain, and how often.
+use crate::cases::{EQUI, SHORT, run};
+use crate::gen_tests::ONE_ROW;
+use hj_base::{CoreNo, Gate};
+use std::sync::atomic::{AtomicBool, AtomicU64, Ordering};
+use std::thread;
+
+/// Two left rows and the right one between them, which matches both.
+const THREE_ROWS: &str = ";on l.k = r.k;1,7/3,7/;2,7/;1,7,2,7/3,7,2,7/;;0";
+
+/// Counts the turns of two cores.
+#[derive(Drop)]
+struct CountingGate {
+    left: AtomicU64,
+    right: AtomicU64,
+}
+
+impl Gate for CountingGate {
+    fn pass(&self, core: CoreNo, _call: u64) {
+        let turns = if core.0 == 0 { &self.left } else { &self.right };
+        turns.fetch_add(1, Ordering::SeqCst);
+    }
+}
+
+#[test]
+fn turns_a_core_once_for_each_message(rt: HostRuntime) {
+    let gate = CountingGate {
+        left: AtomicU64::new(0),
+        right: AtomicU64::new(0),
+    };
+    let command = "join --cores 2 --threads 0 query left right";
+    run(&rt, rt.alloc(), command, THREE_ROWS, SHORT, &gate);
+    // Each has the three rows and both closes; besides, the left one has the ends of two rows, the right one an acknowledgement
+    // and an end.
+    assert_eq!(rt; gate.left.load(Ordering::SeqCst), 7);
+    assert_eq!(rt; gate.right.load(Ordering::SeqCst), 7);
+}
+
+/// Holds the first turns of some cores, from the left, until a number of cores have come to theirs, for a number of tries.
+#[derive(Drop)]
+struct MeetingGate {
+    held: u16,
+    wanted: u64,
+    came: AtomicU64,
+    gave_up: AtomicBool,
+}
+
+impl Gate for MeetingGate {
+    fn pass(&self, core: CoreNo, call: u64) {
+        if call > 0 {
+            return;
+        }
+        self.came.fetch_add(1, Ordering::SeqCst);
+        if core.0 >= self.held {
+            return;
+        }
+        for _ in 0..1_000_000 {
+            if self.came.load(Ordering::SeqCst) >= self.wanted {
+                return;
+            }
+            thread::yield_now();
+        }
+        self.gave_up.store(true, Ordering::SeqCst);
+    }
+}
+
+/// Shows that each core has a thread of its own, else no held turn would end before that of another core.
+#[test]
+fn turns_each_core_in_a_thread_of_its_own(rt: HostRuntime) {
+    for (command, case, held, wanted) in [
+        (
+            "join --cores 2 --threads 2 query left right",
+            THREE_ROWS,
+            1,
+            2,
+        ),
+        (
+            "join --cores 4 --threads 4 query left right",
+            THREE_ROWS,
+            4,
+            4,
+        ),
+        (EQUI, THREE_ROWS, 4, 4),
+        ("gen 1 1 1 1", ONE_ROW, 4, 4),
+    ] {
+        let gate = MeetingGate {
+            held,
+            wanted,
+            came: AtomicU64::new(0),
+            gave_up: AtomicBool::new(false),
+        };
+        run(&rt, rt.alloc(), command, case, SHORT, &gate);
+        assert!(rt; !gate.gave_up.load(Ordering::SeqCst));
+    }
+}
