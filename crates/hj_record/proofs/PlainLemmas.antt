@@ -37,7 +37,7 @@ bare_no_quote b bare =
 step_quoted : (b : ℕ) → IsNoQuote b → step default_config st.InQuoted b ≡ (st.InQuoted, act.Copy)
 step_quoted b other = rw other refl
 
-reads_bare : (fields : List (List ℕ)) (field bare text : List ℕ) → All IsBare bare → reads st.InField fields field (bare ++ text) ≡ reads st.InField fields (field ++ bare) text
+pub reads_bare : (fields : List (List ℕ)) (field bare text : List ℕ) → All IsBare bare → reads st.InField fields field (bare ++ text) ≡ reads st.InField fields (field ++ bare) text
 unfolding next_record
 reads_bare fields field [] text all = ap (λ f. reads st.InField fields f text) (sym (append-nil field))
 reads_bare fields field (b ∷ bare) text all =
@@ -60,12 +60,12 @@ abbrev BeginsBare : List ℕ → Type 0
 BeginsBare [] = Unit {0}
 BeginsBare (b ∷ bs) = IsNoQuote b
 
-reads_start : (fields : List (List ℕ)) (text : List ℕ) → BeginsBare text → reads st.StartField fields [] text ≡ reads st.InField fields [] text
+pub reads_start : (fields : List (List ℕ)) (text : List ℕ) → BeginsBare text → reads st.StartField fields [] text ≡ reads st.InField fields [] text
 unfolding next_record
 reads_start fields [] begins = refl
 reads_start fields (b ∷ bs) begins = rw begins refl
 
-begins_bare : (bare text : List ℕ) → All IsBare bare → BeginsBare text → BeginsBare (bare ++ text)
+pub begins_bare : (bare text : List ℕ) → All IsBare bare → BeginsBare text → BeginsBare (bare ++ text)
 begins_bare [] text all begins = begins
 begins_bare (b ∷ bare) text all begins = bare_no_quote b (all_head IsBare b bare all)
 
@@ -87,11 +87,11 @@ unfolding next_record
 reads_behind fields field [] begins = refl
 reads_behind fields field (b ∷ bs) begins = rw begins refl
 
-reads_comma : (fields : List (List ℕ)) (field text : List ℕ) → reads st.InField fields field (44 ∷ text) ≡ reads st.StartField (fields ++ field ∷ []) [] text
+pub reads_comma : (fields : List (List ℕ)) (field text : List ℕ) → reads st.InField fields field (44 ∷ text) ≡ reads st.StartField (fields ++ field ∷ []) [] text
 unfolding next_record
 reads_comma fields field text = refl
 
-ends_line : (fields : List (List ℕ)) (field text : List ℕ) → IsLineEnd text → only_record (reads st.InField fields field text) ≡ Ok (Some (fields ++ field ∷ []))
+pub ends_line : (fields : List (List ℕ)) (field text : List ℕ) → IsLineEnd text → only_record (reads st.InField fields field text) ≡ Ok (Some (fields ++ field ∷ []))
 unfolding next_record
 ends_line fields field text (inl none) = rw none refl
 ends_line fields field text (inr (inl line_feed)) = rw line_feed refl

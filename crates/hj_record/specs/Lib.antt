@@ -3,6 +3,7 @@ pub mod Cuts
 pub mod Cutter
 pub mod CutterFields
 pub mod Fields
+pub mod Line
 pub mod LineEnd
 pub mod Pieces
 pub mod Plain

@@ -6,3 +6,6 @@ pub const CARRIAGE_RETURN: u8 = b'\r';
 
 /// Stands before and after a quoted field.
 pub const QUOTE: u8 = b'"';
+
+/// Stands between two fields.
+pub const COMMA: u8 = b',';

@@ -1,6 +1,8 @@
-ghost use Rattle.std.specs.Prelude.{◌≡◌, ◌≤◌, ◌-◌, ◌%◌, ◌++◌, ◌==◌, ◌↔◌, IsTrue, false, length, min, OnOk, OnErr};
+ghost use Rattle.std.specs.Prelude.{◌≡◌, ◌<◌, ◌≤◌, ◌-◌, ◌%◌, ◌++◌, ◌==◌, ◌↔◌, IsTrue, false, List, ℕ, length, take, min, OnOk, OnErr};
 ghost use Rattle.hj_record.specs.Cutter.{fresh, cleared, Feeds, Ends, Leads, LeadsAtEnd, Takes, Fits};
 ghost use Rattle.hj_record.specs.Cuts.{Cuts, LeadsBy};
+ghost use Rattle.hj_record.specs.declared.cutter.Cut.TheVariants as cuts;
+ghost use Rattle.hj_record.specs.Line.{IsLine, most_in_next};
 ghost use Rattle.hj_record.specs.LineEnd.{Finds, FindsFor, HasEnd};
 ghost use Rattle.hj_record.specs.Pieces.{IsUnended, quotes, most_in_piece};
 
@@ -138,6 +140,32 @@ impl Cutter {
             Fed::Piece(used) => Cut::Piece(used),
             Fed::Bad(fault) => Cut::Bad(fault),
         }
+    }
+
+    /// Returns how many bytes the next piece may have; 0 where an earlier portion began it, or the stream is refused.
+    #[inline(always)]
+    pub fn most_in_next(&self) -> usize
+        ensures { result ≡ most_in_next self.now }
+    {
+        if self.piece.is_empty() && self.fault.is_none() {
+            self.room.min(MOST_IN_PIECE) as usize
+        } else {
+            0
+        }
+    }
+
+    /// Goes past a piece of this many bytes at the start of a portion, of which it is known that it is one line. The cutter is
+    /// ready for the next one, as after an answer `Lent`.
+    #[inline(always)]
+    pub fn pass(&mut self, used: usize)
+        requires going { self.old.whole ≡ false }
+        requires some { 0 < used }
+        requires within { used ≤ most_in_next self.old }
+        ensures room { self.new ≡ record self.old { room = self.old.room - used } }
+        ensures takes { (bytes : List ℕ) → used ≤ length bytes → IsLine (take used bytes) → Cuts (cuts.Lent used) bytes self.old self.new }
+        ensures leads { (bytes : List ℕ) → used ≤ length bytes → IsLine (take used bytes) → LeadsBy (cuts.Lent used) bytes self.old self.new }
+    {
+        self.room -= used as u64;
     }
 
     /// Returns whether the piece has its end in these bytes, if they come next.

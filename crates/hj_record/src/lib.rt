@@ -9,7 +9,7 @@ mod laws;
 mod piece;
 mod plain;
 
-pub use byte::{CARRIAGE_RETURN, LINE_FEED, QUOTE};
+pub use byte::{CARRIAGE_RETURN, COMMA, LINE_FEED, QUOTE};
 pub use cutter::{Cut, Cutter, Fed};
 pub use fault::PieceFault;
 pub use fields::Fields;

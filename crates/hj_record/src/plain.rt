@@ -1,10 +1,8 @@
 ghost use Rattle.std.specs.Prelude.{◌≡◌, ◌≤◌, [], true, false, length, take, slice_get, All, IfOk, IfSome};
 ghost use Rattle.hj_record.specs.Plain.{BeginsWithField, CutsPlain, IsBare, IsLineEnd, IsNextQuote, StandsBehind, TakesField, is_special};
 
-use crate::{CARRIAGE_RETURN, Fields, LINE_FEED, QUOTE};
+use crate::{CARRIAGE_RETURN, COMMA, Fields, LINE_FEED, QUOTE};
 use hj_base::Memory;
-
-const COMMA: u8 = b',';
 
 /// What a text in the plain form of RFC 4180 holds.
 #[derive(Clone, Copy)]

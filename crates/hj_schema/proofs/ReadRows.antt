@@ -64,7 +64,7 @@ values_from-fault columns fields at column bytes row found is has fails so_far =
     sym so_far
     ∙ ap (behind row) (values_from-at columns fields at column bytes is has ∙ ap (λ first. put_value first rest) (sym fails))
 
-row_of-counted : (columns : List Column) (fields : List (List ℕ)) → length fields ≡ length columns → row_of columns fields ≡ values_from 1 columns fields
+pub row_of-counted : (columns : List Column) (fields : List (List ℕ)) → length fields ≡ length columns → row_of columns fields ≡ values_from 1 columns fields
 row_of-counted columns fields counted = cond-true _ _ _ (eq-eqb (length fields) (length columns) counted)
 
 ReadsRow-fault : (columns : List Column) (fields : List (List ℕ)) (found : RowFault) → row_of columns fields ≡ Err found → ReadsRow (Err found) columns fields

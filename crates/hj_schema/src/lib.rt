@@ -2,7 +2,9 @@
 #![tactic(auto)]
 
 mod fault;
+mod numbers;
 mod read;
 
 pub use fault::RowFault;
+pub use numbers::read_numbers;
 pub use read::read_row;
