@@ -23,3 +23,4 @@ pub mod CallerLemmas
 pub mod LinesAhead
 pub mod ToldLemmas
 pub mod LineLemmas
+pub mod StraightLines

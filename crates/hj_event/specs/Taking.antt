@@ -1,5 +1,5 @@
 -- What taking the next row of a side says of the rows to come, and of its role.
-use Rattle.std.specs.Prelude.{◌≡◌, ◌⊎◌, ℕ, ◌+◌, ◌≤◌, Bool, true, false, ℤ, List, [], ◌++◌, length, IsSome, Ok, Err, None, Some}
+use Rattle.std.specs.Prelude.{◌≡◌, ◌⊎◌, ℕ, ◌+◌, ◌≤◌, Bool, true, false, ℤ, pos, ◌-ℤ◌, int_lt, List, [], ◌++◌, length, take, min, IsSome, Ok, Err, None, Some}
 use Rattle.std.specs.declared.option.Option.{Option}
 use Rattle.std.specs.declared.result.Result.{Result}
 use Rattle.hj_value.specs.declared.column.Column.{Column}
@@ -8,8 +8,10 @@ use Rattle.hj_value.specs.Row.{time_of}
 use Rattle.hj_base.specs.declared.numbers.Memory.{Memory}
 use Rattle.hj_base.specs.Outside.{RoleState}
 use Rattle.hj_record.specs.declared.fault.PieceFault.TheVariants as piece_fault
+use Rattle.hj_record.specs.Line.{most_from}
 use Rattle.hj_record.specs.Pieces.{Stream}
 use Rattle.hj_schema.specs.declared.fault.RowFault.TheVariants as row_fault
+use Rattle.hj_schema.specs.Lines.{IsLineOf}
 use Rattle.hj_event.specs.declared.fault.RecordFault.{RecordFault}
 use Rattle.hj_event.specs.declared.fault.RecordFault.TheVariants as fault
 use Rattle.hj_event.specs.declared.stop.Stop.{Stop}
@@ -35,6 +37,15 @@ abbrev pub InTime : Result (List Field) RecordFault → ℕ → Option ℤ → L
 InTime (Ok same) slack greatest row = (same ≡ row) × (in_time slack greatest row ≡ Ok (Some row))
 InTime (Err (fault.TimeBack above below)) slack greatest row = in_time slack greatest row ≡ Err (fault.TimeBack above below)
 InTime (Err why) slack greatest row = ⊥
+
+-- whether a row of this time comes too late behind rows of which the greatest time is this
+abbrev pub is_late : ℕ → Option ℤ → ℤ → Bool
+is_late slack None time = false
+is_late slack (Some greatest) time = int_lt time (greatest -ℤ pos slack)
+
+-- The next bytes of those that the next piece may have, so many, are a line, and this is the row of its record.
+abbrev pub IsNextLine : List Field → ℕ → Reading → Type 0
+IsNextLine row used side = IsLineOf side.columns row used (take (min (most_from side.fault side.part side.room) (length side.rest)) side.rest)
 
 -- why the stream stops at the record of this number
 abbrev pub stop_of : ℕ → RecordFault → Stop
@@ -81,6 +92,12 @@ pub record Advances (answer : Result Found Stop) (old new : Reading) : Type 0 wh
   pub time : TimeGoes answer old.slack old.time new.time
   pub leads : (stream : Stream) → MayFollow new.ended stream → FoundLeads answer (read_ahead old stream) (read_ahead new stream)
   pub wants : Wants answer new (read_ahead new)
+
+-- The row of the next line is taken, or nothing changes.
+abbrev pub TakesLine : Result (Option (List Field)) Memory → Reading → Reading → Type 0
+TakesLine (Ok (Some row)) old new = Advances (Ok (found.Row row)) old new
+TakesLine (Ok None) old new = new ≡ old
+TakesLine (Err why) old new = new ≡ old
 
 -- A side goes on by a piece, or by a row that waited.
 pub record GoesOn (answer : Result Found Stop) (old new : SideState) : Type 0 where

@@ -1,4 +1,4 @@
-ghost use Rattle.std.specs.Prelude.{◌≡◌, ◌≢◌, ◌==◌, ◌-◌, ◌<◌, ◌≤◌, List, ℕ, [], true, false, not, length, slice_index, position, All, IsTrue};
+ghost use Rattle.std.specs.Prelude.{◌≡◌, ◌≢◌, ◌==◌, ◌-◌, ◌<◌, ◌≤◌, List, ℕ, [], true, false, not, length, slice_index, position, All, IfOk, IsTrue};
 ghost use Rattle.std.specs.List.{list_any};
 ghost use Rattle.hj_base.specs.Outside.{role_of, ChangesOnly};
 ghost use Rattle.hj_record.specs.Blank.{is_blank};
@@ -7,14 +7,15 @@ ghost use Rattle.hj_event.specs.Roles.{IsInStep};
 ghost use Rattle.hj_event.specs.Reads.{Fills};
 ghost use Rattle.hj_event.specs.Rows.{with_time};
 ghost use Rattle.hj_event.specs.Sides.{new_reading};
-ghost use Rattle.hj_event.specs.Taking.{stop_of, ReadsPiece, Holds, Advances, TellsRow};
+ghost use Rattle.hj_event.specs.Taking.{stop_of, ReadsPiece, Holds, Advances, IsNextLine, TakesLine, TellsRow};
 
-use crate::record::read_record;
+use crate::record::{is_late, read_record};
 use crate::stop::{Found, Stop};
 use crate::{RecordFault, RowFault};
-use hj_base::{Got, Outside, Side};
+use hj_base::{Got, Memory, Outside, Side};
 use hj_record::{CARRIAGE_RETURN, Cut, Cutter, Fed, Fields, LINE_FEED, PieceFault, QUOTE};
-use hj_value::{Row, Schema, SharedRow};
+use hj_schema::read_numbers;
+use hj_value::{ColumnType, Row, Schema, SharedRow};
 use std::alloc::Global;
 use std::marker::Model;
 
@@ -37,6 +38,8 @@ pub(crate) struct Reader {
     filled: usize,
     /// A record that begins in the portion before this place has its end there.
     lines_end: usize,
+    /// The next line may be one of numbers alone, in the form in which most lines are.
+    straight: bool,
     /// A read answered the end.
     ended: bool,
     cutter: Cutter,
@@ -72,6 +75,7 @@ impl Reader {
             taken: 0,
             filled: 0,
             lines_end: 0,
+            straight: false,
             ended: false,
             cutter: Cutter::new(alloc, MOST_IN_STREAM),
             fields: Fields::new(alloc),
@@ -143,6 +147,7 @@ impl Reader {
                 self.taken = 0;
                 self.filled = count;
                 self.lines_end = lines_end(&self.portion[..count]);
+                self.straight = has_only_ints(&self.schema);
                 Ok(())
             }
             Got::End => {
@@ -156,6 +161,63 @@ impl Reader {
     /// Goes on to the end of the next piece in the bytes that were read.
     #[inline(always)]
     pub(crate) fn advance(&mut self) -> Result<Found, Stop>
+        ensures { Advances result self.old self.new }
+    {
+        match self.take_line()? {
+            Some(row) => Ok(Found::Row(row)),
+            None => self.cut(),
+        }
+    }
+
+    /// Takes the row of the next line, if that is one of numbers in the form in which most are, and not too late: while its end is
+    /// looked for, its numbers are read. None changes nothing that is seen.
+    #[inline(always)]
+    fn take_line(&mut self) -> Result<Option<SharedRow>, Memory>
+        ensures { TakesLine result self.old self.new }
+    {
+        if !self.is_straight() {
+            return Ok(None);
+        }
+        let mut row = Row::with_capacity(self.alloc, self.schema.columns.len(), 0)?;
+        let used = self.read_line(&mut row)?;
+        if used == 0 {
+            self.straight = false;
+            return Ok(None);
+        }
+        let time = row.time();
+        if is_late(self.slack, self.greatest, time) {
+            return Ok(None);
+        }
+        let next = self.record_no.checked_add(1).ok_or(Memory)?;
+        let greatest = later(self.greatest, time);
+        let shared = SharedRow::new(self.alloc, row)?;
+        self.cutter.pass(used);
+        self.taken += used;
+        self.record_no = next;
+        self.greatest = Some(greatest);
+        Ok(Some(shared))
+    }
+
+    /// Returns whether a try is worth it: a whole line stands in front of what is left, and no other form was met in this portion.
+    #[inline(always)]
+    fn is_straight(&self) -> bool {
+        self.straight && self.taken < self.lines_end && self.cutter.most_in_next() > 0
+    }
+
+    /// Reads the row of the next line, if that is one of numbers; `row` is empty before. Returns how many bytes the line takes, or 0.
+    #[inline(always)]
+    fn read_line(&self, row: &mut Row) -> Result<usize, Memory>
+        requires { row.old ≡ [] }
+        ensures { IfOk result (λ used. 0 < used → IsNextLine row.new used self.now) }
+    {
+        let unread = &self.portion[self.taken..self.filled];
+        let most = self.cutter.most_in_next().min(unread.len());
+        read_numbers(&self.schema, &unread[..most], row)
+    }
+
+    /// Goes on to the end of the next piece in the bytes that were read, in whatever form it is.
+    #[inline(never)]
+    fn cut(&mut self) -> Result<Found, Stop>
         ensures { Advances result self.old self.new }
     {
         let portion: &[u8] = &self.portion;
@@ -281,6 +343,18 @@ fn has_quote(bytes: &[u8]) -> bool
         found |= byte == QUOTE;
     }
     found
+}
+
+/// Returns whether all columns are numbers.
+fn has_only_ints(schema: &Schema) -> bool {
+    for at in 0..schema.columns.len() {
+        if let Some(column) = schema.columns.get(at)
+            && column.kind == ColumnType::Text
+        {
+            return false;
+        }
+    }
+    true
 }
 
 /// Returns the greatest time, with one more.

@@ -1,5 +1,5 @@
 ghost use Rattle.std.specs.Prelude.{◌≡◌, ◌≤◌, ◌-ℤ◌, int_lt, length, pos};
-ghost use Rattle.hj_event.specs.Taking.{ReadsPiece, InTime};
+ghost use Rattle.hj_event.specs.Taking.{ReadsPiece, InTime, is_late};
 
 use crate::RecordFault;
 use hj_record::{Fields, read_piece_into};
@@ -34,16 +34,27 @@ fn in_time(slack: u64, greatest: Option<i64>, row: Row) -> Result<Row, RecordFau
 {
     let time = row.time();
     match greatest {
-        Some(greatest) if is_late(slack, greatest, time) => {
+        Some(greatest) if is_below(slack, greatest, time) => {
             Err(RecordFault::TimeBack(greatest, time))
         }
         _ => Ok(row),
     }
 }
 
-/// Returns whether a time is below the greatest one less the slack.
+/// Returns whether a row of this time comes too late: below the greatest time before it less the slack.
 #[inline(always)]
-fn is_late(slack: u64, greatest: i64, time: i64) -> bool
+pub(crate) fn is_late(slack: u64, greatest: Option<i64>, time: i64) -> bool
+    ensures { result ≡ is_late slack greatest time }
+{
+    match greatest {
+        Some(greatest) => is_below(slack, greatest, time),
+        None => false,
+    }
+}
+
+/// Returns whether a time is below another one less the slack.
+#[inline(always)]
+fn is_below(slack: u64, greatest: i64, time: i64) -> bool
     ensures { result ≡ int_lt time (greatest -ℤ pos slack) }
 {
     time < greatest && i128::from(time) < i128::from(greatest) - i128::from(slack)

@@ -1,0 +1,27 @@
+use Rattle.std.proofs.Common.{◌≡◌, ◌+◌, ◌<◌, ℕ, ℤ, false, List, FitsSigned, Ok, Some, of_z, sym, subst, to_z, w64, arith, rules}
+use Rattle.hj_value.specs.declared.field.Field.{Field}
+use Rattle.hj_value.specs.Row.{time_of}
+use Rattle.hj_event.specs.declared.stop.Found.TheVariants as found
+use Rattle.hj_event.specs.Reads.{reading}
+use Rattle.hj_event.specs.Rows.{with_time}
+use Rattle.hj_event.specs.Sides.{Reading}
+use Rattle.hj_event.specs.Taking.{Advances, IsNextLine, is_late}
+use Rattle.hj_event.proofs.StraightLines.{straight_advances}
+use Rattle.hj_event.proofs.reader.Reader.take_line.Goals as goal
+
+pub returns : goal.returns
+returns c =
+    let s = c.self.inside in
+    let row = c.read_line.new.row in
+    let used = c.in_ok-used.used in
+    let same : c.in_ok-shared.shared ≡ row = search rules in
+    let some : 0 < used = omega (arith, c.if-used-eq0.false) in
+    let next : c.in_ok-next.next ≡ s.record_no + 1 = search rules in
+    let line : IsNextLine row used (reading s.schema.columns s.slack s.cutter s.portion s.taken s.filled s.ended s.record_no s.greatest) = subst (IsNextLine row used) (sym c.self.view_is) (c.in_ok-used.ensures some) in
+    let none : is_late s.slack s.greatest (time_of row) ≡ false = search rules in
+    let time : to_z w64 (of_z w64 c.later-greatest.result) ≡ with_time s.greatest (time_of row) = search rules in
+    let taken = straight_advances s.schema.columns s.slack s.record_no s.greatest s.ended s.portion s.taken s.filled s.cutter c.pass.new.self row used line none c.pass.ensures.takes c.pass.ensures.leads in
+    subst (λ (t : ℤ). Advances (Ok (found.Row c.in_ok-shared.shared)) c.args.self.now (reading s.schema.columns s.slack c.pass.new.self s.portion (s.taken + used) s.filled s.ended c.in_ok-next.next (Some t))) (sym time)
+    (subst (λ (n : ℕ). Advances (Ok (found.Row c.in_ok-shared.shared)) c.args.self.now (reading s.schema.columns s.slack c.pass.new.self s.portion (s.taken + used) s.filled s.ended n (Some (with_time s.greatest (time_of row))))) (sym next)
+    (subst (λ (r : List Field). Advances (Ok (found.Row r)) c.args.self.now (reading s.schema.columns s.slack c.pass.new.self s.portion (s.taken + used) s.filled s.ended (s.record_no + 1) (Some (with_time s.greatest (time_of row))))) (sym same)
+    (subst (λ (side : Reading). Advances (Ok (found.Row row)) side (reading s.schema.columns s.slack c.pass.new.self s.portion (s.taken + used) s.filled s.ended (s.record_no + 1) (Some (with_time s.greatest (time_of row))))) c.self.view_is taken)))
