@@ -31,7 +31,7 @@ use Rattle.hj_index.proofs.OrderedKeys.{key_equiv, key_found, key_itself, key_to
 use Rattle.hj_rows.proofs.Probes.{finds-nothing, finds-pushed, number, partner, Finds}
 use Rattle.hj_rows.proofs.Rows.{Places}
 use Rattle.hj_rows.proofs.SortedProbes.{sorts-joined, sorts-nothing, sorts-passed, Sorts}
-use Rattle.hj_index.proofs.Walking.{none-suffice}
+use Rattle.hj_index.proofs.Sufficing.{none-suffice}
 
 -- ---- rows of which the numbers differ
 

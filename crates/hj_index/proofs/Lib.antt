@@ -1,12 +1,14 @@
 mod Banding
 mod Bands
-mod Chaining
-mod Chains
-mod Indexing
-mod LinkedPlaces
+mod ChainChanges
+mod ChainFinds
+mod ChainKeys
+mod ChainLinks
+mod ChainRows
+mod ChainSorts
+mod ChainSweeps
+mod ChainWalks
 mod OrderedKeys
 mod OrderedRows
 pub mod Ready
-mod Relinking
-mod Scanning
-mod Walking
+mod Sufficing

@@ -1,5 +1,5 @@
+pub mod Chains
 pub mod HashStore
 pub mod Keys
-pub mod Links
 pub mod OrderedIndex
 pub mod OrderedStore

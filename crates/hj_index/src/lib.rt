@@ -1,10 +1,9 @@
 //! Stores of the rows that rest at a core, in which a probe looks only at rows that may match.
 #![tactic(auto)]
 
-mod hash_index;
+mod chains;
 mod hash_store;
 mod keys;
-mod links;
 mod ordered_index;
 mod ordered_store;
 

@@ -1,6 +1,6 @@
-use Rattle.hj_rows.specs.Numbered.{rows_in}
-use Rattle.hj_index.proofs.Walking.{distinct_plain_rows}
+use Rattle.hj_index.specs.Chains.{rows_in}
+use Rattle.hj_index.proofs.ChainRows.{apart-distinct}
 use Rattle.hj_index.proofs.hash_store.HashStoreStoreSharedRow.insert.Goals as goal
 
 pub returns-clause-distinct : goal.returns-clause-distinct
-returns-clause-distinct g c = distinct_plain_rows (rows_in c.put.new.rows) c.put.ensures.indexed.distinct
+returns-clause-distinct g c = apart-distinct (rows_in c.put.new.self) c.put.ensures.chained.nearly.apart

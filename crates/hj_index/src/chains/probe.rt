@@ -1,0 +1,102 @@
+ghost use Rattle.std.specs.Prelude.{◌≡◌, Some, List, map, reverse, true, IfOk};
+ghost use Rattle.hj_value.specs.declared.field.Field.{Field};
+ghost use Rattle.hj_msg.specs.Store.{joins, settled_matches};
+ghost use Rattle.hj_rows.specs.Places.{partner_of};
+ghost use Rattle.hj_index.specs.Chains.{rows_in, AreChained};
+ghost use Rattle.hj_index.specs.Keys.{key_at};
+
+use crate::chains::Chains;
+use hj_base::{EventNo, Memory, Share, Side};
+use hj_msg::{Join, Partner, Partners};
+use hj_rows::{joining_row, partners_of};
+use hj_value::SharedRow;
+use std::alloc::Global;
+use std::collections::BTreeMap;
+
+impl Chains {
+    /// Finds the settled rows that join with a row of the other stream, by ascending number. Only rows of a key join with it.
+    #[inline(always)]
+    pub(crate) fn probe<J: Join<SharedRow>>(
+        &self,
+        alloc: Global,
+        key: u64,
+        side: Side,
+        against: &SharedRow,
+        join: &J,
+    ) -> Result<Partners<SharedRow>, Memory>
+        requires chained { AreChained self.now }
+        requires key { (row : List Field) → joins (J.predicate join.now) side row against.now ≡ true → key_at self.now.own row ≡ Some key }
+        ensures { IfOk result (λ partners. partners ≡ settled_matches (J.predicate join.now) side against.now (rows_in self.now)) }
+    {
+        if !self.is_ascending {
+            return partners_of(alloc, self.sorted_rows(alloc, side, against, join)?);
+        }
+        turned_round(alloc, self.walk(alloc, key, side, against, join)?)
+    }
+
+    /// Finds the settled rows of a key that join with a row of the other stream, from the last one on.
+    #[inline(always)]
+    fn walk<J: Join<SharedRow>>(
+        &self,
+        alloc: Global,
+        key: u64,
+        side: Side,
+        against: &SharedRow,
+        join: &J,
+    ) -> Result<Vec<Partner<SharedRow>>, Memory>
+        requires chained { AreChained self.now }
+        requires ascending { self.now.is_ascending ≡ true }
+        requires key { (row : List Field) → joins (J.predicate join.now) side row against.now ≡ true → key_at self.now.own row ≡ Some key }
+        ensures { IfOk result (λ found. reverse found.items ≡ settled_matches (J.predicate join.now) side against.now (rows_in self.now)) }
+    {
+        let mut found = Vec::new(alloc);
+        let mut next = self.last_of(key);
+        while let Some(place) = self.place(next) {
+            next = place.before;
+            if let Some(row) = joining_row(&place.rest, side, against, join) {
+                found.push(Partner {
+                    no: EventNo(place.no),
+                    row: row.share()?,
+                })?;
+            }
+        }
+        Ok(found)
+    }
+
+    /// Finds the settled rows that join with a row of the other stream, by their numbers, whatever the order in which they stand.
+    #[cold]
+    fn sorted_rows<J: Join<SharedRow>>(
+        &self,
+        alloc: Global,
+        side: Side,
+        against: &SharedRow,
+        join: &J,
+    ) -> Result<BTreeMap<u64, SharedRow>, Memory>
+        requires chained { AreChained self.now }
+        ensures { IfOk result (λ rows. map partner_of rows.entries ≡ settled_matches (J.predicate join.now) side against.now (rows_in self.now)) }
+    {
+        let mut rows = BTreeMap::new(alloc);
+        for at in 0..self.places.len() {
+            let place = &self.places[at];
+            if let Some(row) = joining_row(&place.rest, side, against, join) {
+                rows.insert(place.no, row.share()?)?;
+            }
+        }
+        Ok(rows)
+    }
+}
+
+/// Gives partners in the order turned round.
+#[inline(always)]
+fn turned_round(
+    alloc: Global,
+    mut found: Vec<Partner<SharedRow>>,
+) -> Result<Partners<SharedRow>, Memory>
+    ensures { IfOk result (λ partners. partners ≡ reverse found.items) }
+{
+    let mut partners = Partners::new(alloc);
+    while let Some(partner) = found.pop() {
+        partners.push(partner)?;
+    }
+    Ok(partners)
+}
