@@ -1,6 +1,5 @@
 -- Chains, as one row is settled, taken out, or put in.
-use Rattle.std.proofs.Common.{◌≡◌, ℕ, zero, suc, ◌+◌, ◌-◌, ◌*◌, ◌^◌, ◌≤◌, ◌<◌, Bool, true, false, cond, nat_eq, ◌&&◌, ◌||◌, not, List, [], ◌∷◌, ◌++◌, None, Some, Option, option_map, is_some, length, length-set, map, drop, slice_get, inl, inr, arith, refl, sym, ap, subst, ◌∙◌, true≢false}
-use Rattle.std.specs.Cmp.{nat_eq_equiv}
+use Rattle.std.proofs.Common.{◌≡◌, ℕ, suc, ◌+◌, ◌^◌, ◌≤◌, ◌<◌, Bool, true, false, cond, nat_eq, ◌&&◌, ◌||◌, not, List, [], ◌∷◌, ◌++◌, None, Some, Option, option_map, is_some, length, length-set, drop, slice_get, inl, inr, arith, refl, sym, ap, subst, ◌∙◌, true≢false}
 use Rattle.std.specs.HashMap.{get, hash_map_len}
 use Rattle.std.specs.List.{slice_index_or, slice_set}
 use Rattle.std.proofs.lemmas.Bool.{eqb-true}

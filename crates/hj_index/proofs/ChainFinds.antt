@@ -1,7 +1,6 @@
 -- Where the row of a number stands.
-use Rattle.std.proofs.Common.{◌≡◌, ℕ, zero, suc, ◌+◌, ◌-◌, ◌≤◌, ◌<◌, Bool, true, false, cond, nat_eq, ltb, ◌&&◌, ◌||◌, List, [], ◌∷◌, None, Some, Option, option_map, is_some, length, get_or, slice_get, arith, refl, sym, ap, subst, ◌∙◌, true≢false}
+use Rattle.std.proofs.Common.{◌≡◌, ℕ, zero, suc, ◌+◌, ◌≤◌, ◌<◌, Bool, true, false, cond, nat_eq, ltb, ◌&&◌, List, [], ◌∷◌, None, Some, Option, option_map, is_some, length, get_or, slice_get, arith, refl, sym, ap, subst, ◌∙◌, true≢false}
 use Rattle.std.specs.Cmp.{nat_eq_equiv}
-use Rattle.std.specs.declared.cmp.Ordering.{Ordering}
 use Rattle.std.specs.declared.cmp.Ordering.TheVariants.{Less, Equal, Greater}
 use Rattle.std.specs.List.{list_any, position, position_or_len, AllWithin}
 use Rattle.std.specs.List.Sorted.{IsNonDecreasingBy}
@@ -13,8 +12,7 @@ use Rattle.hj_value.specs.declared.field.Field.{Field}
 use Rattle.hj_msg.specs.Store.{holds}
 use Rattle.hj_rows.specs.declared.place.Rest.{Rest}
 use Rattle.hj_index.specs.declared.chains.Place.{Place}
-use Rattle.hj_index.specs.Chains.{is_row, rows_at, FindsPlace, FindsRow, IsAscending}
-use Rattle.hj_index.proofs.ChainRows.{row-held}
+use Rattle.hj_index.specs.Chains.{is_row, rows_at, FindsRow, IsAscending}
 
 abbrev pub has_number : ℕ → Place → Bool
 has_number n place = nat_eq place.no n

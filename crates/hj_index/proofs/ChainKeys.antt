@@ -1,6 +1,5 @@
 -- The last place of a key among places, as places are added behind, taken from the front, or cut off.
-use Rattle.std.proofs.Common.{◌≡◌, ℕ, zero, suc, ◌+◌, ◌-◌, ◌≤◌, ◌<◌, Bool, true, false, cond, nat_eq, List, [], ◌∷◌, ◌++◌, None, Some, Option, length, take, drop, slice_get, map, arith, refl, sym, ap, ◌∙◌}
-use Rattle.std.specs.Cmp.{nat_eq_equiv}
+use Rattle.std.proofs.Common.{◌≡◌, ℕ, zero, suc, ◌-◌, ◌≤◌, Bool, true, false, cond, List, [], ◌∷◌, ◌++◌, Some, Option, length, take, slice_get, map, arith, refl, sym, ap, ◌∙◌}
 use Rattle.hj_index.specs.declared.chains.Place.{Place}
 use Rattle.hj_index.specs.Chains.{counted_on, has_key, last_place}
 

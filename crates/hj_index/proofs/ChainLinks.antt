@@ -1,12 +1,12 @@
 -- Linked places, as one is added behind, dropped from the front, or changed without its links.
-use Rattle.std.proofs.Common.{◌≡◌, ℕ, zero, suc, ◌+◌, ◌-◌, ◌≤◌, ◌<◌, ◌⊎◌, inl, inr, Bool, true, false, cond, nat_eq, List, [], ◌∷◌, ◌++◌, None, Some, Option, is_some, length, map, take, drop, slice_get, arith, refl, sym, ap, subst, ◌∙◌}
+use Rattle.std.proofs.Common.{◌≡◌, ℕ, zero, suc, ◌+◌, ◌-◌, ◌≤◌, ◌<◌, ◌⊎◌, inl, inr, Bool, true, false, cond, nat_eq, List, [], ◌∷◌, ◌++◌, None, Some, Option, is_some, length, take, slice_get, arith, refl, sym, ap, subst, ◌∙◌}
 use Rattle.std.specs.Cmp.{nat_eq_equiv}
 use Rattle.std.specs.List.{slice_set}
 use Rattle.std.proofs.lemmas.Bool.{eqb-true}
 use Rattle.hj_value.specs.declared.field.Field.{Field}
 use Rattle.hj_rows.specs.declared.place.Rest.{Rest}
 use Rattle.hj_index.specs.declared.chains.Place.{Place}
-use Rattle.hj_index.specs.Chains.{counted_on, has_key, known_place, last_place, rows_at, AreKeyed, AreKnown, AreLinked, IsAscending, IsLinked}
+use Rattle.hj_index.specs.Chains.{counted_on, has_key, known_place, last_place, AreKeyed, AreKnown, AreLinked, IsAscending, IsLinked}
 use Rattle.hj_index.specs.Keys.{key_at}
 use Rattle.hj_index.proofs.ChainKeys.{key_list, last-popped, last-pushed, same-keys}
 use Rattle.hj_index.proofs.ChainRows.{number_list}

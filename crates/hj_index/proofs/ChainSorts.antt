@@ -1,5 +1,5 @@
 -- A probe of all places, whose numbers stand in any order.
-use Rattle.std.proofs.Common.{◌≡◌, ℕ, zero, suc, ◌+◌, ◌≤◌, ◌<◌, Bool, true, false, cond, nat_eq, List, [], ◌∷◌, None, Some, Option, length, map, drop, slice_get, arith, refl, sym, ap, subst, ◌∙◌}
+use Rattle.std.proofs.Common.{◌≡◌, ℕ, zero, suc, ◌+◌, ◌≤◌, Bool, false, cond, nat_eq, List, [], ◌∷◌, None, Some, Option, length, map, drop, slice_get, arith, refl, ap, subst, ◌∙◌}
 use Rattle.std.specs.BTreeMap.{insert_entry, is_at}
 use Rattle.std.specs.Cmp.{nat_eq_equiv}
 use Rattle.std.specs.List.{AllByRecursion, IsDistinct}
@@ -10,12 +10,12 @@ use Rattle.hj_value.specs.declared.field.Field.{Field}
 use Rattle.hj_msg.specs.Store.{by_number, settled_partners}
 use Rattle.hj_rows.specs.declared.place.Rest.{Rest}
 use Rattle.hj_rows.specs.Places.{joining, rows_of}
-use Rattle.hj_rows.proofs.Rows.{row_of, Places}
+use Rattle.hj_rows.proofs.Rows.{Places}
 use Rattle.hj_rows.proofs.SortedProbes.{sorts-joined, sorts-nothing, sorts-passed, Sorts}
 use Rattle.hj_index.specs.declared.chains.Place.{Place}
 use Rattle.hj_index.specs.Chains.{is_member, numbers, rows_at, AreApart}
 use Rattle.hj_index.proofs.ChainRows.{Entries}
-use Rattle.hj_index.proofs.ChainWalks.{drop-at, matches, Found}
+use Rattle.hj_index.proofs.ChainWalks.{drop-at, matches}
 
 abbrev pub full_places : Entries → Places (List Field)
 full_places rows = map (λ entry. (entry.no, Some (record { row = entry.row; settled = entry.settled }))) rows

@@ -1,5 +1,5 @@
 -- Places that are linked anew, and keys of no place that are swept out.
-use Rattle.std.proofs.Common.{◌≡◌, ℕ, zero, suc, ◌+◌, ◌-◌, ◌≤◌, ◌<◌, Bool, true, false, cond, nat_eq, not, ltb, ◌||◌, List, [], ◌∷◌, ◌++◌, None, Some, Option, is_some, option_map, length, map, filter, slice_get, append_assoc, append-nil, arith, refl, sym, ap, subst, ◌∙◌, true≢false}
+use Rattle.std.proofs.Common.{◌≡◌, ℕ, zero, suc, ◌+◌, ◌-◌, ◌≤◌, ◌<◌, Bool, true, false, cond, nat_eq, not, ltb, ◌||◌, List, [], ◌∷◌, ◌++◌, None, Some, Option, is_some, option_map, length, filter, slice_get, append_assoc, append-nil, arith, refl, sym, ap, subst, ◌∙◌, true≢false}
 use Rattle.std.specs.Cmp.{nat_eq_equiv}
 use Rattle.std.specs.List.{AllByRecursion, IsDistinct}
 use Rattle.std.specs.Map.{keys_of, lookup}
@@ -9,7 +9,6 @@ use Rattle.hj_value.specs.declared.field.Field.{Field}
 use Rattle.hj_rows.specs.declared.place.Rest.{Rest}
 use Rattle.hj_index.specs.declared.chains.Place.{Place}
 use Rattle.hj_index.specs.Chains.{counted_on, has_key, is_member, known_place, last_place, rows_at, AreApart, AreKeyed, AreKnown, AreLinked, IsAscending}
-use Rattle.hj_index.specs.Keys.{key_at}
 use Rattle.hj_index.proofs.ChainLinks.{ascending-same, linked-pushed, key-is}
 use Rattle.hj_index.proofs.ChainRows.{ascending-later, number_list, rows-pushed}
 

@@ -1,11 +1,10 @@
 -- A walk along the places of a key, from the last one on.
-use Rattle.std.proofs.Common.{◌≡◌, ℕ, zero, suc, ◌+◌, ◌-◌, ◌≤◌, ◌<◌, Bool, true, false, cond, nat_eq, nat_lt, ltb, ◌&&◌, List, [], ◌∷◌, ◌++◌, None, Some, Option, length, take, drop, reverse, slice_get, arith, refl, sym, ap, subst, ◌∙◌, true≢false}
-use Rattle.std.specs.Cmp.{nat_eq_equiv}
+use Rattle.std.proofs.Common.{◌≡◌, ℕ, zero, suc, ◌+◌, ◌-◌, ◌≤◌, ◌<◌, Bool, true, false, cond, nat_lt, ◌&&◌, List, [], ◌∷◌, ◌++◌, None, Some, Option, length, take, drop, reverse, slice_get, arith, refl, sym, ap, subst, ◌∙◌, true≢false}
 use Rattle.std.proofs.lemmas.Bool.{le-ltb}
 use Rattle.std.proofs.lemmas.List.{reverse-append}
 use Rattle.hj_value.specs.declared.field.Field.{Field}
 use Rattle.hj_msg.specs.declared.partner.Partner.{Partner}
-use Rattle.hj_msg.specs.Order.{insert_by, sort_by}
+use Rattle.hj_msg.specs.Order.{insert_by}
 use Rattle.hj_msg.specs.Store.{by_number, settled_partners}
 use Rattle.hj_rows.specs.declared.place.Rest.{Rest}
 use Rattle.hj_rows.specs.Places.{joining}

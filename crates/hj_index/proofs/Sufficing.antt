@@ -1,5 +1,5 @@
 -- Which rows a probe may leave out: those whose value isn't that of the row that probes.
-use Rattle.std.proofs.Common.{◌≡◌, ℕ, Bool, true, false, ◌&&◌, List, [], ◌∷◌, None, Some, Option, option_map, refl, sym, ap, ◌∙◌}
+use Rattle.std.proofs.Common.{◌≡◌, ℕ, Bool, true, false, ◌&&◌, List, [], ◌∷◌, None, Some, option_map, refl, sym, ap, ◌∙◌}
 use Rattle.hj_base.specs.declared.numbers.Side.{Side}
 use Rattle.hj_msg.specs.Store.{Resting, by_number, joins, settled_matches, settled_partners}
 use Rattle.hj_value.specs.declared.field.Field.{Field}

@@ -1,4 +1,4 @@
-use Rattle.std.proofs.Common.{◌≡◌, ◌+◌, ◌-◌, ◌<◌, ◌∷◌, refl, arith, sym, ap, ◌∙◌}
+use Rattle.std.proofs.Common.{◌+◌, ◌-◌, ◌∷◌, refl, arith, sym, ap, ◌∙◌}
 use Rattle.hj_index.specs.declared.chains.Chains.{Chains}
 use Rattle.hj_index.proofs.ChainChanges.{dropped_nearly, front-split, one_empty}
 use Rattle.hj_index.proofs.chains.Chains.drop_empty.Goals as goal

@@ -1,4 +1,4 @@
-use Rattle.std.proofs.Common.{◌≡◌, refl}
+use Rattle.std.proofs.Common.{refl}
 use Rattle.hj_index.proofs.ChainChanges.{emptied_nearly, emptied_rows, held_rest, reads}
 use Rattle.hj_index.proofs.chains.Chains.empty_at.Goals as goal
 

@@ -1,4 +1,4 @@
-use Rattle.std.proofs.Common.{◌≡◌, ◌<◌, length, true, false, is_some, arith, rules, sym, ap, subst, ◌∙◌}
+use Rattle.std.proofs.Common.{◌≡◌, true, arith, rules, sym, subst, ◌∙◌}
 use Rattle.hj_index.specs.Chains.{FindsRow}
 use Rattle.hj_index.proofs.ChainFinds.{empty-absent, number-row, number-within, placeless, position-finds, read-number}
 use Rattle.hj_index.proofs.chains.Chains.find.Goals as goal

@@ -1,4 +1,4 @@
-use Rattle.std.proofs.Common.{◌≡◌, ◌<◌, Some, slice_get, rules, sym, ◌∙◌}
+use Rattle.std.proofs.Common.{◌<◌, rules, sym, ◌∙◌}
 use Rattle.std.specs.VecDeque.{deque_len}
 use Rattle.std.proofs.lemmas.Option.{slice_get_read}
 use Rattle.hj_index.proofs.ChainFinds.{greater-number, lower-absent}

@@ -1,4 +1,4 @@
-use Rattle.std.proofs.Common.{◌≡◌, ◌+◌, ◌∷◌, ◌<◌, nat_eq, not, length, refl, sym, ap, subst, ◌∙◌, arith, rules}
+use Rattle.std.proofs.Common.{◌+◌, nat_eq, not, refl, sym, ap, subst, ◌∙◌, arith}
 use Rattle.std.specs.HashMap.{get}
 use Rattle.hj_index.proofs.ChainSweeps.{linking-dropped, linking-known, linking-moved, linking-starts, none-here, Linking}
 use Rattle.hj_index.proofs.chains.Chains.link_all.Goals as goal

@@ -1,4 +1,4 @@
-use Rattle.std.proofs.Common.{◌≡◌, ℕ, nat_eq, is_some, option_map, rules, sym, ap, ◌∙◌}
+use Rattle.std.proofs.Common.{ℕ, nat_eq, is_some, rules, ap, ◌∙◌}
 use Rattle.std.specs.HashMap.{get}
 use Rattle.std.specs.Map.{lookup}
 use Rattle.std.proofs.lemmas.Map.Made.{lookup-map_values, map_same_pairs}

@@ -1,4 +1,4 @@
-use Rattle.std.proofs.Common.{◌≡◌, ◌+◌, refl, sym, ap, ◌∙◌, rules, arith}
+use Rattle.std.proofs.Common.{◌+◌, refl, ap, ◌∙◌, arith}
 use Rattle.hj_index.specs.declared.chains.Chains.{Chains}
 use Rattle.hj_index.specs.Keys.{key_at}
 use Rattle.hj_index.proofs.ChainChanges.{pushed_chained, pushed_rows}

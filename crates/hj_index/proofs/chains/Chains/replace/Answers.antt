@@ -1,4 +1,4 @@
-use Rattle.std.proofs.Common.{◌≡◌, ◌<◌, nat_eq, arith, sym, ap, ◌∙◌}
+use Rattle.std.proofs.Common.{nat_eq, arith, ap, ◌∙◌}
 use Rattle.std.specs.HashMap.{get}
 use Rattle.hj_index.specs.Keys.{key_at}
 use Rattle.hj_index.proofs.ChainChanges.{replaced_apart, replaced_ascending, replaced_keyed, replaced_known, replaced_rows, replaced_within}

@@ -1,4 +1,4 @@
-use Rattle.std.proofs.Common.{◌≡◌, ◌<◌, length, arith, rules}
+use Rattle.std.proofs.Common.{arith, rules}
 use Rattle.std.proofs.lemmas.Fn.{always_returns_same}
 use Rattle.hj_index.specs.declared.chains.Place.{Place}
 use Rattle.hj_index.proofs.ChainFinds.{search-hits, search-misses, search-rises}

@@ -1,5 +1,4 @@
-use Rattle.std.proofs.Common.{◌≡◌, true, false, None, Option, is_some, refl, sym, ap, ◌∙◌, true≢false}
-use Rattle.hj_value.specs.declared.field.Field.{Field}
+use Rattle.std.proofs.Common.{is_some, refl, sym, ap, ◌∙◌, true≢false}
 use Rattle.hj_index.proofs.ChainChanges.{reads, settled_chained, settled_rows}
 use Rattle.hj_index.proofs.chains.Chains.settle_at.Goals as goal
 

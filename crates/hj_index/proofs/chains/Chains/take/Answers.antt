@@ -1,4 +1,4 @@
-use Rattle.std.proofs.Common.{◌≡◌, sym}
+use Rattle.std.proofs.Common.{sym}
 use Rattle.hj_index.specs.Chains.{rows_in}
 use Rattle.hj_rows.proofs.Rows.{without-absent}
 use Rattle.hj_index.proofs.ChainRows.{row-held}

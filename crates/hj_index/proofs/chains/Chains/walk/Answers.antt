@@ -1,6 +1,5 @@
-use Rattle.std.proofs.Common.{◌≡◌, ◌∷◌, ◌++◌, [], List, Bool, true, nat_eq, refl, sym, ap, ◌∙◌}
+use Rattle.std.proofs.Common.{◌∷◌, ◌++◌, [], nat_eq, sym, ap, ◌∙◌}
 use Rattle.std.specs.HashMap.{get}
-use Rattle.hj_value.specs.declared.field.Field.{Field}
 use Rattle.hj_msg.specs.Store.{joins}
 use Rattle.hj_index.proofs.ChainWalks.{matches-sorted, partner, walk-ends, walk-falls, walk-joined, walk-passed, walk-starts}
 use Rattle.hj_index.proofs.chains.Chains.walk.Goals as goal

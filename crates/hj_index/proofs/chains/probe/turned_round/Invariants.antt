@@ -1,4 +1,4 @@
-use Rattle.std.proofs.Common.{◌≡◌, ◌++◌, length, reverse, vec_len}
+use Rattle.std.proofs.Common.{◌≡◌, ◌++◌, reverse, vec_len}
 use Rattle.hj_index.proofs.chains.probe.turned_round.Given as goal
 
 abbrev pub invariant-loop-partner : goal.invariant-loop-partner

@@ -1,4 +1,4 @@
-use Rattle.std.proofs.Common.{◌≡◌, None, Some, ap, sym, subst, ◌∙◌}
+use Rattle.std.proofs.Common.{◌≡◌, None, ap, sym, subst, ◌∙◌}
 use Rattle.hj_index.specs.HashStore.{HashRows, JoinsEqual}
 use Rattle.hj_index.specs.Keys.{key_at}
 use Rattle.hj_index.proofs.Sufficing.{joins_key, nothing_joins}
