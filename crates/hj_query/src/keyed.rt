@@ -11,7 +11,7 @@ use std::alloc::Global;
 
 /// Makes the query that joins rows of equal keys, over windows of this many rows, 1 to 1,000,000:
 /// `left (ts int, key int) right (ts int, key int) window left rows W window right rows W on l.key = r.key`.
-/// The one refusal is want of memory.
+/// The one refusal is that memory ran out.
 pub fn equi(alloc: Global, rows: u32) -> Result<Query, Memory>
     requires some { 1 ≤ rows }
     requires few { rows ≤ most_rows }
