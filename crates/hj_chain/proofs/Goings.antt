@@ -41,7 +41,7 @@ use Rattle.hj_chain.proofs.Projection.{is_run, all_collected}
 use Rattle.hj_chain.proofs.Doing.{in_range, non_empty}
 use Rattle.hj_chain.proofs.Gathered.{one-each, told, told-recorded}
 use Rattle.hj_chain.proofs.Accounts.{Accounts, Grows, accounts-more, emitted-more, grows}
-use Rattle.hj_driver.proofs.Feeding.{well-push, numbering-push}
+use Rattle.hj_msg.proofs.Feeding.{well-push, numbering-push}
 
 -- steps that lead to a state, with what they took of the cores' reports
 pub record Leads {P : Type 0} (matches : P → P → Bool) (n most : ℕ) (schedule : List Actor) (events : List (Event P)) (state : ChainState P) (lists : List (List (Report P))) : Type 0 where

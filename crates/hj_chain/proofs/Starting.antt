@@ -17,7 +17,7 @@ use Rattle.std.proofs.lemmas.List.Sorted.{IsPermutation-refl}
 use Rattle.hj_chain.specs.Chain.{Contents, capacity, empty_chain}
 use Rattle.hj_chain.specs.Reached.{begins}
 use Rattle.hj_chain.specs.Steps.{GoesWith}
-use Rattle.hj_driver.proofs.Feeding.{well-nothing}
+use Rattle.hj_msg.proofs.Feeding.{well-nothing}
 use Rattle.hj_chain.proofs.Accounts.{Accounts}
 use Rattle.hj_chain.proofs.Goings.{FeedAfter, feed_asked, stands-state}
 

@@ -6,7 +6,7 @@ use Rattle.hj_msg.specs.declared.feed.Given.TheVariants.{Event, Stop}
 use Rattle.hj_msg.specs.Driver.{DriverTurn, admitted}
 use Rattle.hj_msg.specs.Event.{IsWellFormed}
 use Rattle.hj_msg.specs.Feed.{FeedState, Answers, event_in, numbering_of}
-use Rattle.hj_driver.proofs.Feeding.{well-push, numbering-push}
+use Rattle.hj_msg.proofs.Feeding.{well-push, numbering-push}
 use Rattle.hj_desk.specs.declared.desk.Desk.{Desk}
 use Rattle.hj_desk.specs.Desk.{History, IsFed, StandsFor, turns_of}
 use Rattle.hj_desk.specs.Steps.{with_events}

@@ -11,7 +11,7 @@ use Rattle.hj_msg.specs.Feed.{FeedState, event_in, first_numbering, is_stop}
 use Rattle.hj_msg.specs.Met.{met}
 use Rattle.hj_driver.specs.Driver.{DriverState, new_driver}
 use Rattle.hj_driver.specs.StandsFor as driver
-use Rattle.hj_driver.proofs.Feeding.{well-nothing}
+use Rattle.hj_msg.proofs.Feeding.{well-nothing}
 use Rattle.hj_driver.proofs.Standing.{stands-new}
 use Rattle.hj_collect.specs.Collector.{CollectorState, nothing_taken}
 use Rattle.hj_collect.specs.StandsFor as collect

@@ -1,6 +1,5 @@
 pub mod Arrivals
 pub mod ComingOut
-pub mod Feeding
 pub mod Logs
 pub mod MayClose
 pub mod Standing

@@ -6,6 +6,7 @@ use Rattle.std.proofs.lemmas.List.Folds.{list_any_at}
 use Rattle.hj_base.specs.declared.numbers.EventNo.{EventNo}
 use Rattle.hj_base.specs.declared.numbers.Side.{Side}
 use Rattle.hj_base.specs.declared.numbers.Side.TheVariants.{Left, Right}
+pub use Rattle.hj_msg.proofs.Feeding.{split-push}
 use Rattle.hj_msg.specs.declared.event.Event.{Event}
 use Rattle.hj_msg.specs.declared.event.Event.TheVariants.{Arrive, Expire, Quiet}
 use Rattle.hj_msg.specs.declared.message.Msg.{Msg}
@@ -14,19 +15,6 @@ use Rattle.hj_msg.specs.Driver.{DriverTurn, admission, receipt, closing, admitte
 use Rattle.hj_driver.specs.Driver.{DriverState, after_take, after_put, arrival_of, after_message, stays, quiet_stays, after_close, closed, new_driver, is_sent, count_of}
 use Rattle.hj_driver.specs.StandsFor.{StandsFor, is_closing}
 use Rattle.hj_driver.proofs.Logs.{admitted-push, arrivals_of-receipt, expiries_of-receipt, quiets_of-receipt, closes_of-receipt, arrivals_of-admission, expiries_of-admission, quiets_of-admission, closes_of-admission, arrivals_of-closing, expiries_of-closing, quiets_of-closing, closes_of-closing, length-outstanding, is_sent-closes_of}
-
--- where a list with one element more is cut
-pub split-push : {X : Type 0} (xs : List X) (x : X) (ys : List X) (y : X) (zs : List X) → xs ++ x ∷ [] ≡ ys ++ y ∷ zs → ((rest : List X) × (xs ≡ ys ++ y ∷ rest)) ⊎ ((xs ≡ ys) × (x ≡ y))
-split-push [] x [] y zs is = inr (refl, cc)
-split-push [] x (u ∷ us) y zs is = absurd (omega (arith, ap length is, length-append us (y ∷ zs)))
-split-push (v ∷ vs) x [] y zs is = inl (vs, let same : v ≡ y = cc in ap (λ w. w ∷ vs) same)
-split-push {X} (v ∷ vs) x (u ∷ us) y zs is =
-    let first : v ≡ u = cc in
-    let later : vs ++ x ∷ [] ≡ us ++ y ∷ zs = cc in
-    elim (split-push vs x us y zs later) [
-      | inl w ↦ inl (w.0, ap (λ (a : X). a ∷ vs) first ∙ ap (λ (l : List X). u ∷ l) w.1)
-      | inr w ↦ inr (ap (λ (a : X). a ∷ vs) first ∙ ap (λ (l : List X). u ∷ l) w.0, w.1)
-    ]
 
 has_closing : {P : Type 0} (earlier later : List (DriverTurn P)) → list_any is_closing (earlier ++ closing ∷ later) ≡ true
 has_closing [] later = refl

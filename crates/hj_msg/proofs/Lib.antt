@@ -10,6 +10,7 @@ pub mod Emitting
 mod Ends
 mod ExampleLemmas
 mod Expiries
+pub mod Feeding
 mod Fronts
 pub mod Gathering
 pub mod Growing

@@ -33,4 +33,7 @@ pub trait Feed<P> {
     /// Returns whether the next answer is there, so that `next` needn't wait for input.
     fn is_ready(&self) -> bool
         ensures { result ≡ ready self.now };
+
+    /// An answer is what the states before it and after it tell.
+    ghost told: { (old : Self) (answer : Given P) (new : Self) → gives old answer new → Answers answer (state old) (state new) };
 }

@@ -24,7 +24,10 @@ pub use examples::{no_runs, small_logs, small_meetings, small_run, small_steps};
 pub use feed::{Feed, Given};
 pub use fin::Fin;
 pub use join::Join;
-pub use laws::{join_lists_each_match_once, join_of_prefix_is_prefix, prefix_is_well_formed};
+pub use laws::{
+    feeds_stay_well_formed, join_lists_each_match_once, join_of_prefix_is_prefix,
+    prefix_is_well_formed,
+};
 pub use meeting::matches_are_met_once;
 pub use message::{Msg, Report};
 pub use partner::{Partner, Partners};

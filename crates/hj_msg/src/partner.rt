@@ -1,4 +1,4 @@
-ghost use Rattle.std.specs.Prelude.{◌≡◌, ◌++◌, [], ◌∷◌, length, slice_get, OnOk, OnErr};
+ghost use Rattle.std.specs.Prelude.{◌≡◌, ◌++◌, [], ◌∷◌, length, slice_get, reverse, OnOk, OnErr};
 ghost use Rattle.std.specs.Option.{option_copied};
 
 use hj_base::{EventNo, Memory};
@@ -60,5 +60,12 @@ impl<P> Partners<P> {
     {
         self.found.push(partner)?;
         Ok(())
+    }
+
+    /// Turns the partners round, so that the last one comes first.
+    pub fn reverse(&mut self)
+        ensures { self.new ≡ reverse self.old }
+    {
+        self.found.reverse();
     }
 }

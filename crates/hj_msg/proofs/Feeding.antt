@@ -1,16 +1,31 @@
 -- The events that a feed gives are well formed.
-use Rattle.std.proofs.Common.{◌≡◌, ℕ, ◌+◌, ◌⊎◌, inl, inr, ◌==◌, not, true, List, [], ◌∷◌, ◌++◌, length, Contains, fold, refl, ap, sym, ◌∙◌, subst, arith, append-nil, append_assoc, length-append, eq-eqb, true≢false}
+use Rattle.std.proofs.Common.{◌≡◌, ℕ, ◌+◌, ◌⊎◌, inl, inr, ◌==◌, not, true, List, [], ◌∷◌, ◌++◌, length, map, replicate, zero, suc, Contains, fold, refl, ap, sym, ◌∙◌, subst, arith, append-nil, append_assoc, length-append, eq-eqb, true≢false}
 use Rattle.std.proofs.lemmas.List.Elements.{Contains-append_left, Contains-push, Contains-push_cases}
 use Rattle.std.proofs.lemmas.List.Sums.{fold_push}
 use Rattle.hj_base.specs.declared.numbers.Side.{Side}
 use Rattle.hj_base.specs.declared.numbers.Side.TheVariants.{Left, Right}
 use Rattle.hj_msg.specs.declared.event.Event.{Event}
 use Rattle.hj_msg.specs.declared.event.Event.TheVariants.{Arrive, Expire, Quiet}
+use Rattle.hj_msg.specs.declared.feed.Given.{Given}
+use Rattle.hj_msg.specs.declared.feed.Given.TheVariants as given
 use Rattle.hj_msg.specs.Event.{number, NumbersFrom, Arrives, Expires, NamesLive, IsWellFormed}
-use Rattle.hj_msg.specs.Feed.{Numbering, first_numbering, numbering_after, numbering_of, NamesLiveNumber, FeedState, GivesEvent}
+use Rattle.hj_msg.specs.Feed.{Numbering, first_numbering, numbering_after, numbering_of, NamesLiveNumber, Answers, FeedState, GivesEvent, GoesOver, GoesOverAnswers}
+use Rattle.hj_msg.specs.GoesOn.{GoesOnWith}
 use Rattle.hj_msg.proofs.Members.{Contains-nil, Contains-from_filter}
 use Rattle.hj_msg.proofs.Numbered.{same_number, front_is_well_formed, number-last, NamesLive-last, Expires-below}
-use Rattle.hj_driver.proofs.Standing.{split-push}
+
+-- where a list with one element more is cut
+pub split-push : {X : Type 0} (xs : List X) (x : X) (ys : List X) (y : X) (zs : List X) → xs ++ x ∷ [] ≡ ys ++ y ∷ zs → ((rest : List X) × (xs ≡ ys ++ y ∷ rest)) ⊎ ((xs ≡ ys) × (x ≡ y))
+split-push [] x [] y zs is = inr (refl, cc)
+split-push [] x (u ∷ us) y zs is = absurd (omega (arith, ap length is, length-append us (y ∷ zs)))
+split-push (v ∷ vs) x [] y zs is = inl (vs, let same : v ≡ y = cc in ap (λ w. w ∷ vs) same)
+split-push {X} (v ∷ vs) x (u ∷ us) y zs is =
+    let first : v ≡ u = cc in
+    let later : vs ++ x ∷ [] ≡ us ++ y ∷ zs = cc in
+    elim (split-push vs x us y zs later) [
+      | inl w ↦ inl (w.0, ap (λ (a : X). a ∷ vs) first ∙ ap (λ (l : List X). u ∷ l) w.1)
+      | inr w ↦ inr (ap (λ (a : X). a ∷ vs) first ∙ ap (λ (l : List X). u ∷ l) w.0, w.1)
+    ]
 
 -- a row of this side arrived under this number, and hasn't expired
 record IsLive {P : Type 0} (side : Side) (events : List (Event P)) (of : ℕ) : Type 0 where
@@ -165,3 +180,22 @@ numbering-push events event old new same gives = gives.numbering ∙ ap (λ (m :
 
 pub well-nothing : (P : Type 0) → IsWellFormed {P = P} []
 well-nothing P = record { numbered = tt; live = λ earlier later event is. absurd (omega (arith, ap length is, length-append earlier (event ∷ later))) }
+
+-- a feed whose answers are those that its states tell
+module _ {P F : Type 0} (gives : F → Given P → F → Type 0) (state : F → FeedState) (told : (old : F) (answer : Given P) (new : F) → gives old answer new → Answers answer (state old) (state new)) where
+  stops-on : (events : List (Event P)) (stops : ℕ) (from to : F) → GoesOnWith events (state from) → GoesOverAnswers gives from (replicate stops given.Stop) to → GoesOnWith events (state to)
+  stops-on events zero from to goes over = subst (λ (f : F). GoesOnWith events (state f)) (sym over) goes
+  stops-on events (suc stops) from to goes over =
+      let says = told from given.Stop over.0 over.1 in
+      stops-on events stops over.0 to (record { well_formed = goes.well_formed; numbering = says.numbering ∙ goes.numbering }) over.2
+
+  events-on : (events later : List (Event P)) (stops : ℕ) (from to : F) → GoesOnWith events (state from) → GoesOverAnswers gives from (map given.Event later ++ replicate stops given.Stop) to → GoesOnWith (events ++ later) (state to)
+  events-on events [] stops from to goes over = subst (λ (l : List (Event P)). GoesOnWith l (state to)) (sym (append-nil events)) (stops-on events stops from to goes over)
+  events-on events (event ∷ later) stops from to goes over =
+      let says = told from (given.Event event) over.0 over.1 in
+      subst (λ (l : List (Event P)). GoesOnWith l (state to)) (append_assoc events (event ∷ []) later)
+      (events-on (events ++ event ∷ []) later stops over.0 to
+      (record { well_formed = well-push events event (state from) (state over.0) goes.well_formed goes.numbering says; numbering = numbering-push events event (state from) (state over.0) goes.numbering says }) over.2)
+
+  pub feed-goes-on : (events later : List (Event P)) (from to : F) → GoesOnWith events (state from) → GoesOver gives from later to → GoesOnWith (events ++ later) (state to)
+  feed-goes-on events later from to goes over = events-on events later over.stops from to goes over.answers
