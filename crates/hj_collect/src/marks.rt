@@ -68,7 +68,8 @@ impl Marks {
     }
 
     /// Gives a core another mark. If its last one was the only least one, the least is looked for anew.
-    #[inline(always)]
+    // Called, so that what takes note of a report stays small enough to be compiled into the sweep over the actors.
+    #[inline(never)]
     fn set(&mut self, core: usize, mark: Mark)
         requires { core < length self.old }
         ensures { self.new ≡ slice_set self.old core (meaning_of (Some mark)) }

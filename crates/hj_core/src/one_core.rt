@@ -267,7 +267,7 @@ impl<P: Share + Drop, J: Join<P> + Drop, L: Store<P, J> + Drop, R: Store<P, J> +
     }
 
     /// Handles the close from the left, and returns whether the core's end is to be reported.
-    #[inline(always)]
+    #[cold]
     fn close_left(&mut self) -> Option<Report<P>>
         ensures state { state_of L.entries R.entries self.new ≡ after self.old.place self.old.cores (state_of L.entries R.entries self.old) CloseL }
         ensures report { result ≡ report (J.predicate self.old.join) (state_of L.entries R.entries self.old) CloseL }
@@ -279,7 +279,7 @@ impl<P: Share + Drop, J: Join<P> + Drop, L: Store<P, J> + Drop, R: Store<P, J> +
     }
 
     /// Handles the close from the right, and returns whether the core's end is to be reported.
-    #[inline(always)]
+    #[cold]
     fn close_right(&mut self) -> Option<Report<P>>
         ensures state { state_of L.entries R.entries self.new ≡ after self.old.place self.old.cores (state_of L.entries R.entries self.old) CloseR }
         ensures report { result ≡ report (J.predicate self.old.join) (state_of L.entries R.entries self.old) CloseR }
@@ -291,7 +291,8 @@ impl<P: Share + Drop, J: Join<P> + Drop, L: Store<P, J> + Drop, R: Store<P, J> +
     }
 
     /// Finds the partners of a left row, and keeps it if it rests here.
-    #[inline(always)]
+    // Called, so that `handle` stays small enough to be compiled into the sweep over the actors.
+    #[inline(never)]
     fn handle_left(&mut self, no: EventNo, row: &P) -> Result<Option<Report<P>>, Memory>
         ensures state { IfOk result (λ entry. state_of L.entries R.entries self.new ≡ after self.old.place self.old.cores (state_of L.entries R.entries self.old) (LeftRow no row.now)) }
         ensures report { IfOk result (λ entry. entry ≡ report (J.predicate self.old.join) (state_of L.entries R.entries self.old) (LeftRow no row.now)) }
@@ -313,7 +314,8 @@ impl<P: Share + Drop, J: Join<P> + Drop, L: Store<P, J> + Drop, R: Store<P, J> +
     }
 
     /// Finds the partners of a right row, and keeps it if it rests here, and until the left neighbour acknowledges it.
-    #[inline(always)]
+    // Called, so that `handle` stays small enough to be compiled into the sweep over the actors.
+    #[inline(never)]
     fn handle_right(&mut self, no: EventNo, row: &P) -> Result<Option<Report<P>>, Memory>
         ensures state { IfOk result (λ entry. state_of L.entries R.entries self.new ≡ after self.old.place self.old.cores (state_of L.entries R.entries self.old) (RightRow no row.now)) }
         ensures report { IfOk result (λ entry. entry ≡ report (J.predicate self.old.join) (state_of L.entries R.entries self.old) (RightRow no row.now)) }
