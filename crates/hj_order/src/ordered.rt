@@ -1,14 +1,15 @@
 ghost use Rattle.std.specs.Prelude.{◌≡◌, ◌+◌, ◌≤◌, ◌↔◌, ◌++◌, ◌∷◌, [], List, All, true, false, vec_len, IsNone, IfSome, IfNone, OnOk, OnErr, Some, IsPermutation};
 ghost use Rattle.std.specs.BinaryHeap.{heap_items, heap_len, heap_capacity, KeepsHeap};
 ghost use Rattle.hj_msg.specs.Emission.{comes_before, is_within};
+ghost use Rattle.hj_msg.specs.Met.{pairs_of};
 ghost use Rattle.hj_msg.specs.Valid.{later};
 ghost use Rattle.hj_collect.specs.Marks.{meaning};
 ghost use Rattle.hj_order.specs.Due.{due_cmp, pairs_in};
 
 use crate::kept::Kept;
-use hj_base::Memory;
-use hj_collect::Mark;
-use hj_msg::Pair;
+use hj_base::{Memory, Share};
+use hj_collect::{Collector, Mark};
+use hj_msg::{Pair, Report};
 use std::alloc::Global;
 use std::collections::BinaryHeap;
 use std::marker::Model;
@@ -70,6 +71,42 @@ impl<P: Drop> Ordered<P> {
         }
         let kept = self.pairs.pop()?;
         Some(kept.pair)
+    }
+}
+
+impl<P: Share + Drop> Ordered<P> {
+    /// Keeps the pairs of a report too, each with rows of its own. A report without partners takes no memory. An error changes
+    /// nothing.
+    #[inline(always)]
+    pub fn keep(&mut self, collector: &Collector, report: &Report<P>) -> Result<(), Memory>
+        ensures ok { OnOk result (IsPermutation (self.old ++ pairs_of report.now) self.new) }
+        ensures err { OnErr result (self.new ≡ self.old) }
+    {
+        if has_pairs(report) {
+            self.keep_all(collector, report)
+        } else {
+            Ok(())
+        }
+    }
+
+    /// Keeps the pairs of a report that has some.
+    #[inline(never)]
+    fn keep_all(&mut self, collector: &Collector, report: &Report<P>) -> Result<(), Memory>
+        ensures ok { OnOk result (IsPermutation (self.old ++ pairs_of report.now) self.new) }
+        ensures err { OnErr result (self.new ≡ self.old) }
+    {
+        self.add(collector.pairs(report)?)
+    }
+}
+
+/// Returns whether a report may have pairs: most have none.
+#[inline(always)]
+fn has_pairs<P>(report: &Report<P>) -> bool
+    ensures { result ≡ false → pairs_of report.now ≡ [] }
+{
+    match report {
+        Report::Handled { partners, .. } => partners.len() > 0,
+        Report::Quiet { .. } | Report::Ended | Report::NoMemory => false,
     }
 }
 
