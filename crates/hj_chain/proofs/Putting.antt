@@ -7,12 +7,18 @@ use Rattle.hj_chain.specs.Reports.{ReportQueues}
 use Rattle.hj_msg.specs.declared.message.Report.{Report}
 use Rattle.hj_chain.proofs.Places.{changed_at-same}
 
+pub nothing_right : {M : Type 0} (links : List (Queues M)) (at : ℕ) → links ≡ changed_at at (put_rightwards []) links
+nothing_right {M} links at = sym (changed_at-same at (put_rightwards []) links (λ (q : Queues M). ap (λ (ms : List M). record q { rightwards = ms }) (append-nil q.rightwards)))
+
+pub nothing_left : {M : Type 0} (links : List (Queues M)) (at : ℕ) → links ≡ changed_at at (put_leftwards []) links
+nothing_left {M} links at = sym (changed_at-same at (put_leftwards []) links (λ (q : Queues M). ap (λ (ms : List M). record q { leftwards = ms }) (append-nil q.leftwards)))
+
 pub no_put_right : {M : Type 0} (links : List (Queues M)) (at : ℕ) (message : Option M) → ((x : M) → message ≡ Some x → ⊥) → links ≡ changed_at at (put_rightwards (option_to_list message)) links
-no_put_right {M} links at None none = sym (changed_at-same at (put_rightwards []) links (λ (q : Queues M). ap (λ (ms : List M). record q { rightwards = ms }) (append-nil q.rightwards)))
+no_put_right links at None none = nothing_right links at
 no_put_right links at (Some x) none = absurd (none x refl)
 
 pub no_put_left : {M : Type 0} (links : List (Queues M)) (at : ℕ) (message : Option M) → ((x : M) → message ≡ Some x → ⊥) → links ≡ changed_at at (put_leftwards (option_to_list message)) links
-no_put_left {M} links at None none = sym (changed_at-same at (put_leftwards []) links (λ (q : Queues M). ap (λ (ms : List M). record q { leftwards = ms }) (append-nil q.leftwards)))
+no_put_left links at None none = nothing_left links at
 no_put_left links at (Some x) none = absurd (none x refl)
 
 pub no_report : {P : Type 0} (reports : ReportQueues P) (at : ℕ) (report : Option (Report P)) → ((x : Report P) → report ≡ Some x → ⊥) → reports ≡ record reports { queues = changed_at at (λ queue. queue ++ option_to_list report) reports.queues }

@@ -1,9 +1,14 @@
 -- What a core sends, message by message.
-use Rattle.std.proofs.Common.{◌≡◌, ℕ, ◌+◌, ◌<◌, ◌≤◌, ◌==◌, Bool, true, false, cond, List, ◌++◌, length, Option, refl, ap, ◌∙◌, arith, append_assoc, length-append, eq-eqb}
+use Rattle.std.proofs.Common.{◌≡◌, ℕ, ◌+◌, ◌<◌, ◌≤◌, ◌==◌, Bool, true, false, cond, List, [], ◌∷◌, ◌++◌, ◌⊎◌, inl, inr, length, Option, refl, ap, sym, ◌∙◌, arith, append_assoc, length-append, eq-eqb}
 use Rattle.std.specs.Option.{option_to_list}
+use Rattle.hj_base.specs.declared.numbers.EventNo.{EventNo}
+use Rattle.hj_msg.specs.declared.message.Msg.{Msg}
+use Rattle.hj_msg.specs.declared.message.Msg.TheVariants.{AckS, EndR, EndS, ExpR, ExpS, QuietL, QuietR, CloseL, CloseR}
+use Rattle.hj_msg.specs.Core.{Sends, sends}
 use Rattle.hj_queue.specs.Queues.{Queues}
 use Rattle.hj_chain.specs.Links.{changed_at, link_at, put_rightwards, put_leftwards, send_out}
 use Rattle.hj_chain.proofs.Places.{length-changed_at, changed_at-twice}
+use Rattle.hj_chain.proofs.Putting.{nothing_left, nothing_right}
 use Rattle.hj_chain.proofs.Ways.{link_at-changed, rights-put_left, rights-put_right, when}
 use Rattle.hj_chain.proofs.Turning.{at_most_one}
 
@@ -66,3 +71,41 @@ module _ {M : Type 0} (links one two three : List (Queues M)) (place : ℕ) (l r
 pub one_left : {M : Type 0} (links : List (Queues M)) (place : ℕ) (l : Option M) → length (link_at links place).leftwards + 1 ≤ (link_at links place).capacity
     → length (link_at links place).leftwards + length (option_to_list l) ≤ (link_at links place).capacity
 one_left links place l room = omega (arith, room, at_most_one l)
+
+-- ---- messages that are passed on alone, or not at all
+
+abbrev left_only : {P : Type 0} → Msg P → Sends P
+left_only message = record { left = message ∷ []; right = [] }
+
+abbrev right_only : {P : Type 0} → Msg P → Sends P
+right_only message = record { left = []; right = message ∷ [] }
+
+module _ {P : Type 0} (place n : ℕ) (message : Msg P) where
+  alone : (only : Msg P → Sends P) (other : Msg P) → message ≡ other → sends place n other ≡ only other → sends place n message ≡ only message
+  alone only other is sent = ap (λ (m : Msg P). sends place n m) is ∙ sent ∙ ap only (sym is)
+
+  pub left_alone : ((no : EventNo) × message ≡ EndR no) ⊎ (((no : EventNo) × message ≡ ExpR no) ⊎ (((no : EventNo) × message ≡ QuietR no) ⊎ (message ≡ CloseR))) → sends place n message ≡ left_only message
+  left_alone (inl is) = alone left_only (EndR is.0) is.1 refl
+  left_alone (inr (inl is)) = alone left_only (ExpR is.0) is.1 refl
+  left_alone (inr (inr (inl is))) = alone left_only (QuietR is.0) is.1 refl
+  left_alone (inr (inr (inr is))) = alone left_only CloseR is refl
+
+  pub right_alone : ((no : EventNo) × message ≡ EndS no) ⊎ (((no : EventNo) × message ≡ ExpS no) ⊎ (((no : EventNo) × message ≡ QuietL no) ⊎ (message ≡ CloseL))) → sends place n message ≡ right_only message
+  right_alone (inl is) = alone right_only (EndS is.0) is.1 refl
+  right_alone (inr (inl is)) = alone right_only (ExpS is.0) is.1 refl
+  right_alone (inr (inr (inl is))) = alone right_only (QuietL is.0) is.1 refl
+  right_alone (inr (inr (inr is))) = alone right_only CloseL is refl
+
+  module _ (links new : List (Queues (Msg P))) where
+    sent_out : (s t : Sends P) → s ≡ t → new ≡ send_out place t.left t.right links → new ≡ send_out place s.left s.right links
+    sent_out s t same put = put ∙ ap (λ (u : Sends P). send_out place u.left u.right links) (sym same)
+
+    pub passed_left : sends place n message ≡ left_only message → new ≡ changed_at place (put_leftwards (message ∷ [])) links → new ≡ send_out place (sends place n message).left (sends place n message).right links
+    passed_left only put = sent_out (sends place n message) (left_only message) only (put ∙ nothing_right (changed_at place (put_leftwards (message ∷ [])) links) (place + 1))
+
+    pub passed_right : sends place n message ≡ right_only message → new ≡ changed_at (place + 1) (put_rightwards (message ∷ [])) links → new ≡ send_out place (sends place n message).left (sends place n message).right links
+    passed_right only put = sent_out (sends place n message) (right_only message) only (put ∙ ap (λ (ls : List (Queues (Msg P))). changed_at (place + 1) (put_rightwards (message ∷ [])) ls) (nothing_left links place))
+
+  pub passed_nowhere : (links : List (Queues (Msg P))) (of : EventNo) → message ≡ AckS of → links ≡ send_out place (sends place n message).left (sends place n message).right links
+  passed_nowhere links of is =
+      sent_out links links (sends place n message) (record { left = []; right = [] }) (ap (λ (m : Msg P). sends place n m) is) (nothing_left links place ∙ nothing_right (changed_at place (put_leftwards []) links) (place + 1))

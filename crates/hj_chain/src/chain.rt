@@ -244,7 +244,8 @@ impl<P: Share + Drop, J: Join<P> + Drop, L: Store<P, J> + Drop, R: Store<P, J> +
     }
 
     /// Makes the driver's step: it asks the feed where no answer is known, or puts the next event, or the closes.
-    #[inline(always)]
+    // Called, so that the sweep around it stays small enough for its other steps to be compiled into it.
+    #[inline(never)]
     fn admit<F: Feed<P>>(&mut self, feed: &mut F) -> Stepped
         requires goes { GoesWith J.predicate self.old (F.state feed.old) }
         requires going { self.old.state.over ≡ false }
@@ -358,11 +359,7 @@ impl<P: Share + Drop, J: Join<P> + Drop, L: Store<P, J> + Drop, R: Store<P, J> +
         let Some(report) = self.reports.first(place) else {
             return Stepped::NotEnabled(NotNow::Empty);
         };
-        let Ok(pairs) = self.collector.pairs(report) else {
-            self.over = true;
-            return Stepped::Memory;
-        };
-        if self.kept.add(pairs).is_err() {
+        if self.kept.keep(&self.collector, report).is_err() {
             self.over = true;
             return Stepped::Memory;
         }

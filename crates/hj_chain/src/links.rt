@@ -2,11 +2,12 @@ ghost use Rattle.std.specs.Prelude.{◌≡◌, ◌+◌, ◌++◌, ◌^◌, ◌<�
 ghost use Rattle.std.specs.Option.{option_copied};
 ghost use Rattle.hj_base.specs.declared.numbers.Side.TheVariants.{Left, Right};
 ghost use Rattle.hj_msg.specs.Core.{only_if, sends};
+ghost use Rattle.hj_msg.specs.declared.message.Msg.TheVariants.{R as LeftRow, S as RightRow};
 ghost use Rattle.hj_queue.specs.Queues.{no_messages};
 ghost use Rattle.hj_chain.specs.Chain.{first};
 ghost use Rattle.hj_chain.specs.Links.{link_at, changed_at, put_leftwards, put_rightwards, at_port, HasRoomAt, incoming as incoming_of, put_in, send_out, take_out, take_in};
 
-use hj_base::{Memory, Side};
+use hj_base::{EventNo, Memory, Side};
 use hj_msg::Msg;
 use hj_queue::{Full, PlainLink};
 use std::alloc::Global;
@@ -118,25 +119,44 @@ impl<P: Drop> Links<P> {
         ensures { self.new ≡ send_out place (sends place cores msg).left (sends place cores msg).right self.old }
     {
         match msg {
-            Msg::R { no, row } => {
-                let ends = when(place + 1 == cores, Msg::EndR(no));
-                self.put_around(place, ends, Some(Msg::R { no, row }), None);
+            Msg::R { no, row } => self.send_left_row(place, cores, no, row),
+            Msg::S { no, row } => self.send_right_row(place, cores, no, row),
+            Msg::EndR(_) | Msg::ExpR(_) | Msg::QuietR(_) | Msg::CloseR => {
+                self.put_left(place, Some(msg));
             }
-            Msg::S { no, row } => {
-                let acknowledged = when(place + 1 < cores, Msg::AckS(no));
-                let ends = when(place == 0, Msg::EndS(no));
-                self.put_around(place, Some(Msg::S { no, row }), acknowledged, ends);
+            Msg::EndS(_) | Msg::ExpS(_) | Msg::QuietL(_) | Msg::CloseL => {
+                self.put_right(place + 1, Some(msg));
             }
-            Msg::EndR(no) => self.put_around(place, Some(Msg::EndR(no)), None, None),
-            Msg::ExpR(no) => self.put_around(place, Some(Msg::ExpR(no)), None, None),
-            Msg::QuietR(no) => self.put_around(place, Some(Msg::QuietR(no)), None, None),
-            Msg::CloseR => self.put_around(place, Some(Msg::CloseR), None, None),
-            Msg::EndS(no) => self.put_around(place, None, Some(Msg::EndS(no)), None),
-            Msg::ExpS(no) => self.put_around(place, None, Some(Msg::ExpS(no)), None),
-            Msg::QuietL(no) => self.put_around(place, None, Some(Msg::QuietL(no)), None),
-            Msg::CloseL => self.put_around(place, None, Some(Msg::CloseL), None),
-            Msg::AckS(_) => self.put_around(place, None, None, None),
+            Msg::AckS(_) => {}
         }
+    }
+
+    /// Puts what a core of this place among `cores` sends for a left row: the row to the right, and at the last core its end to the left.
+    #[inline(never)]
+    fn send_left_row(&mut self, place: usize, cores: usize, no: EventNo, row: P)
+        requires small { place < 2 ^ 16 }
+        requires in_range { place + 1 < length self.old }
+        requires room_left { length (link_at self.old place).leftwards + 1 ≤ (link_at self.old place).capacity }
+        requires room_right { length (link_at self.old (place + 1)).rightwards + 1 ≤ (link_at self.old (place + 1)).capacity }
+        ensures { self.new ≡ send_out place (sends place cores (LeftRow no row)).left (sends place cores (LeftRow no row)).right self.old }
+    {
+        let ends = when(place + 1 == cores, Msg::EndR(no));
+        self.put_around(place, ends, Some(Msg::R { no, row }), None);
+    }
+
+    /// Puts what a core of this place among `cores` sends for a right row: the row to the left; to the right an acknowledgement, if there
+    /// is a neighbour, and at the first core its end.
+    #[inline(never)]
+    fn send_right_row(&mut self, place: usize, cores: usize, no: EventNo, row: P)
+        requires small { place < 2 ^ 16 }
+        requires in_range { place + 1 < length self.old }
+        requires room_left { length (link_at self.old place).leftwards + 1 ≤ (link_at self.old place).capacity }
+        requires room_right { length (link_at self.old (place + 1)).rightwards + length (sends place cores (RightRow no row)).right ≤ (link_at self.old (place + 1)).capacity }
+        ensures { self.new ≡ send_out place (sends place cores (RightRow no row)).left (sends place cores (RightRow no row)).right self.old }
+    {
+        let acknowledged = when(place + 1 < cores, Msg::AckS(no));
+        let ends = when(place == 0, Msg::EndS(no));
+        self.put_around(place, Some(Msg::S { no, row }), acknowledged, ends);
     }
 
     /// Puts messages on the links at the sides of the core of a place: at most one to the left, and to the right one and then
