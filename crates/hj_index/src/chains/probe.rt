@@ -31,7 +31,9 @@ impl Chains {
         if !self.is_ascending {
             return partners_of(alloc, self.sorted_rows(alloc, side, against, join)?);
         }
-        turned_round(alloc, self.walk(alloc, key, side, against, join)?)
+        let mut partners = self.walk(alloc, key, side, against, join)?;
+        partners.reverse();
+        Ok(partners)
     }
 
     /// Finds the settled rows of a key that join with a row of the other stream, from the last one on.
@@ -43,13 +45,13 @@ impl Chains {
         side: Side,
         against: &SharedRow,
         join: &J,
-    ) -> Result<Vec<Partner<SharedRow>>, Memory>
+    ) -> Result<Partners<SharedRow>, Memory>
         requires chained { AreChained self.now }
         requires ascending { self.now.is_ascending ≡ true }
         requires key { (row : List Field) → joins (J.predicate join.now) side row against.now ≡ true → key_at self.now.own row ≡ Some key }
-        ensures { IfOk result (λ found. reverse found.items ≡ settled_matches (J.predicate join.now) side against.now (rows_in self.now)) }
+        ensures { IfOk result (λ found. reverse found ≡ settled_matches (J.predicate join.now) side against.now (rows_in self.now)) }
     {
-        let mut found = Vec::new(alloc);
+        let mut found = Partners::new(alloc);
         let mut next = self.last_of(key);
         while let Some(place) = self.place(next) {
             next = place.before;
@@ -84,19 +86,4 @@ impl Chains {
         }
         Ok(rows)
     }
-}
-
-/// Gives partners in the order turned round.
-#[inline(always)]
-fn turned_round(
-    alloc: Global,
-    mut found: Vec<Partner<SharedRow>>,
-) -> Result<Partners<SharedRow>, Memory>
-    ensures { IfOk result (λ partners. partners ≡ reverse found.items) }
-{
-    let mut partners = Partners::new(alloc);
-    while let Some(partner) = found.pop() {
-        partners.push(partner)?;
-    }
-    Ok(partners)
 }
