@@ -1,8 +1,7 @@
 //! What the calling thread does of a run: it drives the chain at its two ends, takes the cores' reports and gives the
 //! pairs.
-ghost use Rattle.std.specs.Prelude.{◌≡◌, ◌↔◌, ◌+◌, ◌<◌, ◌≤◌, ◌++◌, ◌∷◌, ◌&&◌, true, false, [], length, Some, None, All, IfOk, IfSome, IfNone, OnOk, OnErr, IsPermutation};
+ghost use Rattle.std.specs.Prelude.{◌≡◌, ◌↔◌, ◌+◌, ◌<◌, ◌≤◌, ◌∷◌, ◌&&◌, true, false, [], length, Some, None, All, IfOk, IfSome, IfNone, IsPermutation};
 ghost use Rattle.hj_msg.specs.Driver.{port_of};
-ghost use Rattle.hj_msg.specs.Met.{pairs_of};
 ghost use Rattle.hj_driver.specs.Driver.{cause_of, closing_of, count_of, is_finished};
 ghost use Rattle.hj_collect.specs.Collector.{has_ended};
 
@@ -159,7 +158,7 @@ impl<P: Share + Drop> Desk<P> {
         };
         self.turns += 1;
         self.collector.note(core, &report);
-        if keep_pairs(&self.collector, &mut self.kept, &report).is_err() {
+        if self.kept.keep(&self.collector, &report).is_err() {
             self.over = true;
             return Step::Memory;
         }
@@ -293,17 +292,4 @@ fn port_of<P>(event: &Event<P>) -> Side
             ..
         } => Side::Left,
     }
-}
-
-/// Keeps the pairs of a report. If memory runs out, none of them is kept.
-#[inline(always)]
-fn keep_pairs<P: Share + Drop>(
-    collector: &Collector,
-    kept: &mut Ordered<P>,
-    report: &Report<P>,
-) -> Result<(), Memory>
-    ensures ok { OnOk result (IsPermutation (kept.old ++ pairs_of report.now) kept.new) }
-    ensures err { OnErr result (kept.new ≡ kept.old) }
-{
-    kept.add(collector.pairs(report)?)
 }

@@ -11,10 +11,10 @@ returns-in_default g c =
 pub returns-then-is_err : goal.returns-then-is_err
 returns-then-is_err g c =
     let old = c.args.self.now in
-    let same : c.keep_pairs.new.kept ≡ old.kept = refused c.keep_pairs.result (c.keep_pairs.new.kept ≡ old.kept) (sym c.is_err.ensures.value ∙ c.if-is_err.true) c.keep_pairs.ensures.err in (
+    let same : c.keep.new.self ≡ old.kept = refused c.keep.result (c.keep.new.self ≡ old.kept) (sym c.is_err.ensures.value ∙ c.if-is_err.true) c.keep.ensures.err in (
       c.in-Some.report,
       takes-report old c.args.core c.from.result c.from.ensures c.index_mut.result.now c.take.new.self c.requires.in_range c.index_mut.ensures.value c.take.ensures.link.0 c.take.ensures.link.1 c.in-Some.report (old.turns + 1) refl c.in-Some.ensures.taken.0 c.note.new.self
-          c.note.ensures true c.keep_pairs.new.kept (λ lasts. absurd (true≢false lasts)),
+          c.note.ensures true c.keep.new.self (λ lasts. absurd (true≢false lasts)),
       refl,
       same,
     )
@@ -22,11 +22,11 @@ returns-then-is_err g c =
 pub returns : goal.returns
 returns g c =
     let old = c.args.self.now in
-    let more : IsPermutation (old.kept ++ pairs_of c.in-Some.report) c.keep_pairs.new.kept =
-    granted c.keep_pairs.result (IsPermutation (old.kept ++ pairs_of c.in-Some.report) c.keep_pairs.new.kept) (sym c.is_err.ensures.value ∙ c.if-is_err.false) c.keep_pairs.ensures.ok in (
+    let more : IsPermutation (old.kept ++ pairs_of c.in-Some.report) c.keep.new.self =
+    granted c.keep.result (IsPermutation (old.kept ++ pairs_of c.in-Some.report) c.keep.new.self) (sym c.is_err.ensures.value ∙ c.if-is_err.false) c.keep.ensures.ok in (
       c.in-Some.report,
       takes-report old c.args.core c.from.result c.from.ensures c.index_mut.result.now c.take.new.self c.requires.in_range c.index_mut.ensures.value c.take.ensures.link.0 c.take.ensures.link.1 c.in-Some.report (old.turns + 1) refl c.in-Some.ensures.taken.0 c.note.new.self
-          c.note.ensures old.over c.keep_pairs.new.kept (λ lasts. (lasts, more)),
+          c.note.ensures old.over c.keep.new.self (λ lasts. (lasts, more)),
       refl,
       more,
     )
