@@ -1,4 +1,4 @@
-ghost use Rattle.std.specs.Prelude.{◌≡◌, ◌<◌, List, length, IfOk, OnOk, OnErr};
+ghost use Rattle.std.specs.Prelude.{◌≡◌, ◌<◌, [], ◌∷◌, List, length, IfOk, IfSome, OnOk, OnErr};
 ghost use Rattle.hj_msg.specs.declared.message.Report.{Report};
 ghost use Rattle.hj_msg.specs.Met.{pairs_of};
 ghost use Rattle.hj_collect.specs.Marks.{meaning_of};
@@ -7,7 +7,7 @@ ghost use Rattle.hj_collect.specs.StandsFor.{StandsFor, with_report};
 
 use crate::Mark;
 use crate::marks::Marks;
-use crate::pairs::pairs_of;
+use crate::pairs::{only_pair, pairs_of};
 use hj_base::{CoreNo, Memory, Share, Side};
 use hj_msg::{Pair, Report};
 use std::alloc::Global;
@@ -71,6 +71,15 @@ impl Collector {
         ensures { IfOk result (λ pairs. pairs.items ≡ pairs_of report.now) }
     {
         pairs_of(self.alloc, report)
+    }
+
+    /// Makes the pair of a report that has one, with rows of its own: it takes no list. None where there is none, or where there are
+    /// several.
+    #[inline(always)]
+    pub fn only_pair<P: Share + Drop>(&self, report: &Report<P>) -> Result<Option<Pair<P>>, Memory>
+        ensures { IfOk result (λ found. IfSome found (λ pair. pairs_of report.now ≡ pair ∷ [])) }
+    {
+        only_pair(report)
     }
 
     /// Takes note of the next report of a core: of the marks that it gives, or that the core stopped.

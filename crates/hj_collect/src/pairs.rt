@@ -1,4 +1,4 @@
-ghost use Rattle.std.specs.Prelude.{◌≡◌, IfOk};
+ghost use Rattle.std.specs.Prelude.{◌≡◌, [], ◌∷◌, IfOk, IfSome};
 ghost use Rattle.hj_msg.specs.Met.{pairs_of};
 ghost use Rattle.hj_collect.specs.Pairs.{pair_of};
 
@@ -30,6 +30,28 @@ pub(crate) fn pairs_of<P: Share + Drop>(
         pairs.push(pair_of(*no, *side, row, partner)?)?;
     }
     Ok(pairs)
+}
+
+/// Makes the pair of a report that has one, with rows of its own. None where there is none, or where there are several.
+pub(crate) fn only_pair<P: Share + Drop>(report: &Report<P>) -> Result<Option<Pair<P>>, Memory>
+    ensures { IfOk result (λ found. IfSome found (λ pair. pairs_of report.now ≡ pair ∷ [])) }
+{
+    let Report::Handled {
+        no,
+        side,
+        row,
+        partners,
+    } = report
+    else {
+        return Ok(None);
+    };
+    if partners.len() != 1 {
+        return Ok(None);
+    }
+    let Some(partner) = partners.get(0) else {
+        unreachable!()
+    };
+    Ok(Some(pair_of(*no, *side, row, partner)?))
 }
 
 /// Makes the pair of a row of a side and of a partner.

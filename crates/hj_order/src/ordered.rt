@@ -95,7 +95,19 @@ impl<P: Share + Drop> Ordered<P> {
         ensures ok { OnOk result (IsPermutation (self.old ++ pairs_of report.now) self.new) }
         ensures err { OnErr result (self.new ≡ self.old) }
     {
-        self.add(collector.pairs(report)?)
+        match collector.only_pair(report)? {
+            Some(pair) => self.keep_one(pair),
+            None => self.add(collector.pairs(report)?),
+        }
+    }
+
+    /// Keeps one more pair. An error changes nothing, and drops the pair.
+    fn keep_one(&mut self, pair: Pair<P>) -> Result<(), Memory>
+        ensures ok { OnOk result (IsPermutation (self.old ++ pair ∷ []) self.new) }
+        ensures err { OnErr result (self.new ≡ self.old) }
+    {
+        self.pairs.push(Kept { pair })?;
+        Ok(())
     }
 }
 
