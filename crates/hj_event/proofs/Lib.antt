@@ -6,6 +6,7 @@ pub mod OrderLemmas
 pub mod OrderLaws
 pub mod LateLemmas
 pub mod WaitingLemmas
+pub mod TimedLemmas
 pub mod RowLemmas
 pub mod RoleLemmas
 pub mod ReaderLemmas

@@ -1,5 +1,5 @@
 -- The rows of a side in order, by what its bytes give, which rows wait and what a read brings.
-use Rattle.std.proofs.Common.{◌≡◌, ℕ, ◌≤◌, inl, inr, Bool, true, false, not, List, [], ◌∷◌, ◌++◌, length, ℤ, Ok, Err, None, Some, sym, refl, ap, subst, ◌∙◌, append_assoc, true≢false}
+use Rattle.std.proofs.Common.{◌≡◌, ℕ, ◌≤◌, inl, inr, Bool, true, false, not, List, [], ◌∷◌, ◌++◌, length, ℤ, Ok, Err, None, Some, sym, refl, ap, subst, ◌∙◌, append_assoc, true≢false, option_to_list, is_some, IsSome}
 use Rattle.std.specs.List.{filter}
 use Rattle.std.specs.declared.option.Option.{Option}
 use Rattle.std.specs.declared.result.Result.{Result}
@@ -17,8 +17,8 @@ use Rattle.hj_event.specs.Rows.{Rows, no_row, then_rows, put_in, is_sure, in_ord
 use Rattle.hj_event.specs.Sides.{Reading, SideState, in_front, at_its_end, cut_off, MayFollow, pieces_ahead, read_ahead, rows_ahead}
 use Rattle.hj_event.specs.Reads.{Fills}
 use Rattle.hj_event.specs.Roles.{IsReadOn, IsInStep}
-use Rattle.hj_event.specs.Taking.{IsNeeded, IsReadAsNeeded, FoundLeads, Wants, Advances, GoesOn, TakesRow, TellsRow, TellsNext, IsTold, IsOver, IsKnown, IsKept, refused_in, found_by, unseen, has_failed}
-use Rattle.hj_event.specs.Waiting.{AreInOrder, has_sure}
+use Rattle.hj_event.specs.Taking.{IsNeeded, IsReadAsNeeded, FoundLeads, Wants, Advances, GoesOn, TakesRow, TellsRow, TellsNext, IsTold, IsOver, IsKnown, IsNext, IsKept, refused_in, found_by, unseen, has_failed}
+use Rattle.hj_event.specs.Waiting.{AreInOrder, TakesSure, has_sure}
 use Rattle.hj_event.proofs.OrderLemmas.{as_read, sure_ahead}
 use Rattle.hj_event.proofs.WaitingLemmas.{none_first}
 use Rattle.hj_event.proofs.RowLemmas.{at_end_follows}
@@ -164,27 +164,36 @@ goes_on_as_read answer old new none advances =
 as_source : (reading : Reading) (waiting : List (List Field)) (known : Ahead) → (waiting ≡ []) × (known ≡ ahead.Unknown) → source reading waiting (refused_in known) ≡ source reading [] None
 as_source reading waiting known none = ap (λ (rows : List (List Field)). source reading rows (refused_in known)) none.0 ∙ ap (λ (k : Ahead). source reading [] (refused_in k)) none.1
 
-pub goes_on_without : (answer : Result Found Stop) (old new : Reading) (waiting : List (List Field)) (known : Ahead) → IsKept old waiting known → old.slack ≡ 0 → Advances answer old new
-    → GoesOn answer (source old waiting (refused_in known)) (source new waiting (refused_in known))
-goes_on_without answer old new waiting known kept none advances =
-    subst (λ (before : SideState). GoesOn answer before (source new waiting (refused_in known))) (sym (as_source old waiting known (kept.without none)))
-    (subst (λ (after : SideState). GoesOn answer (source old [] None) after) (sym (as_source new waiting known (kept.without none))) (goes_on_as_read answer old new none advances))
+pub goes_on_without : (answer : Result Found Stop) (old new : Reading) (next : Option (List Field)) (waiting : List (List Field)) (known : Ahead) → IsKept old next waiting known → old.slack ≡ 0 → Advances answer old new
+    → GoesOn answer (source old (option_to_list next ++ waiting) (refused_in known)) (source new (option_to_list next ++ waiting) (refused_in known))
+goes_on_without answer old new next waiting known kept none advances =
+    let all = option_to_list next ++ waiting in
+    subst (λ (before : SideState). GoesOn answer before (source new all (refused_in known))) (sym (as_source old all known (kept.without none)))
+    (subst (λ (after : SideState). GoesOn answer (source old [] None) after) (sym (as_source new all known (kept.without none))) (goes_on_as_read answer old new none advances))
+
+-- Where no row waits, none is known to be the next one.
+no_next : (next : Option (List Field)) (waiting : List (List Field)) (side : Reading) (known : Ahead) → option_to_list next ++ waiting ≡ [] → IsNext next side known
+no_next None waiting side known is = tt
+no_next (Some row) waiting side known is = cc
 
 -- Without a slack nothing is known beside what was read.
-pub kept_without : (old new : Reading) (waiting : List (List Field)) (known : Ahead) → IsKept old waiting known → old.slack ≡ 0 → IsKept new waiting known
-kept_without old new waiting known kept none =
+pub kept_without : (old new : Reading) (next : Option (List Field)) (waiting : List (List Field)) (known : Ahead) → IsKept old next waiting known → old.slack ≡ 0 → IsKept new next waiting known
+kept_without old new next waiting known kept none =
     let nothing = kept.without none in
-    record { without = λ still. nothing; is_known = subst (λ (k : Ahead). IsKnown k new waiting) (sym nothing.1) tt }
+    record { without = λ still. nothing; is_known = subst (λ (k : Ahead). IsKnown k new) (sym nothing.1) tt; is_next = no_next next waiting new known nothing.0 }
 
 -- A read changes nothing of what is known while the stream goes on.
-pub kept_filled : (old : Reading) (rest : List ℕ) (ended : Bool) (waiting : List (List Field)) (known : Ahead) → old.ended ≡ false → IsKept old waiting known → IsKept (record old { rest = rest; ended = ended }) waiting known
-kept_filled old rest ended waiting known going kept = record { without = kept.without; is_known = by known kept.is_known }
+pub kept_filled : (old : Reading) (rest : List ℕ) (ended : Bool) (next : Option (List Field)) (waiting : List (List Field)) (known : Ahead) → old.ended ≡ false → IsKept old next waiting known → IsKept (record old { rest = rest; ended = ended }) next waiting known
+kept_filled old rest ended next waiting known going kept = record { without = kept.without; is_known = by known kept.is_known; is_next = by_next next kept.is_next }
   where
-    by : (k : Ahead) → IsKnown k old waiting → IsKnown k (record old { rest = rest; ended = ended }) waiting
+    by : (k : Ahead) → IsKnown k old → IsKnown k (record old { rest = rest; ended = ended })
     by ahead.Unknown is = tt
-    by ahead.Sure is = is
     by ahead.Over is = absurd (true≢false (sym is.0 ∙ going))
     by (ahead.Refused at why) is = tt
+
+    by_next : (n : Option (List Field)) → IsNext n old known → IsNext n (record old { rest = rest; ended = ended }) known
+    by_next None is = tt
+    by_next (Some row) is = is
 
 module _ (old new : Reading) (waiting : List (List Field)) where
   as_late : (slack : ℕ) (time : Option ℤ) → new.slack ≡ slack → new.time ≡ time → (stream : Stream) → rows_ahead (source new waiting None) stream ≡ in_order slack time waiting (read_ahead new stream)
@@ -261,8 +270,8 @@ gives_end old new advances = record {
 pub tells_as_read : (reading : Reading) → reading.slack ≡ 0 → TellsRow reading → TellsNext (source reading [] None)
 tells_as_read reading none tells = λ e. tells (sym (rows_as_read reading none cut_off) ∙ e)
 
-pub tells_without : (reading : Reading) (waiting : List (List Field)) (known : Ahead) → IsKept reading waiting known → reading.slack ≡ 0 → TellsRow reading → TellsNext (source reading waiting (refused_in known))
-tells_without reading waiting known kept none tells = subst TellsNext (sym (as_source reading waiting known (kept.without none))) (tells_as_read reading none tells)
+pub tells_without : (reading : Reading) (next : Option (List Field)) (waiting : List (List Field)) (known : Ahead) → IsKept reading next waiting known → reading.slack ≡ 0 → TellsRow reading → TellsNext (source reading (option_to_list next ++ waiting) (refused_in known))
+tells_without reading next waiting known kept none tells = subst TellsNext (sym (as_source reading (option_to_list next ++ waiting) known (kept.without none))) (tells_as_read reading none tells)
 
 pub tells_refused : (reading : Reading) (waiting : List (List Field)) (refused : ℕ × RecordFault) → TellsNext (source reading waiting (Some refused))
 tells_refused reading waiting refused = λ e. let ends = ap (λ (rows : Rows). rows.ending) e in cc
@@ -273,11 +282,29 @@ tells_sure reading (row ∷ waiting) has =
     λ e. let rows = ap (λ (rows : Rows). rows.rows) (sym (sure_ahead reading.columns reading.slack row reading.record_no reading.time waiting (pieces_ahead reading cut_off) has) ∙ e) in cc
 
 -- What is known tells what comes next.
-pub tells_known : (reading : Reading) (waiting : List (List Field)) (known : Ahead) → (known ≡ ahead.Unknown → ⊥) → IsKnown known reading waiting → IsTold (source reading waiting (refused_in known))
+pub tells_known : (reading : Reading) (waiting : List (List Field)) (known : Ahead) → (known ≡ ahead.Unknown → ⊥) → IsKnown known reading → IsTold (source reading waiting (refused_in known))
 tells_known reading waiting ahead.Unknown some is = absurd (some refl)
-tells_known reading waiting ahead.Sure some is = inr (inr (tells_sure reading waiting is))
 tells_known reading waiting ahead.Over some is = inr (inl is.0)
 tells_known reading waiting (ahead.Refused at why) some is = inr (inr (tells_refused reading waiting (at, why)))
+
+pub tells_next : (reading : Reading) (next : Option (List Field)) (waiting : List (List Field)) (known : Ahead) → IsSome next → IsNext next reading known → IsTold (source reading (option_to_list next ++ waiting) (refused_in known))
+tells_next reading None waiting known some is = absurd (true≢false (sym some))
+tells_next reading (Some row) waiting known some is =
+    subst (λ (k : Ahead). IsTold (source reading (row ∷ waiting) (refused_in k))) (sym is.0) (inr (inr (tells_sure reading (row ∷ waiting) is.1)))
+
+-- Where more is known than of the next row, that is not known.
+pub not_next : (next : Option (List Field)) (side : Reading) (known : Ahead) → (known ≡ ahead.Unknown → ⊥) → IsNext next side known → next ≡ None
+not_next None side known more is = refl
+not_next (Some row) side known more is = absurd (more is.0)
+
+-- The first row that waits is taken as the next one, or none is sure.
+pub all_wait : (next : Option (List Field)) (slack : ℕ) (greatest : Option ℤ) (old new : List (List Field)) → TakesSure next slack greatest old new → option_to_list next ++ new ≡ old
+all_wait None slack greatest old new takes = takes.0
+all_wait (Some row) slack greatest old new takes = sym takes.0
+
+pub next_sure : (next : Option (List Field)) (side : Reading) (old new : List (List Field)) → TakesSure next side.slack side.time old new → IsNext next side ahead.Unknown
+next_sure None side old new takes = tt
+next_sure (Some row) side old new takes = (refl, takes.1)
 
 -- The first row that waits is given where it is sure.
 pub gives_first : (reading : Reading) (row : List Field) (waiting after : List (List Field)) (refused : Option (ℕ × RecordFault)) → refused ≡ None → has_sure reading.slack reading.time waiting ≡ true → waiting ≡ row ∷ after
@@ -287,6 +314,9 @@ gives_first reading row waiting after refused none sure is =
   where
     gives_sure_row : is_sure reading.slack reading.time row ≡ true → GoesOn (Ok (found.Row row)) (source reading (row ∷ after) None) (source reading after None)
     gives_sure_row sure = record { ended = refl; leads = λ stream follows. sure_ahead reading.columns reading.slack row reading.record_no reading.time after (pieces_ahead reading stream) sure; wants = tt }
+
+pub gives_next : (reading : Reading) (row : List Field) (waiting : List (List Field)) (known : Ahead) → IsNext (Some row) reading known → GoesOn (Ok (found.Row row)) (source reading (row ∷ waiting) (refused_in known)) (source reading waiting (refused_in known))
+gives_next reading row waiting known is = gives_first reading row (row ∷ waiting) waiting (refused_in known) (ap refused_in is.0) is.1 refl
 
 -- No row waits, and nothing is given.
 pub gives_none : (reading : Reading) (waiting after : List (List Field)) (refused : Option (ℕ × RecordFault)) → (waiting ≡ []) × (after ≡ []) → GoesOn (Ok found.NoRecord) (source reading waiting refused) (source reading after refused)
@@ -339,17 +369,28 @@ is_over : (old new : Reading) → Advances (Ok found.End) old new → IsOver new
 is_over old new advances = (advances.wants, (advances.leads at_its_end (subst (λ (ended : Bool). MayFollow ended at_its_end) (sym advances.wants) refl)).1)
 
 -- What is kept where rows may be late.
-pub kept_late : (old new : Reading) (waiting : List (List Field)) (known : Ahead) → (old.slack ≡ 0 → ⊥) → new.slack ≡ old.slack → IsKnown known new waiting → IsKept new waiting known
-kept_late old new waiting known late same is = record { without = λ none. absurd (late (sym same ∙ none)); is_known = is }
+pub kept_late : (old new : Reading) (next : Option (List Field)) (waiting : List (List Field)) (known : Ahead) → (old.slack ≡ 0 → ⊥) → new.slack ≡ old.slack → IsKnown known new → IsNext next new known → IsKept new next waiting known
+kept_late old new next waiting known late same is is_next = record { without = λ none. absurd (late (sym same ∙ none)); is_known = is; is_next = is_next }
 
-pub kept_at_end : (old new : Reading) (waiting : List (List Field)) → (old.slack ≡ 0 → ⊥) → Advances (Ok found.End) old new → IsKept new waiting ahead.Over
-kept_at_end old new waiting late advances = kept_late old new waiting ahead.Over late advances.slack (is_over old new advances)
+pub kept_at_end : (old new : Reading) (next : Option (List Field)) (waiting : List (List Field)) → is_some next ≡ false → (old.slack ≡ 0 → ⊥) → Advances (Ok found.End) old new → IsKept new next waiting ahead.Over
+kept_at_end old new None waiting none late advances = kept_late old new None waiting ahead.Over late advances.slack (is_over old new advances) tt
+kept_at_end old new (Some row) waiting none late advances = absurd (true≢false none)
 
 -- More bytes are wanted where no row that waits is sure.
-pub looks : (old new : Reading) (waiting : List (List Field)) (refused : Option (ℕ × RecordFault)) (sure : Bool) → refused ≡ None → AreInOrder waiting → sure ≡ has_sure new.slack new.time waiting → Advances (Ok found.More) old new
-    → GoesOn (found_by (Ok (not sure))) (source old waiting refused) (source new waiting None)
-looks old new waiting refused true none ordered is advances = rw none (looked_at old new waiting None refl advances)
-looks old new waiting refused false none ordered is advances = rw none (wants_bytes old new waiting None refl ordered (sym is) advances)
+looks_at : (old new : Reading) (waiting after : List (List Field)) (next : Option (List Field)) (wants : Bool) → AreInOrder waiting → TakesSure next new.slack new.time waiting after → is_some next ≡ not wants → Advances (Ok found.More) old new
+    → GoesOn (found_by (Ok wants)) (source old waiting None) (source new (option_to_list next ++ after) None)
+looks_at old new waiting after None true ordered takes is advances =
+    subst (λ (rows : List (List Field)). GoesOn (Ok found.More) (source old waiting None) (source new rows None)) (sym takes.0) (wants_bytes old new waiting None refl ordered takes.1 advances)
+looks_at old new waiting after None false ordered takes is advances = absurd (true≢false (sym is))
+looks_at old new waiting after (Some row) true ordered takes is advances = absurd (true≢false is)
+looks_at old new waiting after (Some row) false ordered takes is advances =
+    subst (λ (rows : List (List Field)). GoesOn (Ok found.NoRecord) (source old waiting None) (source new rows None)) takes.0 (looked_at old new waiting None refl advances)
+
+pub looks : (old new : Reading) (was : Option (List Field)) (waiting after : List (List Field)) (next : Option (List Field)) (refused : Option (ℕ × RecordFault)) (wants : Bool) → is_some was ≡ false → refused ≡ None → AreInOrder waiting
+    → TakesSure next new.slack new.time waiting after → is_some next ≡ not wants → Advances (Ok found.More) old new
+    → GoesOn (found_by (Ok wants)) (source old (option_to_list was ++ waiting) refused) (source new (option_to_list next ++ after) refused)
+looks old new None waiting after next refused wants none going ordered takes is advances = rw going (looks_at old new waiting after next wants ordered takes is advances)
+looks old new (Some row) waiting after next refused wants none going ordered takes is advances = absurd (true≢false none)
 
 -- After a row is given, rows are read that were there already.
 pub then_read : (row : List Field) (old between new : SideState) → GoesOn (Ok (found.Row row)) old between → new.reading.ended ≡ between.reading.ended → ((stream : Stream) → MayFollow new.reading.ended stream → rows_ahead between stream ≡ rows_ahead new stream)
@@ -359,3 +400,22 @@ then_read row old between new goes ended same = record {
   leads = λ stream follows. goes.leads stream (follows_as stream new.reading.ended between.reading.ended ended follows) ∙ ap (then_rows row) (same stream follows);
   wants = tt;
 }
+
+-- The next row is given, and rows are read until another one is known.
+pub gives_taken : (reading : Reading) (next after : Option (List Field)) (row : List Field) (waiting : List (List Field)) (known : Ahead) (new : SideState) → next ≡ Some row → after ≡ None → IsNext next reading known → new.reading.ended ≡ reading.ended
+    → ((stream : Stream) → MayFollow new.reading.ended stream → rows_ahead (source reading (option_to_list after ++ waiting) (refused_in known)) stream ≡ rows_ahead new stream)
+    → GoesOn (Ok (found.Row row)) (source reading (option_to_list next ++ waiting) (refused_in known)) new
+gives_taken reading None after row waiting known new is none is_next ended same = cc
+gives_taken reading (Some one) (Some other) row waiting known new is none is_next ended same = cc
+gives_taken reading (Some one) None row waiting known new is none is_next ended same =
+    let one_row : one ≡ row = cc in
+    subst (λ (r : List Field). GoesOn (Ok (found.Row r)) (source reading (one ∷ waiting) (refused_in known)) new) one_row
+    (then_read one (source reading (one ∷ waiting) (refused_in known)) (source reading waiting (refused_in known)) new (gives_next reading one waiting known is_next) ended same)
+
+-- Rows are read that were there already.
+pub reads_rows : (more : Bool) (old now new : SideState) → GoesOn (found_by (Ok more)) now new → now.reading.ended ≡ old.reading.ended → ((stream : Stream) → MayFollow now.reading.ended stream → rows_ahead old stream ≡ rows_ahead now stream)
+    → (new.reading.ended ≡ old.reading.ended) × ((stream : Stream) → MayFollow new.reading.ended stream → rows_ahead old stream ≡ rows_ahead new stream)
+reads_rows true old now new goes ended same =
+    (goes.ended ∙ ended, λ stream follows. same stream (follows_as stream new.reading.ended now.reading.ended goes.ended follows) ∙ goes.leads stream follows)
+reads_rows false old now new goes ended same =
+    (goes.ended ∙ ended, λ stream follows. same stream (follows_as stream new.reading.ended now.reading.ended goes.ended follows) ∙ goes.leads stream follows)

@@ -1,9 +1,7 @@
 -- A row that was read straight from the bytes of its line: that the piece reads so, and what taking it says.
-use Rattle.std.proofs.Common.{◌≡◌, ℕ, ◌+◌, ◌-◌, ◌<◌, ◌≤◌, min, Bool, true, false, List, [], length, take, drop, slice_range, ℤ, Ok, Err, Some, None, inr, sym, refl, ap, subst, ◌∙◌, arith}
+use Rattle.std.proofs.Common.{◌≡◌, ℕ, ◌+◌, ◌-◌, ◌≤◌, min, Bool, false, List, length, take, drop, slice_range, ℤ, Ok, Err, Some, None, inr, sym, refl, ap, subst, ◌∙◌, arith}
 use Rattle.std.proofs.lemmas.List.{length-take, length-take-le, take-take}
 use Rattle.std.specs.declared.option.Option.{Option}
-use Rattle.std.specs.declared.result.Result.{Result}
-use Rattle.hj_base.specs.declared.numbers.Memory.{Memory}
 use Rattle.hj_value.specs.declared.column.Column.{Column}
 use Rattle.hj_value.specs.declared.field.Field.{Field}
 use Rattle.hj_value.specs.Row.{time_of}
@@ -12,13 +10,12 @@ use Rattle.hj_record.specs.Cutter.{Cutting}
 use Rattle.hj_record.specs.Cuts.{Cuts, LeadsBy}
 use Rattle.hj_record.specs.Line.{IsLine, most_in_next}
 use Rattle.hj_schema.specs.Lines.{IsLineOf}
-use Rattle.hj_event.specs.declared.fault.RecordFault.{RecordFault}
 use Rattle.hj_event.specs.declared.stop.Found.TheVariants as found
 use Rattle.hj_event.specs.declared.stop.Stop.TheVariants as stop
 use Rattle.hj_event.specs.Rows.{in_time, record_row, row_at, row_in_time, with_time}
 use Rattle.hj_event.specs.Sides.{Reading}
 use Rattle.hj_event.specs.Reads.{reading}
-use Rattle.hj_event.specs.Taking.{Advances, IsNextLine, TakesLine, is_late}
+use Rattle.hj_event.specs.Taking.{Advances, IsNextLine, is_late}
 use Rattle.hj_event.proofs.Pieces.{range_front}
 use Rattle.hj_event.proofs.ReaderLemmas.{lent_advances}
 

@@ -12,5 +12,6 @@ pub mod Rows
 pub mod Sides
 pub mod Silences
 pub mod Taking
+pub mod Timed
 pub mod Waiting
 pub mod Windows

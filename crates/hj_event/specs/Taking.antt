@@ -1,5 +1,5 @@
 -- What taking the next row of a side says of the rows to come, and of its role.
-use Rattle.std.specs.Prelude.{◌≡◌, ◌⊎◌, ℕ, ◌+◌, ◌≤◌, Bool, true, false, ℤ, pos, ◌-ℤ◌, int_lt, List, [], ◌++◌, length, take, min, IsSome, Ok, Err, None, Some}
+use Rattle.std.specs.Prelude.{◌≡◌, ◌⊎◌, ℕ, ◌+◌, ◌≤◌, Bool, true, false, ℤ, pos, ◌-ℤ◌, int_lt, List, [], ◌++◌, length, take, min, IsSome, option_to_list, Ok, Err, None, Some}
 use Rattle.std.specs.declared.option.Option.{Option}
 use Rattle.std.specs.declared.result.Result.{Result}
 use Rattle.hj_value.specs.declared.column.Column.{Column}
@@ -20,9 +20,8 @@ use Rattle.hj_event.specs.declared.source.Ahead.{Ahead}
 use Rattle.hj_event.specs.declared.source.Ahead.TheVariants as ahead
 use Rattle.hj_event.specs.declared.stop.Found.{Found}
 use Rattle.hj_event.specs.declared.stop.Found.TheVariants as found
-use Rattle.hj_event.specs.Rows.{Rows, no_row, then_rows, row_at, in_time, with_time, clean, bad, unread}
+use Rattle.hj_event.specs.Rows.{Rows, no_row, then_rows, row_at, in_time, with_time, is_sure, clean, bad, unread}
 use Rattle.hj_event.specs.Sides.{Reading, SideState, in_front, at_its_end, cut_off, MayFollow, Follows, read_ahead, rows_ahead, side_ahead}
-use Rattle.hj_event.specs.Waiting.{has_sure}
 use Rattle.hj_event.specs.Roles.{IsReadOn, IsUnread}
 
 -- The row of a piece, behind rows of which the greatest time is this, unless memory ran out.
@@ -130,21 +129,25 @@ IsOver side = (side.ended ≡ true) × (read_ahead side at_its_end ≡ no_row cl
 -- the record that is refused, where it is known
 abbrev pub refused_in : Ahead → Option (ℕ × RecordFault)
 refused_in ahead.Unknown = None
-refused_in ahead.Sure = None
 refused_in ahead.Over = None
 refused_in (ahead.Refused at why) = Some (at, why)
 
--- What is known of the row that comes next is so.
-abbrev pub IsKnown : Ahead → Reading → List (List Field) → Type 0
-IsKnown ahead.Unknown side waiting = Unit {0}
-IsKnown ahead.Sure side waiting = has_sure side.slack side.time waiting ≡ true
-IsKnown ahead.Over side waiting = IsOver side
-IsKnown (ahead.Refused at why) side waiting = Unit {0}
+-- What is known of what comes after the rows that wait is so.
+abbrev pub IsKnown : Ahead → Reading → Type 0
+IsKnown ahead.Unknown side = Unit {0}
+IsKnown ahead.Over side = IsOver side
+IsKnown (ahead.Refused at why) side = Unit {0}
+
+-- The next row is sure, where it is known.
+abbrev pub IsNext : Option (List Field) → Reading → Ahead → Type 0
+IsNext None side known = Unit {0}
+IsNext (Some row) side known = (known ≡ ahead.Unknown) × (is_sure side.slack side.time row ≡ true)
 
 -- What a side keeps behind its reader. Without a slack no row waits, and nothing is known of what comes behind those that do.
-pub record IsKept (side : Reading) (waiting : List (List Field)) (known : Ahead) : Type 0 where
-  pub without : side.slack ≡ 0 → (waiting ≡ []) × (known ≡ ahead.Unknown)
-  pub is_known : IsKnown known side waiting
+pub record IsKept (side : Reading) (next : Option (List Field)) (waiting : List (List Field)) (known : Ahead) : Type 0 where
+  pub without : side.slack ≡ 0 → (option_to_list next ++ waiting ≡ []) × (known ≡ ahead.Unknown)
+  pub is_known : IsKnown known side
+  pub is_next : IsNext next side known
 
 -- what was found where rows wait: more bytes are wanted, or what was read is kept
 abbrev pub found_by : Result Bool Memory → Result Found Stop

@@ -55,3 +55,8 @@ TakesFirst None old new = (old ≡ []) × (new ≡ [])
 abbrev pub has_sure : ℕ → Option ℤ → List (List Field) → Bool
 has_sure slack greatest [] = false
 has_sure slack greatest (row ∷ rows) = is_sure slack greatest row
+
+-- The first row is taken, if it is sure.
+abbrev pub TakesSure : Option (List Field) → ℕ → Option ℤ → List (List Field) → List (List Field) → Type 0
+TakesSure (Some row) slack greatest old new = (old ≡ row ∷ new) × (is_sure slack greatest row ≡ true)
+TakesSure None slack greatest old new = (new ≡ old) × (has_sure slack greatest old ≡ false)

@@ -34,8 +34,10 @@ impl Ord for LateRow {
     ghost matches_eq = { Prim.search (comparing, rules) };
 
     fn cmp(&self, other: &Self) -> Ordering {
-        let by_time = other.time.cmp(&self.time);
-        by_time.then(other.no.cmp(&self.no))
+        if self.time == other.time {
+            return other.no.cmp(&self.no);
+        }
+        other.time.cmp(&self.time)
     }
 }
 
@@ -100,6 +102,7 @@ impl Late {
     }
 
     /// Puts a row of this time after all that aren't later. An error changes nothing, and drops the row.
+    #[inline(never)]
     pub(crate) fn put(&mut self, time: i64, row: SharedRow) -> Result<(), Memory>
         requires { time ≡ time_of row }
         ensures ok { OnOk result (self.new ≡ put_in row self.old) }
@@ -113,6 +116,7 @@ impl Late {
     }
 
     /// Takes the first row; None where there is none.
+    #[inline(never)]
     pub(crate) fn take(&mut self) -> Option<SharedRow>
         ensures { TakesFirst result self.old self.new }
     {
@@ -121,6 +125,7 @@ impl Late {
     }
 
     /// Returns the time of the first row, in the stream's own units; None where there is none.
+    #[inline(always)]
     pub(crate) fn first_time(&self) -> Option<i64>
         ensures { result ≡ first_time self.now }
     {

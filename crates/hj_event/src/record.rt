@@ -57,5 +57,5 @@ pub(crate) fn is_late(slack: u64, greatest: Option<i64>, time: i64) -> bool
 fn is_below(slack: u64, greatest: i64, time: i64) -> bool
     ensures { result ≡ int_lt time (greatest -ℤ pos slack) }
 {
-    time < greatest && i128::from(time) < i128::from(greatest) - i128::from(slack)
+    time < greatest && slack < greatest.abs_diff(time)
 }

@@ -4,7 +4,7 @@ ghost use Rattle.hj_record.specs.Pieces.{Stream};
 ghost use Rattle.hj_event.specs.Roles.{IsInStep};
 ghost use Rattle.hj_event.specs.Reads.{Fills};
 ghost use Rattle.hj_event.specs.Sides.{new_side, rows_ahead, MayFollow};
-ghost use Rattle.hj_event.specs.Waiting.{has_sure, AreInOrder};
+ghost use Rattle.hj_event.specs.Waiting.{AreInOrder, TakesSure};
 ghost use Rattle.hj_event.specs.Taking.{found_by, unseen, GoesOn, TakesRow, IsTold};
 
 use crate::RecordFault;
@@ -16,13 +16,11 @@ use hj_value::{Schema, SharedRow};
 use std::alloc::Global;
 use std::marker::Model;
 
-/// What is known of the row that comes next, where rows may be late.
+/// What is known of what comes after the rows that wait, where rows may be late.
 #[derive(Clone, Copy)]
 enum Ahead {
     Unknown,
-    /// The first row that waits is sure.
-    Sure,
-    /// No row comes after those that wait.
+    /// No row comes.
     Over,
     /// The record of this number, after those of the rows that wait, is refused.
     Refused { at: u64, fault: RecordFault },
@@ -34,21 +32,23 @@ enum Ahead {
 #[derive(Drop)]
 pub(crate) struct Source {
     reader: Reader,
-    /// The rows that were read and not given.
+    /// The next row, where it is sure. Then nothing is known of what comes after those that wait.
+    next: Option<SharedRow>,
+    /// The rows that were read and not given, after the next one.
     waiting: Waiting,
     ahead: Ahead,
 }
 
 impl Model for Source {
-    ghost use Rattle.std.specs.Prelude.{None};
+    ghost use Rattle.std.specs.Prelude.{None, ◌++◌, option_to_list};
     ghost use Rattle.hj_event.specs.Sides.{SideState};
     ghost use Rattle.hj_event.specs.Taking.{refused_in, IsKept};
 
     ghost Value = { SideState };
 
-    ghost view = { λ s. record { head = None; reading = s.reader; waiting = s.waiting; stop = refused_in s.ahead } };
+    ghost view = { λ s. record { head = None; reading = s.reader; waiting = option_to_list s.next ++ s.waiting; stop = refused_in s.ahead } };
 
-    ghost invariant = { λ s. IsKept s.reader s.waiting s.ahead };
+    ghost invariant = { λ s. IsKept s.reader s.next s.waiting s.ahead };
 }
 
 impl Source {
@@ -58,6 +58,7 @@ impl Source {
     {
         Source {
             reader: Reader::new(alloc, schema, slack),
+            next: None,
             waiting: Waiting::new(alloc),
             ahead: Ahead::Unknown,
         }
@@ -118,18 +119,7 @@ impl Source {
         ensures known { IsTrue result → IsTold (unseen self.now) }
         ensures unknown { result ≡ false → self.now.stop ≡ None }
     {
-        !matches!(self.ahead, Ahead::Unknown)
-    }
-
-    /// Returns whether the first row that waits is sure.
-    #[inline(always)]
-    fn has_sure(&self) -> bool
-        ensures sure { result ≡ has_sure self.now.reading.slack self.now.reading.time self.now.waiting }
-        ensures in_order { AreInOrder self.now.waiting }
-    {
-        let slack = self.reader.slack();
-        let greatest = self.reader.greatest();
-        self.waiting.has_sure(slack, greatest)
+        self.next.is_some() || !matches!(self.ahead, Ahead::Unknown)
     }
 
     /// Goes on by a piece of what was read, or by a row that waits.
@@ -138,13 +128,17 @@ impl Source {
         ensures { GoesOn result self.old self.new }
     {
         if self.reader.slack() == 0 {
-            self.reader.advance()
-        } else {
-            self.go_on_in_order()
+            return self.reader.advance();
         }
+        if let Some(row) = self.next.take() {
+            self.read_on()?;
+            return Ok(Found::Row(row));
+        }
+        self.go_on_in_order()
     }
 
-    /// Goes on where rows may be late.
+    /// Goes on where rows may be late and none is known to be the next one.
+    #[inline(never)]
     fn go_on_in_order(&mut self) -> Result<Found, Stop>
         requires { self.old.reading.slack ≢ 0 }
         ensures { GoesOn result self.old self.new }
@@ -157,7 +151,6 @@ impl Source {
                     Ok(Found::NoRecord)
                 }
             }
-            Ahead::Sure => self.give_sure(),
             Ahead::Over => match self.waiting.take() {
                 Some(row) => Ok(Found::Row(row)),
                 None => Ok(Found::End),
@@ -169,25 +162,9 @@ impl Source {
         }
     }
 
-    /// Gives the first row that waits, which is sure, and reads on to the next one.
-    #[inline(always)]
-    fn give_sure(&mut self) -> Result<Found, Stop>
-        requires late { self.old.reading.slack ≢ 0 }
-        requires going { self.old.stop ≡ None }
-        requires sure { has_sure self.old.reading.slack self.old.reading.time self.old.waiting ≡ true }
-        ensures { GoesOn result self.old self.new }
-    {
-        self.ahead = Ahead::Unknown;
-        let Some(row) = self.waiting.take() else {
-            return Ok(Found::NoRecord);
-        };
-        self.read_on()?;
-        Ok(Found::Row(row))
-    }
-
     /// Reads rows in the bytes that were read, at least one, until the next one is known. So `is_ready` can tell, and the rows that
     /// wait grow in number only where the slack holds them back.
-    #[inline(always)]
+    #[inline(never)]
     fn read_on(&mut self) -> Result<(), Memory>
         requires late { self.old.reading.slack ≢ 0 }
         requires going { self.old.stop ≡ None }
@@ -195,20 +172,20 @@ impl Source {
         ensures same { OnOk result ((stream : Stream) → MayFollow self.new.reading.ended stream → rows_ahead self.old stream ≡ rows_ahead self.new stream) }
     {
         for _ in 0..u64::MAX {
+            if self.knows_next() {
+                return Ok(());
+            }
             if !self.reader.has_rest() {
                 self.look();
                 return Ok(());
             }
             self.read_row()?;
-            if self.knows_next() {
-                return Ok(());
-            }
         }
         Err(Memory)
     }
 
-    /// Reads the row of the next piece, which waits from then on, and looks whether the first one is sure by it. Returns whether
-    /// more bytes are wanted.
+    /// Reads the row of the next piece, unless it is known what comes next. The row waits from then on, and the first one that
+    /// waits may be sure by it. Returns whether more bytes are wanted.
     #[inline(always)]
     fn read_row(&mut self) -> Result<bool, Memory>
         requires late { self.old.reading.slack ≢ 0 }
@@ -216,14 +193,19 @@ impl Source {
         ensures goes_on { GoesOn (found_by result) self.old self.new }
         ensures slack { self.new.reading.slack ≡ self.old.reading.slack }
     {
-        self.ahead = Ahead::Unknown;
+        if self.next.is_some() || !matches!(self.ahead, Ahead::Unknown) {
+            return Ok(false);
+        }
         match self.reader.advance() {
             Ok(Found::Row(row)) => {
                 self.waiting.put(row)?;
-                self.look();
+                self.next = take_sure(&self.reader, &mut self.waiting);
             }
             Ok(Found::NoRecord) => (),
-            Ok(Found::More) => return Ok(!self.look()),
+            Ok(Found::More) => {
+                self.next = take_sure(&self.reader, &mut self.waiting);
+                return Ok(self.next.is_none());
+            }
             Ok(Found::End) => self.ahead = Ahead::Over,
             Err(Stop::Bad { at, fault }) => self.ahead = Ahead::Refused { at, fault },
             // Nothing is read from outside here, so no read fails.
@@ -232,19 +214,22 @@ impl Source {
         Ok(false)
     }
 
-    /// Looks whether the first row that waits is sure, and notes it.
-    #[inline(always)]
-    fn look(&mut self) -> bool
+    /// Takes the first row that waits as the next one, if it is sure and it isn't known what comes next.
+    fn look(&mut self)
         requires late { self.old.reading.slack ≢ 0 }
-        requires going { self.old.stop ≡ None }
         ensures same { self.new ≡ self.old }
-        ensures sure { result ≡ has_sure self.old.reading.slack self.old.reading.time self.old.waiting }
-        ensures in_order { AreInOrder self.old.waiting }
     {
-        let sure = self.has_sure();
-        if sure {
-            self.ahead = Ahead::Sure;
+        if self.next.is_none() && matches!(self.ahead, Ahead::Unknown) {
+            self.next = take_sure(&self.reader, &mut self.waiting);
         }
-        sure
     }
+}
+
+/// Takes the first row that waits, if it is sure by what was read; None where there is none that is.
+#[inline(always)]
+fn take_sure(reader: &Reader, waiting: &mut Waiting) -> Option<SharedRow>
+    ensures takes { TakesSure result reader.now.slack reader.now.time waiting.old waiting.new }
+    ensures in_order { AreInOrder waiting.old }
+{
+    waiting.take_sure(reader.slack(), reader.greatest())
 }

@@ -1,6 +1,7 @@
 ghost use Rattle.std.specs.Prelude.{◌≡◌, ◌-ℤ◌, [], OnOk, int_le, pos};
 ghost use Rattle.hj_event.specs.Rows.{put_in};
-ghost use Rattle.hj_event.specs.Waiting.{first_time, last_time, is_before, has_sure, AreInOrder, TakesFirst};
+ghost use Rattle.hj_event.specs.Timed.{timed_rows, AreTimed};
+ghost use Rattle.hj_event.specs.Waiting.{first_time, last_time, is_before, has_sure, AreInOrder, TakesFirst, TakesSure};
 
 use crate::late::Late;
 use hj_base::Memory;
@@ -9,11 +10,18 @@ use std::alloc::Global;
 use std::collections::VecDeque;
 use std::marker::Model;
 
+/// A row beside its time.
+#[derive(Drop)]
+struct TimedRow {
+    time: i64,
+    row: SharedRow,
+}
+
 /// Rows in order of time, rows of equal time in the order in which they came.
 #[derive(Drop)]
 pub(crate) struct Waiting {
     /// The rows that came in order.
-    queue: VecDeque<SharedRow>,
+    queue: VecDeque<TimedRow>,
     /// The rows that came late: each is earlier than the last row of the queue.
     late: Late,
 }
@@ -22,13 +30,14 @@ impl Model for Waiting {
     ghost use Rattle.std.specs.Prelude.{List};
     ghost use Rattle.hj_value.specs.declared.field.Field.{Field};
     ghost use Rattle.hj_event.specs.Rows.{put_all};
+    ghost use Rattle.hj_event.specs.Timed.{timed_rows, AreTimed};
     ghost use Rattle.hj_event.specs.Waiting.{AreWaiting};
 
     ghost Value = { List (List Field) };
 
-    ghost view = { λ w. put_all w.queue.items w.late };
+    ghost view = { λ w. put_all (timed_rows w.queue.items) w.late };
 
-    ghost invariant = { λ w. AreWaiting w.queue.items w.late };
+    ghost invariant = { λ w. AreTimed w.queue.items × AreWaiting (timed_rows w.queue.items) w.late };
 }
 
 impl Waiting {
@@ -43,6 +52,7 @@ impl Waiting {
     }
 
     /// Puts a row after all that aren't later. An error drops the row.
+    #[inline(always)]
     pub(crate) fn put(&mut self, row: SharedRow) -> Result<(), Memory>
         ensures { OnOk result (self.new ≡ put_in row self.old) }
     {
@@ -50,24 +60,40 @@ impl Waiting {
         if is_before(Some(time), last_time(&self.queue)) {
             self.late.put(time, row)
         } else {
-            self.queue.push_back(row)?;
+            self.queue.push_back(TimedRow { time, row })?;
             Ok(())
         }
     }
 
     /// Takes the first row; None where there is none.
+    #[inline(always)]
     pub(crate) fn take(&mut self) -> Option<SharedRow>
         ensures { TakesFirst result self.old self.new }
     {
         if is_before(self.late.first_time(), first_time(&self.queue)) {
             self.late.take()
         } else {
-            self.queue.pop_front()
+            let first = self.queue.pop_front()?;
+            Some(first.row)
+        }
+    }
+
+    /// Takes the first row, if it is sure; None where there is none that is.
+    #[inline(always)]
+    pub(crate) fn take_sure(&mut self, slack: u64, greatest: Option<i64>) -> Option<SharedRow>
+        ensures takes { TakesSure result slack greatest self.old self.new }
+        ensures in_order { AreInOrder self.old }
+    {
+        if self.has_sure(slack, greatest) {
+            self.take()
+        } else {
+            None
         }
     }
 
     /// Returns whether the first row is sure: its time is at most the greatest one less the slack.
-    pub(crate) fn has_sure(&self, slack: u64, greatest: Option<i64>) -> bool
+    #[inline(always)]
+    fn has_sure(&self, slack: u64, greatest: Option<i64>) -> bool
         ensures sure { result ≡ has_sure slack greatest self.now }
         ensures in_order { AreInOrder self.now }
     {
@@ -92,19 +118,21 @@ impl Waiting {
 }
 
 /// Returns the time of the first row; None where there is none.
-fn first_time(rows: &VecDeque<SharedRow>) -> Option<i64>
-    ensures { result ≡ first_time rows.now.items }
+fn first_time(rows: &VecDeque<TimedRow>) -> Option<i64>
+    requires { AreTimed rows.now.items }
+    ensures { result ≡ first_time (timed_rows rows.now.items) }
 {
-    let row = rows.front()?;
-    Some(row.row().time())
+    let first = rows.front()?;
+    Some(first.time)
 }
 
 /// Returns the time of the last row; None where there is none.
-fn last_time(rows: &VecDeque<SharedRow>) -> Option<i64>
-    ensures { result ≡ last_time rows.now.items }
+fn last_time(rows: &VecDeque<TimedRow>) -> Option<i64>
+    requires { AreTimed rows.now.items }
+    ensures { result ≡ last_time (timed_rows rows.now.items) }
 {
-    let row = rows.back()?;
-    Some(row.row().time())
+    let last = rows.back()?;
+    Some(last.time)
 }
 
 /// Returns whether there are two times, the first one below the second.
@@ -121,5 +149,5 @@ fn is_before(time: Option<i64>, other: Option<i64>) -> bool
 fn is_sure(slack: u64, greatest: i64, time: i64) -> bool
     ensures { result ≡ int_le time (greatest -ℤ pos slack) }
 {
-    i128::from(time) <= i128::from(greatest) - i128::from(slack)
+    time <= greatest && slack <= greatest.abs_diff(time)
 }

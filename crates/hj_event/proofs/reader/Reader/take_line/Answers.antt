@@ -1,4 +1,4 @@
-use Rattle.std.proofs.Common.{◌≡◌, ◌+◌, ◌<◌, ℕ, ℤ, false, List, FitsSigned, Ok, Some, of_z, sym, subst, to_z, w64, arith, rules}
+use Rattle.std.proofs.Common.{◌≡◌, ◌+◌, ◌<◌, ℕ, ℤ, false, List, Ok, Some, of_z, sym, subst, to_z, w64, arith, rules}
 use Rattle.hj_value.specs.declared.field.Field.{Field}
 use Rattle.hj_value.specs.Row.{time_of}
 use Rattle.hj_event.specs.declared.stop.Found.TheVariants as found

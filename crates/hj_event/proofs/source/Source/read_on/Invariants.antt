@@ -1,4 +1,4 @@
-use Rattle.std.proofs.Common.{◌≡◌, ◌≢◌, None}
+use Rattle.std.proofs.Common.{◌≡◌, ◌≢◌}
 use Rattle.hj_record.specs.Pieces.{Stream}
 use Rattle.hj_event.specs.Sides.{rows_ahead, MayFollow}
 use Rattle.hj_event.proofs.source.Source.read_on.Given as goal
@@ -6,7 +6,6 @@ use Rattle.hj_event.proofs.source.Source.read_on.Given as goal
 abbrev pub invariant-loop : goal.invariant-loop
 invariant-loop l = record {
   late : l.self.reading.slack ≢ 0;
-  going : l.self.stop ≡ None;
   ended : l.self.reading.ended ≡ l.initial.self.reading.ended;
   same : (stream : Stream) → MayFollow l.self.reading.ended stream → rows_ahead l.initial.self stream ≡ rows_ahead l.self stream;
 }
