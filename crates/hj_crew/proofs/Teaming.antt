@@ -1,5 +1,6 @@
 -- Teams that come back, one after another.
-use Rattle.std.proofs.Common.{◌≡◌, ◌+◌, List, [], ◌∷◌, ◌++◌, length, ap, sym, ◌∙◌, subst, arith, append-nil, append_assoc, length-append}
+use Rattle.std.proofs.Common.{◌≡◌, ◌+◌, ◌<◌, ◌≤◌, List, [], ◌∷◌, ◌++◌, length, Option, Some, None, refl, ap, sym, ◌∙◌, subst, arith, append-nil, append_assoc, length-append}
+use Rattle.std.specs.Prelude.{MatchOption, IfNone}
 use Rattle.std.specs.List.{AllZip}
 use Rattle.std.proofs.lemmas.List.{same_from_push}
 use Rattle.std.proofs.lemmas.Slice.Zip.{AllZip-long, all_zipped_more}
@@ -43,3 +44,41 @@ module _ {P J L R : Type 0} where
 
     pub last_stays : TeamStays team back
     last_stays = subst (TeamStays team) (sym halves.1) ends.lasts
+
+  -- one team came back
+  pub appends-one : (team back : Team P J L R) (old new : List (Team P J L R)) → TeamStays team back → new ≡ old ++ back ∷ [] → AppendsTeams (team ∷ []) old new
+  appends-one team back old new stays pushed = record { back = back ∷ []; same = (stays, tt); behind = pushed }
+
+  only-one : (team : Team P J L R) (back : List (Team P J L R)) → AllZip TeamStays (team ∷ []) back → (b : Team P J L R) × (back ≡ b ∷ []) × TeamStays team b
+  only-one team [] same = absurd same
+  only-one team (b ∷ []) same = (b, refl, same.0)
+  only-one team (b ∷ other ∷ others) same = absurd same.1
+
+  -- A team was given to a thread, or put among those of the calling thread; all of these stayed, and it was taken back.
+  abbrev IsGiven : {H : Type 0} → Option H → (H → Team P J L R) → Team P J L R → List (Team P J L R) → List (Team P J L R) → Type 0
+  IsGiven child given team own with = MatchOption child (AppendsTeams (team ∷ []) own with) (λ h. (given h ≡ team) × (with ≡ own))
+
+  abbrev IsBack : {H : Type 0} → Option H → (H → Team P J L R) → List (Team P J L R) → List (Team P J L R) → Team P J L R → Type 0
+  IsBack child given more left back = MatchOption child (more ≡ left ++ back ∷ []) (λ h. TeamStays (given h) back × (left ≡ more))
+
+  -- there is one to take back
+  pub some-own : {H : Type 0} (child : Option H) (given : H → Team P J L R) (team : Team P J L R) (own with more : List (Team P J L R)) → IsGiven child given team own with → AllZip TeamStays with more → IfNone child (0 < length more)
+  some-own (Some h) given team own with more put same = tt
+  some-own None given team own with more put same = omega (arith, length-appended (team ∷ []) own with put, AllZip-long TeamStays with more same)
+
+  pub as-long : {H : Type 0} (child : Option H) (given : H → Team P J L R) (team : Team P J L R) (own with : List (Team P J L R)) → IsGiven child given team own with → length with ≤ length own + 1
+  as-long (Some h) given team own with put = omega (arith, ap length put.1)
+  as-long None given team own with put = omega (arith, length-appended (team ∷ []) own with put)
+
+  pub comes-back : {H : Type 0} (child : Option H) (given : H → Team P J L R) (team : Team P J L R) (own with more left : List (Team P J L R)) (back : Team P J L R) → IsGiven child given team own with → AllZip TeamStays with more
+      → IsBack child given more left back → TeamStays team back × AllZip TeamStays own left
+  comes-back (Some h) given team own with more left back put same taken = (
+    subst (λ (t : Team P J L R). TeamStays t back) put.0 taken.0,
+    subst (λ (l : List (Team P J L R)). AllZip TeamStays own l) (sym taken.1) (subst (λ (l : List (Team P J L R)). AllZip TeamStays l more) put.1 same),
+  )
+  comes-back None given team own with more left back put same taken =
+      let one = only-one team put.back put.same in
+      let pushed : with ≡ own ++ one.0 ∷ [] = put.behind ∙ ap (λ (l : List (Team P J L R)). own ++ l) one.1 in (
+        team-stays_on team one.0 back one.2 (last_stays own with more left one.0 back pushed same taken),
+        others_stay own with more left one.0 back pushed same taken,
+      )

@@ -1,5 +1,5 @@
 //! The threads of a run: each is started by a level of its own, which joins it again.
-ghost use Rattle.std.specs.Prelude.{◌≡◌, ◌+◌, ◌<◌, ◌≤◌, length, vec_capacity, vec_len, IfErr, IfOk};
+ghost use Rattle.std.specs.Prelude.{◌≡◌, ◌+◌, ◌<◌, ◌≤◌, ◌∷◌, ◌++◌, [], length, vec_capacity, vec_len, IfErr, IfOk, IfNone, MatchOption};
 ghost use Rattle.std.specs.List.{AllZip};
 ghost use Rattle.hj_desk.specs.Caller.{Ends};
 ghost use Rattle.hj_desk.specs.Desk.{Stands};
@@ -28,6 +28,9 @@ impl<P: Drop, J: Join<P>, L: Store<P, J>, R: Store<P, J>> Promise<Team<P, J, L, 
     ghost kept_by = { λ promise team. TeamStays promise.0.value team };
 }
 
+/// A thread that turns a team.
+type Child<P, J, L, R> = PromisedHandle<Team<P, J, L, R>, SameTeam<Team<P, J, L, R>>>;
+
 /// What all threads of a run use.
 #[derive(Drop)]
 pub(crate) struct Shared<'s, G, T> {
@@ -44,8 +47,8 @@ pub(crate) struct Shared<'s, G, T> {
 }
 
 /// Starts a thread for the last of these teams, does so for the others, and lets the calling thread run once no team
-/// is left. Then it joins its thread, whose team goes after those that are `done`. Where no thread can be made, or the
-/// calling thread is to turn the team, that goes among its `own` until the run is over.
+/// is left. Then the team comes back, behind those that are `done`. Where no thread can be made, or the calling thread
+/// is to turn the team, that goes among its `own` until the run is over.
 pub(crate) fn levels<
     's,
     E,
@@ -61,22 +64,21 @@ pub(crate) fn levels<
     scope: &'s Scope<'s, E>,
     shared: &Shared<'s, G, T>,
     caller: &mut Caller<P, F, D>,
-    teams: Vec<Team<P, J, L, R>>,
+    teams: &mut Vec<Team<P, J, L, R>>,
     own: &mut Vec<Team<P, J, L, R>>,
     done: &mut Vec<Team<P, J, L, R>>,
 ) -> Fin
     requires stands { Stands caller.old.desk (F.state caller.old.feed) }
     requires cores { length caller.old.desk.reports.items ≤ 64 }
-    requires signals { length teams.items ≤ length shared.now.signals.now }
+    requires signals { vec_len teams.old ≤ length shared.now.signals.now }
     requires few { length shared.now.signals.now ≤ 64 }
-    requires done_room { vec_len done.old + vec_len teams ≤ vec_capacity done.old }
-    requires own_room { vec_len own.old + vec_len teams ≤ vec_capacity own.old }
+    requires done_room { vec_len done.old + vec_len teams.old ≤ vec_capacity done.old }
+    requires own_room { vec_len own.old + vec_len teams.old ≤ vec_capacity own.old }
     ensures ends { Ends F.gives F.state D.takes result caller.old caller.new }
     ensures own { AllZip TeamStays own.old.items own.new.items }
-    ensures done { AppendsTeams teams.items done.old.items done.new.items }
+    ensures done { AppendsTeams teams.old.items done.old.items done.new.items }
     ensures done_capacity { vec_capacity done.new ≡ vec_capacity done.old }
 {
-    let mut teams = teams;
     let Some(team) = teams.pop() else {
         return drive(
             shared.rt,
@@ -88,20 +90,30 @@ pub(crate) fn levels<
             shared.gate,
         );
     };
-    match start_or_keep(scope, shared, teams.len(), team) {
-        Ok(child) => {
-            let fin = levels(scope, shared, caller, teams, own, done);
-            done.push_reserved(child.join(shared.rt));
-            fin
-        }
-        Err(team) => {
-            own.push_reserved(team);
-            let fin = levels(scope, shared, caller, teams, own, done);
+    let child = start_or_keep(scope, shared, teams.len(), team, own);
+    let fin = levels(scope, shared, caller, teams, own, done);
+    done.push_reserved(take_back(shared.rt, child, own));
+    fin
+}
+
+/// Takes back a team: from its thread, once that has ended, or where it has none the last one of the calling thread's
+/// `own`.
+fn take_back<P: Drop, J: Join<P> + Drop, L: Store<P, J> + Drop, R: Store<P, J> + Drop, T: Threads>(
+    rt: &T,
+    child: Option<Child<P, J, L, R>>,
+    own: &mut Vec<Team<P, J, L, R>>,
+) -> Team<P, J, L, R>
+    requires { IfNone child (0 < length own.old.items) }
+    ensures { MatchOption child (own.old.items ≡ own.new.items ++ result ∷ [])
+        (λ child. TeamStays child.promise.0.value result × (own.new.items ≡ own.old.items)) }
+{
+    match child {
+        Some(child) => child.join(rt),
+        None => {
             let Some(team) = own.pop() else {
                 unreachable!()
             };
-            done.push_reserved(team);
-            fin
+            team
         }
     }
 }
@@ -126,8 +138,8 @@ fn neighbours_of<'s, G, T>(shared: &Shared<'s, G, T>, place: usize) -> Neighbour
     }
 }
 
-/// Starts the thread of a team, unless the calling thread is to turn it. Where it is, or no thread can be made, the team comes back
-/// at once.
+/// Starts the thread of a team, unless the calling thread is to turn it. Where it is, or no thread can be made, the team
+/// goes behind the calling thread's `own`.
 fn start_or_keep<
     's,
     E,
@@ -142,16 +154,25 @@ fn start_or_keep<
     shared: &Shared<'s, G, T>,
     place: usize,
     team: Team<P, J, L, R>,
-) -> Result<PromisedHandle<Team<P, J, L, R>, SameTeam<Team<P, J, L, R>>>, Team<P, J, L, R>>
-    requires { place < length shared.now.signals.now }
-    ensures started { IfOk result (λ child. child.promise.0.value ≡ team) }
-    ensures refused { IfErr result (TeamStays team) }
+    own: &mut Vec<Team<P, J, L, R>>,
+) -> Option<Child<P, J, L, R>>
+    requires place { place < length shared.now.signals.now }
+    requires room { vec_len own.old < vec_capacity own.old }
+    ensures started { MatchOption result (AppendsTeams (team ∷ []) own.old.items own.new.items)
+        (λ child. (child.promise.0.value ≡ team) × (own.new.items ≡ own.old.items)) }
+    ensures capacity { vec_capacity own.new ≡ vec_capacity own.old }
 {
-    if place < shared.kept {
+    let refused = if place < shared.kept {
         shared.signals[place].leave.store(true, Ordering::SeqCst);
-        return Err(team);
-    }
-    start(scope, shared, place, team)
+        team
+    } else {
+        match start(scope, shared, place, team) {
+            Ok(child) => return Some(child),
+            Err(team) => team,
+        }
+    };
+    own.push_reserved(refused);
+    None
 }
 
 /// Starts the thread of a team, which gets the signals at a place. Where none can be made, the team
@@ -170,7 +191,7 @@ fn start<
     shared: &Shared<'s, G, T>,
     place: usize,
     team: Team<P, J, L, R>,
-) -> Result<PromisedHandle<Team<P, J, L, R>, SameTeam<Team<P, J, L, R>>>, Team<P, J, L, R>>
+) -> Result<Child<P, J, L, R>, Team<P, J, L, R>>
     requires { place < length shared.now.signals.now }
     ensures started { IfOk result (λ child. child.promise.0.value ≡ team) }
     ensures refused { IfErr result (TeamStays team) }

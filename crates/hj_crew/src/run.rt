@@ -262,11 +262,11 @@ fn all_levels<
 {
     let Begun {
         mut caller,
-        teams,
+        mut teams,
         mut own,
         mut done,
     } = begun;
-    let fin = levels(scope, shared, &mut caller, teams, &mut own, &mut done);
+    let fin = levels(scope, shared, &mut caller, &mut teams, &mut own, &mut done);
     Returned {
         caller,
         teams: done,
