@@ -4,11 +4,15 @@
 #![tactic(auto)]
 
 #[cfg(test)]
+mod bounds;
+#[cfg(test)]
 mod canonical_texts;
 #[cfg(test)]
 mod conditions;
 #[cfg(test)]
 mod merges;
+#[cfg(test)]
+mod parts;
 #[cfg(test)]
 mod queries;
 #[cfg(test)]

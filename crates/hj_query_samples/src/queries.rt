@@ -1,11 +1,11 @@
-use crate::texts::query_of;
-use hj_base::{Side, Window};
-use hj_query::{Op, Pred, Query, Sum, Term, equi, parse};
-use hj_value::{ColumnType, Schema};
+//! Which texts are queries, and the first fault of each other one.
+
+use hj_query::parse;
 use std::alloc::Global;
 use std::process::Abort;
 
-const HEAD: &str =
+/// Two schemas of a time and a number, with windows of one row.
+pub(crate) const HEAD: &str =
     "left (ts int, k int) right (ts int, k int) window left rows 1 window right rows 1 ";
 
 const TEXTS: &str =
@@ -14,11 +14,9 @@ const TEXTS: &str =
 const SIDES: &str =
     "left (ts int, a int) right (ts int, b text) window left rows 1 window right rows 1 on ";
 
-const WHOLE: &str =
+/// A whole query.
+pub(crate) const WHOLE: &str =
     "left (ts int, k text) right (ts int) window left rows 1 window right time 5 on not (l.ts - -1 within 2 of r.ts) and l.k = 'a'";
-
-/// Takes what may go to other threads and be read by them.
-fn crosses<T: Send + Sync + Drop>(_value: T) {}
 
 /// Returns what a text is: a query, or its first fault as it is printed.
 fn judgement(rt: &impl Abort, alloc: Global, text: &[u8]) -> String {
@@ -29,14 +27,14 @@ fn judgement(rt: &impl Abort, alloc: Global, text: &[u8]) -> String {
 }
 
 /// Judges the text that is these parts, one after the other.
-fn judge(rt: &impl Abort, alloc: Global, parts: &[&str], want: &str) {
+pub(crate) fn judge(rt: &impl Abort, alloc: Global, parts: &[&str], want: &str) {
     let text = parts.concat(alloc).expect(rt, "memory");
     let found = judgement(rt, alloc, text.as_bytes());
     assert_eq!(rt; found.as_str(), want, "of {text}");
 }
 
 /// Judges each text of a table after a beginning. A line of a table is a text and, after a bar, what it is.
-fn judge_all(rt: &impl Abort, alloc: Global, front: &str, table: &str) {
+pub(crate) fn judge_all(rt: &impl Abort, alloc: Global, front: &str, table: &str) {
     for line in table.lines() {
         let (text, want) = line.split_once(" | ").expect(rt, "a case");
         judge(rt, alloc, &[front, text], want);
@@ -233,34 +231,6 @@ fn judges_texts_and_sides(rt: HostRuntime) {
     judge_all(&rt, rt.alloc(), SIDES, CONDITIONS_BY_SIDE);
 }
 
-const SPANS: &str = "\
-left rows 0 window right rows 1 on l.ts = r.ts | window out of range at 46
-left rows 1 window right rows 0 on l.ts = r.ts | window out of range at 66
-left rows 1 window right rows 1 on l.ts = r.ts | a query
-left rows 1 window right rows 1 on l.ts = r.ts | a query
-left rows 1000000 window right rows 1 on l.ts = r.ts | a query
-left rows 1 window right rows 1000000 on l.ts = r.ts | a query
-left rows 1000001 window right rows 1 on l.ts = r.ts | window out of range at 46
-left rows 1 window right rows 1000001 on l.ts = r.ts | window out of range at 66
-left time 0 window right rows 1 on l.ts = r.ts | window out of range at 46
-left rows 1 window right time 0 on l.ts = r.ts | window out of range at 66
-left time 1 window right rows 1 on l.ts = r.ts | a query
-left rows 1 window right time 1 on l.ts = r.ts | a query
-left time 4611686018427387904 window right rows 1 on l.ts = r.ts | a query
-left rows 1 window right time 4611686018427387904 on l.ts = r.ts | a query
-left time 4611686018427387905 window right rows 1 on l.ts = r.ts | window out of range at 46
-left rows 1 window right time 4611686018427387905 on l.ts = r.ts | window out of range at 66";
-
-#[test]
-fn bounds_the_numbers(rt: HostRuntime) {
-    judge_all(
-        &rt,
-        rt.alloc(),
-        "left (ts int) right (ts int) window ",
-        SPANS,
-    );
-}
-
 const SETTINGS: &str = "\
 slack 5 quiet 3 on l.k = r.k | a query
 slack 5 on l.k = r.k | a query
@@ -291,273 +261,4 @@ on l.k = r.k slack 5 | expected End at 95";
 #[test]
 fn judges_settings(rt: HostRuntime) {
     judge_all(&rt, rt.alloc(), HEAD, SETTINGS);
-}
-
-/// What opens and closes around a condition, how often, and what the text is.
-const DEPTHS: &str = "\
-( | ) | 64 | a query
-( | ) | 65 | too deep at 149
-not  |  | 64 | a query
-not  |  | 65 | too deep at 341
-not ( | ) | 32 | a query
-not ( | ) | 33 | too deep at 245";
-
-/// Makes a condition that stands inside `count` openings.
-fn nested(
-    rt: &impl Abort,
-    alloc: Global,
-    open: &str,
-    close: &str,
-    count: usize,
-    condition: &str,
-) -> String {
-    let open = open.repeat(alloc, count).expect(rt, "memory");
-    let close = close.repeat(alloc, count).expect(rt, "memory");
-    let text = [&open, condition, &close].concat(alloc);
-    text.expect(rt, "memory")
-}
-
-/// Judges a condition that stands inside the openings of a line.
-fn judge_nested(rt: &impl Abort, alloc: Global, line: &str) {
-    let mut fields = line.split(" | ");
-    let open = fields.next().expect(rt, "what opens");
-    let close = fields.next().expect(rt, "what closes");
-    let count = fields.next().expect(rt, "how often");
-    let count = count.parse::<usize>().expect(rt, "a number");
-    let want = fields.next().expect(rt, "what it is");
-    let condition = nested(rt, alloc, open, close, count, "l.k = r.k");
-    judge(rt, alloc, &[HEAD, "on ", &condition], want);
-}
-
-#[test]
-fn bounds_the_depth(rt: HostRuntime) {
-    for line in DEPTHS.lines() {
-        judge_nested(&rt, rt.alloc(), line);
-    }
-}
-
-/// Judges a condition between `count` parentheses after another one, and inside one more.
-fn judge_behind(rt: &impl Abort, alloc: Global, count: usize, inside: &str, deeper: &str) {
-    let front = nested(rt, alloc, "(", ")", count, "l.k = r.k");
-    let back = nested(rt, alloc, "(", ")", count, "1=1");
-    judge(rt, alloc, &[HEAD, "on ", &front, " and ", &back], inside);
-    judge(
-        rt,
-        alloc,
-        &[HEAD, "on ", &front, " and (", &back, ")"],
-        deeper,
-    );
-}
-
-// Behind what was closed the depth is what it was.
-#[test]
-fn depth_ends_where_it_is_closed(rt: HostRuntime) {
-    judge_behind(&rt, rt.alloc(), 64, "a query", "too deep at 291");
-}
-
-/// Judges a text in which the same part stands `count` times between a beginning and an end.
-fn judge_long(
-    rt: &impl Abort,
-    alloc: Global,
-    front: &[&str],
-    part: &str,
-    count: usize,
-    back: &str,
-    want: &str,
-) {
-    let front = front.concat(alloc).expect(rt, "memory");
-    let middle = part.repeat(alloc, count).expect(rt, "memory");
-    judge(rt, alloc, &[&front, &middle, back], want);
-}
-
-// What isn't nested may be as long as the text.
-#[test]
-fn length_is_no_depth(rt: HostRuntime) {
-    let on = &[HEAD, "on "];
-    judge_long(
-        &rt,
-        rt.alloc(),
-        on,
-        "1=1 or 1=1 and ",
-        4000,
-        "1=1",
-        "a query",
-    );
-    let on_one = &[HEAD, "on 1"];
-    judge_long(&rt, rt.alloc(), on_one, "+1", 30000, "=1", "a query");
-}
-
-/// Makes `count` columns of a schema after its word.
-fn columns_behind(rt: &impl Abort, alloc: Global, word: &str, count: usize) -> String {
-    let mut text = [word, " (ts int"].concat(alloc).expect(rt, "memory");
-    for number in 1..count {
-        let digits = number.to_string(alloc).expect(rt, "memory");
-        text.push_str(", c").expect(rt, "memory");
-        text.push_str(&digits).expect(rt, "memory");
-        text.push_str(" text").expect(rt, "memory");
-    }
-    text
-}
-
-#[test]
-fn takes_256_columns(rt: HostRuntime) {
-    let left = columns_behind(&rt, rt.alloc(), "left", 256);
-    let right = columns_behind(&rt, rt.alloc(), ") right", 256);
-    let end = ") window left rows 1 window right rows 1 on l.ts = r.ts";
-    judge(&rt, rt.alloc(), &[&left, &right, end], "a query");
-    // The name of the 256th column stands before it.
-    let front = columns_behind(&rt, rt.alloc(), "left", 255);
-    judge(
-        &rt,
-        rt.alloc(),
-        &[&front, ", c254 int"],
-        "double column at 2700",
-    );
-}
-
-/// What comes after 256 columns of the left schema.
-const BEHIND_MOST_COLUMNS: &str = "\
-, c256 text) | too many columns at 2711
-, ts 1 | too many columns at 2711
-, 1 | expected ColumnName at 2711
- 1 | expected CommaOrClose at 2710";
-
-#[test]
-fn refuses_more_columns(rt: HostRuntime) {
-    let front = columns_behind(&rt, rt.alloc(), "left", 256);
-    judge_all(&rt, rt.alloc(), &front, BEHIND_MOST_COLUMNS);
-    let front = columns_behind(&rt, rt.alloc(), "left (ts int) right", 256);
-    judge(
-        &rt,
-        rt.alloc(),
-        &[&front, ", c256 text)"],
-        "too many columns at 2726",
-    );
-}
-
-#[test]
-fn bounds_the_text(rt: HostRuntime) {
-    let missing = "expected LeftWord at 65536";
-    judge_long(&rt, rt.alloc(), &[], " ", 65_536, "", missing);
-    let long = "text too long";
-    judge_long(&rt, rt.alloc(), &[], "'", 65_537, "", long);
-    judge_long(&rt, rt.alloc(), &[WHOLE], " ", 65_411, "", "a query");
-    judge_long(&rt, rt.alloc(), &[WHOLE], " ", 65_411, " ", long);
-}
-
-/// Returns the operands of an `or`.
-fn or_of<'a>(rt: &impl Abort, pred: &'a Pred) -> (&'a Pred, &'a Pred) {
-    match pred {
-        Pred::Or(left, right) => (left, right),
-        _ => panic!(rt; "no or"),
-    }
-}
-
-/// Returns the operands of an `and`.
-fn and_of<'a>(rt: &impl Abort, pred: &'a Pred) -> (&'a Pred, &'a Pred) {
-    match pred {
-        Pred::And(left, right) => (left, right),
-        _ => panic!(rt; "no and"),
-    }
-}
-
-/// Returns the sums of a `not` of a `<`.
-fn not_less_of<'a>(rt: &impl Abort, pred: &'a Pred) -> (&'a Sum, &'a Sum) {
-    let Pred::Not(inner) = pred else {
-        panic!(rt; "no not");
-    };
-    match &**inner {
-        Pred::Compare(Op::Lt, left, right) => (left, right),
-        _ => panic!(rt; "no comparison"),
-    }
-}
-
-/// Returns whether a part of a sum is added, and its term.
-fn part_of<'a>(rt: &impl Abort, sum: &'a Sum, at: usize) -> (bool, &'a Term) {
-    let part = sum.rest.get(at).expect(rt, "a part");
-    (part.plus, &part.term)
-}
-
-const TREE: &str = "on 1=1 or 2=2 or 3=3 and 4=4 and not l.k - 5 + r.ts < -6";
-
-/// Looks at the condition of that text.
-fn is_tree(rt: &impl Abort, pred: &Pred) {
-    let (ors, ands) = or_of(rt, pred);
-    assert!(rt; matches!(ors, Pred::Or(_, _)));
-    let (front, last) = and_of(rt, ands);
-    assert!(rt; matches!(front, Pred::And(_, _)));
-    let (left, right) = not_less_of(rt, last);
-    is_left_sum(rt, left);
-    assert!(rt; matches!(&right.first, Term::Number(-6)));
-    assert_eq!(rt; right.rest.len(), 0);
-}
-
-#[test]
-fn makes_the_tree(rt: HostRuntime) {
-    is_tree(&rt, query_of(&rt, rt.alloc(), &[HEAD, TREE]).pred());
-}
-
-/// Looks at the sum of `l.k - 5 + r.ts`.
-fn is_left_sum(rt: &impl Abort, sum: &Sum) {
-    assert!(rt; matches!(&sum.first, Term::Column(Side::Left, 1)));
-    assert_eq!(rt; sum.rest.len(), 2);
-    let (plus, term) = part_of(rt, sum, 0);
-    assert!(rt; !plus && matches!(term, Term::Number(5)));
-    let (plus, term) = part_of(rt, sum, 1);
-    assert!(rt; plus && matches!(term, Term::Column(Side::Right, 0)));
-}
-
-/// Looks at a column of the schema of a side.
-fn is_column(rt: &impl Abort, schema: &Schema, at: usize, name: &str, kind: ColumnType) {
-    let column = schema.columns.get(at).expect(rt, "a column");
-    assert_eq!(rt; column.name.bytes(), name.as_bytes());
-    assert_eq!(rt; column.kind, kind);
-}
-
-/// Looks at the window of a side, and at how many columns its schema has.
-fn is_side(rt: &impl Abort, query: &Query, side: Side, window: Window, columns: usize) {
-    assert_eq!(rt; query.window(side), window);
-    assert_eq!(rt; query.schema(side).columns.len(), columns);
-}
-
-/// Looks at the windows and the schemas of the whole text.
-fn is_whole(rt: &impl Abort, query: &Query) {
-    is_side(rt, query, Side::Left, Window::Rows(1), 2);
-    is_column(rt, query.schema(Side::Left), 1, "k", ColumnType::Text);
-    is_side(rt, query, Side::Right, Window::Time(5), 1);
-}
-
-#[test]
-fn keeps_schemas_and_windows(rt: HostRuntime) {
-    is_whole(&rt, &query_of(&rt, rt.alloc(), &[WHOLE]));
-}
-
-/// Looks at how late a row may be, and how long a side may be silent.
-fn is_set(rt: &impl Abort, query: &Query, slack: u64, quiet: u32) {
-    assert_eq!(rt; query.slack(), slack);
-    assert_eq!(rt; query.quiet(), quiet);
-}
-
-#[test]
-fn keeps_slack_and_quiet(rt: HostRuntime) {
-    let both = query_of(&rt, rt.alloc(), &[HEAD, "slack 5 quiet 3 on l.k = r.k"]);
-    is_set(&rt, &both, 5, 3);
-    let neither = query_of(&rt, rt.alloc(), &[HEAD, "on l.k = r.k"]);
-    is_set(&rt, &neither, 0, 0);
-}
-
-/// Looks at a side of the query of equal keys in windows of seven rows.
-fn is_keyed(rt: &impl Abort, query: &Query, side: Side) {
-    is_side(rt, query, side, Window::Rows(7), 2);
-    is_column(rt, query.schema(side), 1, "key", ColumnType::Int);
-}
-
-#[test]
-fn makes_the_query_of_equal_keys(rt: HostRuntime) {
-    let query = equi(rt.alloc(), 7).expect(&rt, "memory");
-    is_keyed(&rt, &query, Side::Left);
-    is_keyed(&rt, &query, Side::Right);
-    is_set(&rt, &query, 0, 0);
-    assert!(rt; matches!(query.pred(), Pred::Compare(Op::Eq, _, _)));
-    crosses(query);
 }
