@@ -10,7 +10,7 @@ use Rattle.hj_msg.specs.declared.feed.Given.{Given}
 use Rattle.hj_msg.specs.declared.fin.Fin.{Fin}
 use Rattle.hj_msg.specs.declared.fin.Fin.TheVariants as fin
 use Rattle.hj_msg.specs.Drain.{pairs_in}
-use Rattle.hj_msg.specs.Feed.{FeedState, events_in, numbering_of}
+use Rattle.hj_msg.specs.Feed.{Answers, FeedState, events_in, numbering_of}
 use Rattle.hj_msg.specs.RunsJoin.{RunsJoin}
 use Rattle.hj_query.specs.Parts.{Parts}
 use Rattle.hj_eval.specs.Holds.{holds}
@@ -50,11 +50,11 @@ module _ {O K L : Type 0} (outside : OutsideGhosts O) (sink : SinkGhosts K) (lin
   abbrev line_by : Drain → Line
   line_by d = lines.line d.lines.now
 
-  abbrev gives : Feed → Given (List Field) → Feed → Type 0
-  gives old answer new = (new.outside.ghost_name ≡ old.outside.ghost_name) × ((name : List ℕ) → outside.under new.outside.now name ≡ outside.under old.outside.now name) × Gives answer (view old) (view new)
-
   abbrev state : Feed → FeedState
   state f = record { numbering = numbering_of f.given.items; remaining = f.limit - f.events; stopped = is_some f.ended }
+
+  abbrev gives : Feed → Given (List Field) → Feed → Type 0
+  gives old answer new = (new.outside.ghost_name ≡ old.outside.ghost_name) × ((name : List ℕ) → outside.under new.outside.now name ≡ outside.under old.outside.now name) × Gives answer (view old) (view new) × Answers answer (state old) (state new)
 
   abbrev takes : Drain → Pair (List Field) → Drained → Drain → Type 0
   takes old pair answer new = (new.out.ghost_name ≡ old.out.ghost_name) × (new.lines ≡ old.lines)

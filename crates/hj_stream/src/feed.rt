@@ -73,13 +73,17 @@ impl<'a, O: Outside> EventFeed<'a, O> {
 }
 
 impl<O: Outside> Feed<SharedRow> for EventFeed<'_, O> {
+    ghost use Rattle.hj_msg.specs.Feed.{Answers};
     ghost use Rattle.hj_stream.specs.Feeding.{Gives};
 
     ghost gives = { λ old answer new. (new.outside.ghost_name ≡ old.outside.ghost_name)
         × ((name : List ℕ) → O.under new.outside.now name ≡ O.under old.outside.now name)
         × Gives answer
         (record { merger = old.merger.now; roles = O.state old.outside.now; events = old.events; ended = old.ended })
-        (record { merger = new.merger.now; roles = O.state new.outside.now; events = new.events; ended = new.ended }) };
+        (record { merger = new.merger.now; roles = O.state new.outside.now; events = new.events; ended = new.ended })
+        × Answers answer
+        (record { numbering = numbering_of old.given.items; remaining = old.limit - old.events; stopped = is_some old.ended })
+        (record { numbering = numbering_of new.given.items; remaining = new.limit - new.events; stopped = is_some new.ended }) };
 
     ghost state = { λ f. record {
       numbering = numbering_of f.given.items;
@@ -88,6 +92,8 @@ impl<O: Outside> Feed<SharedRow> for EventFeed<'_, O> {
     } };
 
     ghost ready = { λ f. f.ready };
+
+    ghost told = { λ old answer new given. given.3 };
 
     #[inline(always)]
     fn next(&mut self) -> Given<SharedRow> {
