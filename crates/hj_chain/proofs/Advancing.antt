@@ -1,5 +1,5 @@
 -- What a step of a chain keeps: it goes with its feed, and stands for its steps and events with this one behind them.
-use Rattle.std.proofs.Common.{◌≡◌, ◌≢◌, ℕ, Bool, false, List, [], ◌∷◌, ◌++◌, refl, ap, sym, subst}
+use Rattle.std.proofs.Common.{◌≡◌, ◌≢◌, ℕ, Bool, false, List, [], ◌∷◌, ◌++◌, length, refl, ap, sym, subst}
 use Rattle.std.specs.Bool.{MatchBool}
 use Rattle.hj_msg.specs.declared.event.Event.{Event}
 use Rattle.hj_msg.specs.declared.feed.Given.{Given}
@@ -11,6 +11,7 @@ use Rattle.hj_chain.specs.declared.actor.Stepped.TheVariants.{Did, NotEnabled, M
 use Rattle.hj_chain.specs.Chain.{FeedAnswer, ChainState, Contents}
 use Rattle.hj_chain.specs.Reached.{StandsFor, asked}
 use Rattle.hj_chain.specs.Steps.{GoesWith, Gathers, Steps, StepsTo, StandsFurther, asks}
+use Rattle.hj_chain.proofs.FewSteps.{few_steps}
 use Rattle.hj_chain.proofs.Goings.{Sound, goes_over, goes-did, goes-stays, stands-did, stands-stays}
 
 -- what a feed says that isn't asked
@@ -44,11 +45,14 @@ module _ {P J : Type 0} (old new : Contents P J) (others : new ≡ record old { 
 module _ {P J F : Type 0} (predicate : J → P → P → Bool) (gives : F → Given P → F → Type 0) (is_ready : F → Bool) (old new : Contents P J) (sound : Sound predicate old) (same_join : new.join ≡ old.join) (actor : Actor) (from to : F) where
   did-further : Steps gives is_ready (predicate old.join) actor old.state from Did new.state to → Gathers actor old Did new → (schedule : List Actor) (events : List (Event P)) (given : ℕ) → StandsFor predicate old schedule events given
       → StandsFurther gives predicate (schedule ++ actor ∷ []) events given from new to
-  did-further step gathers schedule events given stands = record {
-    taken = asked actor old.state.next step.answer;
-    feed = goes_over gives from to actor old.state.next step.answer step.feed;
-    stands = stands-did predicate old new actor step.answer same_join sound schedule events given stands step.chain gathers;
-  }
+  did-further step gathers schedule events given stands =
+      let further = stands-did predicate old new actor step.answer same_join sound schedule events given stands step.chain gathers in
+      record {
+        taken = asked actor old.state.next step.answer;
+        feed = goes_over gives from to actor old.state.next step.answer step.feed;
+        stands = further;
+        few = few_steps (predicate new.join) (length new.state.cores) new.state.driver.flight further.reached;
+      }
 
   -- `called` is the actor as the caller names it
   pub stands-further : (called : Actor) → called ≡ actor → (result : Stepped) → Steps gives is_ready (predicate old.join) actor old.state from result new.state to → Gathers actor old result new

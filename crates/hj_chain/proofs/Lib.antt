@@ -27,6 +27,7 @@ pub mod Journals
 pub mod Looking
 pub mod Making
 pub mod MessageKinds
+pub mod NoneEnabled
 pub mod Numbers
 pub mod OnlyCloses
 pub mod Opening

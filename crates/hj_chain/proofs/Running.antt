@@ -14,6 +14,7 @@ use Rattle.hj_chain.specs.Chain.{ChainState, Contents, FeedAnswer}
 use Rattle.hj_chain.specs.Reached.{StandsFor, asked}
 use Rattle.hj_chain.specs.declared.actor.NotNow.{NotNow}
 use Rattle.hj_chain.specs.Steps.{Gathers, Ran, RunsOver, ended, did, passed_over, stopped, Steps, asks}
+use Rattle.hj_chain.proofs.FewSteps.{few_steps}
 use Rattle.hj_chain.proofs.Goings.{Sound, stands-did, stands-stays, next-of, next_known}
 
 -- the feed, asked in a step and then in the steps behind it
@@ -132,10 +133,10 @@ module _ {P J F : Type 0} (predicate : J → P → P → Bool) (gives : F → Gi
       nothing_taken before events count old.state.next new from to step.feed (stands-stays predicate old new actor step.answer same Memory before events count stands step.chain gathers (λ same. cc))
 
   ran : {schedule : List Actor} {old : Contents P J} {from : F} {result : Stepped} {new : Contents P J} {to : F} → (done : List Actor) × Asks gives is_ready predicate schedule old from done result new to → Ran gives is_ready predicate schedule old from result new to
-  ran (done, more) = record {
+  ran {new = new} (done, more) = record {
     done = done;
     steps = runs-over more;
-    stands = λ before events count stands. let found = runs-further more before events count stands in record { taken = found.taken; feed = found.feed; stands = found.stands };
+    stands = λ before events count stands. let found = runs-further more before events count stands in record { taken = found.taken; feed = found.feed; stands = found.stands; few = few_steps (predicate new.join) (length new.state.cores) new.state.driver.flight found.stands.reached };
   }
 
 -- From here the actors of `later` are what is left of those of the schedule.

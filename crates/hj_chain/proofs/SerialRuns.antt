@@ -1,8 +1,8 @@
 -- A serial run, step by step.
-use Rattle.std.proofs.Common.{◌≡◌, ◌≢◌, ℕ, zero, suc, ◌+◌, ◌*◌, ◌<◌, ◌≤◌, Bool, true, false, cond, List, [], ◌∷◌, ◌++◌, length, map, replicate, take, drop, filter, Contains, Some, None, Option, refl, ap, ap₂, sym, ◌∙◌, subst, arith, append-nil, append_assoc, length-append, true≢false}
+use Rattle.std.proofs.Common.{◌≡◌, ◌≢◌, ℕ, zero, suc, ◌+◌, ◌*◌, ◌<◌, ◌≤◌, Bool, true, false, cond, List, [], ◌∷◌, ◌++◌, length, map, replicate, take, drop, filter, Contains, Some, None, Option, refl, ap, ap₂, sym, ◌∙◌, subst, arith, append-nil, append_assoc, length-append, true≢false, ◌⊎◌, inl, inr}
 use Rattle.std.specs.Bool.{MatchBool}
 use Rattle.std.specs.List.{slice_get}
-use Rattle.std.proofs.lemmas.List.{drop-append-le, length-drop, replicate-append-replicate, take-append-le}
+use Rattle.std.proofs.lemmas.List.{drop-append-le, length-drop, length-map, replicate-append-replicate, take-append-le}
 use Rattle.std.proofs.lemmas.List.Sorted.{length_permutation}
 use Rattle.std.proofs.Math.Nat.{mul-add, mul-le-mul_left}
 use Rattle.hj_base.specs.Journals.{IsPrefix}
@@ -34,7 +34,7 @@ use Rattle.hj_msg.specs.declared.fin.Fin.TheVariants as fin
 use Rattle.hj_chain.specs.Chain.{FeedAnswer, ChainState, Contents, Action, action_of, after_action, cause}
 use Rattle.hj_chain.specs.Progress.{IsDone}
 use Rattle.hj_chain.specs.Reached.{Reached, steps, StandsFor, asked, collected_of, next_pair}
-use Rattle.hj_chain.specs.Serial.{Choosing, IsWithin, MakesSteps, begins, goes_on, runs_out, Releases, RunsSerially, chosen, choosing_after, first_choosing, Ends}
+use Rattle.hj_chain.specs.Serial.{Choosing, IsWithin, LetsOut, MakesSteps, begins, goes_on, runs_out, Releases, RunsSerially, chosen, choosing_after, first_choosing, Ends}
 use Rattle.hj_chain.specs.Steps.{GoesWith, Gathers, Steps, asks, was_asked}
 use Rattle.hj_chain.proofs.ChosenActors.{chosen-enabled, none-enabled}
 use Rattle.hj_chain.proofs.Doing.{deed, taken_by}
@@ -42,7 +42,7 @@ use Rattle.hj_chain.proofs.Draining.{Gave, all-kept, answer_in, gave-nothing, la
 use Rattle.hj_chain.proofs.Driving.{driven}
 use Rattle.hj_order.proofs.Due.{rest}
 use Rattle.hj_order.proofs.Emissions.{within}
-use Rattle.hj_chain.proofs.FewSteps.{fewer-come, to_come}
+use Rattle.hj_chain.proofs.FewSteps.{few_steps, fewer-come, to_come}
 use Rattle.hj_chain.proofs.Gathered.{told}
 use Rattle.hj_chain.proofs.Giving.{gives-none}
 use Rattle.hj_chain.proofs.Goings.{Sound, Stood, emits-next, enabled_going, next-of, reached-state, sound-goes, stood-did, stood-over, next_known}
@@ -206,6 +206,43 @@ still-settled {P} old new actor gathers other settled pair kept = by (same actor
 
 module _ {P J F D : Type 0} (gives : F → Given P → F → Type 0) (is_ready : F → Bool) (takes : D → Pair P → Drained → D → Type 0) (predicate : J → P → P → Bool) (rule : Chooser) (schedule : List Actor) (events : List (Event P)) (given_before : ℕ)
     (old : Contents P J) (from : F) (unfilled : D) where
+  -- where one step was made: what the chain gave before the last one, fewer than so many pairs
+  abbrev Before : List Actor → List (Event P) → ℕ → Type 0
+  Before made taken count = (made ≡ []) ⊎ LetsOut predicate schedule events given_before made taken count
+
+  before-more : (made : List Actor) (taken : List (Event P)) (count more : ℕ) → count ≤ more → Before made taken count → Before made taken more
+  before-more made taken count more low (inl none) = inl none
+  before-more made taken count more low (inr out) = inr (record {
+    earlier = out.earlier;
+    actor = out.actor;
+    steps = out.steps;
+    before = out.before;
+    behind = out.behind;
+    events_are = out.events_are;
+    gave = out.gave;
+    fewer = omega (arith, low, out.fewer);
+    chain = out.chain;
+    stands = out.stands;
+    none_due = out.none_due;
+  })
+
+  -- a pair that was refused is one of those given; else the next one isn't
+  abbrev up_to : List Drained → ℕ → ℕ
+  up_to [] count = count + 1
+  up_to (one ∷ more) count = count
+
+  up-to-more : {now : Contents P J} {after : List Actor} {later : List (Event P)} {count : ℕ} (stood : StandsFor predicate now after later count) (filled more : D) (new : Contents P J) (answer : Drained) (releases : Releases takes stood filled answer new more) (pairs : List (Drainage P))
+      → length pairs + 1 ≤ up_to (last_of answer) (length (pairs ++ releases.pairs))
+  up-to-more stood filled more new Kept releases pairs = omega (arith, length-append pairs releases.pairs)
+  up-to-more stood filled more new Refused releases pairs =
+      omega (
+        arith,
+        length-append pairs releases.pairs,
+        length-map releases.pairs answer_in,
+        ap length releases.gives.1,
+        length-append (replicate releases.gives.0 Kept) (Refused ∷ []),
+      )
+
   -- how far it has come
   pub record Underway (last : List Drained) (choosing : Choosing) (now : Contents P J) (to : F) (filled : D) : Type 0 where
     pub made : List Actor
@@ -214,6 +251,7 @@ module _ {P J F D : Type 0} (gives : F → Given P → F → Type 0) (is_ready :
     pub feed : Fed gives from taken now.state.next to
     pub lists : List (List (Report P))
     pub gave : Gave takes predicate (schedule ++ made) (events ++ taken) given_before lists unfilled last now filled
+    pub before : Before made taken (up_to last (length gave.pairs))
 
   pub underway-begins : StandsFor predicate old schedule events given_before → Underway [] (first_choosing rule) old from unfilled
   underway-begins stands =
@@ -229,27 +267,32 @@ module _ {P J F D : Type 0} (gives : F → Given P → F → Type 0) (is_ready :
             gave-nothing takes predicate (schedule ++ []) (events ++ []) given_before lists unfilled old
             (subst (λ (es : List (Event P)). Stood predicate old (schedule ++ []) es given_before lists) (sym (append-nil events))
             (subst (λ (done : List Actor). Stood predicate old done events given_before lists) (sym (append-nil schedule)) first));
+        before = inl refl;
       }
 
   module _ (choosing : Choosing) (now : Contents P J) (to : F) (filled : D) (under : Underway [] choosing now to filled) where
     -- pairs that are due
     pub underway-release : (new : Contents P J) (more : D) (answer : Drained) → new.state ≡ now.state
         → ((schedule : List Actor) (events : List (Event P)) (given : ℕ) (stood : StandsFor predicate now schedule events given) → Releases takes stood filled answer new more) → Underway (last_of answer) choosing new to more
-    underway-release new more answer same releases = record {
-      made = under.made;
-      steps = subst (λ (s : ChainState P). MakesSteps gives is_ready (predicate old.join) (first_choosing rule) old.state from under.made choosing s to) (sym same) under.steps;
-      taken = under.taken;
-      feed = subst (λ (s : ChainState P). Fed gives from under.taken s.next to) (sym same) under.feed;
-      lists = under.lists;
-      gave =
-          gave-release takes predicate given_before unfilled (schedule ++ under.made) (events ++ under.taken) under.lists now new filled more under.gave answer
-          (releases (schedule ++ under.made) (events ++ under.taken) (given_before + length under.gave.pairs) under.gave.stood.stands);
-    }
+    unfolding gave-release
+    underway-release new more answer same releases =
+        let released = releases (schedule ++ under.made) (events ++ under.taken) (given_before + length under.gave.pairs) under.gave.stood.stands in
+        record {
+          made = under.made;
+          steps = subst (λ (s : ChainState P). MakesSteps gives is_ready (predicate old.join) (first_choosing rule) old.state from under.made choosing s to) (sym same) under.steps;
+          taken = under.taken;
+          feed = subst (λ (s : ChainState P). Fed gives from under.taken s.next to) (sym same) under.feed;
+          lists = under.lists;
+          gave =
+              gave-release takes predicate given_before unfilled (schedule ++ under.made) (events ++ under.taken) under.lists now new filled more under.gave answer released;
+          before = before-more under.made under.taken (length under.gave.pairs + 1) _ (up-to-more under.gave.stood.stands filled more new answer released under.gave.pairs) under.before;
+        }
 
     module _ (joined : now.join ≡ old.join) (sound : Sound predicate now) (actor : Actor) (named : chosen choosing (is_ready to) now.state ≡ Some actor) (new : Contents P J) (onward : F) (same_join : new.join ≡ now.join) where
       -- a step
-      pub underway-step : Steps gives is_ready (predicate now.join) actor now.state to Did new.state onward → Gathers actor now Did new → Underway [] (choosing_after (length old.state.cores) actor choosing) new onward filled
-      underway-step step gathers =
+      pub underway-step : Settled now → Steps gives is_ready (predicate now.join) actor now.state to Did new.state onward → Gathers actor now Did new → Underway [] (choosing_after (length old.state.cores) actor choosing) new onward filled
+      unfolding gave-step
+      underway-step settled step gathers =
           let taken = asked actor now.state.next step.answer in
           let next_is : new.state.next ≡ next_known actor now.state.next step.answer = ap (λ (s : ChainState P). s.next) step.chain.1 ∙ next-of (predicate now.join) now.state step.answer actor in
           let lists = under.lists in
@@ -272,10 +315,24 @@ module _ {P J F D : Type 0} (gives : F → Given P → F → Type 0) (is_ready :
                 (subst (λ (done : List Actor). Stood predicate new done ((events ++ under.taken) ++ taken) count (told (action_of now.state actor) (collected_of stood.stands.reached))) (append_assoc schedule under.made (actor ∷ [])) made)))
                 (subst (λ (l : List (List (Report P))). IsPrefix (emitted l) (emitted (told (action_of now.state actor) l))) are
                 (emits-next predicate now new step.answer same_join actor sound step.chain.0 (schedule ++ under.made) (events ++ under.taken) (given_before + length under.gave.pairs) stands));
+            before = inr (record {
+              earlier = under.made;
+              actor = actor;
+              steps = refl;
+              before = under.taken;
+              behind = taken;
+              events_are = refl;
+              gave = length under.gave.pairs;
+              fewer = omega arith;
+              chain = now;
+              stands = stands;
+              none_due = settled-none predicate now (schedule ++ under.made) (events ++ under.taken) (given_before + length under.gave.pairs) stands settled;
+            });
           }
 
       -- one for which there was no memory
       pub underway-over : Steps gives is_ready (predicate now.join) actor now.state to Memory new.state onward → Gathers actor now Memory new → Underway [] choosing new onward filled
+      unfolding gave-step
       underway-over step gathers =
           let next_is : new.state.next ≡ now.state.next = ap (λ (s : ChainState P). s.next) step.chain.2 in
           record {
@@ -291,6 +348,7 @@ module _ {P J F D : Type 0} (gives : F → Given P → F → Type 0) (is_ready :
                 subst (λ (l : List (List (Report P))). Stood predicate new (schedule ++ under.made) (events ++ under.taken) count l) stood.are
                 (stood-over predicate now new actor step.answer same_join (schedule ++ under.made) (events ++ under.taken) count stood.stands step.chain gathers))
                 (record { rest = []; is = sym (append-nil (emitted under.lists)) });
+            before = under.before;
           }
 
   -- ---- how it ends
@@ -299,8 +357,8 @@ module _ {P J F D : Type 0} (gives : F → Given P → F → Type 0) (is_ready :
     abbrev Ran : Fin → Type 0
     Ran ended = RunsSerially gives is_ready takes predicate rule schedule events given_before old from unfilled ended now to filled
 
-    ran : (last : List Drained) (under : Underway last choosing now to filled) (ended : Fin) → Ends ended under.gave.pairs under.gave.stood.stands → Ran ended
-    ran last under ended ends = record {
+    ran : (last : List Drained) (under : Underway last choosing now to filled) (ended : Fin) → Ends ended under.gave.pairs under.gave.stood.stands → (ended ≡ fin.Refused → Before under.made under.taken (length under.gave.pairs)) → Ran ended
+    ran last under ended ends before = record {
       made = under.made;
       choosing = choosing;
       steps = under.steps;
@@ -310,17 +368,19 @@ module _ {P J F D : Type 0} (gives : F → Given P → F → Type 0) (is_ready :
       drain = under.gave.drain;
       stands = under.gave.stood.stands;
       in_order = under.gave.in_order ∙ ap (λ (l : List (List (Report P))). take (length under.gave.pairs) (drop given_before (emitted l))) (sym under.gave.stood.are);
+      few = few_steps (predicate now.join) (length now.state.cores) now.state.driver.flight under.gave.stood.stands.reached;
       ends = ends;
+      last = before;
     }
 
     kept : (under : Underway [] choosing now to filled) → map answer_in under.gave.pairs ≡ replicate (length under.gave.pairs) Kept
     kept under = all-kept takes predicate (schedule ++ under.made) (events ++ under.taken) given_before under.lists unfilled now filled under.gave
 
     pub ran-refused : Underway (Refused ∷ []) choosing now to filled → Ran fin.Refused
-    ran-refused under = ran (Refused ∷ []) under fin.Refused (under.gave.kept, under.gave.answers)
+    ran-refused under = ran (Refused ∷ []) under fin.Refused (under.gave.kept, under.gave.answers) (λ is. under.before)
 
     pub ran-over : Underway [] choosing now to filled → now.state.over ≡ true → Ran fin.Memory
-    ran-over under over = ran [] under fin.Memory (kept under, over)
+    ran-over under over = ran [] under fin.Memory (kept under, over) (λ is. absurd (cc))
 
     -- no actor is enabled
     pub ran-done : Underway [] choosing now to filled → now.state.over ≡ false → Settled now → (feed : FeedState) → GoesWith predicate now feed → 1 ≤ now.state.driver.flight → (ready : Bool) → chosen choosing ready now.state ≡ None → Ran fin.Done
@@ -331,7 +391,7 @@ module _ {P J F D : Type 0} (gives : F → Given P → F → Type 0) (is_ready :
         let reached : Reached (predicate now.join) n flight goes.schedule goes.events now.state = reached-state predicate now goes.schedule goes.events going goes.stands.reached in
         let done : IsDone now.state = stuck_is_done (predicate now.join) n flight reached some (none-enabled now.state choosing ready none) in
         let last : now.state.next ≡ Some given.Stop = (driven (predicate now.join) n flight reached goes.well_formed).last (finished-sent now.state.driver.closes done.finished) in
-        ran [] under fin.Done (kept under, settled-none predicate now (schedule ++ under.made) (events ++ under.taken) (given_before + length under.gave.pairs) stands settled, going, ap is_stop last, done)
+        ran [] under fin.Done (kept under, settled-none predicate now (schedule ++ under.made) (events ++ under.taken) (given_before + length under.gave.pairs) stands settled, going, ap is_stop last, done) (λ is. absurd (cc))
 
 -- ---- the steps that are still to come
 
@@ -492,22 +552,22 @@ module _ {P J F D : Type 0} (gives : F → Given P → F → Type 0) (is_ready :
         gathered : Gathers actor now Did new
         gathered = subst (λ (r : Stepped). Gathers actor now r new) (did other) gathers
 
-        pub running-step : GoesWith predicate new (state onto) → (next : Choosing) → next ≡ choosing_after (length now.state.cores) actor choosing → IsWithin (length now.state.cores) next → Running next new onto filled
-        running-step goes next is within = record {
+        pub was-going : now.state.over ≡ false
+        was-going = enabled_going now.state actor made.chain.0
+
+        pub running-step : (now.state.over ≡ false → Settled now) → GoesWith predicate new (state onto) → (next : Choosing) → next ≡ choosing_after (length now.state.cores) actor choosing → IsWithin (length now.state.cores) next → Running next new onto filled
+        running-step settled goes next is within = record {
           join = same_join ∙ running.join;
           cores = cores-stay gives is_ready state predicate now new actor to onto running.goes made ∙ running.cores;
           goes = goes;
           within = subst (λ (n : ℕ). IsWithin n next) (sym (cores-stay gives is_ready state predicate now new actor to onto running.goes made)) within;
           under = λ schedule events given stands.
               subst (λ (c : Choosing). Underway gives is_ready takes predicate rule schedule events given old from unfilled [] c new onto filled) (ap (λ (n : ℕ). choosing_after n actor choosing) (sym running.cores) ∙ sym is)
-              (underway-step gives is_ready takes predicate rule schedule events given old from unfilled choosing now to filled (running.under schedule events given stands) running.join sound actor (sym named) new onto same_join made gathered);
+              (underway-step gives is_ready takes predicate rule schedule events given old from unfilled choosing now to filled (running.under schedule events given stands) running.join sound actor (sym named) new onto same_join (settled was-going) made gathered);
         }
 
         pub step-settled : ((core : CoreNo) → actor ≡ Collect core → ⊥) → Settled now → Settled new
         step-settled else settled = still-settled now new actor gathered else settled
-
-        pub was-going : now.state.over ≡ false
-        was-going = enabled_going now.state actor made.chain.0
 
         pub step-fewer : (was_asked actor now.state.next (is_ready to) result ≡ true → IfSome new.state.next (λ given. Answers given (state to) (state onto)))
             → to_come (length new.state.cores) new.state + (4 * length new.state.cores + 4) * (state onto).remaining < to_come (length now.state.cores) now.state + (4 * length now.state.cores + 4) * (state to).remaining

@@ -208,9 +208,9 @@ module _ {P J F D : Type 0} (gives : F → Given P → F → Type 0) (is_ready :
         other : result ≢ Memory
         other is = let e : Did ≡ Memory = sym did ∙ is in absurd (cc)
 
-        pub swept-running : GoesWith predicate new (state onto) → Running gives is_ready takes state predicate chooser.InTurn old from unfilled (from_place (at + 1)) new onto filled
-        swept-running goes =
-            running-step gives is_ready takes state predicate chooser.InTurn old from unfilled (from_place sweeping.stood) now to filled sweeping.running actor named-did result new onto step gathers same_join other goes (from_place (at + 1)) (ap from_place (sym behind))
+        pub swept-running : Settled now → GoesWith predicate new (state onto) → Running gives is_ready takes state predicate chooser.InTurn old from unfilled (from_place (at + 1)) new onto filled
+        swept-running settled goes =
+            running-step gives is_ready takes state predicate chooser.InTurn old from unfilled (from_place sweeping.stood) now to filled sweeping.running actor named-did result new onto step gathers same_join other (λ going. settled) goes (from_place (at + 1)) (ap from_place (sym behind))
             (omega (arith, tried.within))
 
         pub swept-cores : length new.state.cores ≡ length now.state.cores

@@ -1,5 +1,5 @@
 -- A serial run: one enabled actor after the other makes its step, each chosen by a rule.
-use Rattle.std.specs.Prelude.{◌≡◌, ℕ, ◌+◌, ◌-◌, ◌*◌, ◌<◌, ◌≤◌, ◌%◌, ◌&&◌, not, nat_lt, if◌then◌else◌, Bool, true, false, List, [], ◌∷◌, ◌++◌, drop, filter, is_none, length, map, replicate, slice_get, take, None, Some}
+use Rattle.std.specs.Prelude.{◌≡◌, ◌⊎◌, ℕ, ◌+◌, ◌-◌, ◌*◌, ◌<◌, ◌≤◌, ◌%◌, ◌&&◌, not, nat_lt, if◌then◌else◌, Bool, true, false, List, [], ◌∷◌, ◌++◌, drop, filter, is_none, length, map, replicate, slice_get, take, None, Some}
 use Rattle.std.specs.declared.option.Option.{Option}
 use Rattle.std.specs.List.{flat_map, range_with_len}
 use Rattle.hj_base.specs.declared.numbers.CoreNo.{CoreNo}
@@ -131,6 +131,21 @@ pub record Releases {P J D : Type 0} (takes : D → Pair P → Drained → D →
   pub in_order : map (λ one. one.pair) pairs ≡ take (length pairs) (drop given (emitted (collected_of stands.reached)))
   pub gives : Gives answer pairs stands
 
+-- The last one of these steps let out a pair that was to be given: before it the chain had given fewer than so many, and no further
+-- one was due.
+pub record LetsOut {P J : Type 0} (predicate : J → P → P → Bool) (schedule : List Actor) (events : List (Event P)) (given : ℕ) (made : List Actor) (taken : List (Event P)) (count : ℕ) : Type 0 where
+  pub earlier : List Actor
+  pub actor : Actor
+  pub steps : made ≡ earlier ++ actor ∷ []
+  pub before : List (Event P)
+  pub behind : List (Event P)
+  pub events_are : taken ≡ before ++ behind
+  pub gave : ℕ
+  pub fewer : gave < count
+  pub chain : Contents P J
+  pub stands : StandsFor predicate chain (schedule ++ earlier) (events ++ before) (given + gave)
+  pub none_due : next_pair stands ≡ None
+
 -- How the run ended: with each pair kept, no further pair due, and the chain done, in which memory never ran out and the feed has
 -- stopped; with the last pair refused, and each other one kept; or with memory run out, and each pair kept.
 abbrev pub Ends : {P J : Type 0} {predicate : J → P → P → Bool} {chain : Contents P J} {schedule : List Actor} {events : List (Event P)} {given : ℕ}
@@ -153,5 +168,9 @@ pub record RunsSerially {P J F D : Type 0} (gives : F → Given P → F → Type
   pub pairs : List (Drainage P)
   pub drain : TakesAll takes unfilled pairs filled
   pub stands : StandsFor predicate new (schedule ++ made) (events ++ taken) (given + length pairs)
+  -- there are at most 4n + 4 steps for each event and for the closes
+  pub few : length (schedule ++ made) ≤ (4 * length new.state.cores + 4) * (length (events ++ taken) + 1)
   pub in_order : map (λ one. one.pair) pairs ≡ take (length pairs) (drop given (emitted (collected_of stands.reached)))
   pub ends : Ends ended pairs stands
+  -- no step is made behind a pair that is refused
+  pub last : ended ≡ fin.Refused → (made ≡ []) ⊎ LetsOut predicate schedule events given made taken (length pairs)

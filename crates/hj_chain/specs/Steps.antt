@@ -116,6 +116,8 @@ pub record StandsFurther {P J F : Type 0} (gives : F → Given P → F → Type 
   pub taken : List (Event P)
   pub feed : GoesOver gives from taken to
   pub stands : StandsFor predicate chain schedule (events ++ taken) given
+  -- there are at most 4n + 4 steps for each event and for the closes
+  pub few : length schedule ≤ (4 * length chain.state.cores + 4) * (length (events ++ taken) + 1)
 
 -- What a schedule did: its steps, and whatever the chain stood for before, it stands for that with these steps behind it.
 pub record Ran {P J F : Type 0} (gives : F → Given P → F → Type 0) (is_ready : F → Bool) (predicate : J → P → P → Bool) (schedule : List Actor) (old : Contents P J) (from : F) (result : Stepped) (new : Contents P J) (to : F) : Type 0 where

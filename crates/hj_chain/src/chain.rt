@@ -4,7 +4,8 @@ ghost use Rattle.hj_base.specs.declared.numbers.Side.TheVariants.{Left, Right};
 ghost use Rattle.hj_msg.specs.declared.event.Event.{Event};
 ghost use Rattle.hj_chain.specs.declared.actor.Actor.{Actor as Actors};
 ghost use Rattle.hj_msg.specs.Core.{empty_state};
-ghost use Rattle.hj_msg.specs.Feed.{IsFresh, Answers, FeedState};
+ghost use Rattle.hj_msg.specs.Feed.{IsFresh, Answers, FeedState, GoesOver};
+ghost use Rattle.hj_msg.specs.GoesOn.{GoesOnWith};
 ghost use Rattle.hj_core.specs.Contents.{state_of};
 ghost use Rattle.hj_chain.specs.Placed.{ArePlaced};
 ghost use Rattle.hj_chain.specs.Chain.{FeedAnswer, empty_chain, if_there};
@@ -199,12 +200,14 @@ impl<P: Share + Drop, J: Join<P> + Drop, L: Store<P, J> + Drop, R: Store<P, J> +
         }
     }
 
-    /// Makes the steps of a schedule in their order. An actor that isn't enabled is passed over.
+    /// Makes the steps of a schedule in their order. An actor that isn't enabled is passed over. What it takes from the feed keeps
+    /// well-formed events well formed.
     pub fn run<F: Feed<P>>(&mut self, schedule: &[Actor], feed: &mut F) -> Stepped
         requires { GoesWith J.predicate self.old (F.state feed.old) }
         ensures runs { Ran F.gives F.ready J.predicate schedule.now self.old feed.old result self.new feed.new }
         ensures join { self.new.join ≡ self.old.join }
         ensures goes { GoesWith J.predicate self.new (F.state feed.new) }
+        ensures fed { (before taken : List (Event P)) → GoesOnWith before (F.state feed.old) → GoesOver F.gives feed.old taken feed.new → GoesOnWith (before ++ taken) (F.state feed.new) }
     {
         for actor in schedule {
             if self.step(*actor, feed) == Stepped::Memory {

@@ -1,8 +1,10 @@
-ghost use Rattle.std.specs.Prelude.{◌≡◌, ◌+◌, ◌-◌, ◌*◌, ◌%◌, ◌<◌, ◌≤◌, ◌++◌, true, false, ℕ, List, length, slice_get, is_none, take, drop, filter, Bool, IfSome, IfNone};
+ghost use Rattle.std.specs.Prelude.{◌≡◌, ◌↔◌, ◌⊎◌, ◌+◌, ◌-◌, ◌*◌, ◌%◌, ◌<◌, ◌≤◌, ◌++◌, true, false, ℕ, List, length, slice_get, is_none, take, drop, filter, Bool, IfSome, IfNone};
 ghost use Rattle.hj_msg.specs.declared.event.Event.{Event};
-ghost use Rattle.hj_msg.specs.Feed.{FeedState};
+ghost use Rattle.hj_msg.specs.Feed.{FeedState, GoesOver};
+ghost use Rattle.hj_msg.specs.GoesOn.{GoesOnWith};
 ghost use Rattle.hj_chain.specs.declared.actor.Actor.{Actor as Actors};
 ghost use Rattle.hj_chain.specs.Chain.{admit_cause};
+ghost use Rattle.hj_chain.specs.Progress.{IsDone};
 ghost use Rattle.hj_chain.specs.Reached.{StandsFor};
 ghost use Rattle.hj_chain.specs.Serial.{MayBeTried, Releases, RunsSerially, actors, chosen, drawn_from, enabled, from_place, in_turn, is_enabled, would_wait};
 ghost use Rattle.hj_chain.specs.Steps.{GoesWith};
@@ -18,9 +20,11 @@ impl<P: Share + Drop, J: Join<P> + Drop, L: Store<P, J> + Drop, R: Store<P, J> +
     L,
     R,
 > {
-    /// Returns how many actors are enabled.
+    /// Returns how many actors are enabled: 0 exactly where the chain is done, or memory ran out in a step.
     pub fn enabled(&self) -> u32
-        ensures { result ≡ length (enabled self.now.state) }
+        ensures count { result ≡ length (enabled self.now.state) }
+        ensures none { (schedule : List Actors) (events : List (Event P)) (given : ℕ) → StandsFor J.predicate self.now schedule events given
+            → (result ≡ 0) ↔ (IsDone self.now.state ⊎ (self.now.state.over ≡ true)) }
     {
         let cores = self.cores.len();
         let mut count = 0;
@@ -55,7 +59,8 @@ impl<P: Share + Drop, J: Join<P> + Drop, L: Store<P, J> + Drop, R: Store<P, J> +
     /// Makes steps until all is done, one enabled actor after the other, each chosen by a rule. The pairs go to the drain in the
     /// order of the sequential join, each as soon as it is due; the first one that the drain refuses ends the run. Before each
     /// step of a core the gate is passed, with the core and the number of steps that this call made before; this number stays
-    /// at 2^64 - 1 once it is there. The feed is asked for an event that isn't there yet only where nothing else is to do.
+    /// at 2^64 - 1 once it is there. The feed is asked for an event that isn't there yet only where nothing else is to do. What it gives
+    /// keeps well-formed events well formed.
     pub fn run_serial<F: Feed<P>, D: Drain<P>, G: Gate>(
         &mut self,
         chooser: Chooser,
@@ -68,6 +73,7 @@ impl<P: Share + Drop, J: Join<P> + Drop, L: Store<P, J> + Drop, R: Store<P, J> +
             → RunsSerially F.gives F.ready D.takes J.predicate chooser schedule events given self.old feed.old drain.old result self.new feed.new drain.new }
         ensures join { self.new.join ≡ self.old.join }
         ensures goes { GoesWith J.predicate self.new (F.state feed.new) }
+        ensures fed { (before taken : List (Event P)) → GoesOnWith before (F.state feed.old) → GoesOver F.gives feed.old taken feed.new → GoesOnWith (before ++ taken) (F.state feed.new) }
     {
         match chooser {
             Chooser::InTurn => self.run_in_turn(feed, drain, gate),

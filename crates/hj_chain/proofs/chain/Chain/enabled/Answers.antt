@@ -1,10 +1,12 @@
-use Rattle.std.proofs.Common.{◌≡◌, ◌+◌, ℕ, Some, [], ◌∷◌, length, filter, take, ap, sym, ◌∙◌, subst, refl, arith, length-append}
+use Rattle.std.proofs.Common.{◌≡◌, ◌+◌, ◌≤◌, ℕ, List, Some, [], ◌∷◌, length, filter, take, ap, sym, ◌∙◌, subst, refl, arith, length-append}
 use Rattle.std.specs.List.{slice_get}
 use Rattle.std.proofs.lemmas.List.{length-map}
 use Rattle.hj_core.specs.Contents.{state_of}
+use Rattle.hj_chain.specs.declared.actor.Actor.{Actor}
 use Rattle.hj_chain.specs.Chain.{Contents}
 use Rattle.hj_chain.specs.Serial.{actors, is_enabled}
 use Rattle.hj_chain.proofs.ActorOrder.{length-actors}
+use Rattle.hj_chain.proofs.NoneEnabled.{none_enabled, take-whole}
 use Rattle.hj_chain.proofs.Looking.{filtered, one-more, none-more}
 use Rattle.hj_chain.proofs.chain.Chain.enabled.Goals as goal
 use Rattle.hj_chain.proofs.chain.Chain.enabled.Goals.{then-is_enabled, else-is_enabled}
@@ -46,3 +48,12 @@ loop-place-preserved g c =
             ap length (none-more (is_enabled c.args.self.now.state) all c.loop-place.place c.at.result here (sym c.is_enabled.ensures ∙ w.if-is_enabled.false) (c.loop-place.place + 1) refl),
           )
     ]
+
+pub returns-clause-none : goal.returns-clause-none
+returns-clause-none g c = λ schedule events given stands.
+    let n : c.len-cores.result ≡ length c.args.self.now.state.cores = (c.len-cores.ensures ∙ c.self.inside.cores.ok.0 ∙ sym (length-map c.self.inside.cores.items (state_of g.L.Store.entries g.R.Store.entries)) ∙ ap (λ (k : Contents g.row.P.Denot g.row.J.Denot). length k.state.cores) c.self.view_is) in
+    let all = actors (length c.args.self.now.state.cores) in
+    let whole : length all ≤ c.loop-place.place = omega (arith, c.loop-place.auto.place-end, c.count-place-end.ensures, ap (λ (m : ℕ). length (actors m)) n) in
+    none_enabled g.J.Join.predicate c.args.self.now schedule events given stands
+    (subst (λ (k : Contents g.row.P.Denot g.row.J.Denot). 1 ≤ k.state.driver.flight) c.self.view_is c.self.invariant.flight)
+    c.loop-place.count (c.loop-place.invariant ∙ ap (λ (l : List Actor). length (filter (is_enabled c.args.self.now.state) l)) (take-whole all c.loop-place.place whole))

@@ -1,4 +1,5 @@
 use Rattle.std.proofs.Common.{◌≡◌, ◌≢◌, ◌∙◌, refl, arith, rules}
+use Rattle.hj_msg.proofs.Feeding.{feed-goes-on}
 use Rattle.hj_chain.specs.declared.actor.Actor.TheVariants.{Admit}
 use Rattle.hj_chain.specs.declared.actor.Stepped.TheVariants.{Memory}
 use Rattle.hj_chain.proofs.Goings.{sound-goes}
@@ -25,3 +26,9 @@ loop-actor-preserved g c =
 pub returns-clause-runs : goal.returns-clause-runs
 returns-clause-runs g c =
     ran-over g.F.Feed.gives g.F.Feed.ready g.J.Join.predicate c.args.schedule.now c.args.self.now c.args.feed.now c.loop-actor.actor-index c.loop-actor.self c.loop-actor.feed c.loop-actor.invariant.leads (omega arith)
+
+pub returns-then-eq-clause-fed : goal.returns-then-eq-clause-fed
+returns-then-eq-clause-fed g c = λ before taken goes over. feed-goes-on g.F.Feed.gives g.F.Feed.state g.met.F.Feed.told before taken _ _ goes over
+
+pub returns-clause-fed : goal.returns-clause-fed
+returns-clause-fed g c = λ before taken goes over. feed-goes-on g.F.Feed.gives g.F.Feed.state g.met.F.Feed.told before taken _ _ goes over

@@ -40,7 +40,7 @@ returns-then-eq-3-clause-runs g c =
     running-refused g.F.Feed.gives g.F.Feed.ready g.D.Drain.takes g.F.Feed.state g.J.Join.predicate (chooser.Seeded c.args.seed) c.args.self.now c.args.feed.now c.args.drain.now (by_draw c.draw.new.self) c.step_past.new.self c.step_past.new.feed c.loop-actor.drain
     (running-step
     g.F.Feed.gives g.F.Feed.ready g.D.Drain.takes g.F.Feed.state g.J.Join.predicate (chooser.Seeded c.args.seed) c.args.self.now c.args.feed.now c.args.drain.now (by_draw c.loop-actor.lcg) c.loop-actor.self c.loop-actor.feed c.loop-actor.drain c.loop-actor.invariant.running c.in-Some.actor (named-by-draw c.loop-actor.self.state (g.F.Feed.ready c.loop-actor.feed) c.loop-actor.lcg c.draw.new.self c.draw.result (Some c.in-Some.actor) c.draw.ensures.number c.draw.ensures.held (c.in-Some.ensures (g.F.Feed.ready c.loop-actor.feed) c.would_wait.ensures)) c.step_past.result c.step_past.new.self c.step_past.new.feed c.step_past.ensures.step c.step_past.ensures.gathers c.step_past.ensures.join
-    other c.step_past.ensures.goes (by_draw c.draw.new.self) (ap by_draw c.draw.ensures.held) tt)
+    other c.loop-actor.invariant.settled c.step_past.ensures.goes (by_draw c.draw.new.self) (ap by_draw c.draw.ensures.held) tt)
     c.release-in-Collect.new.self c.release-in-Collect.new.drain c.release-in-Collect.ensures.others c.release-in-Collect.result c.release-in-Collect.ensures.releases
     refused
 
@@ -61,12 +61,12 @@ loop-actor-preserved-else-eq-3 g c =
       running = running-release g.F.Feed.gives g.F.Feed.ready g.D.Drain.takes g.F.Feed.state g.J.Join.predicate (chooser.Seeded c.args.seed) c.args.self.now c.args.feed.now c.args.drain.now (by_draw c.draw.new.self) c.step_past.new.self c.step_past.new.feed c.loop-actor.drain
           (running-step
           g.F.Feed.gives g.F.Feed.ready g.D.Drain.takes g.F.Feed.state g.J.Join.predicate (chooser.Seeded c.args.seed) c.args.self.now c.args.feed.now c.args.drain.now (by_draw c.loop-actor.lcg) c.loop-actor.self c.loop-actor.feed c.loop-actor.drain c.loop-actor.invariant.running c.in-Some.actor (named-by-draw c.loop-actor.self.state (g.F.Feed.ready c.loop-actor.feed) c.loop-actor.lcg c.draw.new.self c.draw.result (Some c.in-Some.actor) c.draw.ensures.number c.draw.ensures.held (c.in-Some.ensures (g.F.Feed.ready c.loop-actor.feed) c.would_wait.ensures)) c.step_past.result c.step_past.new.self c.step_past.new.feed c.step_past.ensures.step c.step_past.ensures.gathers c.step_past.ensures.join
-          other c.step_past.ensures.goes (by_draw c.draw.new.self) (ap by_draw c.draw.ensures.held) tt)
+          other c.loop-actor.invariant.settled c.step_past.ensures.goes (by_draw c.draw.new.self) (ap by_draw c.draw.ensures.held) tt)
           c.release-in-Collect.new.self c.release-in-Collect.new.drain c.release-in-Collect.ensures.others c.release-in-Collect.result c.release-in-Collect.ensures.releases kept (c.release-in-Collect.ensures.goes (g.F.Feed.state c.step_past.new.feed) c.step_past.ensures.goes);
       settled = λ going. release-settles g.F.Feed.gives g.F.Feed.ready g.D.Drain.takes g.F.Feed.state g.J.Join.predicate (chooser.Seeded c.args.seed) c.args.self.now c.args.feed.now c.args.drain.now (by_draw c.draw.new.self) c.step_past.new.self c.step_past.new.feed c.loop-actor.drain
           (running-step
           g.F.Feed.gives g.F.Feed.ready g.D.Drain.takes g.F.Feed.state g.J.Join.predicate (chooser.Seeded c.args.seed) c.args.self.now c.args.feed.now c.args.drain.now (by_draw c.loop-actor.lcg) c.loop-actor.self c.loop-actor.feed c.loop-actor.drain c.loop-actor.invariant.running c.in-Some.actor (named-by-draw c.loop-actor.self.state (g.F.Feed.ready c.loop-actor.feed) c.loop-actor.lcg c.draw.new.self c.draw.result (Some c.in-Some.actor) c.draw.ensures.number c.draw.ensures.held (c.in-Some.ensures (g.F.Feed.ready c.loop-actor.feed) c.would_wait.ensures)) c.step_past.result c.step_past.new.self c.step_past.new.feed c.step_past.ensures.step c.step_past.ensures.gathers c.step_past.ensures.join
-          other c.step_past.ensures.goes (by_draw c.draw.new.self) (ap by_draw c.draw.ensures.held) tt)
+          other c.loop-actor.invariant.settled c.step_past.ensures.goes (by_draw c.draw.new.self) (ap by_draw c.draw.ensures.held) tt)
           c.release-in-Collect.new.self c.release-in-Collect.new.drain c.release-in-Collect.ensures.others c.release-in-Collect.result c.release-in-Collect.ensures.releases kept going;
     }
 
@@ -81,7 +81,7 @@ loop-actor-preserved g c =
     record {
       running = (running-step
           g.F.Feed.gives g.F.Feed.ready g.D.Drain.takes g.F.Feed.state g.J.Join.predicate (chooser.Seeded c.args.seed) c.args.self.now c.args.feed.now c.args.drain.now (by_draw c.loop-actor.lcg) c.loop-actor.self c.loop-actor.feed c.loop-actor.drain c.loop-actor.invariant.running c.in-Some.actor (named-by-draw c.loop-actor.self.state (g.F.Feed.ready c.loop-actor.feed) c.loop-actor.lcg c.draw.new.self c.draw.result (Some c.in-Some.actor) c.draw.ensures.number c.draw.ensures.held (c.in-Some.ensures (g.F.Feed.ready c.loop-actor.feed) c.would_wait.ensures)) c.step_past.result c.step_past.new.self c.step_past.new.feed c.step_past.ensures.step c.step_past.ensures.gathers c.step_past.ensures.join
-          other c.step_past.ensures.goes (by_draw c.draw.new.self) (ap by_draw c.draw.ensures.held) tt);
+          other c.loop-actor.invariant.settled c.step_past.ensures.goes (by_draw c.draw.new.self) (ap by_draw c.draw.ensures.held) tt);
       settled = λ going.
           step-settled g.F.Feed.gives g.F.Feed.ready g.D.Drain.takes g.F.Feed.state g.J.Join.predicate (chooser.Seeded c.args.seed) c.args.self.now c.args.feed.now c.args.drain.now (by_draw c.loop-actor.lcg) c.loop-actor.self c.loop-actor.feed c.loop-actor.drain c.loop-actor.invariant.running c.in-Some.actor (named-by-draw c.loop-actor.self.state (g.F.Feed.ready c.loop-actor.feed) c.loop-actor.lcg c.draw.new.self c.draw.result (Some c.in-Some.actor) c.draw.ensures.number c.draw.ensures.held (c.in-Some.ensures (g.F.Feed.ready c.loop-actor.feed) c.would_wait.ensures)) c.step_past.result c.step_past.new.self c.step_past.new.feed c.step_past.ensures.step c.step_past.ensures.gathers c.step_past.ensures.join other c.in_default-actor.not-Collect
           (c.loop-actor.invariant.settled (was-going g.F.Feed.gives g.F.Feed.ready g.D.Drain.takes g.F.Feed.state g.J.Join.predicate (chooser.Seeded c.args.seed) c.args.self.now c.args.feed.now c.args.drain.now (by_draw c.loop-actor.lcg) c.loop-actor.self c.loop-actor.feed c.loop-actor.drain c.loop-actor.invariant.running c.in-Some.actor (named-by-draw c.loop-actor.self.state (g.F.Feed.ready c.loop-actor.feed) c.loop-actor.lcg c.draw.new.self c.draw.result (Some c.in-Some.actor) c.draw.ensures.number c.draw.ensures.held (c.in-Some.ensures (g.F.Feed.ready c.loop-actor.feed) c.would_wait.ensures)) c.step_past.result c.step_past.new.self c.step_past.new.feed c.step_past.ensures.step c.step_past.ensures.gathers c.step_past.ensures.join other));

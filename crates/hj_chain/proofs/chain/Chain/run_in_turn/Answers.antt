@@ -94,7 +94,7 @@ returns-then-eq-2-clause-runs g c =
     let stands : slice_get (actors (length c.loop-at.self.state.cores)) c.in-Some.at ≡ Some c.at-actor.result = subst (λ (m : ℕ). slice_get (actors m) c.in-Some.at ≡ Some c.at-actor.result) n c.at-actor.ensures.actor in
     let behind : place_behind (length c.loop-at.self.state.cores) c.at-actor.result ≡ c.in-Some.at + 1 = subst (λ (m : ℕ). place_behind m c.at-actor.result ≡ c.in-Some.at + 1) n c.at-actor.ensures.behind in
     let refused : c.release-in-Collect.result ≡ Refused = search rules in
-    running-refused g.F.Feed.gives g.F.Feed.ready g.D.Drain.takes g.F.Feed.state g.J.Join.predicate chooser.InTurn c.args.self.now c.args.feed.now c.args.drain.now (from_place (c.in-Some.at + 1)) c.step_past.new.self c.step_past.new.feed c.loop-at.drain (swept-running g.F.Feed.gives g.F.Feed.ready g.D.Drain.takes g.F.Feed.state g.J.Join.predicate c.args.self.now c.args.feed.now c.args.drain.now c.loop-at.place c.loop-at.self c.loop-at.feed c.loop-at.drain c.loop-at.invariant.sweeping c.in-Some.at c.in-Some.ensures.tried c.at-actor.result stands behind c.step_past.result c.step_past.new.self c.step_past.new.feed c.step_past.ensures.step c.step_past.ensures.gathers c.step_past.ensures.join c.in-Did.is c.step_past.ensures.goes) c.release-in-Collect.new.self c.release-in-Collect.new.drain c.release-in-Collect.ensures.others c.release-in-Collect.result c.release-in-Collect.ensures.releases refused
+    running-refused g.F.Feed.gives g.F.Feed.ready g.D.Drain.takes g.F.Feed.state g.J.Join.predicate chooser.InTurn c.args.self.now c.args.feed.now c.args.drain.now (from_place (c.in-Some.at + 1)) c.step_past.new.self c.step_past.new.feed c.loop-at.drain (swept-running g.F.Feed.gives g.F.Feed.ready g.D.Drain.takes g.F.Feed.state g.J.Join.predicate c.args.self.now c.args.feed.now c.args.drain.now c.loop-at.place c.loop-at.self c.loop-at.feed c.loop-at.drain c.loop-at.invariant.sweeping c.in-Some.at c.in-Some.ensures.tried c.at-actor.result stands behind c.step_past.result c.step_past.new.self c.step_past.new.feed c.step_past.ensures.step c.step_past.ensures.gathers c.step_past.ensures.join c.in-Did.is c.loop-at.invariant.settled c.step_past.ensures.goes) c.release-in-Collect.new.self c.release-in-Collect.new.drain c.release-in-Collect.ensures.others c.release-in-Collect.result c.release-in-Collect.ensures.releases refused
 
 pub returns-then-eq-2-clause-goes : goal.returns-then-eq-2-clause-goes
 returns-then-eq-2-clause-goes g c = c.release-in-Collect.ensures.goes (g.F.Feed.state c.step_past.new.feed) c.step_past.ensures.goes
@@ -120,9 +120,9 @@ loop-at-preserved-else-eq-2 g c =
     let going : c.release-in-Collect.new.self.state.over ≡ false = ap (λ (s : ChainState g.row.P.Denot). s.over) same ∙ (did-over g.F.Feed.gives g.F.Feed.ready (g.J.Join.predicate c.loop-at.self.join) c.at-actor.result c.loop-at.self.state c.loop-at.feed c.step_past.result c.step_past.new.self.state c.step_past.new.feed c.step_past.ensures.step c.in-Did.is ∙ c.loop-at.invariant.going) in
     record {
       sweeping = sweeping-at g.F.Feed.gives g.F.Feed.ready g.D.Drain.takes g.F.Feed.state g.J.Join.predicate c.args.self.now c.args.feed.now c.args.drain.now (c.in-Some.at + 1) c.release-in-Collect.new.self c.step_past.new.feed c.release-in-Collect.new.drain
-          (running-release g.F.Feed.gives g.F.Feed.ready g.D.Drain.takes g.F.Feed.state g.J.Join.predicate chooser.InTurn c.args.self.now c.args.feed.now c.args.drain.now (from_place (c.in-Some.at + 1)) c.step_past.new.self c.step_past.new.feed c.loop-at.drain (swept-running g.F.Feed.gives g.F.Feed.ready g.D.Drain.takes g.F.Feed.state g.J.Join.predicate c.args.self.now c.args.feed.now c.args.drain.now c.loop-at.place c.loop-at.self c.loop-at.feed c.loop-at.drain c.loop-at.invariant.sweeping c.in-Some.at c.in-Some.ensures.tried c.at-actor.result stands behind c.step_past.result c.step_past.new.self c.step_past.new.feed c.step_past.ensures.step c.step_past.ensures.gathers c.step_past.ensures.join c.in-Did.is c.step_past.ensures.goes) c.release-in-Collect.new.self c.release-in-Collect.new.drain c.release-in-Collect.ensures.others c.release-in-Collect.result c.release-in-Collect.ensures.releases kept (c.release-in-Collect.ensures.goes (g.F.Feed.state c.step_past.new.feed) c.step_past.ensures.goes))
+          (running-release g.F.Feed.gives g.F.Feed.ready g.D.Drain.takes g.F.Feed.state g.J.Join.predicate chooser.InTurn c.args.self.now c.args.feed.now c.args.drain.now (from_place (c.in-Some.at + 1)) c.step_past.new.self c.step_past.new.feed c.loop-at.drain (swept-running g.F.Feed.gives g.F.Feed.ready g.D.Drain.takes g.F.Feed.state g.J.Join.predicate c.args.self.now c.args.feed.now c.args.drain.now c.loop-at.place c.loop-at.self c.loop-at.feed c.loop-at.drain c.loop-at.invariant.sweeping c.in-Some.at c.in-Some.ensures.tried c.at-actor.result stands behind c.step_past.result c.step_past.new.self c.step_past.new.feed c.step_past.ensures.step c.step_past.ensures.gathers c.step_past.ensures.join c.in-Did.is c.loop-at.invariant.settled c.step_past.ensures.goes) c.release-in-Collect.new.self c.release-in-Collect.new.drain c.release-in-Collect.ensures.others c.release-in-Collect.result c.release-in-Collect.ensures.releases kept (c.release-in-Collect.ensures.goes (g.F.Feed.state c.step_past.new.feed) c.step_past.ensures.goes))
           (subst (λ (s : ChainState g.row.P.Denot). c.in-Some.at + 1 ≤ length (actors (length s.cores))) (sym same) (swept-within g.F.Feed.gives g.F.Feed.ready g.D.Drain.takes g.F.Feed.state g.J.Join.predicate c.args.self.now c.args.feed.now c.args.drain.now c.loop-at.place c.loop-at.self c.loop-at.feed c.loop-at.drain c.loop-at.invariant.sweeping c.in-Some.at c.in-Some.ensures.tried c.at-actor.result stands behind c.step_past.result c.step_past.new.self c.step_past.new.feed c.step_past.ensures.step c.step_past.ensures.gathers c.step_past.ensures.join c.in-Did.is));
-      settled = release-settles g.F.Feed.gives g.F.Feed.ready g.D.Drain.takes g.F.Feed.state g.J.Join.predicate chooser.InTurn c.args.self.now c.args.feed.now c.args.drain.now (from_place (c.in-Some.at + 1)) c.step_past.new.self c.step_past.new.feed c.loop-at.drain (swept-running g.F.Feed.gives g.F.Feed.ready g.D.Drain.takes g.F.Feed.state g.J.Join.predicate c.args.self.now c.args.feed.now c.args.drain.now c.loop-at.place c.loop-at.self c.loop-at.feed c.loop-at.drain c.loop-at.invariant.sweeping c.in-Some.at c.in-Some.ensures.tried c.at-actor.result stands behind c.step_past.result c.step_past.new.self c.step_past.new.feed c.step_past.ensures.step c.step_past.ensures.gathers c.step_past.ensures.join c.in-Did.is c.step_past.ensures.goes) c.release-in-Collect.new.self c.release-in-Collect.new.drain c.release-in-Collect.ensures.others c.release-in-Collect.result c.release-in-Collect.ensures.releases kept going;
+      settled = release-settles g.F.Feed.gives g.F.Feed.ready g.D.Drain.takes g.F.Feed.state g.J.Join.predicate chooser.InTurn c.args.self.now c.args.feed.now c.args.drain.now (from_place (c.in-Some.at + 1)) c.step_past.new.self c.step_past.new.feed c.loop-at.drain (swept-running g.F.Feed.gives g.F.Feed.ready g.D.Drain.takes g.F.Feed.state g.J.Join.predicate c.args.self.now c.args.feed.now c.args.drain.now c.loop-at.place c.loop-at.self c.loop-at.feed c.loop-at.drain c.loop-at.invariant.sweeping c.in-Some.at c.in-Some.ensures.tried c.at-actor.result stands behind c.step_past.result c.step_past.new.self c.step_past.new.feed c.step_past.ensures.step c.step_past.ensures.gathers c.step_past.ensures.join c.in-Did.is c.loop-at.invariant.settled c.step_past.ensures.goes) c.release-in-Collect.new.self c.release-in-Collect.new.drain c.release-in-Collect.ensures.others c.release-in-Collect.result c.release-in-Collect.ensures.releases kept going;
       going = going;
       idle = omega arith;
       count = c.loop-at.invariant.count ∙ ap (λ (m : ℕ). length (actors m)) (sym (swept-cores g.F.Feed.gives g.F.Feed.ready g.D.Drain.takes g.F.Feed.state g.J.Join.predicate c.args.self.now c.args.feed.now c.args.drain.now c.loop-at.place c.loop-at.self c.loop-at.feed c.loop-at.drain c.loop-at.invariant.sweeping c.in-Some.at c.in-Some.ensures.tried c.at-actor.result stands behind c.step_past.result c.step_past.new.self c.step_past.new.feed c.step_past.ensures.step c.step_past.ensures.gathers c.step_past.ensures.join c.in-Did.is)) ∙ ap (λ (s : ChainState g.row.P.Denot). length (actors (length s.cores))) (sym same);
@@ -142,7 +142,7 @@ loop-at-preserved g c =
     let stands : slice_get (actors (length c.loop-at.self.state.cores)) c.in-Some.at ≡ Some c.at-actor.result = subst (λ (m : ℕ). slice_get (actors m) c.in-Some.at ≡ Some c.at-actor.result) n c.at-actor.ensures.actor in
     let behind : place_behind (length c.loop-at.self.state.cores) c.at-actor.result ≡ c.in-Some.at + 1 = subst (λ (m : ℕ). place_behind m c.at-actor.result ≡ c.in-Some.at + 1) n c.at-actor.ensures.behind in
     record {
-      sweeping = sweeping-at g.F.Feed.gives g.F.Feed.ready g.D.Drain.takes g.F.Feed.state g.J.Join.predicate c.args.self.now c.args.feed.now c.args.drain.now (c.in-Some.at + 1) c.step_past.new.self c.step_past.new.feed c.loop-at.drain (swept-running g.F.Feed.gives g.F.Feed.ready g.D.Drain.takes g.F.Feed.state g.J.Join.predicate c.args.self.now c.args.feed.now c.args.drain.now c.loop-at.place c.loop-at.self c.loop-at.feed c.loop-at.drain c.loop-at.invariant.sweeping c.in-Some.at c.in-Some.ensures.tried c.at-actor.result stands behind c.step_past.result c.step_past.new.self c.step_past.new.feed c.step_past.ensures.step c.step_past.ensures.gathers c.step_past.ensures.join c.in-Did.is c.step_past.ensures.goes) (swept-within g.F.Feed.gives g.F.Feed.ready g.D.Drain.takes g.F.Feed.state g.J.Join.predicate c.args.self.now c.args.feed.now c.args.drain.now c.loop-at.place c.loop-at.self c.loop-at.feed c.loop-at.drain c.loop-at.invariant.sweeping c.in-Some.at c.in-Some.ensures.tried c.at-actor.result stands behind c.step_past.result c.step_past.new.self c.step_past.new.feed c.step_past.ensures.step c.step_past.ensures.gathers c.step_past.ensures.join c.in-Did.is);
+      sweeping = sweeping-at g.F.Feed.gives g.F.Feed.ready g.D.Drain.takes g.F.Feed.state g.J.Join.predicate c.args.self.now c.args.feed.now c.args.drain.now (c.in-Some.at + 1) c.step_past.new.self c.step_past.new.feed c.loop-at.drain (swept-running g.F.Feed.gives g.F.Feed.ready g.D.Drain.takes g.F.Feed.state g.J.Join.predicate c.args.self.now c.args.feed.now c.args.drain.now c.loop-at.place c.loop-at.self c.loop-at.feed c.loop-at.drain c.loop-at.invariant.sweeping c.in-Some.at c.in-Some.ensures.tried c.at-actor.result stands behind c.step_past.result c.step_past.new.self c.step_past.new.feed c.step_past.ensures.step c.step_past.ensures.gathers c.step_past.ensures.join c.in-Did.is c.loop-at.invariant.settled c.step_past.ensures.goes) (swept-within g.F.Feed.gives g.F.Feed.ready g.D.Drain.takes g.F.Feed.state g.J.Join.predicate c.args.self.now c.args.feed.now c.args.drain.now c.loop-at.place c.loop-at.self c.loop-at.feed c.loop-at.drain c.loop-at.invariant.sweeping c.in-Some.at c.in-Some.ensures.tried c.at-actor.result stands behind c.step_past.result c.step_past.new.self c.step_past.new.feed c.step_past.ensures.step c.step_past.ensures.gathers c.step_past.ensures.join c.in-Did.is);
       settled = swept-settled g.F.Feed.gives g.F.Feed.ready g.D.Drain.takes g.F.Feed.state g.J.Join.predicate c.args.self.now c.args.feed.now c.args.drain.now c.loop-at.place c.loop-at.self c.loop-at.feed c.loop-at.drain c.loop-at.invariant.sweeping c.in-Some.at c.in-Some.ensures.tried c.at-actor.result stands behind c.step_past.result c.step_past.new.self c.step_past.new.feed c.step_past.ensures.step c.step_past.ensures.gathers c.step_past.ensures.join c.in-Did.is c.in_default-actor.not-Collect c.loop-at.invariant.settled;
       going = (did-over g.F.Feed.gives g.F.Feed.ready (g.J.Join.predicate c.loop-at.self.join) c.at-actor.result c.loop-at.self.state c.loop-at.feed c.step_past.result c.step_past.new.self.state c.step_past.new.feed c.step_past.ensures.step c.in-Did.is ∙ c.loop-at.invariant.going);
       idle = omega arith;
