@@ -32,11 +32,15 @@ struct TwoRows {
 }
 
 impl Feed<Row> for TwoRows {
-    ghost gives = { λ old answer new. Unit {0} };
+    ghost use Rattle.hj_msg.specs.Feed.{Answers};
+
+    ghost gives = { λ old answer new. Answers answer (rows_given old.first old.given old.stopped) (rows_given new.first new.given new.stopped) };
 
     ghost state = { λ f. rows_given f.first f.given f.stopped };
 
     ghost ready = { λ f. f.ready };
+
+    ghost told = { λ old answer new given. given };
 
     fn next(&mut self) -> Given<Row> {
         if self.given == 2 || self.stopped {

@@ -79,11 +79,15 @@ impl<'a> SilentSide<'a> {
 }
 
 impl<'a> Feed<Row> for SilentSide<'a> {
-    ghost gives = { λ old answer new. Unit {0} };
+    ghost use Rattle.hj_msg.specs.Feed.{Answers};
+
+    ghost gives = { λ old answer new. Answers answer (silence_given old.given old.stopped) (silence_given new.given new.stopped) };
 
     ghost state = { λ f. silence_given f.given f.stopped };
 
     ghost ready = { λ f. (f.given == 3) || (f.given == 6) };
+
+    ghost told = { λ old answer new given. given };
 
     fn next(&mut self) -> Given<Row> {
         let early = is_early(self.given, self.pairs.get());

@@ -51,11 +51,15 @@ impl Rounds {
 }
 
 impl Feed<Row> for Rounds {
-    ghost gives = { λ old answer new. Unit {0} };
+    ghost use Rattle.hj_msg.specs.Feed.{Answers};
+
+    ghost gives = { λ old answer new. Answers answer (rounds_given old.left old.right old.given old.most old.stopped) (rounds_given new.left new.right new.given new.most new.stopped) };
 
     ghost state = { λ f. rounds_given f.left f.right f.given f.most f.stopped };
 
     ghost ready = { λ f. f.ready };
+
+    ghost told = { λ old answer new given. given };
 
     fn next(&mut self) -> Given<Row> {
         if self.given >= self.most || self.stopped {
