@@ -117,6 +117,7 @@ fn serve_order<T: Threads + Wait + Clock + Sync, O: Outside, K: Sink, N: Sink, G
                 rt: parties.rt,
                 size,
                 kept: size.kept(parties.rt),
+                takes_back: false,
                 gate: parties.gate,
             };
             let ended = run_on_threads(alloc, asked, &plan, outside, out);

@@ -215,6 +215,7 @@ fn runs_on_threads<T: Abort + Threads + Wait + Clock + Sync, G: Gate + Sync>(
         rt,
         size,
         kept: size.kept(rt),
+        takes_back: false,
         gate,
     };
     let stores = Stores {

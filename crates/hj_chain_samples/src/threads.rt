@@ -206,6 +206,7 @@ fn run_whole<T: Abort + Threads + Wait + Clock + Sync, G: Gate + Sync>(
         rt,
         size,
         kept: size.kept(rt),
+        takes_back: false,
         gate,
     };
     let (fin, feed, drain) = run(alloc, &plan, rounds, spins)?;
@@ -283,6 +284,7 @@ fn threads_come_back_for_want_of_memory(rt: HostRuntime) -> Result<(), Fail> {
                     rt: &rt,
                     size,
                     kept: threads / 2,
+                    takes_back: false,
                     gate: &OpenGate,
                 };
                 let rounds = Rounds::new(400, true, UNSHARED);

@@ -82,3 +82,7 @@ module _ {P J L R : Type 0} where
         team-stays_on team one.0 back one.2 (last_stays own with more left one.0 back pushed same taken),
         others_stay own with more left one.0 back pushed same taken,
       )
+
+  -- where none was there before, those that came back are all
+  pub all-back : (teams old new : List (Team P J L R)) → old ≡ [] → AppendsTeams teams old new → AllZip TeamStays teams new
+  all-back teams old new none more = subst (AllZip TeamStays teams) (sym (more.behind ∙ ap (λ (l : List (Team P J L R)). l ++ more.back) none)) more.same

@@ -1,23 +1,26 @@
 //! The calling thread of a run: its rounds, and the turns of the workers for which no thread was started.
-ghost use Rattle.std.specs.Prelude.{◌≤◌, length};
+ghost use Rattle.std.specs.Prelude.{◌≤◌, length, MatchOption};
 ghost use Rattle.std.specs.List.{AllZip};
+ghost use Rattle.hj_desk.specs.declared.caller.Round.TheVariants.{GotOn};
 ghost use Rattle.hj_desk.specs.Caller.{Ends, GoesRound};
 ghost use Rattle.hj_desk.specs.Desk.{Stands};
 ghost use Rattle.hj_crew.specs.Teams.{TeamStays};
 
-use crate::bell::{Awaits, Bell};
+use crate::bell::Awaits;
+use crate::levels::Shared;
 use crate::pause::Pause;
 use crate::team::{Progress, Signals, Team};
 use hj_base::{Gate, Share};
 use hj_desk::{Caller, Round};
 use hj_msg::{Drain, Feed, Fin, Join, Store};
 use std::sync::Wait;
-use std::sync::atomic::{AtomicBool, Ordering};
+use std::sync::atomic::Ordering;
 use std::time::Clock;
 
 /// Makes rounds until the run has ended, and tells how. Between them it turns the teams of its `own`. After a round that got on it
-/// rings the threads that get these signals, where they may wait for what it did. It waits at its own bell. Once the run has ended,
-/// the flag `stop` is set, and every thread is woken.
+/// rings the threads, where they may wait for what it did. It waits at its own bell. Where the calling thread is to take the teams
+/// back and other programs want the processors, it answers None before the run has ended. With each answer every thread was told to
+/// hand back its team.
 pub(crate) fn drive<
     P: Share + Drop,
     J: Join<P> + Drop,
@@ -28,35 +31,67 @@ pub(crate) fn drive<
     G: Gate,
     T: Wait + Clock,
 >(
-    rt: &T,
+    shared: &Shared<'_, G, T>,
     caller: &mut Caller<P, F, D>,
     own: &mut [Team<P, J, L, R>],
-    stop: &AtomicBool,
-    bell: &Bell,
-    signals: &[Signals],
-    gate: &G,
-) -> Fin
+) -> Option<Fin>
     requires stands { Stands caller.old.desk (F.state caller.old.feed) }
     requires few { length caller.old.desk.reports.items ≤ 64 }
-    ensures ends { Ends F.gives F.state D.takes result caller.old caller.new }
+    ensures goes { MatchOption result (GoesRound F.gives F.state D.takes GotOn caller.old caller.new)
+        (λ fin. Ends F.gives F.state D.takes fin caller.old caller.new) }
     ensures own { AllZip TeamStays own.old own.new }
 {
-    let mut pause = Pause::new(bell);
-    for _ in rt.forever() {
-        match round_of_all(caller, own, gate) {
+    let mut pause = Pause::new(shared.bell);
+    for _ in shared.rt.forever() {
+        match round_of_all(caller, own, shared.gate) {
             Round::Over(fin) => {
-                stop.store(true, Ordering::SeqCst);
-                wake_all(signals);
-                return fin;
+                call_back(shared);
+                return Some(fin);
             }
             Round::GotOn => {
-                ring_teams(signals);
+                ring_teams(shared.signals);
                 pause.reset();
             }
-            Round::Waits => pause.wait(rt, Awaits::Message),
+            Round::Waits if shared.takes_back && pause.is_crowded() => {
+                call_back(shared);
+                return None;
+            }
+            Round::Waits => pause.wait(shared.rt, Awaits::Message),
         }
     }
     unreachable!()
+}
+
+/// Makes rounds until the run has ended, and tells how. Between them it turns these teams, which are all: no thread turns one.
+pub(crate) fn drive_alone<
+    P: Share + Drop,
+    J: Join<P> + Drop,
+    L: Store<P, J> + Drop,
+    R: Store<P, J> + Drop,
+    F: Feed<P>,
+    D: Drain<P>,
+    G: Gate,
+    T: Wait,
+>(rt: &T, caller: &mut Caller<P, F, D>, teams: &mut [Team<P, J, L, R>], gate: &G) -> Fin
+    requires stands { Stands caller.old.desk (F.state caller.old.feed) }
+    requires few { length caller.old.desk.reports.items ≤ 64 }
+    ensures ends { Ends F.gives F.state D.takes result caller.old caller.new }
+    ensures teams { AllZip TeamStays teams.old teams.new }
+{
+    for _ in rt.forever() {
+        match round_of_all(caller, teams, gate) {
+            Round::Over(fin) => return fin,
+            Round::GotOn => (),
+            Round::Waits => (),
+        }
+    }
+    unreachable!()
+}
+
+/// Tells every thread to hand back its team.
+fn call_back<G, T>(shared: &Shared<'_, G, T>) {
+    shared.stop.store(true, Ordering::SeqCst);
+    wake_all(shared.signals);
 }
 
 /// Wakes each thread.

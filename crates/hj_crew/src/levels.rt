@@ -1,7 +1,8 @@
 //! The threads of a run: each is started by a level of its own, which joins it again.
 ghost use Rattle.std.specs.Prelude.{◌≡◌, ◌+◌, ◌<◌, ◌≤◌, ◌∷◌, ◌++◌, [], length, vec_capacity, vec_len, IfErr, IfOk, IfNone, MatchOption};
 ghost use Rattle.std.specs.List.{AllZip};
-ghost use Rattle.hj_desk.specs.Caller.{Ends};
+ghost use Rattle.hj_desk.specs.declared.caller.Round.TheVariants.{GotOn};
+ghost use Rattle.hj_desk.specs.Caller.{Ends, GoesRound};
 ghost use Rattle.hj_desk.specs.Desk.{Stands};
 ghost use Rattle.hj_crew.specs.Teams.{AppendsTeams, TeamStays};
 
@@ -35,7 +36,7 @@ type Child<P, J, L, R> = PromisedHandle<Team<P, J, L, R>, SameTeam<Team<P, J, L,
 #[derive(Drop)]
 pub(crate) struct Shared<'s, G, T> {
     pub(crate) rt: &'s T,
-    /// Whether the run is over.
+    /// Whether the threads are to hand back their teams.
     pub(crate) stop: &'s AtomicBool,
     /// What the thread of each team is told.
     pub(crate) signals: &'s [Signals],
@@ -43,12 +44,14 @@ pub(crate) struct Shared<'s, G, T> {
     pub(crate) bell: &'s Bell,
     /// How many teams, the first ones, the calling thread turns itself.
     pub(crate) kept: usize,
+    /// Whether the calling thread takes the teams back where other programs want the processors.
+    pub(crate) takes_back: bool,
     pub(crate) gate: &'s G,
 }
 
 /// Starts a thread for the last of these teams, does so for the others, and lets the calling thread run once no team
 /// is left. Then the team comes back, behind those that are `done`. Where no thread can be made, or the calling thread
-/// is to turn the team, that goes among its `own` until the run is over.
+/// is to turn the team, that goes among its `own` until then. Returns how the run ended, or None where it goes on without threads.
 pub(crate) fn levels<
     's,
     E,
@@ -67,33 +70,26 @@ pub(crate) fn levels<
     teams: &mut Vec<Team<P, J, L, R>>,
     own: &mut Vec<Team<P, J, L, R>>,
     done: &mut Vec<Team<P, J, L, R>>,
-) -> Fin
+) -> Option<Fin>
     requires stands { Stands caller.old.desk (F.state caller.old.feed) }
     requires cores { length caller.old.desk.reports.items ≤ 64 }
     requires signals { vec_len teams.old ≤ length shared.now.signals.now }
     requires few { length shared.now.signals.now ≤ 64 }
     requires done_room { vec_len done.old + vec_len teams.old ≤ vec_capacity done.old }
     requires own_room { vec_len own.old + vec_len teams.old ≤ vec_capacity own.old }
-    ensures ends { Ends F.gives F.state D.takes result caller.old caller.new }
+    ensures goes { MatchOption result (GoesRound F.gives F.state D.takes GotOn caller.old caller.new)
+        (λ fin. Ends F.gives F.state D.takes fin caller.old caller.new) }
     ensures own { AllZip TeamStays own.old.items own.new.items }
     ensures done { AppendsTeams teams.old.items done.old.items done.new.items }
     ensures done_capacity { vec_capacity done.new ≡ vec_capacity done.old }
 {
     let Some(team) = teams.pop() else {
-        return drive(
-            shared.rt,
-            caller,
-            own.as_mut_slice(),
-            shared.stop,
-            shared.bell,
-            shared.signals,
-            shared.gate,
-        );
+        return drive(shared, caller, own.as_mut_slice());
     };
     let child = start_or_keep(scope, shared, teams.len(), team, own);
-    let fin = levels(scope, shared, caller, teams, own, done);
+    let ended = levels(scope, shared, caller, teams, own, done);
     done.push_reserved(take_back(shared.rt, child, own));
-    fin
+    ended
 }
 
 /// Takes back a team: from its thread, once that has ended, or where it has none the last one of the calling thread's

@@ -1,5 +1,5 @@
 //! How a chain is run on threads.
-ghost use Rattle.std.specs.Prelude.{◌≤◌};
+ghost use Rattle.std.specs.Prelude.{◌≡◌, ◌≤◌};
 
 use hj_base::ChainSize;
 use std::thread::{Threads, available_parallelism};
@@ -33,8 +33,27 @@ pub struct CrewPlan<'r, T, G> {
     pub size: CrewSize,
     /// How many teams, the first ones, the calling thread turns itself.
     pub kept: u16,
+    /// Whether the calling thread takes all teams back, and turns them itself from then on, where other programs want the
+    /// processors. That pays where the cores have little to do.
+    pub takes_back: bool,
     /// Is passed before each turn of a core.
     pub gate: &'r G,
+}
+
+impl<'r, T, G> CrewPlan<'r, T, G> {
+    /// Returns the plan for cores that have little to do: where other programs want the processors, the calling thread turns all
+    /// cores from then on.
+    pub fn for_light_cores(&self) -> Self
+        ensures { result.size.chain ≡ self.now.size.chain }
+    {
+        CrewPlan {
+            rt: self.rt,
+            size: self.size,
+            kept: self.kept,
+            takes_back: true,
+            gate: self.gate,
+        }
+    }
 }
 
 /// Holds the stores of a chain's cores: a left one and a right one for each, by the place of the core.

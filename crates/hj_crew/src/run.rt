@@ -13,6 +13,7 @@ ghost use Rattle.hj_crew.specs.Teams.{TeamStays};
 
 use crate::bell::Bell;
 use crate::closing::close_crew;
+use crate::drive::drive_alone;
 use crate::levels::{Shared, levels};
 use crate::making::Crew;
 use crate::plan::{CrewPlan, Stores};
@@ -211,6 +212,7 @@ fn run_in_scope<
         signals,
         bell: &bell,
         kept: usize::from(plan.kept),
+        takes_back: plan.takes_back,
         gate: plan.gate,
     };
     scoped(&shared, begun)
@@ -240,7 +242,8 @@ fn scoped<
     )
 }
 
-/// Starts the thread of each team, makes the calling thread's rounds, and joins the threads.
+/// Starts the thread of each team, makes the calling thread's rounds, and joins the threads. Where the run goes on then, the calling
+/// thread turns all teams.
 fn all_levels<
     's,
     E,
@@ -266,10 +269,39 @@ fn all_levels<
         mut own,
         mut done,
     } = begun;
-    let fin = levels(scope, shared, &mut caller, &mut teams, &mut own, &mut done);
-    Returned {
-        caller,
-        teams: done,
-        fin,
+    let ended = levels(scope, shared, &mut caller, &mut teams, &mut own, &mut done);
+    match ended {
+        Some(fin) => Returned {
+            caller,
+            teams: done,
+            fin,
+        },
+        None => run_alone(shared, caller, done),
     }
+}
+
+/// Lets the calling thread turn all teams of a run, up to its end.
+fn run_alone<
+    P: Share + Drop,
+    J: Join<P> + Drop,
+    L: Store<P, J> + Drop,
+    R: Store<P, J> + Drop,
+    F: Feed<P>,
+    D: Drain<P>,
+    G: Gate,
+    T: Wait,
+>(
+    shared: &Shared<'_, G, T>,
+    caller: Caller<P, F, D>,
+    teams: Vec<Team<P, J, L, R>>,
+) -> Returned<P, J, L, R, F, D>
+    requires stands { Stands caller.desk (F.state caller.feed) }
+    requires few { length caller.desk.reports.items ≤ 64 }
+    ensures ends { Ends F.gives F.state D.takes result.fin caller result.caller }
+    ensures teams { AllZip TeamStays teams.items result.teams.items }
+{
+    let mut caller = caller;
+    let mut teams = teams;
+    let fin = drive_alone(shared.rt, &mut caller, teams.as_mut_slice(), shared.gate);
+    Returned { caller, teams, fin }
 }

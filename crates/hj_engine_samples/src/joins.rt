@@ -329,6 +329,7 @@ fn joins_neighbours_on_threads_one_event_at_a_time(rt: HostRuntime) -> Result<()
                 threads: 4,
             },
             kept: 0,
+            takes_back: false,
             gate: &OpenGate,
         };
         let (ended, written) = joined_on_threads(rt.alloc(), &plan, NEIGHBOURS)?;
@@ -352,6 +353,7 @@ fn joins_trades_with_quotes_on_three_threads(rt: HostRuntime) -> Result<(), Fail
                 threads: 3,
             },
             kept,
+            takes_back: false,
             gate: &OpenGate,
         };
         let (ended, written) = joined_on_threads(rt.alloc(), &plan, TRADES_AND_QUOTES)?;
@@ -413,6 +415,7 @@ fn turns_each_core_in_a_thread_of_its_own(rt: HostRuntime) -> Result<(), Fail> {
                 threads: count,
             },
             kept: 0,
+            takes_back: false,
             gate: &gate,
         };
         let (ended, written) = joined_on_threads(rt.alloc(), &plan, streams)?;
