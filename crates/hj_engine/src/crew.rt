@@ -41,11 +41,35 @@ pub(crate) fn run_crew<
         return (Err(Memory), feed, drain);
     };
     match stores {
-        PlannedStores::Hash(stores) => run_over(alloc, plan, &join, stores, feed, drain),
-        PlannedStores::Ordered(stores) => run_over(alloc, plan, &join, stores, feed, drain),
+        PlannedStores::Hash(stores) => run_light(alloc, plan, &join, stores, feed, drain),
+        PlannedStores::Ordered(stores) => run_light(alloc, plan, &join, stores, feed, drain),
         PlannedStores::Columns(stores) => run_over(alloc, plan, &join, stores, feed, drain),
         PlannedStores::List(stores) => run_over(alloc, plan, &join, stores, feed, drain),
     }
+}
+
+/// Runs a new chain on threads over these stores, which may be probed by the join, and where a probe looks at few rows.
+fn run_light<
+    J: Join<SharedRow> + Send + Drop,
+    S: Store<SharedRow, J> + Send + Drop,
+    T: Threads + Wait + Clock + Sync,
+    F: Feed<SharedRow> + Drop,
+    D: Drain<SharedRow> + Drop,
+    G: Gate + Sync,
+>(
+    alloc: Global,
+    plan: &CrewPlan<'_, T, G>,
+    join: &J,
+    stores: Stores<S, S>,
+    feed: F,
+    drain: D,
+) -> (Result<Ran<SharedRow>, Memory>, F, D)
+    requires fresh { IsFresh (F.state feed) }
+    requires stores { AreReady S.entries S.suits join.now plan.now.size.chain.cores stores }
+    ensures runs { IfOk result.0 (RunsOnThreads F.gives F.state D.takes (J.predicate join.now) plan.now.size.chain.cores plan.now.size.chain.flight feed result.1 drain result.2) }
+    ensures refused { OnErr result.0 ((result.1 ≡ feed) × (result.2 ≡ drain)) }
+{
+    run_over(alloc, &plan.for_light_cores(), join, stores, feed, drain)
 }
 
 /// Runs a new chain on threads over these stores, which may be probed by the join.
