@@ -114,7 +114,7 @@ pub(crate) struct Signals {
 }
 
 impl Signals {
-    /// Makes a pile to which none was given yet.
+    /// Makes those of a team that has a thread.
     pub(crate) fn new() -> Self {
         Signals {
             leave: AtomicBool::new(false),
