@@ -1,4 +1,5 @@
-ghost use Rattle.std.specs.Prelude.{◌≡◌, ◌-ℤ◌, [], OnOk, int_le, pos};
+ghost use Rattle.std.specs.Prelude.{◌≡◌, ◌-ℤ◌, List, [], if◌then◌else◌, OnOk, int_le, pos};
+ghost use Rattle.hj_value.specs.declared.field.Field.{Field};
 ghost use Rattle.hj_event.specs.Rows.{put_in};
 ghost use Rattle.hj_event.specs.Timed.{timed_rows, AreTimed};
 ghost use Rattle.hj_event.specs.Waiting.{first_time, last_time, is_before, has_sure, AreInOrder, TakesFirst, TakesSure};
@@ -84,36 +85,18 @@ impl Waiting {
         ensures takes { TakesSure result slack greatest self.old self.new }
         ensures in_order { AreInOrder self.old }
     {
-        if self.has_sure(slack, greatest) {
-            self.take()
-        } else {
-            None
-        }
-    }
-
-    /// Returns whether the first row is sure: its time is at most the greatest one less the slack.
-    #[inline(always)]
-    fn has_sure(&self, slack: u64, greatest: Option<i64>) -> bool
-        ensures sure { result ≡ has_sure slack greatest self.now }
-        ensures in_order { AreInOrder self.now }
-    {
-        let Some(time) = self.first_time() else {
-            return false;
-        };
-        let Some(greatest) = greatest else {
-            return false;
-        };
-        is_sure(slack, greatest, time)
-    }
-
-    /// Returns the time of the first row; None where there is none.
-    fn first_time(&self) -> Option<i64>
-        ensures time { result ≡ first_time self.now }
-        ensures in_order { AreInOrder self.now }
-    {
-        let queue = first_time(&self.queue);
         let late = self.late.first_time();
-        if is_before(late, queue) { late } else { queue }
+        let queue = first_time(&self.queue);
+        let is_late = is_before(late, queue);
+        let time = first_of(is_late, late, queue);
+        if !has_sure(slack, greatest, time) {
+            return None;
+        }
+        if is_late {
+            return self.late.take();
+        }
+        let first = self.queue.pop_front()?;
+        Some(first.row)
     }
 }
 
@@ -143,6 +126,23 @@ fn is_before(time: Option<i64>, other: Option<i64>) -> bool
         (Some(time), Some(other)) => time < other,
         _ => false,
     }
+}
+
+/// Returns the first of two times, where it is told which one that is.
+fn first_of(is_first: bool, time: Option<i64>, other: Option<i64>) -> Option<i64>
+    ensures { result ≡ (if is_first then time else other) }
+{
+    if is_first { time } else { other }
+}
+
+/// Returns whether the first of some rows, which has this time, is sure; false where there is none.
+fn has_sure(slack: u64, greatest: Option<i64>, first: Option<i64>) -> bool
+    ensures { (rows : List (List Field)) → first ≡ first_time rows → result ≡ has_sure slack greatest rows }
+{
+    let (Some(greatest), Some(time)) = (greatest, first) else {
+        return false;
+    };
+    is_sure(slack, greatest, time)
 }
 
 /// Returns whether a time is at most the greatest one less the slack.
