@@ -292,6 +292,12 @@ tells_next reading None waiting known some is = absurd (true≢false (sym some))
 tells_next reading (Some row) waiting known some is =
     subst (λ (k : Ahead). IsTold (source reading (row ∷ waiting) (refused_in k))) (sym is.0) (inr (inr (tells_sure reading (row ∷ waiting) is.1)))
 
+-- The next row tells what comes next, or what is known of what comes behind.
+pub tells_either : (reading : Reading) (next : Option (List Field)) (waiting : List (List Field)) (known : Ahead) → (is_some next ≡ false → known ≡ ahead.Unknown → ⊥) → IsKnown known reading → IsNext next reading known
+    → IsTold (source reading (option_to_list next ++ waiting) (refused_in known))
+tells_either reading None waiting known more is first = tells_known reading waiting known (more refl) is
+tells_either reading (Some row) waiting known more is first = tells_next reading (Some row) waiting known refl first
+
 -- Where more is known than of the next row, that is not known.
 pub not_next : (next : Option (List Field)) (side : Reading) (known : Ahead) → (known ≡ ahead.Unknown → ⊥) → IsNext next side known → next ≡ None
 not_next None side known more is = refl

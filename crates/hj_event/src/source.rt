@@ -1,4 +1,5 @@
-ghost use Rattle.std.specs.Prelude.{◌≡◌, ◌≢◌, IsTrue, List, ℕ, [], false, true, OnOk};
+ghost use Rattle.std.specs.Prelude.{◌≡◌, ◌≢◌, IsTrue, List, ℕ, [], false, true, is_some, OnOk};
+ghost use Rattle.hj_event.specs.declared.source.Ahead.TheVariants as known;
 ghost use Rattle.hj_base.specs.Outside.{role_of, ChangesOnly};
 ghost use Rattle.hj_record.specs.Pieces.{Stream};
 ghost use Rattle.hj_event.specs.Roles.{IsInStep};
@@ -119,7 +120,7 @@ impl Source {
         ensures known { IsTrue result → IsTold (unseen self.now) }
         ensures unknown { result ≡ false → self.now.stop ≡ None }
     {
-        self.next.is_some() || !matches!(self.ahead, Ahead::Unknown)
+        is_known(&self.next, &self.ahead)
     }
 
     /// Goes on by a piece of what was read, or by a row that waits.
@@ -193,7 +194,7 @@ impl Source {
         ensures goes_on { GoesOn (found_by result) self.old self.new }
         ensures slack { self.new.reading.slack ≡ self.old.reading.slack }
     {
-        if self.next.is_some() || !matches!(self.ahead, Ahead::Unknown) {
+        if is_known(&self.next, &self.ahead) {
             return Ok(false);
         }
         match self.reader.advance() {
@@ -219,10 +220,20 @@ impl Source {
         requires late { self.old.reading.slack ≢ 0 }
         ensures same { self.new ≡ self.old }
     {
-        if self.next.is_none() && matches!(self.ahead, Ahead::Unknown) {
+        if !is_known(&self.next, &self.ahead) {
             self.next = take_sure(&self.reader, &mut self.waiting);
         }
     }
+}
+
+/// Returns whether the next row is known, or what comes after those that wait.
+#[inline(always)]
+fn is_known(next: &Option<SharedRow>, ahead: &Ahead) -> bool
+    ensures known { result ≡ true → is_some next.now ≡ false → ahead.now ≢ known.Unknown }
+    ensures next { result ≡ false → is_some next.now ≡ false }
+    ensures ahead { result ≡ false → ahead.now ≡ known.Unknown }
+{
+    next.is_some() || !matches!(ahead, Ahead::Unknown)
 }
 
 /// Takes the first row that waits, if it is sure by what was read; None where there is none that is.

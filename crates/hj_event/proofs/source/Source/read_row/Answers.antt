@@ -1,4 +1,4 @@
-use Rattle.std.proofs.Common.{Ok, subst, sym, ◌∙◌}
+use Rattle.std.proofs.Common.{Ok, subst}
 use Rattle.hj_event.specs.declared.stop.Found.{Found}
 use Rattle.hj_event.specs.declared.stop.Found.TheVariants as found
 use Rattle.hj_event.specs.Taking.{Advances, refused_in}
@@ -12,10 +12,10 @@ returns-in-Ok-More-clause-goes_on c =
     let going = (rw (← c.self.view_is) at c.requires.going) in
     rw (← c.self.view_is)
     (looks old.reader c.advance.new.self old.next old.waiting c.take_sure-in-Ok-More.new.waiting c.take_sure-in-Ok-More.result (refused_in old.ahead) c.is_none.result
-    (sym c.is_some.ensures ∙ c.if-is_some.false) going c.take_sure-in-Ok-More.ensures.in_order c.take_sure-in-Ok-More.ensures.takes c.is_none.ensures more)
+    (c.is_known.ensures.next c.if-is_known.false) going c.take_sure-in-Ok-More.ensures.in_order c.take_sure-in-Ok-More.ensures.takes c.is_none.ensures more)
 
 pub invariant_of-self-in-Ok-End : goal.invariant_of-self-in-Ok-End
 invariant_of-self-in-Ok-End c =
     let old = c.self.inside in
     let ends : Advances (Ok found.End) old.reader c.advance.new.self = subst (λ (f : Found). Advances (Ok f) old.reader c.advance.new.self) c.in-Ok-End.field-0-is c.in-Ok-End.ensures in
-    kept_at_end old.reader c.advance.new.self old.next old.waiting (sym c.is_some.ensures ∙ c.if-is_some.false) (rw (← c.self.view_is) at c.requires.late) ends
+    kept_at_end old.reader c.advance.new.self old.next old.waiting (c.is_known.ensures.next c.if-is_known.false) (rw (← c.self.view_is) at c.requires.late) ends
