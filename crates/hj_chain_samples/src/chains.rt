@@ -1,16 +1,18 @@
-ghost use Rattle.std.specs.Prelude.{◌≡◌, ◌≤◌, IfOk};
+//! Steps of a chain of two cores, and serial runs of it.
+
+ghost use Rattle.std.specs.Prelude.{◌≡◌, ◌≤◌};
+ghost use Rattle.hj_msg.specs.Feed.{FeedState};
 ghost use Rattle.hj_chain_samples.specs.TwoRows.{all_match, other_side, rows_given};
 ghost use Rattle.hj_chain.specs.Steps.{GoesWith};
 
-use crate::rows::{Cross, Row};
-use hj_base::{CoreNo, EventNo, Gate, Memory, Share, Side};
+use crate::rows::{Cross, Row, stores};
+use hj_base::{CoreNo, EventNo, Gate, Share, Side};
 use hj_chain::{Actor, Chain, Chooser, Stepped};
 use hj_msg::{Drain, Drained, Event, Feed, Fin, Given, Join, Pair, Store};
 use hj_rows::ListStore;
 use std::alloc::Global;
 use std::cell::Cell;
 use std::process::Abort;
-use std::test::Fail;
 
 fn other(side: Side) -> Side
     ensures { result ≡ other_side side }
@@ -23,7 +25,7 @@ fn other(side: Side) -> Side
 
 /// Gives a row of one side, then one of the other side. Its next answer is there always, or never before it is asked.
 #[derive(Drop)]
-struct TwoRows {
+pub(crate) struct TwoRows {
     first: Side,
     ready: bool,
     given: u64,
@@ -66,19 +68,28 @@ impl Feed<Row> for TwoRows {
     }
 }
 
-type RowChain = Chain<Row, Cross, ListStore<Row>, ListStore<Row>>;
+pub(crate) type RowChain = Chain<Row, Cross, ListStore<Row>, ListStore<Row>>;
 
-fn two_cores(alloc: Global, flight: u16, feed: &mut TwoRows) -> Result<RowChain, Memory>
+/// Makes a chain of this many cores before a feed that has given nothing.
+pub(crate) fn chain_of(
+    rt: &impl Abort,
+    alloc: Global,
+    cores: u16,
+    flight: u16,
+    feed: &mut TwoRows,
+) -> RowChain
+    requires cores { (1 ≤ cores) × (cores ≤ 64) }
     requires flight { (1 ≤ flight) × (flight ≤ 256) }
     requires fresh { feed.old.given ≡ 0 }
-    ensures { IfOk result (λ chain. GoesWith all_match chain (rows_given feed.new.first feed.new.given feed.new.stopped)) }
+    ensures { GoesWith all_match result (rows_given feed.new.first feed.new.given feed.new.stopped) }
 {
-    let left = vec![in alloc; ListStore::new(alloc), ListStore::new(alloc)]?;
-    let right = vec![in alloc; ListStore::new(alloc), ListStore::new(alloc)]?;
-    Chain::new(alloc, Cross, left, right, flight, feed)
+    let left = stores(alloc, cores).expect(rt, "memory");
+    let right = stores(alloc, cores).expect(rt, "memory");
+    Chain::new(alloc, Cross, left, right, flight, feed).expect(rt, "memory")
 }
 
-fn from(side: Side) -> TwoRows
+/// Makes a feed of two rows, the first one of this side, whose next answer is there always.
+pub(crate) fn from(side: Side) -> TwoRows
     ensures { result.given ≡ 0 }
 {
     TwoRows {
@@ -113,15 +124,6 @@ fn actor(rt: &impl Abort, text: &str) -> Actor {
     }
 }
 
-/// Reads the actors of lines.
-fn actors(rt: &impl Abort, alloc: Global, lines: &str) -> Vec<Actor> {
-    let mut actors = Vec::new(alloc);
-    for line in lines.lines() {
-        actors.push(actor(rt, line)).expect(rt, "memory");
-    }
-    actors
-}
-
 /// Makes the steps of a table. A line is an actor, and the answer of its step.
 pub(crate) fn step_all<
     P: Share + Drop,
@@ -154,19 +156,51 @@ const EACH: [Actor; 9] = [
     Actor::Collect(CoreNo(1)),
 ];
 
-/// Asks each actor of two cores, in more rounds than two rows can take steps.
-fn run_to_end(chain: &mut RowChain, feed: &mut TwoRows)
+/// Makes the steps of a schedule in this many rounds: none meets want of memory.
+fn run_rounds(
+    rt: &impl Abort,
+    chain: &mut RowChain,
+    feed: &mut TwoRows,
+    schedule: &[Actor],
+    rounds: u32,
+)
     requires { GoesWith all_match chain.old (rows_given feed.old.first feed.old.given feed.old.stopped) }
     ensures { GoesWith all_match chain.new (rows_given feed.new.first feed.new.given feed.new.stopped) }
 {
-    for _round in 0..36 {
-        chain.run(&EACH, feed);
+    for _round in 0..rounds {
+        assert_eq!(rt; chain.run(schedule, feed), Stepped::Did);
     }
 }
 
 /// Returns the numbers of the left row and of the right one.
-pub(crate) fn numbers(pair: Option<Pair<Row>>) -> Option<(u64, u64)> {
+fn numbers(pair: Option<Pair<Row>>) -> Option<(u64, u64)> {
     pair.map(|pair| (pair.left_no.0, pair.right_no.0))
+}
+
+/// Returns the numbers of the pair that is given next.
+pub(crate) fn next_pair(chain: &mut RowChain) -> Option<(u64, u64)>
+    requires { (feed : FeedState) × GoesWith all_match chain.old feed }
+    ensures { (feed : FeedState) → GoesWith all_match chain.old feed → GoesWith all_match chain.new feed }
+{
+    numbers(chain.pair())
+}
+
+/// Holds a chain to be underway, with no pair that may be given.
+fn gives_none(rt: &impl Abort, chain: &mut RowChain)
+    requires { (feed : FeedState) × GoesWith all_match chain.old feed }
+    ensures { (feed : FeedState) → GoesWith all_match chain.old feed → GoesWith all_match chain.new feed }
+{
+    assert!(rt; !chain.done());
+    assert_eq!(rt; next_pair(chain), None);
+}
+
+/// Holds a chain to be done, with this pair alone to be given.
+fn gives_last(rt: &impl Abort, chain: &mut RowChain, pair: (u64, u64))
+    requires { (feed : FeedState) × GoesWith all_match chain.old feed }
+{
+    assert!(rt; chain.done());
+    assert_eq!(rt; next_pair(chain), Some(pair));
+    assert_eq!(rt; next_pair(chain), None);
 }
 
 /// After six steps AckS 1 and EndS 1 are on their way to the right, EndR 0 and S 1 to the left.
@@ -184,38 +218,35 @@ right 0: Did
 right 0: NotEnabled(Empty)
 admit: NotEnabled(Drains(2))";
 
-const REST: &str = "\
-port_left
-port_left
-port_right
-port_right
-admit
-left 0
-right 1
-left 1
-right 0
-port_left
-port_right
-collect 0
-collect 0
-collect 0
-collect 1
-collect 1
-collect 1";
+/// What is left to be done then.
+const REST: [Actor; 17] = [
+    Actor::PortLeft,
+    Actor::PortLeft,
+    Actor::PortRight,
+    Actor::PortRight,
+    Actor::Admit,
+    Actor::Core(CoreNo(0), Side::Left),
+    Actor::Core(CoreNo(1), Side::Right),
+    Actor::Core(CoreNo(1), Side::Left),
+    Actor::Core(CoreNo(0), Side::Right),
+    Actor::PortLeft,
+    Actor::PortRight,
+    Actor::Collect(CoreNo(0)),
+    Actor::Collect(CoreNo(0)),
+    Actor::Collect(CoreNo(0)),
+    Actor::Collect(CoreNo(1)),
+    Actor::Collect(CoreNo(1)),
+    Actor::Collect(CoreNo(1)),
+];
 
 #[test]
-fn rows_meet_in_flight(rt: HostRuntime) -> Result<(), Fail> {
+fn rows_meet_in_flight(rt: HostRuntime) {
     let mut feed = from(Side::Left);
-    let mut chain = two_cores(rt.alloc(), 2, &mut feed)?;
+    let mut chain = chain_of(&rt, rt.alloc(), 2, 2, &mut feed);
     step_all(&rt, rt.alloc(), &mut chain, &mut feed, IN_FLIGHT);
-    assert!(rt; !chain.done());
-    assert!(rt; chain.pair().is_none());
-    let rest = actors(&rt, rt.alloc(), REST);
-    assert_eq!(rt; chain.run(&rest, &mut feed), Stepped::Did);
-    assert!(rt; chain.done());
-    assert_eq!(rt; numbers(chain.pair()), Some((0, 1)));
-    assert!(rt; chain.pair().is_none());
-    Ok(())
+    gives_none(&rt, &mut chain);
+    run_rounds(&rt, &mut chain, &mut feed, &REST, 1);
+    gives_last(&rt, &mut chain, (0, 1));
 }
 
 const AT_REST: &str = "\
@@ -234,18 +265,15 @@ collect 1: Did
 collect 1: NotEnabled(Empty)";
 
 #[test]
-fn rows_meet_at_rest(rt: HostRuntime) -> Result<(), Fail> {
+fn rows_meet_at_rest(rt: HostRuntime) {
     let mut feed = from(Side::Right);
-    let mut chain = two_cores(rt.alloc(), 2, &mut feed)?;
+    let mut chain = chain_of(&rt, rt.alloc(), 2, 2, &mut feed);
     step_all(&rt, rt.alloc(), &mut chain, &mut feed, AT_REST);
     // The pair was met, and is beyond the punctuation: no core reported a right row from 1 on.
-    assert!(rt; chain.pair().is_none());
-    assert!(rt; !chain.done());
-    run_to_end(&mut chain, &mut feed);
-    assert!(rt; chain.done());
-    assert_eq!(rt; numbers(chain.pair()), Some((1, 0)));
-    assert!(rt; chain.pair().is_none());
-    Ok(())
+    gives_none(&rt, &mut chain);
+    // Two rows can't take more steps than there are in so many rounds.
+    run_rounds(&rt, &mut chain, &mut feed, &EACH, 36);
+    gives_last(&rt, &mut chain, (1, 0));
 }
 
 const CAUSES: &str = "\
@@ -274,11 +302,10 @@ admit: Did
 admit: NotEnabled(Closed)";
 
 #[test]
-fn causes_in_their_order(rt: HostRuntime) -> Result<(), Fail> {
+fn causes_in_their_order(rt: HostRuntime) {
     let mut feed = from(Side::Left);
-    let mut chain = two_cores(rt.alloc(), 1, &mut feed)?;
+    let mut chain = chain_of(&rt, rt.alloc(), 2, 1, &mut feed);
     step_all(&rt, rt.alloc(), &mut chain, &mut feed, CAUSES);
-    Ok(())
 }
 
 const LATE_EVENT: &str = "\
@@ -291,16 +318,15 @@ admit: Did
 admit: NotEnabled(Drains(2))";
 
 #[test]
-fn a_late_event_is_asked_for(rt: HostRuntime) -> Result<(), Fail> {
+fn a_late_event_is_asked_for(rt: HostRuntime) {
     let mut feed = late_from(Side::Left);
-    let mut chain = two_cores(rt.alloc(), 2, &mut feed)?;
+    let mut chain = chain_of(&rt, rt.alloc(), 2, 2, &mut feed);
     step_all(&rt, rt.alloc(), &mut chain, &mut feed, LATE_EVENT);
-    Ok(())
 }
 
 /// Keeps the numbers of as many pairs as there is room for: of the last one, with how many there were.
 #[derive(Drop)]
-struct LastPair {
+pub(crate) struct LastPair {
     last: Option<(u64, u64)>,
     kept: u64,
     room: u64,
@@ -329,7 +355,7 @@ impl Drain<Row> for LastPair {
 }
 
 /// Makes a list of no pairs yet, with room for this many.
-fn room_for(room: u64) -> LastPair {
+pub(crate) fn room_for(room: u64) -> LastPair {
     LastPair {
         last: None,
         kept: 0,
@@ -370,7 +396,7 @@ fn runs_serially(rt: &impl Abort, alloc: Global, rows: TwoRows, chooser: Chooser
     requires { rows.given ≡ 0 }
 {
     let mut feed = rows;
-    let mut chain = two_cores(alloc, 2, &mut feed).expect(rt, "memory");
+    let mut chain = chain_of(rt, alloc, 2, 2, &mut feed);
     let mut drain = room_for(1);
     let gate = no_steps();
     let fin = chain.run_serial(chooser, &mut feed, &mut drain, &gate);
@@ -397,23 +423,21 @@ fn serial_runs(rt: HostRuntime) {
 }
 
 #[test]
-fn in_turn_from_the_put_on(rt: HostRuntime) -> Result<(), Fail> {
+fn in_turn_from_the_put_on(rt: HostRuntime) {
     let mut feed = from(Side::Left);
-    let mut chain = two_cores(rt.alloc(), 2, &mut feed)?;
+    let mut chain = chain_of(&rt, rt.alloc(), 2, 2, &mut feed);
     let mut drain = room_for(1);
     let gate = no_steps();
     chain.run_serial(Chooser::InTurn, &mut feed, &mut drain, &gate);
     assert_eq!(rt; gate.before.get(), Some(1));
-    Ok(())
 }
 
 #[test]
-fn a_refused_pair_ends_the_run(rt: HostRuntime) -> Result<(), Fail> {
+fn a_refused_pair_ends_the_run(rt: HostRuntime) {
     let mut feed = from(Side::Left);
-    let mut chain = two_cores(rt.alloc(), 2, &mut feed)?;
+    let mut chain = chain_of(&rt, rt.alloc(), 2, 2, &mut feed);
     let mut drain = room_for(0);
     let fin = chain.run_serial(Chooser::InTurn, &mut feed, &mut drain, &no_steps());
     assert_eq!(rt; fin, Fin::Refused);
     assert_eq!(rt; drain.refused, 1);
-    Ok(())
 }

@@ -34,36 +34,42 @@ fn left_row() -> Msg<u64> {
     }
 }
 
+/// Returns whether the first row is put.
+fn is_put(answer: &Admitted<u64>) -> bool {
+    matches!(
+        answer,
+        Admitted::Send(
+            Side::Left,
+            Msg::R {
+                no: EventNo(0),
+                row: 7
+            }
+        )
+    )
+}
+
+/// Returns whether the right row waits for the one event under way.
+fn is_held(answer: &Admitted<u64>) -> bool {
+    matches!(
+        answer,
+        Admitted::Wait(
+            Why::Flight(1),
+            Event::Arrive {
+                no: EventNo(1),
+                side: Side::Right,
+                row: 7
+            }
+        )
+    )
+}
+
 #[test]
 fn one_event_at_a_time(rt: HostRuntime) -> Result<(), Fail> {
     let mut driver = Driver::new(rt.alloc(), 2, 1)?;
     let first = driver.admit(arrival(0, Side::Left));
-    assert!(rt;
-        matches!(
-            first,
-            Admitted::Send(
-                Side::Left,
-                Msg::R {
-                    no: EventNo(0),
-                    row: 7
-                }
-            )
-        )
-    );
+    assert!(rt; is_put(&first));
     let second = driver.admit(arrival(1, Side::Right));
-    assert!(rt;
-        matches!(
-            second,
-            Admitted::Wait(
-                Why::Flight(1),
-                Event::Arrive {
-                    no: EventNo(1),
-                    side: Side::Right,
-                    row: 7
-                }
-            )
-        )
-    );
+    assert!(rt; is_held(&second));
     driver.took(Side::Right, &left_row());
     assert_eq!(rt; driver.outstanding(), 1);
     driver.took::<u64>(Side::Left, &Msg::EndR(EventNo(0)));
@@ -83,18 +89,7 @@ fn one_event_at_a_time(rt: HostRuntime) -> Result<(), Fail> {
 fn an_expiry_waits_for_its_row(rt: HostRuntime) -> Result<(), Fail> {
     let mut driver = Driver::new(rt.alloc(), 2, 2)?;
     let first = driver.admit(arrival(0, Side::Left));
-    assert!(rt;
-        matches!(
-            first,
-            Admitted::Send(
-                Side::Left,
-                Msg::R {
-                    no: EventNo(0),
-                    row: 7
-                }
-            )
-        )
-    );
+    assert!(rt; is_put(&first));
     assert_eq!(rt;
         driver.waits(&expiry_of_0()),
         Some(Why::NotMarked(EventNo(0)))

@@ -11,6 +11,8 @@ mod cores;
 #[cfg(test)]
 mod drivers;
 #[cfg(test)]
+mod gates;
+#[cfg(test)]
 mod links;
 #[cfg(test)]
 mod list_stores;
@@ -18,6 +20,8 @@ mod list_stores;
 mod messages;
 #[cfg(test)]
 mod plain_links;
+#[cfg(test)]
+mod refusing;
 #[cfg(test)]
 mod released;
 #[cfg(test)]

@@ -1,8 +1,13 @@
-ghost use Rattle.std.specs.Prelude.{◌≡◌};
+//! Rows of one number, their messages, and stores for them.
+
+ghost use Rattle.std.specs.Prelude.{◌≡◌, All, IfOk, [], length};
+ghost use Rattle.hj_rows.specs.ListStore.{resting_rows};
 ghost use Rattle.hj_chain_samples.specs.TwoRows.{all_match};
 
 use hj_base::{EventNo, Memory, Share};
 use hj_msg::{Join, Msg};
+use hj_rows::ListStore;
+use std::alloc::Global;
 use std::process::Abort;
 
 /// The number of the row that can't be shared.
@@ -70,4 +75,16 @@ pub(crate) fn sent<T: Send>(value: T) -> T
     ensures { result ≡ value }
 {
     value
+}
+
+/// Makes an empty store for each core.
+pub(crate) fn stores(alloc: Global, cores: u16) -> Result<Vec<ListStore<Row>>, Memory>
+    ensures many { IfOk result (λ stores. length stores.items ≡ cores) }
+    ensures empty { IfOk result (λ stores. All (λ store. resting_rows store ≡ []) stores.items) }
+{
+    let mut stores = Vec::with_capacity(alloc, usize::from(cores))?;
+    for _core in 0..cores {
+        stores.push(ListStore::new(alloc))?;
+    }
+    Ok(stores)
 }

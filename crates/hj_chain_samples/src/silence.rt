@@ -1,18 +1,17 @@
 //! A side that falls silent: its quiet events let out the pairs of the other side's rows.
-ghost use Rattle.std.specs.Prelude.{◌≡◌, ◌≤◌, ◌==◌, ◌||◌, IfOk};
+ghost use Rattle.std.specs.Prelude.{◌≡◌, ◌≤◌, ◌==◌, ◌||◌};
 ghost use Rattle.hj_chain.specs.Steps.{GoesWith};
-ghost use Rattle.hj_msg.specs.Feed.{IsFresh};
+ghost use Rattle.hj_msg.specs.Feed.{FeedState, IsFresh};
 ghost use Rattle.hj_chain_samples.specs.SilentSide.{event_of, silence_given};
 ghost use Rattle.hj_chain_samples.specs.TwoRows.{all_match};
 
-use crate::chains::{numbers, step_all};
-use crate::rows::{Cross, Row};
-use crate::threads::{SlowCore, stores};
+use crate::chains::{RowChain, next_pair, step_all};
+use crate::rows::{Cross, Row, stores};
+use crate::threads::SlowCore;
 use hj_base::{ChainSize, CoreNo, EventNo, Gate, Memory, OpenGate, Side};
 use hj_chain::{Actor, Chain, Chooser, Stepped};
 use hj_crew::{CrewPlan, CrewSize, Stores, run_threads};
 use hj_msg::{Drain, Drained, Event, Feed, Fin, Given, Pair};
-use hj_rows::ListStore;
 use std::alloc::Global;
 use std::cell::Cell;
 use std::process::Abort;
@@ -128,14 +127,14 @@ impl<'a> Drain<Row> for CountedPairs<'a> {
     }
 }
 
-type RowChain = Chain<Row, Cross, ListStore<Row>, ListStore<Row>>;
-
 /// Makes a chain of two cores, with room for all events of the feed.
-fn two_cores(alloc: Global, feed: &mut SilentSide<'_>) -> Result<RowChain, Memory>
+fn two_cores(rt: &impl Abort, alloc: Global, feed: &mut SilentSide<'_>) -> RowChain
     requires { IsFresh (silence_given feed.old.given feed.old.stopped) }
-    ensures { IfOk result (λ chain. GoesWith all_match chain (silence_given feed.new.given feed.new.stopped)) }
+    ensures { GoesWith all_match result (silence_given feed.new.given feed.new.stopped) }
 {
-    Chain::new(alloc, Cross, stores(alloc, 2)?, stores(alloc, 2)?, 8, feed)
+    let left = stores(alloc, 2).expect(rt, "memory");
+    let right = stores(alloc, 2).expect(rt, "memory");
+    Chain::new(alloc, Cross, left, right, 8, feed).expect(rt, "memory")
 }
 
 /// Each actor of two cores but the driver's put.
@@ -168,39 +167,51 @@ admit: Did
 admit: Did
 admit: Did";
 
+/// Puts the next event, and handles it: a quiet event, of which the driver alone is left to put the next one.
+fn put_quiet(rt: &impl Abort, chain: &mut RowChain, feed: &mut SilentSide<'_>)
+    requires { GoesWith all_match chain.old (silence_given feed.old.given feed.old.stopped) }
+    ensures { GoesWith all_match chain.new (silence_given feed.new.given feed.new.stopped) }
+{
+    assert_eq!(rt; chain.step(Actor::Admit, feed), Stepped::Did);
+    handle_all(chain, feed);
+    assert_eq!(rt; (chain.enabled(), chain.nth(0)), (1, Some(Actor::Admit)));
+}
+
+/// Holds a chain to give the pairs of the left rows 1 and 2 with the right row 0 next, and no other.
+fn gives_two(rt: &impl Abort, chain: &mut RowChain)
+    requires { (feed : FeedState) × GoesWith all_match chain.old feed }
+{
+    assert_eq!(rt; next_pair(chain), Some((1, 0)));
+    assert_eq!(rt; next_pair(chain), Some((2, 0)));
+    assert_eq!(rt; next_pair(chain), None);
+}
+
 #[test]
-fn a_quiet_event_lets_pairs_out(rt: HostRuntime) -> Result<(), Fail> {
+fn a_quiet_event_lets_pairs_out(rt: HostRuntime) {
     let pairs = Cell::new(0);
     let mut feed = SilentSide::new(&pairs);
-    let mut chain = two_cores(rt.alloc(), &mut feed)?;
+    let mut chain = two_cores(&rt, rt.alloc(), &mut feed);
     step_all(&rt, rt.alloc(), &mut chain, &mut feed, THREE_ROWS);
     handle_all(&mut chain, &mut feed);
-    assert!(rt; chain.pair().is_none());
-    assert_eq!(rt; chain.step(Actor::Admit, &mut feed), Stepped::Did);
-    handle_all(&mut chain, &mut feed);
-    assert_eq!(rt; (chain.enabled(), chain.nth(0)), (1, Some(Actor::Admit)));
-    assert_eq!(rt; numbers(chain.pair()), Some((1, 0)));
-    assert_eq!(rt; numbers(chain.pair()), Some((2, 0)));
-    assert!(rt; chain.pair().is_none());
-    Ok(())
+    assert_eq!(rt; next_pair(&mut chain), None);
+    put_quiet(&rt, &mut chain, &mut feed);
+    gives_two(&rt, &mut chain);
 }
 
 /// Runs the chain serially: the feed is asked for no event before the pairs came that the quiet events let out.
-fn runs_serially(rt: &impl Abort, alloc: Global, chooser: Chooser) -> Result<(), Memory> {
+fn runs_serially(rt: &impl Abort, alloc: Global, chooser: Chooser) {
     let pairs = Cell::new(0);
     let mut feed = SilentSide::new(&pairs);
-    let mut chain = two_cores(alloc, &mut feed)?;
+    let mut chain = two_cores(rt, alloc, &mut feed);
     let mut drain = CountedPairs { pairs: &pairs };
     let fin = chain.run_serial(chooser, &mut feed, &mut drain, &OpenGate);
     assert_eq!(rt; (fin, pairs.get(), feed.early), (Fin::Done, 4, 0));
-    Ok(())
 }
 
 #[test]
-fn pairs_come_before_the_feed_is_asked(rt: HostRuntime) -> Result<(), Fail> {
-    runs_serially(&rt, rt.alloc(), Chooser::InTurn)?;
-    runs_serially(&rt, rt.alloc(), Chooser::Seeded(1))?;
-    Ok(())
+fn pairs_come_before_the_feed_is_asked(rt: HostRuntime) {
+    runs_serially(&rt, rt.alloc(), Chooser::InTurn);
+    runs_serially(&rt, rt.alloc(), Chooser::Seeded(1));
 }
 
 /// Runs the same on threads.

@@ -1,17 +1,16 @@
-ghost use Rattle.std.specs.Prelude.{◌≡◌, ◌≤◌, None, All, IfOk, [], length};
+ghost use Rattle.std.specs.Prelude.{◌≡◌, ◌≤◌, None};
 ghost use Rattle.hj_base.specs.declared.numbers.Side.TheVariants.{Left, Right};
-ghost use Rattle.hj_rows.specs.ListStore.{resting_rows};
 ghost use Rattle.hj_chain_samples.specs.Rounds.{rounds_given};
 
-use crate::rows::{Cross, Row, UNSHARED};
+use crate::rows::{Cross, Row, UNSHARED, stores};
 use hj_base::{ChainSize, CoreNo, EventNo, Gate, Memory, OpenGate, Side};
 use hj_crew::{CrewPlan, CrewSize, Stores, run_threads};
 use hj_msg::{Drain, Drained, Event, Feed, Fin, Given, Pair};
-use hj_rows::ListStore;
 use std::alloc::Global;
 use std::hint::spin_loop;
 use std::process::Abort;
 use std::sync::Wait;
+use std::sync::atomic::{AtomicBool, AtomicU64, Ordering};
 use std::test::Fail;
 use std::thread::Threads;
 use std::time::Clock;
@@ -155,18 +154,6 @@ impl Gate for SlowCore {
     }
 }
 
-/// Makes an empty store for each core.
-pub(crate) fn stores(alloc: Global, cores: u16) -> Result<Vec<ListStore<Row>>, Memory>
-    ensures many { IfOk result (λ stores. length stores.items ≡ cores) }
-    ensures empty { IfOk result (λ stores. All (λ store. resting_rows store ≡ []) stores.items) }
-{
-    let mut stores = Vec::with_capacity(alloc, usize::from(cores))?;
-    for _core in 0..cores {
-        stores.push(ListStore::new(alloc))?;
-    }
-    Ok(stores)
-}
-
 /// Runs rounds on threads, with a drain that spins so often at each pair.
 fn run<T: Threads + Wait + Clock + Sync, G: Gate + Sync>(
     alloc: Global,
@@ -295,4 +282,51 @@ fn threads_come_back_for_want_of_memory(rt: HostRuntime) -> Result<(), Fail> {
         }
     }
     Ok(())
+}
+
+/// Counts the turns of three cores, and notes whether each was told how many its core had before.
+#[derive(Drop)]
+struct CountedTurns {
+    turns: [AtomicU64; 3],
+    astray: AtomicBool,
+}
+
+impl Gate for CountedTurns {
+    fn pass(&self, core: CoreNo, call: u64) {
+        let is_next = match self.turns.get(usize::from(core.0)) {
+            Some(turns) => turns.fetch_add(1, Ordering::SeqCst) == call,
+            None => false,
+        };
+        if !is_next {
+            self.astray.store(true, Ordering::SeqCst);
+        }
+    }
+}
+
+/// Runs ten rounds over three cores: the gate is told each turn of a core with the number of turns that the core had before.
+fn tells_each_turn<T: Abort + Threads + Wait + Clock + Sync>(rt: &T, alloc: Global, threads: u16)
+    requires { 1 ≤ threads }
+{
+    let gate = CountedTurns {
+        turns: [AtomicU64::new(0), AtomicU64::new(0), AtomicU64::new(0)],
+        astray: AtomicBool::new(false),
+    };
+    let chain = ChainSize {
+        cores: 3,
+        flight: 32,
+    };
+    let size = CrewSize { chain, threads };
+    let rounds = Rounds::new(40, true, 7);
+    run_whole(rt, alloc, size, rounds, 0, &gate).expect(rt, "memory");
+    assert!(rt; !gate.astray.load(Ordering::SeqCst));
+    for turns in &gate.turns {
+        // A turn takes one message, and each core gets those of all forty events.
+        assert!(rt; turns.load(Ordering::SeqCst) >= 40);
+    }
+}
+
+#[test]
+fn the_gate_is_told_the_turns_of_each_core(rt: HostRuntime) {
+    tells_each_turn(&rt, rt.alloc(), 1);
+    tells_each_turn(&rt, rt.alloc(), 3);
 }

@@ -1,6 +1,6 @@
 use Rattle.std.proofs.Common.{◌≡◌, [], All, length}
 use Rattle.hj_rows.specs.ListStore.{resting_rows}
-use Rattle.hj_chain_samples.proofs.threads.stores.Given as goal
+use Rattle.hj_chain_samples.proofs.rows.stores.Given as goal
 
 abbrev pub invariant-loop-core : goal.invariant-loop-core
 invariant-loop-core l = record {
