@@ -121,6 +121,7 @@ fn ends_at_the_limit(rt: HostRuntime) {
     let commands = [
         "join --max-events 3 query left right",
         "join query left --cores=1 right --max-events=3",
+        "join --max-events 3 --threads 2 query left right",
     ];
     run_once(&rt, rt.alloc(), &commands, LIMITED);
 }

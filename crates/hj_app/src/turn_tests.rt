@@ -1,9 +1,14 @@
 //! Which threads turn the cores of a chain, and how often.
-use crate::cases::{EQUI, SHORT, run};
+use crate::cases::{Chunks, EQUI, SHORT, run};
 use crate::gen_tests::ONE_ROW;
 use hj_base::{CoreNo, Gate};
+use std::alloc::Global;
+use std::process::Abort;
+use std::sync::Wait;
 use std::sync::atomic::{AtomicBool, AtomicU64, Ordering};
 use std::thread;
+use std::thread::Threads;
+use std::time::Clock;
 
 /// Two left rows and the right one between them, which matches both.
 const THREE_ROWS: &str = ";on l.k = r.k;1,7/3,7/;2,7/;1,7,2,7/3,7,2,7/;;0";
@@ -91,5 +96,44 @@ fn turns_each_core_in_a_thread_of_its_own(rt: HostRuntime) {
         };
         run(&rt, rt.alloc(), command, case, SHORT, &gate);
         assert!(rt; !gate.gave_up.load(Ordering::SeqCst));
+    }
+}
+
+/// Sums up the cores of the steps, in their order.
+#[derive(Drop)]
+struct OrderGate(AtomicU64);
+
+impl Gate for OrderGate {
+    fn pass(&self, core: CoreNo, _call: u64) {
+        let sum = self.0.load(Ordering::SeqCst).wrapping_mul(31);
+        self.0
+            .store(sum.wrapping_add(u64::from(core.0)), Ordering::SeqCst);
+    }
+}
+
+/// Returns the sum of the cores of all steps of three cores under these options, where the rows of a stream come by one read.
+fn order_under(
+    rt: &(impl Abort + Threads + Wait + Clock + Sync),
+    alloc: Global,
+    options: &str,
+) -> u64 {
+    let gate = OrderGate(AtomicU64::new(0));
+    let command = format!(in alloc; "join --cores 3 --threads 0 {options} query left right");
+    let command = command.expect(rt, "memory");
+    let chunks = Chunks {
+        read: 4_096,
+        write: 4_096,
+    };
+    run(rt, alloc, &command, THREE_ROWS, chunks, &gate);
+    gate.0.load(Ordering::SeqCst)
+}
+
+/// Shows that the seed of the schedule is handed on to the chain, and how many events may be under way.
+#[test]
+fn makes_its_steps_in_the_order_of_the_options(rt: HostRuntime) {
+    let drawn = order_under(&rt, rt.alloc(), "--schedule 1");
+    assert!(rt; order_under(&rt, rt.alloc(), "--schedule 1 --flight 32") == drawn);
+    for options in ["", "--schedule 2", "--schedule 1 --flight 1"] {
+        assert!(rt; order_under(&rt, rt.alloc(), options) != drawn, "{options}");
     }
 }
