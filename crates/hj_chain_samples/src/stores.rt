@@ -4,7 +4,7 @@ ghost use Rattle.hj_base.specs.declared.numbers.Side.TheVariants as sides;
 use crate::rows::sent;
 use hj_base::{EventNo, Side};
 use hj_columns::ColumnStore;
-use hj_eval::{QueryJoin, StorePlan, filters, plan};
+use hj_eval::{QueryJoin, ReadyQuery, StorePlan, filters, plan};
 use hj_index::{HashStore, ListStore, OrderedStore};
 use hj_msg::Store;
 use hj_query::{Query, parse};
@@ -25,10 +25,10 @@ fn query(rt: &impl Abort, alloc: Global, text: &str) -> Query {
     parse(alloc, text.as_bytes()).expect(rt, "a query")
 }
 
-fn join_of<'q>(rt: &impl Abort, alloc: Global, query: &'q Query) -> QueryJoin<'q>
+fn ready<'q>(rt: &impl Abort, alloc: Global, query: &'q Query) -> ReadyQuery<'q>
     ensures { result ≡ query.now }
 {
-    QueryJoin::new(alloc, query).expect(rt, "memory")
+    ReadyQuery::new(alloc, query).expect(rt, "memory")
 }
 
 /// Makes a row of a time and a value: a text in quotes, or a number, or `none`.
@@ -142,7 +142,8 @@ fn run_hash(rt: &impl Abort, alloc: Global, text: &str, steps: &str) {
     let StorePlan::Equal { left, right } = plan(&query) else {
         panic!(rt; "another plan");
     };
-    let join = join_of(rt, alloc, &query);
+    let ready = ready(rt, alloc, &query);
+    let join = QueryJoin::new(&ready);
     let mut store = sent(HashStore::new(alloc, left, right));
     run(rt, alloc, &mut store, &join, steps);
 }
@@ -195,7 +196,8 @@ fn run_ordered(rt: &impl Abort, alloc: Global, steps: &str) {
     else {
         panic!(rt; "another plan");
     };
-    let join = join_of(rt, alloc, &query);
+    let ready = ready(rt, alloc, &query);
+    let join = QueryJoin::new(&ready);
     let mut store = sent(OrderedStore::new(alloc, left, right, within));
     run(rt, alloc, &mut store, &join, steps);
 }
@@ -229,7 +231,8 @@ fn near_numbers_are_found(rt: HostRuntime) {
 fn run_columns(rt: &impl Abort, alloc: Global, text: &str, steps: &str) {
     let query = query(rt, alloc, text);
     let filters = filters(alloc, &query).expect(rt, "memory");
-    let join = join_of(rt, alloc, &query);
+    let ready = ready(rt, alloc, &query);
+    let join = QueryJoin::new(&ready);
     let mut store = sent(ColumnStore::new(alloc, Side::Left, filters.as_slice()).expect(
         rt, "memory",
     ));
@@ -238,7 +241,8 @@ fn run_columns(rt: &impl Abort, alloc: Global, text: &str, steps: &str) {
 
 fn run_list(rt: &impl Abort, alloc: Global, text: &str, steps: &str) {
     let query = query(rt, alloc, text);
-    let join = join_of(rt, alloc, &query);
+    let ready = ready(rt, alloc, &query);
+    let join = QueryJoin::new(&ready);
     let mut store = ListStore::new(alloc);
     run(rt, alloc, &mut store, &join, steps);
 }

@@ -7,7 +7,7 @@ ghost use Rattle.hj_engine.specs.Stores.{AreReady};
 use crate::stores::{PlannedStores, planned_stores};
 use hj_base::{Gate, Memory};
 use hj_crew::{CrewPlan, Ran, Stores, run_threads};
-use hj_eval::QueryJoin;
+use hj_eval::{QueryJoin, ReadyQuery};
 use hj_msg::{Drain, Feed, Join, Store};
 use hj_query::Query;
 use hj_value::SharedRow;
@@ -37,9 +37,10 @@ pub(crate) fn run_crew<
     let Ok(stores) = planned_stores(alloc, query, plan.size.chain.cores) else {
         return (Err(Memory), feed, drain);
     };
-    let Ok(join) = QueryJoin::new(alloc, query) else {
+    let Ok(ready) = ReadyQuery::new(alloc, query) else {
         return (Err(Memory), feed, drain);
     };
+    let join = QueryJoin::new(&ready);
     match stores {
         PlannedStores::Hash(stores) => run_light(alloc, plan, &join, stores, feed, drain),
         PlannedStores::Ordered(stores) => run_light(alloc, plan, &join, stores, feed, drain),

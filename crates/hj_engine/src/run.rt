@@ -10,7 +10,7 @@ use crate::stores::{PlannedStores, planned_stores};
 use hj_base::{ChainSize, Gate, Memory};
 use hj_chain::{Chain, Chooser};
 use hj_crew::Stores;
-use hj_eval::QueryJoin;
+use hj_eval::{QueryJoin, ReadyQuery};
 use hj_msg::{Drain, Feed, Fin, Store};
 use hj_query::Query;
 use hj_value::SharedRow;
@@ -56,24 +56,26 @@ fn run_planned<F: Feed<SharedRow>, D: Drain<SharedRow>, G: Gate>(
     ensures runs { IfOk result (λ fin. RunsJoin F.gives F.state D.takes (holds query.now) fin feed.old feed.new drain.old drain.new) }
     ensures refused { OnErr result ((feed.new ≡ feed.old) × (drain.new ≡ drain.old)) }
 {
+    let ready = ReadyQuery::new(alloc, query)?;
     match planned_stores(alloc, query, plan.size.cores)? {
-        PlannedStores::Hash(stores) => run_over(alloc, query, plan, stores, feed, drain),
-        PlannedStores::Ordered(stores) => run_over(alloc, query, plan, stores, feed, drain),
-        PlannedStores::Columns(stores) => run_over(alloc, query, plan, stores, feed, drain),
-        PlannedStores::List(stores) => run_over(alloc, query, plan, stores, feed, drain),
+        PlannedStores::Hash(stores) => run_over(alloc, &ready, plan, stores, feed, drain),
+        PlannedStores::Ordered(stores) => run_over(alloc, &ready, plan, stores, feed, drain),
+        PlannedStores::Columns(stores) => run_over(alloc, &ready, plan, stores, feed, drain),
+        PlannedStores::List(stores) => run_over(alloc, &ready, plan, stores, feed, drain),
     }
 }
 
 /// Runs a new chain over these stores.
 fn run_over<
-    'a,
-    S: Store<SharedRow, QueryJoin<'a>> + Drop,
+    'r,
+    'q,
+    S: Store<SharedRow, QueryJoin<'r>> + Drop,
     F: Feed<SharedRow>,
     D: Drain<SharedRow>,
     G: Gate,
 >(
     alloc: Global,
-    query: &'a Query,
+    query: &'r ReadyQuery<'q>,
     plan: &SerialPlan<'_, G>,
     stores: Stores<S, S>,
     feed: &mut F,
@@ -89,19 +91,19 @@ fn run_over<
 }
 
 /// Makes a chain of this size over these stores, and asks the feed for the first event.
-fn begun<'a, S: Store<SharedRow, QueryJoin<'a>> + Drop, F: Feed<SharedRow>>(
+fn begun<'r, 'q, S: Store<SharedRow, QueryJoin<'r>> + Drop, F: Feed<SharedRow>>(
     alloc: Global,
-    query: &'a Query,
+    query: &'r ReadyQuery<'q>,
     size: ChainSize,
     stores: Stores<S, S>,
     feed: &mut F,
-) -> Result<Chain<SharedRow, QueryJoin<'a>, S, S>, Memory>
+) -> Result<Chain<SharedRow, QueryJoin<'r>, S, S>, Memory>
     requires fresh { IsFresh (F.state feed.old) }
     requires stores { AreReady S.entries S.suits query.now size.cores stores }
     ensures begun { IfOk result (λ chain. IsBegun F.gives query.now chain feed.old feed.new) }
     ensures goes { IfOk result (λ chain. GoesWith holds chain (F.state feed.new)) }
     ensures refused { OnErr result (feed.new ≡ feed.old) }
 {
-    let join = QueryJoin::new(alloc, query)?;
+    let join = QueryJoin::new(query);
     Chain::new(alloc, join, stores.left, stores.right, size.flight, feed)
 }

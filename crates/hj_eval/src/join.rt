@@ -1,4 +1,4 @@
-ghost use Rattle.std.specs.Prelude.{◌≡◌, IfOk};
+ghost use Rattle.std.specs.Prelude.{◌≡◌, IfOk, IsOk};
 ghost use Rattle.hj_eval.specs.Holds.{holds};
 
 use crate::conjuncts::Conjuncts;
@@ -9,16 +9,15 @@ use hj_value::{Row, SharedRow};
 use std::alloc::Global;
 use std::marker::Model;
 
-/// The join that a query's condition makes, seen as the query and ready for many rows: the condition's parts are a list, in which
-/// those that compare two columns were looked up once.
+/// A query whose condition is ready for many rows, seen as the query: the condition's parts are a list, in which those that
+/// compare two columns were looked up once.
 #[derive(Drop)]
-pub struct QueryJoin<'a> {
-    alloc: Global,
+pub struct ReadyQuery<'a> {
     query: &'a Query,
     conjuncts: Conjuncts<'a>,
 }
 
-impl<'a> Model for QueryJoin<'a> {
+impl<'a> Model for ReadyQuery<'a> {
     ghost use Rattle.std.specs.Prelude.{◌≡◌, List};
     ghost use Rattle.hj_query.specs.Parts.{Parts};
     ghost use Rattle.hj_query.specs.contracts.pred.Pred as e;
@@ -36,13 +35,12 @@ impl<'a> Model for QueryJoin<'a> {
     ghost invariant = { λ c. (left right : List Field) → all_hold c.query.now c.conjuncts left right ≡ holds c.query.now left right };
 }
 
-impl<'a> QueryJoin<'a> {
-    /// Makes the join by the condition of `query`.
+impl<'a> ReadyQuery<'a> {
+    /// Makes the condition of `query` ready.
     pub fn new(alloc: Global, query: &'a Query) -> Result<Self, Memory>
-        ensures { IfOk result (λ join. join ≡ query.now) }
+        ensures { IfOk result (λ ready. ready ≡ query.now) }
     {
-        Ok(QueryJoin {
-            alloc,
+        Ok(ReadyQuery {
             query,
             conjuncts: Conjuncts::of(alloc, query)?,
         })
@@ -57,9 +55,40 @@ impl<'a> QueryJoin<'a> {
     }
 }
 
+/// The join that a query's condition makes, seen as the query. To share it takes no memory.
+#[derive(Drop)]
+pub struct QueryJoin<'r> {
+    ready: &'r ReadyQuery<'r>,
+}
+
+impl<'r> Model for QueryJoin<'r> {
+    ghost use Rattle.hj_query.specs.Parts.{Parts};
+    ghost use Rattle.hj_query.specs.contracts.pred.Pred as e;
+    ghost use Rattle.std.specs.Coded.{codes};
+
+    ghost Value = { Parts };
+
+    ghost coded = { Prim.hlevel (codes, e.the_row.coded) };
+
+    ghost view = { λ c. c.ready.now };
+}
+
+impl<'r> QueryJoin<'r> {
+    /// Makes the join by the condition of a query that is ready.
+    pub fn new<'q>(ready: &'r ReadyQuery<'q>) -> Self
+        ensures { result ≡ ready.now }
+    {
+        QueryJoin { ready }
+    }
+}
+
 impl Share for QueryJoin<'_> {
-    fn share(&self) -> Result<Self, Memory> {
-        QueryJoin::new(self.alloc, self.query)
+    /// Makes a value equal to this one. It takes no memory, and is never refused.
+    fn share(&self) -> Result<Self, Memory>
+        ensures equal { IfOk result (λ shared. shared ≡ self.now) }
+        ensures made { IsOk result }
+    {
+        Ok(QueryJoin { ready: self.ready })
     }
 }
 
@@ -67,6 +96,6 @@ impl Join<SharedRow> for QueryJoin<'_> {
     ghost predicate = { holds };
 
     fn matches(&self, left: &SharedRow, right: &SharedRow) -> bool {
-        self.holds(left.row(), right.row())
+        self.ready.holds(left.row(), right.row())
     }
 }

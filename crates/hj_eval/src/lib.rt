@@ -12,5 +12,5 @@ mod value;
 
 pub use condition::holds;
 pub use filter::{Filter, filters};
-pub use join::QueryJoin;
+pub use join::{QueryJoin, ReadyQuery};
 pub use store_plan::{StorePlan, plan};

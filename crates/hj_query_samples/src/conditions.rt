@@ -1,5 +1,5 @@
 use crate::texts::{long_text, query_of};
-use hj_eval::{QueryJoin, StorePlan, holds, plan};
+use hj_eval::{ReadyQuery, StorePlan, holds, plan};
 use hj_query::Query;
 use hj_value::{Field, Row, Text};
 use std::alloc::Global;
@@ -134,8 +134,8 @@ not r.k within 5 of l.k | 1 2 false";
 
 /// Returns what a query says of two rows, as it is and made ready.
 fn says(rt: &impl Abort, alloc: Global, query: &Query, left: &Row, right: &Row) -> (bool, bool) {
-    let join = QueryJoin::new(alloc, query).expect(rt, "memory");
-    (holds(query, left, right), join.holds(left, right))
+    let ready = ReadyQuery::new(alloc, query).expect(rt, "memory");
+    (holds(query, left, right), ready.holds(left, right))
 }
 
 /// Returns what a condition says of two rows of these numbers, as it is and made ready.

@@ -10,6 +10,6 @@ pub run-requires : goal.run-requires
 run-requires g c κs =
     let side : c.sent-store.result.side ≡ Left = search rules in
     let filters : c.sent-store.result.filters ≡ c.expect-filters.result.items = search rules in
-    let query : c.join_of-join.result ≡ c.query-query.result = search rules in
+    let query : c.new-join.result ≡ c.query-query.result = search rules in
     let kept : All (KeepsMatches (holds c.query-query.result)) c.expect-filters.result.items = search rules in
     ((refl, tt), (side, subst₂ (λ (query : Parts) (filters : List Filter). All (KeepsMatches (holds query)) filters) (sym query) (sym filters) kept))

@@ -7,5 +7,5 @@ use Rattle.hj_chain_samples.proofs.stores.run_hash.Goals as goal
 
 pub run-requires : goal.run-requires
 run-requires g c κs =
-    let plan : plan_of c.join_of-join.result.pred ≡ equal_plan c.in-Equal.left c.in-Equal.right Left = search rules in
-    ((refl, tt), hash_suits _ _ c.in-Equal.left c.in-Equal.right Left c.join_of-join.result (search rules) (search rules) plan (search rules))
+    let plan : plan_of c.new-join.result.pred ≡ equal_plan c.in-Equal.left c.in-Equal.right Left = search rules in
+    ((refl, tt), hash_suits _ _ c.in-Equal.left c.in-Equal.right Left c.new-join.result (search rules) (search rules) plan (search rules))

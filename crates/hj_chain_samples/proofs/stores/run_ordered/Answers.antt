@@ -7,5 +7,5 @@ use Rattle.hj_chain_samples.proofs.stores.run_ordered.Goals as goal
 
 pub run-requires : goal.run-requires
 run-requires g c κs =
-    let plan : plan_of c.join_of-join.result.pred ≡ band_plan c.in-Band.left c.in-Band.right c.in-Band.within Left = search rules in
-    ((refl, tt), ordered_suits _ _ _ c.in-Band.left c.in-Band.right c.in-Band.within Left c.join_of-join.result (search rules) (search rules) (search rules) plan (search rules))
+    let plan : plan_of c.new-join.result.pred ≡ band_plan c.in-Band.left c.in-Band.right c.in-Band.within Left = search rules in
+    ((refl, tt), ordered_suits _ _ _ c.in-Band.left c.in-Band.right c.in-Band.within Left c.new-join.result (search rules) (search rules) (search rules) plan (search rules))

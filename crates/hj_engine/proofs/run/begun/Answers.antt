@@ -5,4 +5,4 @@ use Rattle.hj_engine.proofs.run.begun.Goals as goal
 pub returns-clause-begun : goal.returns-clause-begun
 returns-clause-begun g c =
     let some : 1 ≤ length c.args.stores.left.items = omega (arith, c.requires.stores.left.count, c.args.size.some_cores) in
-    all_begun g.F.Feed.gives c.args.query.now c.in_ok-join.join (length c.args.stores.left.items) c.args.size.flight c.new-2.result c.args.feed.now c.new-2.new.feed some c.in_ok-join.ensures c.new-2.ensures.begins
+    all_begun g.F.Feed.gives c.args.query.now c.new-join.result (length c.args.stores.left.items) c.args.size.flight c.new.result c.args.feed.now c.new.new.feed some c.new-join.ensures c.new.ensures.begins

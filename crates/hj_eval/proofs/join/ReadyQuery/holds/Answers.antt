@@ -1,7 +1,7 @@
 use Rattle.std.proofs.Common.{ap, ◌∙◌}
 use Rattle.hj_query.specs.Parts.{Parts}
 use Rattle.hj_eval.specs.Holds.{holds}
-use Rattle.hj_eval.proofs.join.QueryJoin.holds.Goals as goal
+use Rattle.hj_eval.proofs.join.ReadyQuery.holds.Goals as goal
 
 pub returns : goal.returns
 returns c =
