@@ -1,0 +1,4 @@
+pub mod Drain
+pub mod Items
+pub mod Text
+pub mod Waiting
