@@ -1,0 +1,4 @@
+mod Numbers
+mod Partners
+mod Ports
+mod Streams

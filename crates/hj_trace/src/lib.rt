@@ -1,0 +1,16 @@
+//! Traces of a run of the chain on one thread: the texts of its steps, and streams that are compared with a text.
+#![tactic(auto)]
+
+mod actors;
+mod fault;
+mod line;
+mod messages;
+mod puts;
+mod stream;
+mod text;
+
+pub use actors::{push_actor, read_actor};
+pub use fault::{TraceFault, push_fault};
+pub use line::{Doing, push_front, push_reported};
+pub use messages::{push_message, push_report};
+pub use stream::{Compared, NextByte, TextStream};

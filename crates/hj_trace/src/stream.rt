@@ -1,0 +1,146 @@
+ghost use Rattle.std.specs.Prelude.{◌≡◌, ◌<◌, List, ℕ, [], false, length, drop};
+ghost use Rattle.hj_base.specs.Outside.{ChangesOnly};
+ghost use Rattle.hj_trace.specs.Stream.{Compares, GoesWith, StandsNext, Uses, look_failed};
+
+use hj_base::{Got, Outside, Role};
+use std::marker::Model;
+
+/// How many bytes one read asks for.
+const MOST_IN_READ: usize = 4_096;
+
+/// What stands next in a stream.
+#[derive(Clone, Copy, Debug, PartialEq, Eq)]
+pub enum NextByte {
+    Byte(u8),
+    /// Nothing is left.
+    End,
+    /// A read failed.
+    Failed,
+}
+
+/// How bytes compare with those of a stream.
+#[derive(Clone, Copy, Debug, PartialEq, Eq)]
+pub enum Compared {
+    Same,
+    /// So many bytes are the same; then the stream has another one, or has ended.
+    Differs(usize),
+    /// A read failed.
+    Failed,
+}
+
+/// A stream that is read in portions and used byte by byte, so that it is never held whole.
+#[derive(Drop)]
+pub struct TextStream {
+    role: Role,
+    /// What the last read gave: of its first `filled` bytes the first `used` were used.
+    portion: [u8; MOST_IN_READ],
+    used: usize,
+    filled: usize,
+    /// A read answered the end.
+    ended: bool,
+}
+
+impl Model for TextStream {
+    ghost use Rattle.std.specs.Prelude.{◌≤◌, drop, take, length};
+    ghost use Rattle.hj_trace.specs.Stream.{StreamState};
+
+    ghost Value = { StreamState };
+
+    ghost view = { λ s. record { role = s.role; unused = drop s.used (take s.filled s.portion); ended = s.ended } };
+
+    ghost invariant = { λ s. (s.used ≤ s.filled) × (s.filled ≤ length s.portion) };
+}
+
+impl TextStream {
+    /// Makes the stream of a role of which nothing was read.
+    pub fn new(role: Role) -> Self
+        ensures { result ≡ record { role = role; unused = []; ended = false } }
+    {
+        TextStream {
+            role,
+            portion: [0; MOST_IN_READ],
+            used: 0,
+            filled: 0,
+            ended: false,
+        }
+    }
+
+    /// Returns what stands next, and reads on where no byte waits. It uses nothing.
+    #[inline(always)]
+    pub fn look<O: Outside>(&mut self, outside: &mut O) -> NextByte
+        requires { GoesWith self.old (O.state outside.old self.old.role) }
+        ensures looks { Uses (look_failed result) [] self.old (O.state outside.old self.old.role) self.new (O.state outside.new self.old.role) }
+        ensures next { StandsNext result self.new }
+        ensures others { ChangesOnly self.old.role (O.state outside.old) (O.state outside.new) }
+        ensures names { (name : List ℕ) → O.under outside.new name ≡ O.under outside.old name }
+    {
+        if self.used < self.filled {
+            return NextByte::Byte(self.portion[self.used]);
+        }
+        if self.ended {
+            return NextByte::End;
+        }
+        self.look_further(outside)
+    }
+
+    /// Reads on where no byte waits and the end wasn't answered, and returns what stands next.
+    fn look_further<O: Outside>(&mut self, outside: &mut O) -> NextByte
+        requires goes { GoesWith self.old (O.state outside.old self.old.role) }
+        requires going { self.old.ended ≡ false }
+        requires none_waits { self.old.unused ≡ [] }
+        ensures looks { Uses (look_failed result) [] self.old (O.state outside.old self.old.role) self.new (O.state outside.new self.old.role) }
+        ensures next { StandsNext result self.new }
+        ensures others { ChangesOnly self.old.role (O.state outside.old) (O.state outside.new) }
+        ensures names { (name : List ℕ) → O.under outside.new name ≡ O.under outside.old name }
+    {
+        match outside.read(self.role, &mut self.portion) {
+            Got::Bytes(count) => {
+                self.used = 0;
+                self.filled = count;
+                NextByte::Byte(self.portion[0])
+            }
+            Got::End => {
+                self.used = 0;
+                self.filled = 0;
+                self.ended = true;
+                NextByte::End
+            }
+            Got::Failed => {
+                self.used = 0;
+                self.filled = 0;
+                NextByte::Failed
+            }
+        }
+    }
+
+    /// Uses the byte that stands next.
+    #[inline(always)]
+    pub fn skip(&mut self)
+        requires { 0 < length self.old.unused }
+        ensures { self.new ≡ record self.old { unused = drop 1 self.old.unused } }
+    {
+        self.used += 1;
+    }
+
+    /// Compares bytes with those that stand next, up to the first that differs, and uses those that are the same.
+    pub fn compare<O: Outside>(&mut self, expected: &[u8], outside: &mut O) -> Compared
+        requires { GoesWith self.old (O.state outside.old self.old.role) }
+        ensures compares { Compares result expected.now self.old (O.state outside.old self.old.role) self.new (O.state outside.new self.old.role) }
+        ensures others { ChangesOnly self.old.role (O.state outside.old) (O.state outside.new) }
+        ensures names { (name : List ℕ) → O.under outside.new name ≡ O.under outside.old name }
+    {
+        for (at, byte) in expected.iter().enumerate() {
+            match self.look(outside) {
+                NextByte::Byte(found) => {
+                    if found != *byte {
+                        return Compared::Differs(at);
+                    }
+                    self.skip();
+                }
+                NextByte::End => return Compared::Differs(at),
+                NextByte::Failed => return Compared::Failed,
+            }
+        }
+        Compared::Same
+    }
+}
