@@ -1,3 +1,4 @@
+mod Commas
 mod Numbers
 mod Partners
 mod Ports

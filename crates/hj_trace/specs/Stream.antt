@@ -8,6 +8,10 @@ use Rattle.hj_trace.specs.declared.stream.NextByte.{NextByte}
 use Rattle.hj_trace.specs.declared.stream.NextByte.TheVariants as next
 use Rattle.hj_trace.specs.declared.stream.Compared.{Compared}
 use Rattle.hj_trace.specs.declared.stream.Compared.TheVariants as compared
+use Rattle.hj_chain.specs.declared.actor.Actor.{Actor}
+use Rattle.hj_trace.specs.declared.stream.ActorFound.{ActorFound}
+use Rattle.hj_trace.specs.declared.stream.ActorFound.TheVariants as found
+use Rattle.hj_trace.specs.Actors.{IsNumbered, actor_text}
 
 pub record StreamState : Type 0 where
   pub role : Role
@@ -75,3 +79,31 @@ pub record Compares (answer : Compared) (expected : List ℕ) (old : StreamState
   pub expects : expected ≡ same ++ missing
   pub uses : Uses (compare_failed answer) same old before new now
   pub ends : EndsWith answer same missing new
+
+-- The bytes don't begin with an actor's text and a comma.
+abbrev pub BeginsWithNoActor : List ℕ → Type 0
+BeginsWithNoActor bytes = (actor : Actor) (rest : List ℕ) → IsNumbered actor → bytes ≢ actor_text actor ++ 44 ∷ rest
+
+abbrev pub actor_failed : ActorFound → Bool
+actor_failed (found.Actor actor) = false
+actor_failed found.Other = false
+actor_failed found.Failed = true
+
+-- The bytes that were used are an actor's text and a comma; or they begin with none, whatever follows those that wait: behind the
+-- end nothing does.
+abbrev pub FindsActor : ActorFound → List ℕ → StreamState → Type 0
+FindsActor (found.Actor actor) used stream = used ≡ actor_text actor ++ 44 ∷ []
+FindsActor found.Other used stream = (later : List ℕ) → (stream.ended ≡ true → later ≡ []) → BeginsWithNoActor (used ++ (stream.unused ++ later))
+FindsActor found.Failed used stream = Unit {0}
+
+-- An actor's text and a comma are read.
+pub record ReadsActor (answer : ActorFound) (old : StreamState) (before : RoleState) (new : StreamState) (now : RoleState) : Type 0 where
+  pub bytes : List ℕ
+  pub uses : Uses (actor_failed answer) bytes old before new now
+  pub finds : FindsActor answer bytes new
+
+-- a text is that of an actor, or of none
+abbrev pub IsActorOf : ActorFound → List ℕ → Type 0
+IsActorOf (found.Actor actor) text = text ≡ actor_text actor
+IsActorOf found.Other text = (actor : Actor) → IsNumbered actor → text ≢ actor_text actor
+IsActorOf found.Failed text = ⊥

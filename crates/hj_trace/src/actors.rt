@@ -10,6 +10,9 @@ use hj_chain::Actor;
 use itoa::Buffer;
 use std::str;
 
+/// The most bytes that the text of an actor has.
+pub const MOST_IN_ACTOR: usize = 7;
+
 /// Appends the text of an actor.
 pub fn push_actor(text: &mut Vec<u8>, actor: Actor) -> Result<(), Memory>
     ensures { OnOk result (text.new.items ≡ text.old.items ++ actor_text actor) }

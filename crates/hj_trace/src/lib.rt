@@ -13,4 +13,4 @@ pub use actors::{push_actor, read_actor};
 pub use fault::{TraceFault, push_fault};
 pub use line::{Doing, push_front, push_reported};
 pub use messages::{push_message, push_report};
-pub use stream::{Compared, NextByte, TextStream};
+pub use stream::{ActorFound, Compared, NextByte, TextStream};

@@ -1,8 +1,10 @@
 ghost use Rattle.std.specs.Prelude.{◌≡◌, ◌<◌, List, ℕ, [], false, length, drop};
 ghost use Rattle.hj_base.specs.Outside.{ChangesOnly};
-ghost use Rattle.hj_trace.specs.Stream.{Compares, GoesWith, StandsNext, Uses, look_failed};
+ghost use Rattle.hj_trace.specs.Stream.{Compares, GoesWith, IsActorOf, ReadsActor, StandsNext, Uses, look_failed};
 
+use crate::actors::{MOST_IN_ACTOR, read_actor};
 use hj_base::{Got, Outside, Role};
+use hj_chain::Actor;
 use std::marker::Model;
 
 /// How many bytes one read asks for.
@@ -24,6 +26,16 @@ pub enum Compared {
     Same,
     /// So many bytes are the same; then the stream has another one, or has ended.
     Differs(usize),
+    /// A read failed.
+    Failed,
+}
+
+/// What a stream goes on with where an actor's text and a comma may stand.
+#[derive(Clone, Copy, Debug, PartialEq, Eq)]
+pub enum ActorFound {
+    Actor(Actor),
+    /// Something else.
+    Other,
     /// A read failed.
     Failed,
 }
@@ -142,5 +154,38 @@ impl TextStream {
             }
         }
         Compared::Same
+    }
+
+    /// Reads the text of an actor and the comma behind it, and uses them. It uses one byte more at most than the longest text has.
+    pub fn actor<O: Outside>(&mut self, outside: &mut O) -> ActorFound
+        requires { GoesWith self.old (O.state outside.old self.old.role) }
+        ensures reads { ReadsActor result self.old (O.state outside.old self.old.role) self.new (O.state outside.new self.old.role) }
+        ensures others { ChangesOnly self.old.role (O.state outside.old) (O.state outside.new) }
+        ensures names { (name : List ℕ) → O.under outside.new name ≡ O.under outside.old name }
+    {
+        let mut text = [0; MOST_IN_ACTOR + 1];
+        for length in 0..MOST_IN_ACTOR + 1 {
+            let byte = match self.look(outside) {
+                NextByte::Byte(byte) => byte,
+                NextByte::End => return ActorFound::Other,
+                NextByte::Failed => return ActorFound::Failed,
+            };
+            self.skip();
+            if byte == b',' {
+                return actor_of(&text[..length]);
+            }
+            text[length] = byte;
+        }
+        ActorFound::Other
+    }
+}
+
+/// Returns the actor whose text this is, if it is one.
+fn actor_of(text: &[u8]) -> ActorFound
+    ensures { IsActorOf result text.now }
+{
+    match read_actor(text) {
+        Some(actor) => ActorFound::Actor(actor),
+        None => ActorFound::Other,
     }
 }
