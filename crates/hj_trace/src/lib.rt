@@ -6,6 +6,7 @@ mod fault;
 mod line;
 mod messages;
 mod puts;
+mod ready;
 mod stream;
 mod text;
 
@@ -13,4 +14,5 @@ pub use actors::{push_actor, read_actor};
 pub use fault::{TraceFault, push_fault};
 pub use line::{Doing, push_front, push_reported};
 pub use messages::{push_message, push_report};
+pub use ready::AlwaysReady;
 pub use stream::{ActorFound, Compared, NextByte, TextStream};
