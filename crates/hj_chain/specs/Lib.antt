@@ -1,5 +1,6 @@
 pub mod Chain
 pub mod Links
+pub mod Looks
 pub mod Placed
 pub mod Progress
 pub mod Prompt

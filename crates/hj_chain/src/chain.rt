@@ -27,6 +27,7 @@ use std::alloc::Global;
 use std::marker::Model;
 use std::mem;
 
+mod looks;
 mod serial;
 
 /// A chain of cores, with the driver at its ends. Its actors make their steps one at a time, in whatever order they are asked

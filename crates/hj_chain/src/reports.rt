@@ -2,6 +2,7 @@ ghost use Rattle.std.specs.Prelude.{◌≡◌, ◌+◌, ◌==◌, ◌<◌, ◌�
 ghost use Rattle.std.specs.Option.{option_copied};
 ghost use Rattle.hj_chain.specs.Chain.{first};
 ghost use Rattle.hj_chain.specs.Links.{changed_at};
+ghost use Rattle.hj_chain.specs.Looks.{last};
 ghost use Rattle.hj_chain.specs.Reports.{no_reports, queue_at};
 
 use circular_buffer::HeapCircularBuffer;
@@ -46,6 +47,23 @@ impl<P: Drop> Reports<P> {
         ensures { option_copied result ≡ first (queue_at self.now.queues core) }
     {
         self.queues.get(core)?.front()
+    }
+
+    /// Returns a core's last report; None exactly where it has none, as where there is no such core.
+    pub fn last(&self, core: usize) -> Option<&Report<P>>
+        ensures { option_copied result ≡ last (queue_at self.now.queues core) }
+    {
+        self.queues.get(core)?.back()
+    }
+
+    /// Returns how many reports a core has. One that isn't there has none.
+    pub fn waiting(&self, core: usize) -> usize
+        ensures { result ≡ length (queue_at self.now.queues core) }
+    {
+        match self.queues.get(core) {
+            Some(queue) => queue.len(),
+            None => 0,
+        }
     }
 
     /// Returns whether a core has as many reports as a queue holds. One that isn't there has none.
