@@ -4,6 +4,7 @@
 mod actors;
 mod fault;
 mod line;
+mod looking;
 mod messages;
 mod puts;
 mod ready;
@@ -13,6 +14,7 @@ mod text;
 pub use actors::{push_actor, read_actor};
 pub use fault::{TraceFault, push_fault};
 pub use line::{Doing, push_front, push_reported};
+pub use looking::doing;
 pub use messages::{push_message, push_report};
 pub use ready::AlwaysReady;
 pub use stream::{ActorFound, Compared, NextByte, TextStream};
