@@ -1,7 +1,7 @@
 -- Streams whose bytes stand in memory, each under a name, with the starts and reads that fail.
 use Rattle.std.specs.Prelude.{◌≡◌, ◌==◌, ◌⊎◌, ℕ, Bool, true, false, List, [], ◌++◌, Contains, IsSome, length, min, find, drop, take, if◌then◌else◌, None, Some, option_map, unwrap_or, bytes_eq, Option}
 use Rattle.hj_base.specs.declared.outside.Role.{Role}
-use Rattle.hj_base.specs.declared.outside.Role.TheVariants.{Query, Left, Right}
+use Rattle.hj_base.specs.declared.outside.Role.TheVariants.{Query, SecondQuery, Left, Right, Third, Trace, Output}
 use Rattle.hj_base.specs.declared.outside.Opened.{Opened}
 use Rattle.hj_base.specs.declared.outside.Opened.TheVariants as start
 use Rattle.hj_base.specs.declared.outside.Got.{Got}
@@ -29,8 +29,12 @@ pub record OutsideState : Type 0 where
   -- names, each with the bytes that stand under it
   pub contents : List (List ℕ × List ℕ)
   pub query : StreamState
+  pub second_query : StreamState
   pub left : StreamState
   pub right : StreamState
+  pub third : StreamState
+  pub trace : StreamState
+  pub output : StreamState
 
 -- the bytes under a name, where it stands
 abbrev pub lookup : List (List ℕ × List ℕ) → List ℕ → Option (List ℕ)
@@ -42,8 +46,12 @@ told_under outside name = Some (unwrap_or (lookup outside.contents name) [])
 
 abbrev pub stream_at : OutsideState → Role → StreamState
 stream_at outside Query = outside.query
+stream_at outside SecondQuery = outside.second_query
 stream_at outside Left = outside.left
 stream_at outside Right = outside.right
+stream_at outside Third = outside.third
+stream_at outside Trace = outside.trace
+stream_at outside Output = outside.output
 
 abbrev pub role_at : OutsideState → Role → RoleState
 role_at outside role = (stream_at outside role).role
@@ -51,8 +59,12 @@ role_at outside role = (stream_at outside role).role
 -- the same with another state of a role's stream
 abbrev pub with_stream : OutsideState → Role → StreamState → OutsideState
 with_stream outside Query state = record outside { query = state }
+with_stream outside SecondQuery state = record outside { second_query = state }
 with_stream outside Left state = record outside { left = state }
 with_stream outside Right state = record outside { right = state }
+with_stream outside Third state = record outside { third = state }
+with_stream outside Trace state = record outside { trace = state }
+with_stream outside Output state = record outside { output = state }
 
 -- a stream of a new object
 abbrev pub new_stream : StreamState

@@ -56,3 +56,7 @@ Reads read.Failed buf old new = (new.left ≡ old.left) × (new.phase ≡ old.ph
 -- Nothing changes but one role.
 abbrev pub ChangesOnly : Role → (Role → RoleState) → (Role → RoleState) → Type 0
 ChangesOnly role old new = (other : Role) → other ≢ role → new other ≡ old other
+
+-- Nothing changes but the roles of the two streams of a join.
+abbrev pub ChangesOnlyStreams : (Role → RoleState) → (Role → RoleState) → Type 0
+ChangesOnlyStreams old new = (other : Role) → other ≢ role.Left → other ≢ role.Right → new other ≡ old other

@@ -41,8 +41,12 @@ pub struct MemOutside {
     chunk: usize,
     contents: Vec<Content>,
     query: Stream,
+    second_query: Stream,
     left: Stream,
     right: Stream,
+    third: Stream,
+    trace: Stream,
+    output: Stream,
 }
 
 impl Model for MemOutside {
@@ -51,7 +55,7 @@ impl Model for MemOutside {
 
     ghost Value = { OutsideState };
 
-    ghost view = { λ o. record { chunk = o.chunk; contents = o.contents.items; query = o.query; left = o.left; right = o.right } };
+    ghost view = { λ o. record { chunk = o.chunk; contents = o.contents.items; query = o.query; second_query = o.second_query; left = o.left; right = o.right; third = o.third; trace = o.trace; output = o.output } };
 
     ghost invariant = { λ o. 1 ≤ o.chunk };
 }
@@ -60,15 +64,19 @@ impl MemOutside {
     /// Makes an outside with no names, of which one read gives at most `chunk` bytes.
     pub fn new(alloc: Global, chunk: usize) -> MemOutside
         requires { 1 ≤ chunk }
-        ensures { result ≡ record { chunk = chunk; contents = []; query = new_stream; left = new_stream; right = new_stream } }
+        ensures { result ≡ record { chunk = chunk; contents = []; query = new_stream; second_query = new_stream; left = new_stream; right = new_stream; third = new_stream; trace = new_stream; output = new_stream } }
     {
         MemOutside {
             alloc,
             chunk,
             contents: Vec::new(alloc),
             query: Stream::new(alloc),
+            second_query: Stream::new(alloc),
             left: Stream::new(alloc),
             right: Stream::new(alloc),
+            third: Stream::new(alloc),
+            trace: Stream::new(alloc),
+            output: Stream::new(alloc),
         }
     }
 
@@ -97,8 +105,12 @@ impl MemOutside {
     {
         match role {
             Role::Query => self.query.fail_start(),
+            Role::SecondQuery => self.second_query.fail_start(),
             Role::Left => self.left.fail_start(),
             Role::Right => self.right.fail_start(),
+            Role::Third => self.third.fail_start(),
+            Role::Trace => self.trace.fail_start(),
+            Role::Output => self.output.fail_start(),
         }
         Ok(())
     }
@@ -112,8 +124,12 @@ impl MemOutside {
     {
         match role {
             Role::Query => self.query.fail_read(nth),
+            Role::SecondQuery => self.second_query.fail_read(nth),
             Role::Left => self.left.fail_read(nth),
             Role::Right => self.right.fail_read(nth),
+            Role::Third => self.third.fail_read(nth),
+            Role::Trace => self.trace.fail_read(nth),
+            Role::Output => self.output.fail_read(nth),
         }
     }
 }
@@ -134,8 +150,12 @@ impl Outside for MemOutside {
         let found = find(&self.contents, name);
         match role {
             Role::Query => self.query.start(self.alloc, name, found),
+            Role::SecondQuery => self.second_query.start(self.alloc, name, found),
             Role::Left => self.left.start(self.alloc, name, found),
             Role::Right => self.right.start(self.alloc, name, found),
+            Role::Third => self.third.start(self.alloc, name, found),
+            Role::Trace => self.trace.start(self.alloc, name, found),
+            Role::Output => self.output.start(self.alloc, name, found),
         }
     }
 
@@ -151,8 +171,12 @@ impl Outside for MemOutside {
     {
         match role {
             Role::Query => self.query.read(self.chunk, buf),
+            Role::SecondQuery => self.second_query.read(self.chunk, buf),
             Role::Left => self.left.read(self.chunk, buf),
             Role::Right => self.right.read(self.chunk, buf),
+            Role::Third => self.third.read(self.chunk, buf),
+            Role::Trace => self.trace.read(self.chunk, buf),
+            Role::Output => self.output.read(self.chunk, buf),
         }
     }
 }

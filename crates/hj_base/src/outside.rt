@@ -6,8 +6,16 @@ ghost use Rattle.hj_base.specs.Outside.{Phase, unbegun, RoleState, IsOpen, Start
 #[derive(Clone, Copy, Debug, PartialEq, Eq, PartialOrd, Ord, Hash)]
 pub enum Role {
     Query,
+    /// The query of a second join, over the pairs of the first.
+    SecondQuery,
     Left,
     Right,
+    /// The right stream of a second join.
+    Third,
+    /// A trace that is to be checked.
+    Trace,
+    /// An output that is to be checked.
+    Output,
 }
 
 /// The answer to a start.

@@ -2,7 +2,7 @@
 use Rattle.std.specs.Prelude.{ℕ, List}
 use Rattle.std.specs.declared.option.Option.{Option}
 use Rattle.hj_base.specs.declared.outside.Role.{Role}
-use Rattle.hj_base.specs.declared.outside.Role.TheVariants.{Query, Left, Right}
+use Rattle.hj_base.specs.declared.outside.Role.TheVariants.{Query, SecondQuery, Left, Right, Third, Trace, Output}
 use Rattle.hj_base.specs.Outside.{RoleState}
 use Rattle.hj_net.specs.declared.channel.Channel.{Channel}
 use Rattle.hj_net.specs.declared.outside.RealOutside.{RealOutside}
@@ -13,8 +13,12 @@ use Rattle.hj_net.specs.Source.{role_of, remaining, stream_of}
 module _ {R W F D S L : Type 0} where
   abbrev pub source_at : RealOutside R W F D S L → Role → Source (Channel F L S)
   source_at outside Query = outside.query
+  source_at outside SecondQuery = outside.second_query
   source_at outside Left = outside.left
   source_at outside Right = outside.right
+  source_at outside Third = outside.third
+  source_at outside Trace = outside.trace
+  source_at outside Output = outside.output
 
   abbrev pub role_at : RealOutside R W F D S L → Role → RoleState
   role_at outside role = role_of (source_at outside role)

@@ -23,10 +23,14 @@ type RealSource<R> = Source<Channel<<R as Files>::File, <R as Net>::Listener, <R
 pub struct RealOutside<'a, R: Files + Net + Drop, W: Write + Drop> {
     rt: R,
     alloc: Global,
-    output: &'a Output<W>,
+    standard: &'a Output<W>,
     query: RealSource<R>,
+    second_query: RealSource<R>,
     left: RealSource<R>,
     right: RealSource<R>,
+    third: RealSource<R>,
+    trace: RealSource<R>,
+    output: RealSource<R>,
 }
 
 impl<'a, R: Files + Net + Drop, W: Write + Drop> RealOutside<'a, R, W> {
@@ -41,10 +45,14 @@ impl<'a, R: Files + Net + Drop, W: Write + Drop> RealOutside<'a, R, W> {
         RealOutside {
             rt,
             alloc,
-            output,
+            standard: output,
             query: Source::new(),
+            second_query: Source::new(),
             left: Source::new(),
             right: Source::new(),
+            third: Source::new(),
+            trace: Source::new(),
+            output: Source::new(),
         }
     }
 }
@@ -73,8 +81,12 @@ impl<R: Files + Net + Drop, W: Write + Drop> Outside for RealOutside<'_, R, W> {
         let opened = open(&self.rt, name);
         match role {
             Role::Query => self.query.begin(kept, opened),
+            Role::SecondQuery => self.second_query.begin(kept, opened),
             Role::Left => self.left.begin(kept, opened),
             Role::Right => self.right.begin(kept, opened),
+            Role::Third => self.third.begin(kept, opened),
+            Role::Trace => self.trace.begin(kept, opened),
+            Role::Output => self.output.begin(kept, opened),
         }
     }
 
@@ -88,11 +100,15 @@ impl<R: Files + Net + Drop, W: Write + Drop> Outside for RealOutside<'_, R, W> {
             (remaining_at R.File.remaining R.Stream.remaining self.new role) (as_read result) buf.new }
     {
         // A refusal is kept: the output's next write returns it, and the end of the run sees it.
-        let _ = self.output.hand_on();
+        let _ = self.standard.hand_on();
         match role {
             Role::Query => self.query.read(buf),
+            Role::SecondQuery => self.second_query.read(buf),
             Role::Left => self.left.read(buf),
             Role::Right => self.right.read(buf),
+            Role::Third => self.third.read(buf),
+            Role::Trace => self.trace.read(buf),
+            Role::Output => self.output.read(buf),
         }
     }
 }
