@@ -9,7 +9,7 @@ use Rattle.hj_base.specs.declared.numbers.Side.{Side}
 use Rattle.hj_base.specs.declared.numbers.Side.TheVariants.{Left, Right}
 use Rattle.hj_base.specs.declared.outside.Role.{Role}
 use Rattle.hj_base.specs.declared.outside.Role.TheVariants as role
-use Rattle.hj_base.specs.Outside.{RoleState, ChangesOnly}
+use Rattle.hj_base.specs.Outside.{RoleState, ChangesOnly, ChangesOnlyStreams}
 use Rattle.hj_record.specs.Pieces.{Stream}
 use Rattle.hj_event.specs.declared.fault.RecordFault.{RecordFault}
 use Rattle.hj_event.specs.declared.stop.Stop.{Stop}
@@ -100,7 +100,7 @@ stops_left why old left before now takes others step = record {
   left = read_as (has_failed {T = Option (List Field)} (Err why)) (fails (Err (last_of Left why)) Left) takes.bytes old.left.reading.ended left.reading.ended (before role.Left) (now role.Left) (stop_fails_left why) takes.reads;
   right = read_as false (fails (Err (last_of Left why)) Right) [] old.right.reading.ended old.right.reading.ended (before role.Right) (now role.Right) (stop_fails_left_other why)
       (subst (λ (s : RoleState). IsReadOn false [] old.right.reading.ended old.right.reading.ended (before role.Right) s) (sym (others role.Right (λ e. cc))) (not_read old.right.reading.ended (before role.Right) step));
-  query = others role.Query (λ e. cc);
+  others = λ of not_left not_right. others of not_left;
   leads = λ l r l_follows r_follows. left_stops why (side_ahead old.left (in_front takes.bytes l)) (side_ahead left l) (side_ahead old.right (in_front [] r)) (arrivals_ahead (record { left = left; right = old.right }) l r)
       (takes.leads l (follows_as (has_failed {T = Option (List Field)} (Err why)) (fails (Err (last_of Left why)) Left) left.reading.ended l (stop_fails_left why) l_follows));
   ended = stop_ends Left why left.reading.ended old.right.reading.ended;
@@ -128,8 +128,8 @@ module _ (head : Option (List Field)) (answer : Result (Option (List Field)) Sto
   right_needs : IsReadAsNeeded old.right.head old.right both.right.bytes (before role.Right) (now role.Right)
   right_needs = subst (λ (s : RoleState). IsReadAsNeeded old.right.head old.right both.right.bytes s (now role.Right)) (both.left_others role.Right (λ e. cc)) both.right.needed
 
-  query_stays : now role.Query ≡ before role.Query
-  query_stays = both.right_others role.Query (λ e. cc) ∙ both.left_others role.Query (λ e. cc)
+  others_stay : ChangesOnlyStreams before now
+  others_stay = λ of not_left not_right. both.right_others of not_right ∙ both.left_others of not_left
 
 -- The right side stops.
 pub stops_right : (head : Option (List Field)) (why : Stop) (old new : Sides) (before between now : Roles) → BothTaken head (Err why) old new before between now → TakesArrival (Err (last_of Right why)) old new before now
@@ -138,7 +138,7 @@ stops_right head why old new before between now both = record {
   right_bytes = both.right.bytes;
   left = read_as false (fails (Err (last_of Right why)) Left) both.left.bytes old.left.reading.ended new.left.reading.ended (before role.Left) (now role.Left) (stop_fails_right_other why) (left_read head (Err why) old new before between now both);
   right = read_as (has_failed {T = Option (List Field)} (Err why)) (fails (Err (last_of Right why)) Right) both.right.bytes old.right.reading.ended new.right.reading.ended (before role.Right) (now role.Right) (stop_fails_right why) (right_read head (Err why) old new before between now both);
-  query = query_stays head (Err why) old new before between now both;
+  others = others_stay head (Err why) old new before between now both;
   leads = λ l r l_follows r_follows. right_stops head why (side_ahead old.left (in_front both.left.bytes l)) (side_ahead new.left l) (side_ahead old.right (in_front both.right.bytes r)) (side_ahead new.right r) (arrivals_ahead new l r)
       (both.left.leads l (follows_as false (fails (Err (last_of Right why)) Left) new.left.reading.ended l (stop_fails_right_other why) l_follows))
       (both.right.leads r (follows_as (has_failed {T = Option (List Field)} (Err why)) (fails (Err (last_of Right why)) Right) new.right.reading.ended r (stop_fails_right why) r_follows));
@@ -171,7 +171,7 @@ module _ (head : Option (List Field)) (answer : Option (List Field)) (old mid ne
     right_bytes = both.right.bytes;
     left = subst (λ (e : Bool). IsReadOn false both.left.bytes old.left.reading.ended e (before role.Left) (now role.Left)) left_ended (left_read head (Ok answer) old mid before between now both);
     right = subst (λ (e : Bool). IsReadOn false both.right.bytes old.right.reading.ended e (before role.Right) (now role.Right)) right_ended (right_read head (Ok answer) old mid before between now both);
-    query = query_stays head (Ok answer) old mid before between now both;
+    others = others_stay head (Ok answer) old mid before between now both;
     leads = λ l r l_follows r_follows. is l r
         (both.left.leads l (subst (λ (e : Bool). Follows false e l) (sym left_ended) l_follows))
         (both.right.leads r (subst (λ (e : Bool). Follows false e r) (sym right_ended) r_follows));

@@ -100,7 +100,7 @@ steps_due answer sides over old new roles left right gives =
         right_bytes = [];
         left = read_as false (fails_next (next_of answer) Left) [] sides.left.reading.ended sides.left.reading.ended (roles role.Left) (roles role.Left) (gives_fails answer ahead behind some Left) (not_read sides.left.reading.ended (roles role.Left) left);
         right = read_as false (fails_next (next_of answer) Right) [] sides.right.reading.ended sides.right.reading.ended (roles role.Right) (roles role.Right) (gives_fails answer ahead behind some Right) (not_read sides.right.reading.ended (roles role.Right) right);
-        query = refl;
+        others = λ of not_left not_right. refl;
         leads = λ l r l_follows r_follows. gives_leads answer (numbered_ahead old (arrivals_ahead sides l r)) (numbered_ahead new (arrivals_ahead sides l r)) (gives (arrivals_ahead sides l r));
         ended = gives_all_read answer ahead behind some sides.left.reading.ended sides.right.reading.ended;
         stays = refl;
@@ -120,7 +120,7 @@ steps_last why old new over numbering before now none takes = (
     right_bytes = takes.right_bytes;
     left = read_as (fails (Err why) Left) (fails_next (answer_of why) Left) takes.left_bytes old.left.reading.ended new.left.reading.ended (before role.Left) (now role.Left) (last_fails why Left) takes.left;
     right = read_as (fails (Err why) Right) (fails_next (answer_of why) Right) takes.right_bytes old.right.reading.ended new.right.reading.ended (before role.Right) (now role.Right) (last_fails why Right) takes.right;
-    query = takes.query;
+    others = takes.others;
     leads = λ l r l_follows r_follows. last_leads why numbering (arrivals_ahead old (in_front takes.left_bytes l) (in_front takes.right_bytes r)) (arrivals_ahead new l r) (numbered_ahead numbering (arrivals_ahead new l r)) none
         (takes.leads l r (follows_as (fails (Err why) Left) (fails_next (answer_of why) Left) new.left.reading.ended l (last_fails why Left) l_follows) (follows_as (fails (Err why) Right) (fails_next (answer_of why) Right) new.right.reading.ended r (last_fails why Right) r_follows));
     ended = last_all_read why new.left.reading.ended new.right.reading.ended takes.ended;
@@ -145,7 +145,7 @@ steps_arrival arrival answer old new over numbering with_row after before now no
         right_bytes = takes.right_bytes;
         left = read_as false (fails_next (next_of answer) Left) takes.left_bytes old.left.reading.ended new.left.reading.ended (before role.Left) (now role.Left) (gives_fails answer ahead behind some Left) takes.left;
         right = read_as false (fails_next (next_of answer) Right) takes.right_bytes old.right.reading.ended new.right.reading.ended (before role.Right) (now role.Right) (gives_fails answer ahead behind some Right) takes.right;
-        query = takes.query;
+        others = takes.others;
         leads = λ l r l_follows r_follows. gives_leads answer (numbered_ahead numbering (arrivals_ahead old (in_front takes.left_bytes l) (in_front takes.right_bytes r))) (numbered_ahead after (arrivals_ahead new l r))
             (subst (λ (n : Numbered). Gives answer n (numbered_ahead after (arrivals_ahead new l r)))
             (sym (ap (numbered_ahead numbering) (takes.leads l r (follows_as false (fails_next (next_of answer) Left) new.left.reading.ended l (gives_fails answer ahead behind some Left) l_follows) (follows_as false (fails_next (next_of answer) Right) new.right.reading.ended r (gives_fails answer ahead behind some Right) r_follows))

@@ -6,7 +6,7 @@ use Rattle.std.specs.declared.option.Option.{Option}
 use Rattle.hj_value.specs.declared.field.Field.{Field}
 use Rattle.hj_base.specs.declared.outside.Role.{Role}
 use Rattle.hj_base.specs.declared.outside.Role.TheVariants as role
-use Rattle.hj_base.specs.Outside.{RoleState}
+use Rattle.hj_base.specs.Outside.{RoleState, ChangesOnlyStreams}
 use Rattle.hj_record.specs.declared.fault.PieceFault.{PieceFault}
 use Rattle.hj_record.specs.Pieces.{Pieces, pieces_of}
 use Rattle.hj_event.specs.declared.merger.Next.{Next}
@@ -89,17 +89,21 @@ told_behind (Some row) side told = inl refl
 abbrev pub IsReady : Merging → Type 0
 IsReady merging = IsSome merging.over ⊎ (has_due merging.numbering.due ≡ true) ⊎ (IsTold merging.sides.left × IsTold merging.sides.right)
 
-same_roles : (before now : Role → RoleState) → now role.Query ≡ before role.Query → now role.Left ≡ before role.Left → now role.Right ≡ before role.Right → (of : Role) → now of ≡ before of
-same_roles before now query left right role.Query = query
-same_roles before now query left right role.Left = left
-same_roles before now query left right role.Right = right
+same_roles : (before now : Role → RoleState) → ChangesOnlyStreams before now → now role.Left ≡ before role.Left → now role.Right ≡ before role.Right → (of : Role) → now of ≡ before of
+same_roles before now others left right role.Query = others role.Query (λ e. cc) (λ e. cc)
+same_roles before now others left right role.SecondQuery = others role.SecondQuery (λ e. cc) (λ e. cc)
+same_roles before now others left right role.Left = left
+same_roles before now others left right role.Right = right
+same_roles before now others left right role.Third = others role.Third (λ e. cc) (λ e. cc)
+same_roles before now others left right role.Trace = others role.Trace (λ e. cc) (λ e. cc)
+same_roles before now others left right role.Output = others role.Output (λ e. cc) (λ e. cc)
 
 -- A call reads nothing.
 abbrev ReadsNone : (over : Option Last) (answer : Next) (old new : Merging) (before now : Role → RoleState) → AnswersFrom over answer old new before now → Type 0
 ReadsNone over answer old new before now call = TakesNoBytes over answer old new before now call × ((of : Role) → now of ≡ before of)
 
 both_unread : (answer : Next) (old new : Merging) (before now : Role → RoleState) (takes : TakesNext answer old new before now) → IsUnread takes.left_bytes (before role.Left) (now role.Left) → IsUnread takes.right_bytes (before role.Right) (now role.Right) → ReadsNone None answer old new before now takes
-both_unread answer old new before now takes left right = ((left.0, right.0), same_roles before now takes.query left.1 right.1)
+both_unread answer old new before now takes left right = ((left.0, right.0), same_roles before now takes.others left.1 right.1)
 
 none_over : (over : Option Last) → over ≡ None → IsSome over → ⊥
 none_over None e some = cc

@@ -6,7 +6,7 @@ use Rattle.hj_base.specs.declared.numbers.Side.{Side}
 use Rattle.hj_base.specs.declared.numbers.Side.TheVariants.{Left, Right}
 use Rattle.hj_base.specs.declared.outside.Role.{Role}
 use Rattle.hj_base.specs.declared.outside.Role.TheVariants as role
-use Rattle.hj_base.specs.Outside.{RoleState}
+use Rattle.hj_base.specs.Outside.{RoleState, ChangesOnlyStreams}
 use Rattle.hj_record.specs.Pieces.{Stream}
 use Rattle.hj_window.specs.LiveRows.{is_same_side}
 use Rattle.hj_event.specs.declared.stop.Stop.{Stop}
@@ -54,7 +54,7 @@ pub record TakesArrival (answer : Result (Side × List Field) Last) (old new : S
   pub right_bytes : List ℕ
   pub left : IsReadOn (fails answer Left) left_bytes old.left.reading.ended new.left.reading.ended (before role.Left) (now role.Left)
   pub right : IsReadOn (fails answer Right) right_bytes old.right.reading.ended new.right.reading.ended (before role.Right) (now role.Right)
-  pub query : now role.Query ≡ before role.Query
+  pub others : ChangesOnlyStreams before now
   pub leads : (l r : Stream) → Follows (fails answer Left) new.left.reading.ended l → Follows (fails answer Right) new.right.reading.ended r → ArrivalLeads answer (arrivals_ahead old (in_front left_bytes l) (in_front right_bytes r)) (arrivals_ahead new l r)
   pub ended : EndsBoth answer new.left.reading.ended new.right.reading.ended
   pub left_needed : IsReadAsNeeded old.left.head old.left left_bytes (before role.Left) (now role.Left)

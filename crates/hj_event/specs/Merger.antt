@@ -7,7 +7,7 @@ use Rattle.hj_base.specs.declared.numbers.Side.{Side}
 use Rattle.hj_base.specs.declared.numbers.Side.TheVariants.{Left, Right}
 use Rattle.hj_base.specs.declared.outside.Role.{Role}
 use Rattle.hj_base.specs.declared.outside.Role.TheVariants as role
-use Rattle.hj_base.specs.Outside.{RoleState}
+use Rattle.hj_base.specs.Outside.{RoleState, ChangesOnlyStreams}
 use Rattle.hj_msg.specs.declared.event.Event.{Event}
 use Rattle.hj_query.specs.Parts.{Parts}
 use Rattle.hj_record.specs.Pieces.{Stream}
@@ -75,7 +75,7 @@ pub record TakesNext (answer : Next) (old new : Merging) (before now : Role → 
   pub right_bytes : List ℕ
   pub left : IsReadOn (fails_next answer Left) left_bytes old.sides.left.reading.ended new.sides.left.reading.ended (before role.Left) (now role.Left)
   pub right : IsReadOn (fails_next answer Right) right_bytes old.sides.right.reading.ended new.sides.right.reading.ended (before role.Right) (now role.Right)
-  pub query : now role.Query ≡ before role.Query
+  pub others : ChangesOnlyStreams before now
   pub leads : (l r : Stream) → Follows (fails_next answer Left) new.sides.left.reading.ended l → Follows (fails_next answer Right) new.sides.right.reading.ended r → NextLeads answer (events_from old (in_front left_bytes l) (in_front right_bytes r)) (events_from new l r)
   pub ended : IsAllRead answer new.sides.left.reading.ended new.sides.right.reading.ended
   pub stays : new.over ≡ stays_by answer
