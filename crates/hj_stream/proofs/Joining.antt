@@ -150,7 +150,7 @@ joins_none line query limit now sink left right = record {
   left = not_read false (now role.Left) left;
   right = not_read false (now role.Right) right;
   failed = refl;
-  query_role = refl;
+  others = λ of not_left not_right. refl;
   grown = [];
   written = Appends-nil sink;
   text = λ l r l_follows r_follows. record { rest = (joined_by line query (in_front [] l) (in_front [] r) limit).text; is = refl };

@@ -96,7 +96,7 @@ over_last line query limit events last merger later before mid now old new reads
     left = read_more (fails_next last Left) reads.left_bytes takes.left_bytes false merger.sides.left.reading.ended later.sides.left.reading.ended (before role.Left) (mid role.Left) (now role.Left) reads.left takes.left;
     right = read_more (fails_next last Right) reads.right_bytes takes.right_bytes false merger.sides.right.reading.ended later.sides.right.reading.ended (before role.Right) (mid role.Right) (now role.Right) reads.right takes.right;
     failed = fails_so (length events) last;
-    query_role = takes.query ∙ reads.query_role;
+    others = λ of not_left not_right. takes.others of not_left not_right ∙ reads.others of not_left not_right;
     grown = joined_text line query events;
     written = written;
     text = λ l r left right.
@@ -130,7 +130,7 @@ over_begun line made ended says so None query limit before events pairs now old 
         left = reads.left;
         right = reads.right;
         failed = says.failed false false refl;
-        query_role = reads.query_role;
+        others = reads.others;
         grown = sends.grown;
         written = sends.written;
         text = λ l r left right. says.writes sends.grown (joined_by line query (in_front reads.left_bytes l) (in_front reads.right_bytes r) limit)
@@ -155,7 +155,7 @@ over_begun line made ended says so (Some kept) query limit before events pairs n
         left = read_more (fails_next fed.last Left) reads.left_bytes takes.left_bytes false fed.merger.sides.left.reading.ended now.merger.sides.left.reading.ended (before role.Left) (fed.roles role.Left) (now.roles role.Left) reads.left takes.left;
         right = read_more (fails_next fed.last Right) reads.right_bytes takes.right_bytes false fed.merger.sides.right.reading.ended now.merger.sides.right.reading.ended (before role.Right) (fed.roles role.Right) (now.roles role.Right) reads.right takes.right;
         failed = says.failed (fails_next fed.last Left) (fails_next fed.last Right) (not_both fed.last);
-        query_role = takes.query ∙ reads.query_role;
+        others = λ of not_left not_right. takes.others of not_left not_right ∙ reads.others of not_left not_right;
         grown = sends.grown;
         written = sends.written;
         text = λ l r left right. says.writes sends.grown (joined_by line query (in_front (reads.left_bytes ++ takes.left_bytes) l) (in_front (reads.right_bytes ++ takes.right_bytes) r) limit)

@@ -6,7 +6,7 @@ use Rattle.std.specs.declared.option.Option.{Option}
 use Rattle.hj_value.specs.declared.field.Field.{Field}
 use Rattle.hj_base.specs.declared.outside.Role.{Role}
 use Rattle.hj_base.specs.declared.outside.Role.TheVariants as role
-use Rattle.hj_base.specs.Outside.{RoleState}
+use Rattle.hj_base.specs.Outside.{RoleState, ChangesOnlyStreams}
 use Rattle.hj_msg.specs.declared.event.Event.{Event}
 use Rattle.hj_msg.specs.Event.{IsWellFormed}
 use Rattle.hj_msg.proofs.Numbered.{front_is_well_formed}
@@ -33,7 +33,7 @@ pub record Reads (query : Parts) (limit : ℕ) (events : List (Event (List Field
   pub going : merger.over ≡ None
   pub left : IsReadOn false left_bytes false merger.sides.left.reading.ended (before role.Left) (now role.Left)
   pub right : IsReadOn false right_bytes false merger.sides.right.reading.ended (before role.Right) (now role.Right)
-  pub query_role : now role.Query ≡ before role.Query
+  pub others : ChangesOnlyStreams before now
 
 -- nothing is read of a role that is open
 pub unread : (ended : Bool) (state : RoleState) → ended ≡ false → IsInStep false state → IsReadOn false [] false ended state state
@@ -48,7 +48,7 @@ reads_begin query limit merger now new left right = record {
   going = new.over;
   left = unread merger.sides.left.reading.ended (now role.Left) new.left left;
   right = unread merger.sides.right.reading.ended (now role.Right) new.right right;
-  query_role = refl;
+  others = λ of not_left not_right. refl;
 }
 
 -- a merger that gave only events goes on
@@ -65,7 +65,7 @@ reads_more query limit events event old new before mid now reads takes = record 
   going = takes.stays;
   left = read_more false reads.left_bytes takes.left_bytes false old.sides.left.reading.ended new.sides.left.reading.ended (before role.Left) (mid role.Left) (now role.Left) reads.left takes.left;
   right = read_more false reads.right_bytes takes.right_bytes false old.sides.right.reading.ended new.sides.right.reading.ended (before role.Right) (mid role.Right) (now role.Right) reads.right takes.right;
-  query_role = takes.query ∙ reads.query_role;
+  others = λ of not_left not_right. takes.others of not_left not_right ∙ reads.others of not_left not_right;
 }
 
 -- the end may come at any time

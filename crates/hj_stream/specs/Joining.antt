@@ -7,7 +7,7 @@ use Rattle.hj_base.specs.declared.numbers.Side.TheVariants.{Left, Right}
 use Rattle.hj_base.specs.declared.outside.Role.{Role}
 use Rattle.hj_base.specs.declared.outside.Role.TheVariants as role
 use Rattle.hj_base.specs.Counts.{Rose}
-use Rattle.hj_base.specs.Outside.{RoleState}
+use Rattle.hj_base.specs.Outside.{RoleState, ChangesOnlyStreams}
 use Rattle.hj_base.specs.Journals.{IsPrefix}
 use Rattle.hj_query.specs.Parts.{Parts}
 use Rattle.hj_record.specs.Pieces.{Stream}
@@ -38,8 +38,12 @@ WritesText (outcome.Done events) written joined =
     (written ≡ joined.text) × (joined.ending ≡ clean) × (joined.events ≡ events)
 WritesText (outcome.Bad side at found) written joined = (written ≡ joined.text) × (joined.ending ≡ bad side at found)
 WritesText (outcome.SourceFault role.Query) written joined = ⊥
+WritesText (outcome.SourceFault role.SecondQuery) written joined = ⊥
 WritesText (outcome.SourceFault role.Left) written joined = (written ≡ joined.text) × (joined.ending ≡ unread Left)
 WritesText (outcome.SourceFault role.Right) written joined = (written ≡ joined.text) × (joined.ending ≡ unread Right)
+WritesText (outcome.SourceFault role.Third) written joined = ⊥
+WritesText (outcome.SourceFault role.Trace) written joined = ⊥
+WritesText (outcome.SourceFault role.Output) written joined = ⊥
 WritesText outcome.SinkFault written joined = IsPrefix written joined.text
 WritesText outcome.TooMany written joined = (written ≡ joined.text) × (joined.ending ≡ too_many)
 WritesText outcome.Memory written joined = IsPrefix written joined.text
@@ -63,7 +67,7 @@ pub record JoinsBy (line : Line) (ended : Outcome) (query : Parts) (limit : ℕ)
   pub left : IsReadOn left_failed left_bytes false left_ended (before role.Left) (now role.Left)
   pub right : IsReadOn right_failed right_bytes false right_ended (before role.Right) (now role.Right)
   pub failed : FailsOn ended left_failed right_failed
-  pub query_role : now role.Query ≡ before role.Query
+  pub others : ChangesOnlyStreams before now
   pub grown : List ℕ
   pub written : Appends old new grown
   pub text : (l r : Stream) → Follows left_failed left_ended l → Follows right_failed right_ended r
