@@ -1,40 +1,41 @@
 -- A desk and the ends of cores that take turns, closed: they show a run.
-use Rattle.std.proofs.Common.{◌≡◌, ℕ, zero, suc, ◌+◌, ◌*◌, ◌<◌, ◌≤◌, inl, inr, Bool, cond, List, [], ◌∷◌, ◌++◌, length, map, get_or, All, Contains, None, refl, ap, ap₂, sym, ◌∙◌, subst, arith, length-append}
+use Rattle.std.proofs.Common.{◌≡◌, ℕ, zero, suc, ◌+◌, ◌*◌, ◌<◌, ◌≤◌, inl, inr, Bool, false, cond, List, [], ◌∷◌, ◌++◌, length, map, get_or, All, Contains, None, refl, ap, ap₂, sym, ◌∙◌, subst, arith, length-append}
 use Rattle.std.proofs.lemmas.Bool.Decides.{eqb_tells}
 use Rattle.std.proofs.lemmas.List.Elements.{Contains-append_left}
-use Rattle.hj_base.specs.Journals.{Entry, IsPrefix, puts, takes}
+use Rattle.hj_base.specs.Journals.{Entry, puts, takes}
 use Rattle.hj_base.specs.Link.{Agrees, AgreesOneWay, Link, OneWay}
 use Rattle.hj_msg.specs.declared.drain.Drained.{Drained}
+use Rattle.hj_msg.specs.declared.drain.Drained.TheVariants.{Kept}
 use Rattle.hj_msg.specs.declared.event.Event.{Event}
-use Rattle.hj_msg.specs.declared.event.Pair.{Pair}
 use Rattle.hj_msg.specs.declared.feed.Given.{Given}
 use Rattle.hj_msg.specs.declared.fin.Fin.{Fin}
 use Rattle.hj_msg.specs.declared.fin.Fin.TheVariants as fin
 use Rattle.hj_msg.specs.declared.message.Msg.{Msg}
 use Rattle.hj_msg.specs.declared.message.Report.{Report}
 use Rattle.hj_msg.specs.declared.message.Report.TheVariants.{Ended}
-use Rattle.hj_msg.specs.Drain.{Drainage, TakesAll, pairs_in}
-use Rattle.hj_msg.specs.Emission.{emitted}
 use Rattle.hj_msg.specs.Feed.{FeedState, GoesOverAnswers, events_in}
-use Rattle.hj_msg.specs.Kang.{kang}
+use Rattle.hj_msg.specs.Met.{AreAllReportsOf}
 use Rattle.hj_msg.specs.Run.{IsComplete, IsRun, LogEntry, Run}
-use Rattle.hj_msg.specs.RunsJoin.{EndsJoin}
 use Rattle.hj_msg.specs.Turns.{Turns, TakesTurns}
+use Rattle.hj_collect.specs.Collector.{CollectorState}
+use Rattle.hj_collect.specs.StandsFor as collect
 use Rattle.hj_link.specs.Seen.{EndSeen, LinkSeen, SenderSeen, WaySeen, link_of, one_way_of}
+use Rattle.hj_raw.specs.Items.{Taken, lists_of}
 use Rattle.hj_desk.specs.declared.desk.Desk.{Desk}
-use Rattle.hj_desk.specs.declared.caller.Round.TheVariants.{Over}
-use Rattle.hj_desk.specs.Caller.{EndsRound}
+use Rattle.hj_desk.specs.Caller.{last_answer}
 use Rattle.hj_desk.specs.Desk.{History, StandsFor}
 use Rattle.hj_crew.specs.Ends.{FormChain}
 use Rattle.hj_crew.specs.Links.{closed_links, closed_queues}
-use Rattle.hj_crew.specs.Ran.{RanSeen, RunsOnThreads, link_at, queue_at}
+use Rattle.hj_crew.specs.Ran.{RanSeen, link_at, queue_at}
 use Rattle.hj_crew.specs.Ran as ran
+use Rattle.hj_crew.specs.RunsCrew.{RunsCrew}
 use Rattle.hj_desk.specs.Runs.{AreUncut, DoTheirPart, IsDone, Workers, cores_of, left_end, right_end, taken_of}
 use Rattle.hj_desk.specs.Runs as runs
-use Rattle.hj_crew.proofs.ClosedLinks.{agrees-at, agrees-at_queue, before-last, chosen, end_journal, is_chosen, last-at, length-closed_links, length-closed_queues, length-linked, length-queued, link-closed, queue-closed, sender_journal, takes-closed}
+use Rattle.hj_desk.specs.Taken.{AreTaken}
+use Rattle.hj_crew.proofs.ClosedLinks.{agrees-at, agrees-at_queue, before-last, chosen, end_journal, is_chosen, last-at, length-closed_links, length-closed_queues, length-linked, length-queued, link-closed, queue-closed, receivers-closed, sender_journal, takes-closed}
 use Rattle.hj_desk.proofs.InTurn.{journals-in_turn}
-use Rattle.hj_desk.proofs.Runs.{all_reports, begins_join, is_run}
-use Rattle.hj_desk.proofs.Whole.{complete, ended, whole_join}
+use Rattle.hj_desk.proofs.Runs.{all_reports, is_run}
+use Rattle.hj_desk.proofs.Whole.{complete, ended}
 
 -- The ends of a core are those of its turns, the last of which isn't cut where its end was reported.
 pub record TurnsOf {P : Type 0} (matches : P → P → Bool) (place n : ℕ) (left right : List (Entry (Msg P))) (reports : List (Entry (Report P))) (turns : Turns P) : Type 0 where
@@ -146,53 +147,57 @@ module _ {P : Type 0} (matches : P → P → Bool) (desk : Desk P) (lefts rights
         ) in
         subst (λ (run : Run P). (is : IsRun run) × (IsDone desk → IsComplete is)) (same_run history.events ended_so) of_desk
 
-    prefix : IsPrefix history.given (emitted (map (λ queue. takes queue.way.receiver) queues))
-    prefix =
-        subst (λ (lists : List (List (Report P))). IsPrefix history.given (emitted lists)) (sym (takes-closed senders desk.reports.items chain.queues))
-        (stood.gathered.pairs.in_order (runs.run_of workers_of desk history.events) (is_run workers_of desk feed history stood parts) (all_reports workers_of desk feed history stood parts).of_run)
+    -- the reports that were taken, in that run
+    reports-shown : (ended_so : Fin) → AreAllReportsOf (ran.run_of matches history.events (record { links = links; queues = queues; flight = desk.driver.flight; ended = ended_so })) (lists_of (cores_of desk) history.taken)
+    reports-shown ended_so =
+        subst (λ (run : Run P). AreAllReportsOf run (lists_of (cores_of desk) history.taken)) (same_run history.events ended_so)
+        (subst (λ (lists : List (List (Report P))). AreAllReportsOf (runs.run_of workers_of desk history.events) lists) stood.gathered.lists (all_reports workers_of desk feed history stood parts))
 
-    ends : (ended_so : Fin) (taken : List (Drainage P)) → history.given ≡ pairs_in taken → EndsRound (Over ended_so) taken desk → EndsJoin ended_so feed.stopped taken (kang matches history.events)
-    ends fin.Done taken given so = (
-      stood.fed.stopped so.1.stopped,
-      so.0,
-      sym given ∙ whole_join workers_of desk feed history stood parts (uncut so.1) so.1 so.2,
-    )
-    ends fin.Refused taken given so = (so, subst (λ (pairs : List (Pair P)). IsPrefix pairs (kang matches history.events)) given (begins_join workers_of desk feed history stood parts))
-    ends fin.Memory taken given so = (so, subst (λ (pairs : List (Pair P)). IsPrefix pairs (kang matches history.events)) given (begins_join workers_of desk feed history stood parts))
+    lists-shown : map (λ queue. takes queue.way.receiver) queues ≡ lists_of (cores_of desk) history.taken
+    lists-shown = takes-closed senders desk.reports.items chain.queues ∙ stood.gathered.lists
 
--- Where a desk stands for what a feed answered and a drain took, and what it and the cores had is closed, that is a run on
--- threads.
-module _ {P F D : Type 0} (gives : F → Given P → F → Type 0) (state : F → FeedState) (takes_pair : D → Pair P → Drained → D → Type 0) (matches : P → P → Bool) (desk : Desk P)
-    (lefts rights : List (EndSeen (Msg P))) (senders : List (SenderSeen (Report P))) (chain : FormChain desk lefts rights senders) (from to : F) (unfilled filled : D) (answers : List (Given P)) (taken : List (Drainage P))
-    (feed : GoesOverAnswers gives from answers to) (drain : TakesAll takes_pair unfilled taken filled) (log : List (LogEntry P))
-    (stood : StandsFor desk (state to) (record { log = log; events = events_in answers; given = pairs_in taken })) (some : 1 ≤ cores_of desk) (ended_so : Fin) (so : EndsRound (Over ended_so) taken desk)
+    taken-shown : AreTaken (map (λ queue. queue.way.receiver) queues) history.taken
+    taken-shown = subst (λ (journals : List (List (Entry (Report P)))). AreTaken journals history.taken) (sym (receivers-closed senders desk.reports.items chain.queues)) stood.gathered.are
+
+-- Where a desk stands for what a feed answered and the reports that it took, what its outlet gave of them is known, and what it and the
+-- cores had is closed, that is what a crew did.
+module _ {P F O : Type 0} (gives : F → Given P → F → Type 0) (state : F → FeedState) (gave : O → ℕ → List (Taken P) → Bool → Drained → O → Type 0) (rests : O → CollectorState → Type 0) (matches : P → P → Bool) (desk : Desk P)
+    (lefts rights : List (EndSeen (Msg P))) (senders : List (SenderSeen (Report P))) (chain : FormChain desk lefts rights senders) (from to : F) (begun now : O) (answers : List (Given P))
+    (feed : GoesOverAnswers gives from answers to) (log : List (LogEntry P)) (taken : List (Taken P)) (stood : StandsFor desk (state to) (record { log = log; events = events_in answers; taken = taken }))
+    (some : 1 ≤ cores_of desk) (ended_so : Fin) (given : gave begun (cores_of desk) [] false Kept begun → gave begun (cores_of desk) taken desk.over (last_answer ended_so) now)
+    (so : ended_so ≡ fin.Done → IsDone desk × rests now desk.collector)
     (links_agree : All (λ link. Agrees link.capacity link.link) (closed_links (desk.ports.left ∷ rights) (lefts ++ desk.ports.right ∷ [])))
     (queues_agree : All (λ queue. AgreesOneWay queue.capacity queue.way) (closed_queues senders desk.reports.items))
     (each : (k : ℕ) → k < cores_of desk → (turns : Turns P) × TurnsOf matches k (cores_of desk) (get_or (map end_journal lefts) k []) (get_or (map end_journal rights) k []) (get_or (map sender_journal senders) k []) turns) where
   abbrev happened : History P
-  happened = record { log = log; events = events_in answers; given = pairs_in taken }
+  happened = record { log = log; events = events_in answers; taken = taken }
 
   abbrev closed_ran : RanSeen P
   closed_ran = record { links = closed_links (desk.ports.left ∷ rights) (lefts ++ desk.ports.right ∷ []); queues = closed_queues senders desk.reports.items; flight = desk.driver.flight; ended = ended_so }
 
-  is_done : (e : Fin) → EndsRound (Over e) taken desk → e ≡ fin.Done → IsDone desk
-  is_done fin.Done ends is = ends.1
-  is_done fin.Refused ends is = absurd (cc)
-  is_done fin.Memory ends is = absurd (cc)
-
-  pub runs_on_threads : RunsOnThreads gives state takes_pair matches (cores_of desk) desk.driver.flight from to unfilled filled closed_ran
-  runs_on_threads =
+  pub runs-crew : RunsCrew gives state gave rests matches (cores_of desk) desk.driver.flight from to begun now closed_ran
+  runs-crew =
       let run = shown matches desk lefts rights senders chain (state to) happened stood some links_agree queues_agree each ended_so in
       record {
         answers = answers;
         feed = feed;
-        taken = taken;
-        drain = drain;
         links = many_links matches desk lefts rights senders chain;
         queues = many_queues matches desk lefts rights senders chain;
         flight = refl;
         run = run.0;
-        in_order = prefix matches desk lefts rights senders chain (state to) happened stood some links_agree queues_agree each;
-        ends = ends matches desk lefts rights senders chain (state to) happened stood some links_agree queues_agree each ended_so taken refl so;
-        complete = λ done. run.1 (is_done ended_so so done);
+        complete = λ done. run.1 (so done).0;
+        taken = taken;
+        are = taken-shown matches desk lefts rights senders chain (state to) happened stood some links_agree queues_agree each;
+        lists = lists-shown matches desk lefts rights senders chain (state to) happened stood some links_agree queues_agree each;
+        reports = reports-shown matches desk lefts rights senders chain (state to) happened stood some links_agree queues_agree each ended_so;
+        over = desk.over;
+        given = given;
+        done = λ done. record {
+          stopped = stood.fed.stopped (so done).0.stopped;
+          going = (so done).0.going;
+          collector = desk.collector;
+          follows = subst (collect.StandsFor desk.collector) stood.gathered.lists stood.gathered.follows;
+          ended = (so done).0.ended;
+          rests = (so done).1;
+        };
       }

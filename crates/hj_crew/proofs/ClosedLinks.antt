@@ -53,6 +53,13 @@ module _ {M : Type 0} where
   queue-closed (s ∷ senders) (r ∷ receivers) queued (suc k) = queue-closed senders receivers queued.1 k
 
   -- what was taken is what the receivers took
+  pub receivers-closed : (senders : List (SenderSeen M)) (receivers : List (ReceiverSeen M)) → AreQueues senders receivers
+      → map (λ queue. queue.way.receiver) (closed_queues senders receivers) ≡ map (λ receiver. receiver.journal) receivers
+  receivers-closed [] [] queued = refl
+  receivers-closed [] (r ∷ receivers) queued = absurd queued
+  receivers-closed (s ∷ senders) [] queued = absurd queued
+  receivers-closed (s ∷ senders) (r ∷ receivers) queued = ap (λ l. r.journal ∷ l) (receivers-closed senders receivers queued.1)
+
   pub takes-closed : (senders : List (SenderSeen M)) (receivers : List (ReceiverSeen M)) → AreQueues senders receivers
       → map (λ queue. takes queue.way.receiver) (closed_queues senders receivers) ≡ map (λ receiver. takes receiver.journal) receivers
   takes-closed [] [] queued = refl

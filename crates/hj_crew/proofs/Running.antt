@@ -1,29 +1,34 @@
--- A crew that ran, and was closed, shows a run on threads.
-use Rattle.std.proofs.Common.{◌≡◌, ℕ, zero, suc, ◌+◌, ◌<◌, ◌≤◌, Bool, List, [], ◌∷◌, ◌++◌, length, map, get_or, All, sym, ◌∙◌, subst, arith}
+-- What a crew did that ran, and was closed.
+use Rattle.std.proofs.Common.{◌≡◌, ℕ, zero, suc, ◌+◌, ◌<◌, ◌≤◌, Bool, false, List, [], ◌∷◌, ◌++◌, length, map, get_or, All, sym, ◌∙◌, subst, arith}
 use Rattle.std.specs.List.{AllZip}
 use Rattle.std.proofs.lemmas.List.{length-map}
 use Rattle.hj_base.specs.Link.{Agrees, AgreesOneWay}
 use Rattle.hj_msg.specs.declared.drain.Drained.{Drained}
-use Rattle.hj_msg.specs.declared.event.Pair.{Pair}
+use Rattle.hj_msg.specs.declared.drain.Drained.TheVariants.{Kept}
 use Rattle.hj_msg.specs.declared.feed.Given.{Given}
 use Rattle.hj_msg.specs.declared.fin.Fin.{Fin}
+use Rattle.hj_msg.specs.declared.fin.Fin.TheVariants as fin
 use Rattle.hj_msg.specs.declared.message.Msg.{Msg}
 use Rattle.hj_msg.specs.declared.message.Report.{Report}
 use Rattle.hj_msg.specs.Feed.{FeedState}
 use Rattle.hj_msg.specs.Turns.{Turns, TakesTurns}
+use Rattle.hj_collect.specs.Collector.{CollectorState}
 use Rattle.hj_link.specs.Seen.{LinkSeen, WaySeen}
+use Rattle.hj_raw.specs.Items.{Taken}
 use Rattle.hj_worker.specs.Seen.{WorkerSeen}
 use Rattle.hj_desk.specs.declared.caller.Caller.{Caller}
+use Rattle.hj_desk.specs.declared.caller.Round.TheVariants.{Over}
 use Rattle.hj_desk.specs.declared.desk.Desk.{Desk}
 use Rattle.hj_crew.specs.declared.team.Team.{Team}
-use Rattle.hj_desk.specs.Caller.{Ends}
+use Rattle.hj_desk.specs.Caller.{Ends, EndsRound, last_answer}
 use Rattle.hj_crew.specs.Cores.{AreClosed, AreCores, AreCrew, TakesItsTurns, left_of, reports_of, right_of}
 use Rattle.hj_desk.specs.Desk.{StandsFor, nothing_happened}
 use Rattle.hj_crew.specs.Links.{closed_links, closed_queues}
-use Rattle.hj_crew.specs.Ran.{RanSeen, RunsOnThreads}
-use Rattle.hj_desk.specs.Runs.{cores_of}
+use Rattle.hj_crew.specs.Ran.{RanSeen}
+use Rattle.hj_crew.specs.RunsCrew.{RunsCrew}
+use Rattle.hj_desk.specs.Runs.{IsDone, cores_of}
 use Rattle.hj_crew.specs.Teams.{TeamStays}
-use Rattle.hj_crew.proofs.Chained.{TurnsOf, runs_on_threads}
+use Rattle.hj_crew.proofs.Chained.{TurnsOf, runs-crew}
 use Rattle.hj_crew.proofs.ClosedLinks.{end_journal, sender_journal}
 use Rattle.hj_crew.proofs.Keeping.{stays-crew}
 
@@ -59,13 +64,13 @@ module _ {P J : Type 0} (predicate : J → P → P → Bool) (join : J) (n : ℕ
 pub as-many_cores : {P J L R : Type 0} (join : J) (n in_flight : ℕ) (desk : Desk P) (teams : List (Team P J L R)) → AreCrew join n in_flight desk teams → cores_of desk ≡ n
 as-many_cores {P} {J} join n in_flight desk teams crew = sym crew.chain.cores ∙ length-map crew.workers (λ (w : WorkerSeen P J). w.ends.left) ∙ crew.many
 
-module _ {P J L R F D : Type 0} (gives : F → Given P → F → Type 0) (state : F → FeedState) (takes : D → Pair P → Drained → D → Type 0) (join : J) (n in_flight : ℕ) (old new : Caller P F D) (ended : Fin)
-    (ends : Ends gives state takes ended old new) (teams back : List (Team P J L R)) (crew : AreCrew join n in_flight old.desk teams) (same : AllZip TeamStays teams back) where
+module _ {P J L R F O : Type 0} (gives : F → Given P → F → Type 0) (state : F → FeedState) (gave : O → ℕ → List (Taken P) → Bool → Drained → O → Type 0) (rests : O → CollectorState → Type 0) (join : J) (n in_flight : ℕ) (old new : Caller P F O) (ended : Fin)
+    (ends : Ends gives state gave rests ended old new) (teams back : List (Team P J L R)) (crew : AreCrew join n in_flight old.desk teams) (same : AllZip TeamStays teams back) where
   pub crew-back : AreCrew join n in_flight new.desk back
   crew-back = stays-crew join n in_flight old.desk new.desk teams back crew ends.goes.links ends.goes.queues ends.goes.flight same
 
   -- where it was closed
-  module _ (predicate : J → P → P → Bool) (ran : RanSeen P) (stood : StandsFor old.desk (state old.feed) nothing_happened) (some_core : 1 ≤ n) (closed : AreClosed predicate new.desk crew-back.workers ran)
+  module _ (predicate : J → P → P → Bool) (ran : RanSeen P) (stood : StandsFor old.desk (state old.feed) nothing_happened) (going : old.desk.over ≡ false) (some_core : 1 ≤ n) (closed : AreClosed predicate new.desk crew-back.workers ran)
       (flight : ran.flight ≡ in_flight) (ended_so : ran.ended ≡ ended) where
     abbrev workers : List (WorkerSeen P J)
     workers = crew-back.workers
@@ -88,18 +93,30 @@ module _ {P J L R F D : Type 0} (gives : F → Given P → F → Type 0) (state 
       ended = ended;
     }
 
-    of_desk : RunsOnThreads gives state takes (predicate join) (cores_of new.desk) new.desk.driver.flight old.feed new.feed old.drain new.drain of_crew
+    -- how the outlet gave
+    given : gave old.outlet (cores_of new.desk) [] false Kept old.outlet → gave old.outlet (cores_of new.desk) ends.goes.taken new.desk.over (last_answer ended) new.outlet
+    given unused =
+        ends.goes.outlet old.outlet nothing_happened stood
+        (subst (λ (b : Bool). gave old.outlet (cores_of old.desk) [] b Kept old.outlet) (sym going)
+        (subst (λ (m : ℕ). gave old.outlet m [] false Kept old.outlet) (many ∙ sym (as-many_cores join n in_flight old.desk teams crew)) unused))
+
+    all-done : (e : Fin) → EndsRound gives state gave rests (Over e) new → e ≡ fin.Done → IsDone new.desk × rests new.outlet new.desk.collector
+    all-done fin.Done so is = so
+    all-done fin.Refused so is = absurd (cc)
+    all-done fin.Memory so is = absurd (cc)
+
+    of_desk : RunsCrew gives state gave rests (predicate join) (cores_of new.desk) new.desk.driver.flight old.feed new.feed old.outlet new.outlet of_crew
     of_desk =
-        runs_on_threads gives state takes (predicate join) new.desk (left_of workers) (right_of workers) (reports_of workers) crew-back.chain old.feed new.feed old.drain new.drain ends.answers ends.taken ends.goes.feed
-        ends.goes.drain ends.goes.log (ends.goes.stands nothing_happened stood) (omega (arith, some_core, many)) ended ends.answered
+        runs-crew gives state gave rests (predicate join) new.desk (left_of workers) (right_of workers) (reports_of workers) crew-back.chain old.feed new.feed old.outlet new.outlet ends.answers ends.goes.feed
+        ends.goes.log ends.goes.taken (ends.goes.stands nothing_happened stood) (omega (arith, some_core, many)) ended given (all-done ended ends.ended)
         (subst (λ (links : List (LinkSeen (Msg P))). All (λ link. Agrees link.capacity link.link) links) closed.links closed.links_agree)
         (subst (λ (queues : List (WaySeen (Report P))). All (λ queue. AgreesOneWay queue.capacity queue.way) queues) closed.queues closed.queues_agree) each
 
     shown : of_crew ≡ ran
     shown = λ i. record { links = sym closed.links i; queues = sym closed.queues i; flight = (crew-back.flight ∙ sym flight) i; ended = sym ended_so i }
 
-    pub shows-run : RunsOnThreads gives state takes (predicate join) n in_flight old.feed new.feed old.drain new.drain ran
+    pub shows-run : RunsCrew gives state gave rests (predicate join) n in_flight old.feed new.feed old.outlet new.outlet ran
     shows-run =
-        subst (λ (seen : RanSeen P). RunsOnThreads gives state takes (predicate join) n in_flight old.feed new.feed old.drain new.drain seen) shown
-        (subst (λ (f : ℕ). RunsOnThreads gives state takes (predicate join) n f old.feed new.feed old.drain new.drain of_crew) crew-back.flight
-        (subst (λ (m : ℕ). RunsOnThreads gives state takes (predicate join) m new.desk.driver.flight old.feed new.feed old.drain new.drain of_crew) many of_desk))
+        subst (λ (seen : RanSeen P). RunsCrew gives state gave rests (predicate join) n in_flight old.feed new.feed old.outlet new.outlet seen) shown
+        (subst (λ (f : ℕ). RunsCrew gives state gave rests (predicate join) n f old.feed new.feed old.outlet new.outlet of_crew) crew-back.flight
+        (subst (λ (m : ℕ). RunsCrew gives state gave rests (predicate join) m new.desk.driver.flight old.feed new.feed old.outlet new.outlet of_crew) many of_desk))

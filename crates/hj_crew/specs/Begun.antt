@@ -1,10 +1,11 @@
 -- A crew before its threads are started, and what comes back of them.
-use Rattle.std.specs.Prelude.{◌≡◌, ℕ, ◌≤◌, length, min}
+use Rattle.std.specs.Prelude.{◌≡◌, ℕ, ◌≤◌, Bool, false, List, length, min}
 use Rattle.std.specs.List.{AllZip}
 use Rattle.hj_msg.specs.declared.drain.Drained.{Drained}
-use Rattle.hj_msg.specs.declared.event.Pair.{Pair}
 use Rattle.hj_msg.specs.declared.feed.Given.{Given}
 use Rattle.hj_msg.specs.Feed.{FeedState, IsFresh}
+use Rattle.hj_collect.specs.Collector.{CollectorState}
+use Rattle.hj_raw.specs.Items.{Taken}
 use Rattle.hj_desk.specs.Caller.{Ends}
 use Rattle.hj_desk.specs.Desk.{Stands, StandsFor, nothing_happened}
 use Rattle.hj_crew.specs.declared.making.Crew.{Crew}
@@ -20,14 +21,15 @@ use Rattle.hj_crew.specs.Teams.{TeamStays}
 pub record IsManned {P J L R : Type 0} (join : J) (size : CrewSize) (crew : Crew P J L R) : Type 0 where
   pub chain : AreCrew join size.chain.cores size.chain.flight crew.desk crew.teams.items
   pub stands : (feed : FeedState) → IsFresh feed → StandsFor crew.desk feed nothing_happened
+  pub going : crew.desk.over ≡ false
   pub teams : length crew.teams.items ≡ min size.threads size.chain.cores
   pub signals : length crew.signals.items ≡ length crew.teams.items
   pub own : IsRoomOf (length crew.teams.items) crew.own
   pub done : IsRoomOf (length crew.teams.items) crew.done
 
-module _ {P J L R F D : Type 0} where
+module _ {P J L R F O : Type 0} where
   -- The calling thread may start a thread for each team: there are so many signals, and room for the teams.
-  pub record CanStart (state : F → FeedState) (signals : ℕ) (begun : Begun P J L R F D) : Type 0 where
+  pub record CanStart (state : F → FeedState) (signals : ℕ) (begun : Begun P J L R F O) : Type 0 where
     pub stands : Stands begun.caller.desk (state begun.caller.feed)
     pub cores : length begun.caller.desk.reports.items ≤ 64
     pub enough : length begun.teams.items ≤ signals
@@ -36,6 +38,6 @@ module _ {P J L R F D : Type 0} where
     pub done : IsRoomOf (length begun.teams.items) begun.done
 
   -- The calling thread made its rounds up to the end of the run, and each team came back.
-  pub record HasRun (gives : F → Given P → F → Type 0) (state : F → FeedState) (takes : D → Pair P → Drained → D → Type 0) (begun : Begun P J L R F D) (returned : Returned P J L R F D) : Type 0 where
-    pub ends : Ends gives state takes returned.fin begun.caller returned.caller
+  pub record HasRun (gives : F → Given P → F → Type 0) (state : F → FeedState) (gave : O → ℕ → List (Taken P) → Bool → Drained → O → Type 0) (rests : O → CollectorState → Type 0) (begun : Begun P J L R F O) (returned : Returned P J L R F O) : Type 0 where
+    pub ends : Ends gives state gave rests returned.fin begun.caller returned.caller
     pub teams : AllZip TeamStays begun.teams.items returned.teams.items

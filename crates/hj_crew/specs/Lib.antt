@@ -5,5 +5,6 @@ pub mod Ends
 pub mod Links
 pub mod Ran
 pub mod Room
+pub mod RunsCrew
 pub mod Stores
 pub mod Teams

@@ -11,8 +11,8 @@ use crate::levels::Shared;
 use crate::pause::Pause;
 use crate::team::{Progress, Signals, Team};
 use hj_base::{Gate, Share};
-use hj_desk::{Caller, Round};
-use hj_msg::{Drain, Feed, Fin, Join, Store};
+use hj_desk::{Caller, Outlet, Round};
+use hj_msg::{Feed, Fin, Join, Store};
 use std::sync::Wait;
 use std::sync::atomic::Ordering;
 use std::time::Clock;
@@ -27,18 +27,18 @@ pub(crate) fn drive<
     L: Store<P, J> + Drop,
     R: Store<P, J> + Drop,
     F: Feed<P>,
-    D: Drain<P>,
+    O: Outlet<P>,
     G: Gate,
     T: Wait + Clock,
 >(
     shared: &Shared<'_, G, T>,
-    caller: &mut Caller<P, F, D>,
+    caller: &mut Caller<P, F, O>,
     own: &mut [Team<P, J, L, R>],
 ) -> Option<Fin>
     requires stands { Stands caller.old.desk (F.state caller.old.feed) }
     requires few { length caller.old.desk.reports.items ≤ 64 }
-    ensures goes { MatchOption result (GoesRound F.gives F.state D.takes GotOn caller.old caller.new)
-        (λ fin. Ends F.gives F.state D.takes fin caller.old caller.new) }
+    ensures goes { MatchOption result (GoesRound F.gives F.state O.gave O.rests GotOn caller.old caller.new)
+        (λ fin. Ends F.gives F.state O.gave O.rests fin caller.old caller.new) }
     ensures own { AllZip TeamStays own.old own.new }
 {
     let mut pause = Pause::new(shared.bell);
@@ -69,13 +69,13 @@ pub(crate) fn drive_alone<
     L: Store<P, J> + Drop,
     R: Store<P, J> + Drop,
     F: Feed<P>,
-    D: Drain<P>,
+    O: Outlet<P>,
     G: Gate,
     T: Wait,
->(rt: &T, caller: &mut Caller<P, F, D>, teams: &mut [Team<P, J, L, R>], gate: &G) -> Fin
+>(rt: &T, caller: &mut Caller<P, F, O>, teams: &mut [Team<P, J, L, R>], gate: &G) -> Fin
     requires stands { Stands caller.old.desk (F.state caller.old.feed) }
     requires few { length caller.old.desk.reports.items ≤ 64 }
-    ensures ends { Ends F.gives F.state D.takes result caller.old caller.new }
+    ensures ends { Ends F.gives F.state O.gave O.rests result caller.old caller.new }
     ensures teams { AllZip TeamStays teams.old teams.new }
 {
     for _ in rt.forever() {
@@ -131,12 +131,12 @@ fn round_of_all<
     L: Store<P, J> + Drop,
     R: Store<P, J> + Drop,
     F: Feed<P>,
-    D: Drain<P>,
+    O: Outlet<P>,
     G: Gate,
->(caller: &mut Caller<P, F, D>, own: &mut [Team<P, J, L, R>], gate: &G) -> Round
+>(caller: &mut Caller<P, F, O>, own: &mut [Team<P, J, L, R>], gate: &G) -> Round
     requires stands { Stands caller.old.desk (F.state caller.old.feed) }
     requires few { length caller.old.desk.reports.items ≤ 64 }
-    ensures goes { GoesRound F.gives F.state D.takes result caller.old caller.new }
+    ensures goes { GoesRound F.gives F.state O.gave O.rests result caller.old caller.new }
     ensures own { AllZip TeamStays own.old own.new }
 {
     match caller.round() {

@@ -10,8 +10,8 @@ use crate::bell::{Bell, Neighbours};
 use crate::drive::drive;
 use crate::team::{Signals, Team, work};
 use hj_base::{Gate, Share};
-use hj_desk::Caller;
-use hj_msg::{Drain, Feed, Fin, Join, Store};
+use hj_desk::{Caller, Outlet};
+use hj_msg::{Feed, Fin, Join, Store};
 use std::snapshot::Snapshot;
 use std::sync::Wait;
 use std::sync::atomic::{AtomicBool, Ordering};
@@ -60,13 +60,13 @@ pub(crate) fn levels<
     L: Store<P, J> + Send + Drop + 's,
     R: Store<P, J> + Send + Drop + 's,
     F: Feed<P>,
-    D: Drain<P>,
+    O: Outlet<P>,
     G: Gate + Sync + 's,
     T: Threads + Wait + Clock + Sync + 's,
 >(
     scope: &'s Scope<'s, E>,
     shared: &Shared<'s, G, T>,
-    caller: &mut Caller<P, F, D>,
+    caller: &mut Caller<P, F, O>,
     teams: &mut Vec<Team<P, J, L, R>>,
     own: &mut Vec<Team<P, J, L, R>>,
     done: &mut Vec<Team<P, J, L, R>>,
@@ -77,8 +77,8 @@ pub(crate) fn levels<
     requires few { length shared.now.signals.now ≤ 64 }
     requires done_room { vec_len done.old + vec_len teams.old ≤ vec_capacity done.old }
     requires own_room { vec_len own.old + vec_len teams.old ≤ vec_capacity own.old }
-    ensures goes { MatchOption result (GoesRound F.gives F.state D.takes GotOn caller.old caller.new)
-        (λ fin. Ends F.gives F.state D.takes fin caller.old caller.new) }
+    ensures goes { MatchOption result (GoesRound F.gives F.state O.gave O.rests GotOn caller.old caller.new)
+        (λ fin. Ends F.gives F.state O.gave O.rests fin caller.old caller.new) }
     ensures own { AllZip TeamStays own.old.items own.new.items }
     ensures done { AppendsTeams teams.old.items done.old.items done.new.items }
     ensures done_capacity { vec_capacity done.new ≡ vec_capacity done.old }

@@ -1,5 +1,5 @@
 //! What a run is made of, before any thread is started.
-ghost use Rattle.std.specs.Prelude.{◌≡◌, ◌+◌, ◌<◌, ◌≤◌, ◌∷◌, [], All, length, IfOk};
+ghost use Rattle.std.specs.Prelude.{◌≡◌, ◌+◌, ◌<◌, ◌≤◌, ◌∷◌, [], false, All, length, IfOk};
 ghost use Rattle.hj_base.specs.declared.numbers.Side.TheVariants.{Left, Right};
 ghost use Rattle.hj_msg.specs.Core.{empty_state};
 ghost use Rattle.hj_msg.specs.Feed.{FeedState, IsFresh};
@@ -107,6 +107,7 @@ fn desk_and_teams<P: Share + Drop, J: Join<P> + Drop, L: Store<P, J> + Drop, R: 
         AreCrew join.now size.cores size.flight made.0 made.1.items) }
     ensures stands { IfOk result (λ made. (feed : FeedState) → IsFresh feed
         → StandsFor made.0 feed nothing_happened) }
+    ensures going { IfOk result (λ made. made.0.over ≡ false) }
     ensures count { IfOk result (λ made. length made.1.items ≡ count) }
 {
     let mut ends = ChainEnds::new(alloc, size.cores, size.flight)?;
@@ -134,6 +135,7 @@ fn desk_at<P: Share + Drop>(
     requires receivers_unused { All (λ receiver. receiver.journal ≡ []) ends.receivers.items }
     ensures stands { IfOk result (λ desk. (feed : FeedState) → IsFresh feed
         → StandsFor desk feed nothing_happened) }
+    ensures going { IfOk result (λ desk. desk.over ≡ false) }
     ensures left { IfOk result (λ desk. ends.left.items ≡ desk.ports.left ∷ []) }
     ensures right { IfOk result (λ desk. desk.ports.right ≡ last) }
     ensures reports { IfOk result (λ desk. desk.reports ≡ ends.receivers) }

@@ -6,6 +6,7 @@ ghost use Rattle.hj_msg.specs.Feed.{IsFresh};
 ghost use Rattle.hj_desk.specs.Caller.{Ends};
 ghost use Rattle.hj_desk.specs.Desk.{Stands};
 ghost use Rattle.hj_crew.specs.Begun.{CanStart, HasRun, IsManned};
+ghost use Rattle.hj_crew.specs.RunsCrew.{RunsCrew};
 ghost use Rattle.hj_crew.specs.Ran.{RunsOnThreads};
 ghost use Rattle.hj_crew.specs.Room.{IsRoomFor, IsRoomOf};
 ghost use Rattle.hj_crew.specs.Stores.{AreReadyOn};
@@ -21,7 +22,7 @@ use crate::ran::Ran;
 use crate::room::Room;
 use crate::team::{Signals, Team};
 use hj_base::{Gate, Memory, Share};
-use hj_desk::Caller;
+use hj_desk::{Caller, InOrder, Outlet};
 use hj_msg::{Drain, Feed, Fin, Join, Store};
 use std::alloc::Global;
 use std::sync::Wait;
@@ -83,8 +84,9 @@ pub fn run_threads<
     let Ok(room) = Room::new(alloc, plan.size.chain.cores) else {
         return (Err(Memory), feed, drain);
     };
-    let (ran, feed, drain) = run_and_close(plan, crew, room, feed, drain);
-    (Ok(ran), feed, drain)
+    let outlet = InOrder::new(alloc, drain);
+    let (ran, feed, outlet) = run_and_close(plan, crew, room, feed, outlet);
+    (Ok(ran), feed, outlet.drain)
 }
 
 /// Lets the crew of a chain run until the run has ended, and closes it.
@@ -94,7 +96,7 @@ fn run_and_close<
     L: Store<P, J> + Send + Drop,
     R: Store<P, J> + Send + Drop,
     F: Feed<P> + Drop,
-    D: Drain<P> + Drop,
+    O: Outlet<P> + Drop,
     G: Gate + Sync,
     T: Threads + Wait + Clock + Sync,
 >(
@@ -102,29 +104,29 @@ fn run_and_close<
     crew: Crew<P, J, L, R>,
     room: Room<P, J, L, R>,
     feed: F,
-    drain: D,
-) -> (Ran<P>, F, D)
+    outlet: O,
+) -> (Ran<P>, F, O)
     requires crew { (join : J) × IsManned join plan.now.size crew }
     requires room { IsRoomFor plan.now.size.chain.cores room }
     requires fresh { IsFresh (F.state feed) }
-    ensures { (join : J) → IsManned join plan.now.size crew → RunsOnThreads F.gives F.state D.takes
-        (J.predicate join) plan.now.size.chain.cores plan.now.size.chain.flight feed result.1 drain result.2 result.0 }
+    ensures { (join : J) → IsManned join plan.now.size crew → RunsCrew F.gives F.state O.gave O.rests
+        (J.predicate join) plan.now.size.chain.cores plan.now.size.chain.flight feed result.1 outlet result.2 result.0 }
 {
-    let Returned { caller, teams, fin } = run_crew(plan, crew, feed, drain);
+    let Returned { caller, teams, fin } = run_crew(plan, crew, feed, outlet);
     let Caller {
         desk,
         feed,
-        drain,
+        outlet,
         ..
     } = caller;
     let ran = close_crew(desk, teams, plan.size.chain, fin, room);
-    (ran, feed, drain)
+    (ran, feed, outlet)
 }
 
 /// What a run has before its first thread is started.
 #[derive(Drop)]
-pub(crate) struct Begun<P: Drop, J: Join<P>, L: Store<P, J>, R: Store<P, J>, F, D> {
-    pub(crate) caller: Caller<P, F, D>,
+pub(crate) struct Begun<P: Drop, J: Join<P>, L: Store<P, J>, R: Store<P, J>, F, O> {
+    pub(crate) caller: Caller<P, F, O>,
     pub(crate) teams: Vec<Team<P, J, L, R>>,
     /// Room for the teams that the calling thread turns itself, and for those that came back.
     pub(crate) own: Vec<Team<P, J, L, R>>,
@@ -132,8 +134,8 @@ pub(crate) struct Begun<P: Drop, J: Join<P>, L: Store<P, J>, R: Store<P, J>, F, 
 }
 
 /// What comes back of a run.
-pub(crate) struct Returned<P: Drop, J: Join<P>, L: Store<P, J>, R: Store<P, J>, F, D> {
-    pub(crate) caller: Caller<P, F, D>,
+pub(crate) struct Returned<P: Drop, J: Join<P>, L: Store<P, J>, R: Store<P, J>, F, O> {
+    pub(crate) caller: Caller<P, F, O>,
     pub(crate) teams: Vec<Team<P, J, L, R>>,
     pub(crate) fin: Fin,
 }
@@ -145,23 +147,23 @@ fn run_crew<
     L: Store<P, J> + Send + Drop,
     R: Store<P, J> + Send + Drop,
     F: Feed<P> + Drop,
-    D: Drain<P> + Drop,
+    O: Outlet<P> + Drop,
     G: Gate + Sync,
     T: Threads + Wait + Clock + Sync,
 >(
     plan: &CrewPlan<'_, T, G>,
     crew: Crew<P, J, L, R>,
     feed: F,
-    drain: D,
-) -> Returned<P, J, L, R, F, D>
+    outlet: O,
+) -> Returned<P, J, L, R, F, O>
     requires stands { Stands crew.desk (F.state feed) }
     requires cores { length crew.desk.reports.items ≤ 64 }
     requires teams { length crew.teams.items ≤ 64 }
     requires signals { length crew.signals.items ≡ length crew.teams.items }
     requires own { IsRoomOf (length crew.teams.items) crew.own }
     requires done { IsRoomOf (length crew.teams.items) crew.done }
-    ensures ends { Ends F.gives F.state D.takes result.fin
-        (record { desk = crew.desk; feed = feed; drain = drain; awaited = 0 }) result.caller }
+    ensures ends { Ends F.gives F.state O.gave O.rests result.fin
+        (record { desk = crew.desk; feed = feed; outlet = outlet; awaited = 0 }) result.caller }
     ensures teams { AllZip TeamStays crew.teams.items result.teams.items }
 {
     let Crew {
@@ -174,7 +176,7 @@ fn run_crew<
     let caller = Caller {
         desk,
         feed,
-        drain,
+        outlet,
         awaited: 0,
     };
     let begun = Begun {
@@ -193,16 +195,16 @@ fn run_in_scope<
     L: Store<P, J> + Send + Drop,
     R: Store<P, J> + Send + Drop,
     F: Feed<P> + Drop,
-    D: Drain<P> + Drop,
+    O: Outlet<P> + Drop,
     G: Gate + Sync,
     T: Threads + Wait + Clock + Sync,
 >(
     plan: &CrewPlan<'_, T, G>,
     signals: &[Signals],
-    begun: Begun<P, J, L, R, F, D>,
-) -> Returned<P, J, L, R, F, D>
+    begun: Begun<P, J, L, R, F, O>,
+) -> Returned<P, J, L, R, F, O>
     requires { CanStart F.state (length signals.now) begun }
-    ensures { HasRun F.gives F.state D.takes begun result }
+    ensures { HasRun F.gives F.state O.gave O.rests begun result }
 {
     let stop = AtomicBool::new(false);
     let bell = Bell::new();
@@ -225,19 +227,19 @@ fn scoped<
     L: Store<P, J> + Send + Drop,
     R: Store<P, J> + Send + Drop,
     F: Feed<P> + Drop,
-    D: Drain<P> + Drop,
+    O: Outlet<P> + Drop,
     G: Gate + Sync,
     T: Threads + Wait + Clock + Sync,
->(shared: &Shared<'_, G, T>, begun: Begun<P, J, L, R, F, D>) -> Returned<P, J, L, R, F, D>
+>(shared: &Shared<'_, G, T>, begun: Begun<P, J, L, R, F, O>) -> Returned<P, J, L, R, F, O>
     requires { CanStart F.state (length shared.now.signals.now) begun }
-    ensures { HasRun F.gives F.state D.takes begun result }
+    ensures { HasRun F.gives F.state O.gave O.rests begun result }
 {
     thread::scope(
         thread::scope_env(),
         shared.rt,
-        move |scope| -> Returned<P, J, L, R, F, D>
+        move |scope| -> Returned<P, J, L, R, F, O>
             requires { CanStart F.state (length shared.now.signals.now) begun }
-            ensures { HasRun F.gives F.state D.takes begun result }
+            ensures { HasRun F.gives F.state O.gave O.rests begun result }
         { all_levels(scope, shared, begun) },
     )
 }
@@ -252,16 +254,16 @@ fn all_levels<
     L: Store<P, J> + Send + Drop + 's,
     R: Store<P, J> + Send + Drop + 's,
     F: Feed<P>,
-    D: Drain<P>,
+    O: Outlet<P>,
     G: Gate + Sync + 's,
     T: Threads + Wait + Clock + Sync + 's,
 >(
     scope: &'s Scope<'s, E>,
     shared: &Shared<'s, G, T>,
-    begun: Begun<P, J, L, R, F, D>,
-) -> Returned<P, J, L, R, F, D>
+    begun: Begun<P, J, L, R, F, O>,
+) -> Returned<P, J, L, R, F, O>
     requires { CanStart F.state (length shared.now.signals.now) begun }
-    ensures { HasRun F.gives F.state D.takes begun result }
+    ensures { HasRun F.gives F.state O.gave O.rests begun result }
 {
     let Begun {
         mut caller,
@@ -287,17 +289,17 @@ fn run_alone<
     L: Store<P, J> + Drop,
     R: Store<P, J> + Drop,
     F: Feed<P>,
-    D: Drain<P>,
+    O: Outlet<P>,
     G: Gate,
     T: Wait,
 >(
     shared: &Shared<'_, G, T>,
-    caller: Caller<P, F, D>,
+    caller: Caller<P, F, O>,
     teams: Vec<Team<P, J, L, R>>,
-) -> Returned<P, J, L, R, F, D>
+) -> Returned<P, J, L, R, F, O>
     requires stands { Stands caller.desk (F.state caller.feed) }
     requires few { length caller.desk.reports.items ≤ 64 }
-    ensures ends { Ends F.gives F.state D.takes result.fin caller result.caller }
+    ensures ends { Ends F.gives F.state O.gave O.rests result.fin caller result.caller }
     ensures teams { AllZip TeamStays teams.items result.teams.items }
 {
     let mut caller = caller;

@@ -1,11 +1,13 @@
 -- A desk with one more report of a core.
-use Rattle.std.proofs.Common.{Some, slice_get, true≢false, ◌≡◌, ℕ, ◌+◌, ◌<◌, inl, inr, not, Bool, true, false, List, [], ◌∷◌, ◌++◌, length, map, filter, set, get_or, refl, ap, sym, ◌∙◌, subst, arith, append-nil, append_assoc}
+use Rattle.std.proofs.Common.{All, Some, slice_get, true≢false, ◌≡◌, ℕ, ◌+◌, ◌<◌, ◌==◌, inl, inr, not, cond, Bool, true, false, List, [], ◌∷◌, ◌++◌, length, map, filter, replicate, set, get_or, refl, ap, sym, ◌∙◌, subst, arith, append-nil, append_assoc}
 use Rattle.std.specs.declared.result.Result.{Result}
 use Rattle.std.specs.declared.result.Result.TheVariants.{Ok, Err}
 use Rattle.std.specs.Result.{OnErr, OnOk, is_err}
 use Rattle.std.specs.Vec.{with_item}
 use Rattle.std.proofs.lemmas.Option.{slice_get-get_or}
-use Rattle.std.specs.List.Sorted.{IsPermutation}
+use Rattle.std.specs.List.Sorted.{IsPermutation, IsStrictlyIncreasing}
+use Rattle.std.proofs.Math.Seq.{map-set_same}
+use Rattle.std.proofs.lemmas.List.Sums.{fold-append}
 use Rattle.std.proofs.lemmas.Bool.Decides.{eqb_tells}
 use Rattle.std.proofs.lemmas.List.{map-append, map-set, get_or-map, length-map, length-set, set-get_or, get_or-set_same, get_or-set_other}
 use Rattle.std.proofs.lemmas.List.Elements.{All-set, All-weaker, filter-append}
@@ -26,11 +28,14 @@ use Rattle.hj_collect.specs.StandsFor.{with_report}
 use Rattle.hj_collect.proofs.Following.{follows}
 use Rattle.hj_order.proofs.Emissions.{met-permutation}
 use Rattle.hj_link.specs.Seen.{ReceiverSeen}
+use Rattle.hj_raw.specs.Items.{Taken, lists_of, with_taken}
 use Rattle.hj_desk.specs.declared.desk.Desk.{Desk}
-use Rattle.hj_desk.specs.Desk.{IsBefore, Releases, Gathered, collected}
-use Rattle.hj_desk.specs.Steps.{ChangesReceiver, FindsNoReport, TakesReport}
+use Rattle.hj_desk.specs.Desk.{IsBefore, Gathered, collected, journals_of}
+use Rattle.hj_desk.specs.Releases.{Releases}
+use Rattle.hj_desk.specs.Steps.{ChangesReceiver, FindsNoReport, TakesReport, next_taken}
+use Rattle.hj_desk.specs.Taken.{AreTaken, takes_of, turns_in}
 use Rattle.hj_desk.proofs.Driving.{drives-later}
-use Rattle.hj_desk.proofs.Numbers.{before-more, before-taken}
+use Rattle.hj_desk.proofs.Numbers.{before-more, before-taken, below-push, increasing-push}
 
 pub prefix-trans : {X : Type 0} (xs ys zs : List X) → IsPrefix xs ys → IsPrefix ys zs → IsPrefix xs zs
 prefix-trans xs ys zs first second = record { rest = first.rest ++ second.rest; is = second.is ∙ ap (λ l. l ++ second.rest) first.is ∙ append_assoc xs first.rest second.rest }
@@ -93,14 +98,56 @@ module _ {P : Type 0} (receivers : List (ReceiverSeen (Report P))) (core : ℕ) 
       set-same : (xs : List (List (Report P))) (k : ℕ) → set xs k (get_or xs k []) ≡ xs
       set-same xs k = set-get_or xs k []
 
-  module _ (number next : ℕ) (is : next ≡ number + 1) (collector : CollectorState) (over over' : Bool) (kept kept' given : List (Pair P)) (old : Gathered receivers number collector over kept given) where
-    pub collects-taken : (at : CoreNo) (report : Report P) → at.0 ≡ core → after.journal ≡ before.journal ++ taken number report ∷ [] → (over' ≡ false → (over ≡ false) × IsPermutation (kept ++ pairs_of report) kept')
-        → Gathered (set receivers core after) next (after_report at report collector) over' kept' given
-    collects-taken at report here grown added =
+  -- the journals too
+  module _ (number : ℕ) (report : Report P) (grown : after.journal ≡ before.journal ++ taken number report ∷ []) (reports : List (Taken P)) (are : AreTaken (journals_of receivers) reports) where
+    abbrev one : Taken P
+    one = record { turn = number; core = core; report = report }
+
+    abbrev entry : Taken P → Entry (Report P)
+    entry r = taken r.turn r.report
+
+    journals : journals_of (set receivers core after) ≡ set (journals_of receivers) core (before.journal ++ taken number report ∷ [])
+    journals = map-set (λ (r : ReceiverSeen (Report P)). r.journal) receivers core after ∙ ap (set (journals_of receivers) core) grown
+
+    at-core : get_or (journals_of receivers) core [] ≡ before.journal
+    at-core = get_or-map (λ (r : ReceiverSeen (Report P)). r.journal) receivers core before [] low ∙ ap (λ (r : ReceiverSeen (Report P)). r.journal) was
+
+    takes-more : (k : ℕ) → takes_of k (reports ++ one ∷ []) ≡ takes_of k reports ++ takes_of k (one ∷ [])
+    takes-more k =
+        ap (map entry) (filter-append (λ (r : Taken P). r.core == k) reports (one ∷ []))
+        ∙ map-append entry (filter (λ (r : Taken P). r.core == k) reports) (filter (λ (r : Taken P). r.core == k) (one ∷ []))
+
+    behind : (k : ℕ) (test : Bool) → (core == k) ≡ test → takes_of k reports ++ map entry (cond test (one ∷ []) []) ≡ takes_of k (reports ++ one ∷ [])
+    behind k test is = ap (λ b. takes_of k reports ++ map entry (cond b (one ∷ []) [])) (sym is) ∙ sym (takes-more k)
+
+    each-more : (k : ℕ) → get_or (journals_of (set receivers core after)) k [] ≡ takes_of k (reports ++ one ∷ [])
+    each-more k =
+        let journal = before.journal ++ taken number report ∷ [] in
+        elim (eqb_tells core k) [
+          | inl w ↦
+              ap (λ js. get_or js k []) journals ∙ ap (λ j. get_or (set (journals_of receivers) core journal) j []) (sym w.1)
+              ∙ get_or-set_same (journals_of receivers) core journal [] (omega (arith, low, length-map receivers (λ (r : ReceiverSeen (Report P)). r.journal)))
+              ∙ ap (λ l. l ++ taken number report ∷ []) (sym at-core ∙ are.each core ∙ ap (λ j. takes_of j reports) w.1) ∙ behind k true w.0
+          | inr w ↦
+              ap (λ js. get_or js k []) journals ∙ get_or-set_other (journals_of receivers) core k journal [] (λ e. w.1 (sym e)) ∙ are.each k
+              ∙ sym (append-nil (takes_of k reports)) ∙ behind k false w.0
+        ]
+
+    are-more : All (λ n. n < number) (turns_in reports) → AreTaken (journals_of (set receivers core after)) (reports ++ one ∷ [])
+    are-more below = record {
+      rising = subst IsStrictlyIncreasing (sym (map-append (λ (r : Taken P). r.turn) reports (one ∷ []))) (increasing-push number (turns_in reports) are.rising below);
+      each = each-more;
+    }
+
+  module _ (number next : ℕ) (is : next ≡ number + 1) (collector : CollectorState) (reports : List (Taken P)) (old : Gathered receivers number collector reports) where
+    collects-one : (at : CoreNo) (report : Report P) → at.0 ≡ core → after.journal ≡ before.journal ++ taken number report ∷ []
+        → Gathered (set receivers core after) next (after_report at report collector) (reports ++ record { turn = number; core = core; report = report } ∷ [])
+    collects-one at report here grown =
         let lists = collected receivers in
         let many : length lists ≡ length receivers = length-map receivers taken_in in
         let are : collected (set receivers core after) ≡ with_report core report lists = collected-taken number report grown in
         let one : IsBefore number before.journal = subst (λ (r : ReceiverSeen (Report P)). IsBefore number r.journal) was (old.in_turn core before low) in
+        let last : Taken P = record { turn = number; core = core; report = report } in
         record {
           in_turn =
               All-set (λ (r : ReceiverSeen (Report P)). IsBefore next r.journal) receivers core after (subst (IsBefore next) (sym grown) (before-taken number next is before.journal one report))
@@ -108,18 +155,32 @@ module _ {P : Type 0} (receivers : List (ReceiverSeen (Report P))) (core : ℕ) 
           follows =
               subst (collect.StandsFor (after_report at report collector)) (sym (are ∙ ap (λ k. with_report k report lists) (sym here)))
               (follows at report collector lists (omega (arith, low, here, many, ap length old.follows.left, length-map lists (mark_of Left))) old.follows);
-          pairs = subst (λ l. Releases l over' kept' given) (sym are) (releases-more lists core report (omega (arith, low, many)) over over' kept kept' given old.pairs added);
+          are = are-more number report grown reports old.are old.before;
+          before = subst (All (λ n. n < next)) (sym (map-append (λ (r : Taken P). r.turn) reports (last ∷ []))) (below-push number next is (turns_in reports) old.before);
+          lists =
+              are ∙ ap (with_report core report) old.lists ∙ sym (fold-append with_taken (replicate (length receivers) []) reports (last ∷ []))
+              ∙ ap (λ n. lists_of n (reports ++ last ∷ [])) (sym (length-set receivers core after));
         }
 
-    pub collects-none : after.journal ≡ before.journal → Gathered (set receivers core after) number collector over kept given
+    pub collects-taken : (at : CoreNo) (report : Report P) → at.0 ≡ core → after.journal ≡ before.journal ++ taken number report ∷ []
+        → Gathered (set receivers core after) next (after_report at report collector) (reports ++ record { turn = number; core = at.0; report = report } ∷ [])
+    collects-taken at report here grown =
+        subst (λ (k : ℕ). Gathered (set receivers core after) next (after_report at report collector) (reports ++ record { turn = number; core = k; report = report } ∷ [])) (sym here)
+        (collects-one at report here grown)
+
+    pub collects-none : after.journal ≡ before.journal → Gathered (set receivers core after) number collector reports
     collects-none same =
         let are = collected-same same in
+        let journals : journals_of (set receivers core after) ≡ journals_of receivers =
+        map-set_same (λ (r : ReceiverSeen (Report P)). r.journal) receivers core after before (same ∙ ap (λ (r : ReceiverSeen (Report P)). r.journal) (sym was)) in
         record {
           in_turn =
               All-set (λ (r : ReceiverSeen (Report P)). IsBefore number r.journal) receivers core after
               (subst (IsBefore number) (sym same) (subst (λ (r : ReceiverSeen (Report P)). IsBefore number r.journal) was (old.in_turn core before low))) old.in_turn;
           follows = subst (collect.StandsFor collector) (sym are) old.follows;
-          pairs = subst (λ l. Releases l over kept given) (sym are) old.pairs;
+          are = subst (λ js. AreTaken js reports) (sym journals) old.are;
+          before = old.before;
+          lists = are ∙ old.lists ∙ ap (λ n. lists_of n reports) (sym (length-set receivers core after));
         }
 
 -- a call that wasn't refused, or that was
@@ -155,17 +216,16 @@ module _ {P : Type 0} (old : Desk P) (core : CoreNo) (at : ℕ) (here : at ≡ c
     stands = λ feed history stood. record {
       drives = stood.drives;
       fed = stood.fed;
-      gathered =
-          collects-none old.reports.items at before after (omega (arith, low, here)) (sym value) old.turns (old.turns + 1) refl old.collector old.over old.over old.kept old.kept history.given stood.gathered same;
+      gathered = collects-none old.reports.items at before after (omega (arith, low, here)) (sym value) old.turns (old.turns + 1) refl old.collector history.taken stood.gathered same;
     };
   }
 
-  pub takes-report : (report : Report P) (next : ℕ) → next ≡ old.turns + 1 → after.journal ≡ before.journal ++ taken old.turns report ∷ [] → (collector : CollectorState) → collector ≡ after_report core report old.collector → (over : Bool) (kept : List (Pair P))
-      → (over ≡ false → (old.over ≡ false) × IsPermutation (old.kept ++ pairs_of report) kept) → TakesReport core report old (record old { reports = with_item old.reports at after; turns = next; collector = collector; kept = kept; over = over })
-  takes-report report next is grown collector noted over kept added = record {
+  pub takes-report : (report : Report P) (next : ℕ) → next ≡ old.turns + 1 → after.journal ≡ before.journal ++ taken old.turns report ∷ [] → (collector : CollectorState) → collector ≡ after_report core report old.collector → (over : Bool)
+      → TakesReport core report old (record old { reports = with_item old.reports at after; turns = next; collector = collector; over = over })
+  takes-report report next is grown collector noted over = record {
     before = before;
     after = after;
-    receiver = changes (record old { reports = with_item old.reports at after; turns = next; collector = collector; kept = kept; over = over }) refl;
+    receiver = changes (record old { reports = with_item old.reports at after; turns = next; collector = collector; over = over }) refl;
     noted = grown;
     number = is;
     collector = noted;
@@ -174,7 +234,7 @@ module _ {P : Type 0} (old : Desk P) (core : CoreNo) (at : ℕ) (here : at ≡ c
       drives = drives-later old.driver old.ports old.turns next history.log is stood.drives;
       fed = stood.fed;
       gathered =
-          subst (λ (c : CollectorState). Gathered (set old.reports.items at after) next c over kept history.given) (sym noted)
-          (collects-taken old.reports.items at before after (omega (arith, low, here)) (sym value) old.turns next is old.collector old.over over old.kept kept history.given stood.gathered core report (sym here) grown added);
+          subst (λ (c : CollectorState). Gathered (set old.reports.items at after) next c (history.taken ++ next_taken core report old ∷ [])) (sym noted)
+          (collects-taken old.reports.items at before after (omega (arith, low, here)) (sym value) old.turns next is old.collector history.taken stood.gathered core report (sym here) grown);
     };
   }

@@ -10,7 +10,6 @@ use Rattle.std.proofs.lemmas.List.Folds.{list_any-append}
 use Rattle.hj_base.specs.declared.numbers.Side.{Side}
 use Rattle.hj_base.specs.declared.numbers.Side.TheVariants.{Left, Right}
 use Rattle.hj_msg.specs.declared.event.Event as happening
-use Rattle.hj_msg.specs.declared.event.Pair.{Pair}
 use Rattle.hj_msg.specs.declared.feed.Given.{Given}
 use Rattle.hj_msg.specs.declared.feed.Given.TheVariants.{Event, Stop}
 use Rattle.hj_msg.specs.declared.message.Msg.{Msg}
@@ -34,12 +33,14 @@ use Rattle.hj_driver.proofs.MayClose.{may_close}
 use Rattle.hj_driver.proofs.Standing.{stands-closing}
 use Rattle.hj_collect.specs.Collector.{CollectorState}
 use Rattle.hj_link.specs.Seen.{ReceiverSeen}
+use Rattle.hj_raw.specs.Items.{Taken}
 use Rattle.hj_desk.specs.declared.ports.Ports.{Ports}
 use Rattle.hj_desk.specs.declared.desk.Desk.{Desk}
 use Rattle.hj_desk.specs.declared.step.Step.TheVariants.{Did}
 use Rattle.hj_desk.specs.Ports.{KeepsLinks, Notes, IsQuiet}
 use Rattle.hj_desk.specs.Desk.{History, IsBefore, Drives, IsFed, Gathered, StandsFor, numbers_of, turns_of}
 use Rattle.hj_desk.specs.Steps.{Admits, LooksAtPorts, Receives, with_turn}
+use Rattle.hj_desk.specs.Taken.{turns_in}
 use Rattle.hj_desk.proofs.Numbers.{below-more, below-push, before-more, increasing-push}
 
 or_false : (b : Bool) → (b || false) ≡ b
@@ -114,14 +115,16 @@ module _ {P : Type 0} where
   }
 
   -- the cores' reports
-  pub gathered-later : (receivers : List (ReceiverSeen (Report P))) (number next : ℕ) (collector : CollectorState) (over : Bool) (kept given : List (Pair P)) → next ≡ number + 1 → Gathered receivers number collector over kept given
-      → Gathered receivers next collector over kept given
-  gathered-later receivers number next collector over kept given is old = record {
+  pub gathered-later : (receivers : List (ReceiverSeen (Report P))) (number next : ℕ) (collector : CollectorState) (reports : List (Taken P)) → next ≡ number + 1 → Gathered receivers number collector reports
+      → Gathered receivers next collector reports
+  gathered-later receivers number next collector reports is old = record {
     in_turn =
         All-weaker (λ (r : ReceiverSeen (Report P)). IsBefore number r.journal) (λ (r : ReceiverSeen (Report P)). IsBefore next r.journal) (λ (r : ReceiverSeen (Report P)) before. before-more number next is r.journal before) receivers
         old.in_turn;
     follows = old.follows;
-    pairs = old.pairs;
+    are = old.are;
+    before = below-more number next is (turns_in reports) old.before;
+    lists = old.lists;
   }
 
   -- the driver sends an event that needn't wait
@@ -154,7 +157,7 @@ module _ {P : Type 0} where
     stands-turn turn known notes took fed feed history stood = record {
       drives = drives-turn old.driver state old.ports ports old.turns next history.log turn stood.drives notes is (took feed (turns_of history.log) history.events stood.fed stood.drives.stands);
       fed = subst (λ (turns : List (DriverTurn P)). IsFed known feed turns history.events) (sym (turns-push history.log old.turns turn)) (fed feed (turns_of history.log) history.events stood.fed);
-      gathered = gathered-later old.reports.items old.turns next old.collector old.over old.kept history.given is stood.gathered;
+      gathered = gathered-later old.reports.items old.turns next old.collector history.taken is stood.gathered;
     }
 
     -- a message is taken

@@ -4,6 +4,7 @@ pub mod Driving
 pub mod Going
 pub mod InTurn
 pub mod Numbers
+pub mod Ordering
 pub mod Releasing
 pub mod Rounds
 pub mod Runs

@@ -1,5 +1,5 @@
 -- A desk and the workers make a run, in which the pairs given begin the sequential join.
-use Rattle.std.proofs.Common.{◌≡◌, ℕ, zero, suc, ◌+◌, ◌<◌, ◌≤◌, inl, inr, true, cond, List, [], ◌∷◌, ◌++◌, length, map, get_or, Contains, All, Some, None, Option, refl, ap, sym, ◌∙◌, subst, arith, append-nil, add-one, true≢false}
+use Rattle.std.proofs.Common.{◌≡◌, ℕ, zero, suc, ◌+◌, ◌<◌, ◌≤◌, inl, inr, Bool, true, cond, List, [], ◌∷◌, ◌++◌, length, map, get_or, Contains, All, Some, None, Option, refl, ap, sym, ◌∙◌, subst, arith, append-nil, add-one, true≢false}
 use Rattle.std.specs.List.{list_any}
 use Rattle.std.specs.List.Sorted.{IsStrictlyIncreasing}
 use Rattle.std.proofs.Math.ListN as listn
@@ -10,6 +10,7 @@ use Rattle.hj_base.specs.declared.numbers.Side.{Side}
 use Rattle.hj_base.specs.declared.numbers.Side.TheVariants.{Left, Right}
 use Rattle.hj_base.specs.Journals.{Entry, IsInTurn, IsPrefix, put, taken, takes, puts}
 use Rattle.hj_msg.specs.declared.event.Event.{Event}
+use Rattle.hj_msg.specs.declared.event.Pair.{Pair}
 use Rattle.hj_msg.specs.declared.feed.Given.{Given}
 use Rattle.hj_msg.specs.declared.feed.Given.TheVariants as given
 use Rattle.hj_msg.specs.declared.message.Msg.{Msg}
@@ -27,6 +28,7 @@ use Rattle.hj_driver.specs.StandsFor.{is_closing}
 use Rattle.hj_link.specs.Seen.{ReceiverSeen}
 use Rattle.hj_desk.specs.declared.desk.Desk.{Desk}
 use Rattle.hj_desk.specs.Desk.{History, IsBefore, IsFed, StandsFor, collected, numbers_of, turns_of}
+use Rattle.hj_desk.specs.Releases.{Releases}
 use Rattle.hj_desk.specs.Runs.{Workers, DoTheirPart, cores_of, left_end, right_end, run_of, taken_of}
 use Rattle.hj_desk.proofs.Collecting.{prefix-trans}
 use Rattle.hj_desk.proofs.InTurn.{AreOfTurn, only-of_turn, steps-in_turn}
@@ -141,7 +143,7 @@ module _ {P : Type 0} (workers : Workers P) (desk : Desk P) (feed : FeedState) (
     all_taken = λ k low. record { rest = []; is = collected-at desk.reports.items k ∙ sym (append-nil (takes (taken_of desk k))) };
   }
 
-  pub begins_join : IsPrefix history.given (kang workers.matches history.events)
-  begins_join =
-      prefix-trans history.given (emitted (collected desk.reports.items)) (kang workers.matches history.events)
-      (stood.gathered.pairs.in_order run is_run all_reports.of_run) (emits_prefix run is_run (collected desk.reports.items) all_reports.of_run)
+  pub begins_join : (over : Bool) (kept given : List (Pair P)) → Releases (collected desk.reports.items) over kept given → IsPrefix given (kang workers.matches history.events)
+  begins_join over kept given released =
+      prefix-trans given (emitted (collected desk.reports.items)) (kang workers.matches history.events)
+      (released.in_order run is_run all_reports.of_run) (emits_prefix run is_run (collected desk.reports.items) all_reports.of_run)

@@ -1,5 +1,5 @@
 -- Where a desk is done, the pairs given are the whole sequential join.
-use Rattle.std.proofs.Common.{◌≡◌, ℕ, zero, suc, ◌<◌, inl, inr, ◌&&◌, Bool, true, false, List, [], ◌∷◌, ◌++◌, length, get_or, Contains, All, Some, None, Option, refl, ap, sym, ◌∙◌, subst, arith, append-nil, length-append, true≢false}
+use Rattle.std.proofs.Common.{◌≡◌, ℕ, zero, suc, ◌<◌, ◌&&◌, Bool, true, false, List, [], ◌∷◌, ◌++◌, length, get_or, Contains, All, Some, None, Option, refl, ap, sym, ◌∙◌, subst, arith, append-nil, length-append, true≢false}
 use Rattle.std.specs.List.{list_all, list_any}
 use Rattle.std.proofs.lemmas.List.{length-map}
 use Rattle.std.proofs.lemmas.List.Sorted.{length_permutation}
@@ -13,21 +13,20 @@ use Rattle.hj_msg.specs.Driver.{DriverTurn, admission, receipt, closing, is_take
 use Rattle.hj_msg.specs.Emission.{is_within, emitted}
 use Rattle.hj_msg.specs.Feed.{FeedState}
 use Rattle.hj_msg.specs.Kang.{kang}
-use Rattle.hj_msg.specs.Met.{met}
+use Rattle.hj_msg.specs.Met.{AreAllReportsOf, met}
 use Rattle.hj_msg.specs.Punctuation.{Mark, up_to, all, is_end}
-use Rattle.hj_msg.specs.Run.{Run, IsComplete}
+use Rattle.hj_msg.specs.Run.{Run, IsComplete, IsRun}
 use Rattle.hj_msg.specs.Valid.{later}
 use Rattle.hj_msg.proofs.Members.{Contains-cons, find}
 use Rattle.hj_msg.proofs.Emitting.{emits_all, meets_the_join}
 use Rattle.hj_driver.specs.Driver.{is_finished}
 use Rattle.hj_driver.specs.StandsFor.{closes_of, is_CloseL, is_CloseR}
 use Rattle.hj_collect.specs.Marks.{is_same}
-use Rattle.hj_collect.specs.Collector.{least_mark}
 use Rattle.hj_collect.proofs.Following.{ended_follows}
 use Rattle.hj_desk.specs.declared.desk.Desk.{Desk}
 use Rattle.hj_desk.specs.Desk.{History, StandsFor, collected, turns_of}
 use Rattle.hj_desk.specs.Runs.{Workers, AreUncut, DoTheirPart, IsDone, cores_of, run_of, taken_of}
-use Rattle.hj_desk.specs.Steps.{NoneDue}
+use Rattle.hj_desk.specs.Releases.{Releases}
 use Rattle.hj_desk.proofs.Runs.{all_put, all_reports, collected-at, is_run}
 
 pub both_true : (a b : Bool) → (a && b) ≡ true → (a ≡ true) × (b ≡ true)
@@ -40,7 +39,7 @@ all_at test [] k d is low = absurd (omega (arith, low))
 all_at test (x ∷ xs) zero d is low = (both_true (test x) (list_all test xs) is).0
 all_at test (x ∷ xs) (suc k) d is low = all_at test xs k d (both_true (test x) (list_all test xs) is).1 (omega (arith, low))
 
-past_all : (mark : Option Mark) → is_same mark (Some all) ≡ true → mark ≡ Some all
+pub past_all : (mark : Option Mark) → is_same mark (Some all) ≡ true → mark ≡ Some all
 past_all None is = absurd (true≢false (sym is))
 past_all (Some (up_to number)) is = absurd (true≢false (sym is))
 past_all (Some all) is = refl
@@ -90,13 +89,24 @@ module _ {P : Type 0} where
   told_end reports is = let found = find is_end reports is in subst (Contains reports) (is_ended found.one found.passes) found.is
 
   -- no pair is kept
-  none_kept : (mark : Option Mark) → mark ≡ Some all → (kept : List (Pair P)) → All (λ pair. is_within mark (later pair) ≡ false) kept → kept ≡ []
+  pub none_kept : (mark : Option Mark) → mark ≡ Some all → (kept : List (Pair P)) → All (λ pair. is_within mark (later pair) ≡ false) kept → kept ≡ []
   none_kept mark is [] none = refl
   none_kept mark is (pair ∷ kept) none = absurd (true≢false (ap (λ m. is_within m (later pair)) (sym is) ∙ none 0 pair (omega arith)))
 
   no_rest : (given rest : List (Pair P)) → length (given ++ rest) ≡ length given → rest ≡ []
   no_rest given [] same = refl
   no_rest given (pair ∷ rest) same = absurd (omega (arith, same, length-append given (pair ∷ rest)))
+
+  -- Where all reports of a complete run were taken, and no pair is kept, the pairs given are the whole join.
+  pub whole-of : (run : Run P) (is : IsRun run) → IsComplete is → (lists : List (List (Report P))) → AreAllReportsOf run lists → (given : List (Pair P)) → Releases lists false [] given → given ≡ kang run.matches run.events
+  whole-of run is complete lists reports given released =
+      let joined = kang run.matches run.events in
+      let out : emitted lists ≡ joined = emits_all run is complete lists reports in
+      let prefix : IsPrefix given (emitted lists) = released.in_order run is reports.of_run in
+      let all_given : length given ≡ length (met lists) = ap length (sym (append-nil given)) ∙ sym (length_permutation (given ++ []) (met lists) (released.others refl run is reports.of_run)) in
+      let all_joined : length joined ≡ length (met lists) = sym (length_permutation joined (met lists) (meets_the_join run is complete lists reports)) in
+      let rest : prefix.rest ≡ [] = no_rest given prefix.rest (ap length (sym prefix.is ∙ out) ∙ all_joined ∙ sym all_given) in
+      sym (append-nil given) ∙ ap (λ l. given ++ l) (sym rest) ∙ sym prefix.is ∙ out
 
   -- where a desk is done, the end of each core was taken
   module _ (desk : Desk P) (feed : FeedState) (history : History P) (stood : StandsFor desk feed history) (done : IsDone desk) where
@@ -127,17 +137,7 @@ module _ {P : Type 0} where
       ended = ended desk feed history stood done;
     }
 
-    pub whole_join : NoneDue desk → history.given ≡ kang workers.matches history.events
-    whole_join (inl over) = absurd (true≢false (sym over ∙ done.going))
-    whole_join (inr none) =
+    pub whole_join : (given : List (Pair P)) → Releases lists false [] given → given ≡ kang workers.matches history.events
+    whole_join given released =
         let is = is_run workers desk feed history stood parts in
-        let reports = all_reports workers desk feed history stood parts in
-        let joined = kang workers.matches history.events in
-        let out : emitted lists ≡ joined = emits_all run is complete lists reports in
-        let kept : desk.kept ≡ [] = none_kept (least_mark desk.collector) (past_all (least_mark desk.collector) done.ended) desk.kept none in
-        let prefix : IsPrefix history.given (emitted lists) = stood.gathered.pairs.in_order run is reports.of_run in
-        let all_given : length history.given ≡ length (met lists) =
-        ap length (sym (append-nil history.given) ∙ ap (λ l. history.given ++ l) (sym kept)) ∙ sym (length_permutation (history.given ++ desk.kept) (met lists) (stood.gathered.pairs.others done.going run is reports.of_run)) in
-        let all_joined : length joined ≡ length (met lists) = sym (length_permutation joined (met lists) (meets_the_join run is complete lists reports)) in
-        let rest : prefix.rest ≡ [] = no_rest history.given prefix.rest (ap length (sym prefix.is ∙ out) ∙ all_joined ∙ sym all_given) in
-        sym (append-nil history.given) ∙ ap (λ l. history.given ++ l) (sym rest) ∙ sym prefix.is ∙ out
+        whole-of run is complete lists (all_reports workers desk feed history stood parts) given released

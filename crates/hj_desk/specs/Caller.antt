@@ -1,23 +1,22 @@
 -- What the calling thread does, between an earlier and a later moment of a run.
-use Rattle.std.specs.Prelude.{◌≡◌, List, [], ◌++◌, map}
+use Rattle.std.specs.Prelude.{◌≡◌, ℕ, Bool, List, ◌++◌, map}
 use Rattle.hj_msg.specs.declared.drain.Drained.{Drained}
-use Rattle.hj_msg.specs.declared.event.Pair.{Pair}
+use Rattle.hj_msg.specs.declared.drain.Drained.TheVariants as drained
 use Rattle.hj_msg.specs.declared.feed.Given.{Given}
 use Rattle.hj_msg.specs.declared.fin.Fin.{Fin}
 use Rattle.hj_msg.specs.declared.fin.Fin.TheVariants as fin
 use Rattle.hj_msg.specs.declared.message.Report.{Report}
-use Rattle.hj_msg.specs.Drain.{AreKept, Drainage, IsLastRefused, TakesAll, pairs_in}
 use Rattle.hj_msg.specs.Feed.{FeedState, GoesOverAnswers, events_in}
 use Rattle.hj_msg.specs.Run.{LogEntry}
+use Rattle.hj_collect.specs.Collector.{CollectorState}
 use Rattle.hj_link.specs.Seen.{ReceiverSeen}
+use Rattle.hj_raw.specs.Items.{Taken}
 use Rattle.hj_desk.specs.declared.caller.Caller.{Caller}
 use Rattle.hj_desk.specs.declared.caller.Round.{Round}
 use Rattle.hj_desk.specs.declared.caller.Round.TheVariants.{GotOn, Waits, Over}
-use Rattle.hj_desk.specs.declared.desk.Desk.{Desk}
 use Rattle.hj_desk.specs.Desk.{History, StandsFor}
 use Rattle.hj_desk.specs.Ports.{KeepsLinks}
-use Rattle.hj_desk.specs.Runs.{IsDone}
-use Rattle.hj_desk.specs.Steps.{NoneDue}
+use Rattle.hj_desk.specs.Runs.{IsDone, cores_of}
 
 module _ {P : Type 0} where
   -- the receivers are of the links that they were of
@@ -27,40 +26,55 @@ module _ {P : Type 0} where
 
   -- what happened before, and then this
   abbrev pub before : History P → History P → History P
-  before old new = record { log = old.log ++ new.log; events = old.events ++ new.events; given = old.given ++ new.given }
+  before old new = record { log = old.log ++ new.log; events = old.events ++ new.events; taken = old.taken ++ new.taken }
 
-  -- How the pairs of a round were answered, and where the run has ended. With Done all is done, and no further pair is due.
-  abbrev pub EndsRound : Round → List (Drainage P) → Desk P → Type 0
-  EndsRound GotOn taken desk = AreKept taken
-  EndsRound Waits taken desk = AreKept taken
-  EndsRound (Over fin.Done) taken desk = AreKept taken × IsDone desk × NoneDue desk
-  EndsRound (Over fin.Refused) taken desk = IsLastRefused taken
-  EndsRound (Over fin.Memory) taken desk = AreKept taken
+-- how the last thing that was given was answered, by how a run has ended
+abbrev pub last_answer : Fin → Drained
+last_answer fin.Done = drained.Kept
+last_answer fin.Refused = drained.Refused
+last_answer fin.Memory = drained.Kept
 
-module _ {P F D : Type 0} (gives : F → Given P → F → Type 0) (state : F → FeedState) (takes : D → Pair P → Drained → D → Type 0) where
-  -- The feed gave these answers, and the drain took these pairs. The ends are of the links that they were of. Whatever the
-  -- calling thread stood for, it stands for that with turns of the driver, the events that were given, and these pairs behind.
-  pub record Goes (old : Caller P F D) (answers : List (Given P)) (taken : List (Drainage P)) (new : Caller P F D) : Type 0 where
+-- and by what came of a round
+abbrev pub answer_of : Round → Drained
+answer_of GotOn = drained.Kept
+answer_of Waits = drained.Kept
+answer_of (Over end) = last_answer end
+
+module _ {P F O : Type 0} (gives : F → Given P → F → Type 0) (state : F → FeedState) (gave : O → ℕ → List (Taken P) → Bool → Drained → O → Type 0) where
+  -- The feed gave these answers, and what the outlet gave was kept, but that the last thing had this answer. The ends are of the links
+  -- that they were of. Whatever the calling thread stood for, it stands for that with turns of the driver, the events that were given, and
+  -- reports that were taken behind; and the outlet gave what is due of these too.
+  pub record Goes (old : Caller P F O) (answers : List (Given P)) (answer : Drained) (new : Caller P F O) : Type 0 where
     pub feed : GoesOverAnswers gives old.feed answers new.feed
-    pub drain : TakesAll takes old.drain taken new.drain
     pub links : KeepsLinks old.desk.ports new.desk.ports
     pub queues : KeepsQueues old.desk.reports.items new.desk.reports.items
     pub flight : new.desk.driver.flight ≡ old.desk.driver.flight
     pub log : List (LogEntry P)
+    pub taken : List (Taken P)
     pub stands : (history : History P) → StandsFor old.desk (state old.feed) history
-        → StandsFor new.desk (state new.feed) (before history (record { log = log; events = events_in answers; given = pairs_in taken }))
+        → StandsFor new.desk (state new.feed) (before history (record { log = log; events = events_in answers; taken = taken }))
+    pub outlet : (begun : O) (history : History P) → StandsFor old.desk (state old.feed) history → gave begun (cores_of old.desk) history.taken old.desk.over drained.Kept old.outlet
+        → gave begun (cores_of new.desk) (history.taken ++ taken) new.desk.over answer new.outlet
 
-  -- No pair was given.
-  abbrev pub GoesOnAsking : Caller P F D → Caller P F D → Type 0
-  GoesOnAsking old new = (answers : List (Given P)) × Goes old answers [] new
+  -- Nothing was refused.
+  abbrev pub GoesOnAsking : Caller P F O → Caller P F O → Type 0
+  GoesOnAsking old new = (answers : List (Given P)) × Goes old answers drained.Kept new
 
-  -- one round
-  pub record GoesRound (round : Round) (old new : Caller P F D) : Type 0 where
-    pub answers : List (Given P)
-    pub taken : List (Drainage P)
-    pub goes : Goes old answers taken new
-    pub answered : EndsRound round taken new.desk
+  module _ (rests : O → CollectorState → Type 0) where
+    -- Where a round ended the run with Done, all is done, and nothing more is due.
+    abbrev pub EndsRound : Round → Caller P F O → Type 0
+    EndsRound GotOn caller = Unit {0}
+    EndsRound Waits caller = Unit {0}
+    EndsRound (Over fin.Done) caller = IsDone caller.desk × rests caller.outlet caller.desk.collector
+    EndsRound (Over fin.Refused) caller = Unit {0}
+    EndsRound (Over fin.Memory) caller = Unit {0}
 
-  -- All rounds, up to the one with which the run has ended.
-  abbrev pub Ends : Fin → Caller P F D → Caller P F D → Type 0
-  Ends end old new = GoesRound (Over end) old new
+    -- one round
+    pub record GoesRound (round : Round) (old new : Caller P F O) : Type 0 where
+      pub answers : List (Given P)
+      pub goes : Goes old answers (answer_of round) new
+      pub ended : EndsRound round new
+
+    -- All rounds, up to the one with which the run has ended.
+    abbrev pub Ends : Fin → Caller P F O → Caller P F O → Type 0
+    Ends end old new = GoesRound (Over end) old new

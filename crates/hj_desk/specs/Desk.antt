@@ -1,29 +1,28 @@
 -- What the calling thread's part of a run stands for: the driver's turns under their numbers, the events that the feed gave, and
--- the pairs that were given to the drain.
-use Rattle.std.specs.Prelude.{◌≡◌, ℕ, ◌<◌, Bool, true, false, List, [], ◌++◌, map, IsPermutation}
+-- the reports that were taken.
+use Rattle.std.specs.Prelude.{◌≡◌, ℕ, ◌<◌, true, List, [], ◌++◌, length, map}
 use Rattle.std.specs.declared.option.Option.{Option}
 use Rattle.std.specs.List.{All, list_any}
 use Rattle.std.specs.List.Sorted.{IsStrictlyIncreasing}
 use Rattle.hj_base.specs.declared.numbers.Side.TheVariants.{Left, Right}
-use Rattle.hj_base.specs.Journals.{Entry, IsInTurn, IsPrefix, takes}
+use Rattle.hj_base.specs.Journals.{Entry, IsInTurn, takes}
 use Rattle.hj_msg.specs.declared.event.Event as event
-use Rattle.hj_msg.specs.declared.event.Pair.{Pair}
 use Rattle.hj_msg.specs.declared.feed.Given.{Given}
 use Rattle.hj_msg.specs.declared.message.Report.{Report}
 use Rattle.hj_msg.specs.Event.{IsWellFormed}
 use Rattle.hj_msg.specs.Feed.{FeedState, event_in, is_stop, numbering_of}
 use Rattle.hj_msg.specs.Driver.{DriverTurn, admitted}
-use Rattle.hj_msg.specs.Run.{Run, IsRun, LogEntry, port_journal}
-use Rattle.hj_msg.specs.Met.{AreReportsOf, met}
-use Rattle.hj_msg.specs.Emission.{emitted}
+use Rattle.hj_msg.specs.Run.{LogEntry, port_journal}
 use Rattle.hj_link.specs.Seen.{ReceiverSeen}
 use Rattle.hj_driver.specs.Driver.{DriverState}
 use Rattle.hj_driver.specs.StandsFor as driver
 use Rattle.hj_driver.specs.StandsFor.{is_closing}
 use Rattle.hj_collect.specs.Collector.{CollectorState}
 use Rattle.hj_collect.specs.StandsFor as collect
+use Rattle.hj_raw.specs.Items.{Taken, lists_of}
 use Rattle.hj_desk.specs.declared.ports.Ports.{Ports}
 use Rattle.hj_desk.specs.declared.desk.Desk.{Desk}
+use Rattle.hj_desk.specs.Taken.{AreTaken, turns_in}
 
 -- what happened so far
 pub record History (P : Type 0) : Type 0 where
@@ -31,8 +30,8 @@ pub record History (P : Type 0) : Type 0 where
   pub log : List (LogEntry P)
   -- the events that the feed gave
   pub events : List (event.Event P)
-  -- the pairs that were given to the drain
-  pub given : List (Pair P)
+  -- the reports that were taken, each under the number of its turn
+  pub taken : List (Taken P)
 
 -- The turns of a journal never fall, and each is below this one.
 pub record IsBefore {M : Type 0} (turn : ℕ) (journal : List (Entry M)) : Type 0 where
@@ -41,7 +40,7 @@ pub record IsBefore {M : Type 0} (turn : ℕ) (journal : List (Entry M)) : Type 
 
 module _ {P : Type 0} where
   abbrev pub nothing_happened : History P
-  nothing_happened = record { log = []; events = []; given = [] }
+  nothing_happened = record { log = []; events = []; taken = [] }
 
   abbrev pub numbers_of : List (LogEntry P) → List ℕ
   numbers_of log = map (λ entry. entry.number) log
@@ -71,24 +70,24 @@ module _ {P : Type 0} where
     pub stopped : is_stop next ≡ true → feed.stopped ≡ true
     pub closed : list_any is_closing turns ≡ true → is_stop next ≡ true
 
-  -- Of these lists of reports, in whatever run they are: the pairs given are the first ones of those that are emitted, and as
-  -- long as memory lasted each other pair that was met is kept.
-  pub record Releases (lists : List (List (Report P))) (over : Bool) (kept given : List (Pair P)) : Type 0 where
-    pub in_order : (run : Run P) → IsRun run → AreReportsOf run lists → IsPrefix given (emitted lists)
-    pub others : over ≡ false → (run : Run P) → IsRun run → AreReportsOf run lists → IsPermutation (given ++ kept) (met lists)
+  -- what was taken of the reports of each core, under the numbers of the turns
+  abbrev pub journals_of : List (ReceiverSeen (Report P)) → List (List (Entry (Report P)))
+  journals_of receivers = map (λ receiver. receiver.journal) receivers
 
-  -- The collector took what was taken of the cores' reports, in turn and below the next turn; and the pairs are those of these
-  -- reports.
-  pub record Gathered (receivers : List (ReceiverSeen (Report P))) (next_turn : ℕ) (collector : CollectorState) (over : Bool) (kept given : List (Pair P)) : Type 0 where
+  -- The collector took what was taken of the cores' reports, in turn and below the next turn.
+  pub record Gathered (receivers : List (ReceiverSeen (Report P))) (next_turn : ℕ) (collector : CollectorState) (reports : List (Taken P)) : Type 0 where
     pub in_turn : All (λ receiver. IsBefore next_turn receiver.journal) receivers
     pub follows : collect.StandsFor collector (collected receivers)
-    pub pairs : Releases (collected receivers) over kept given
+    pub are : AreTaken (journals_of receivers) reports
+    pub before : All (λ number. number < next_turn) (turns_in reports)
+    -- so these are the lists of reports
+    pub lists : collected receivers ≡ lists_of (length receivers) reports
 
   -- A desk and the feed stand for what happened.
   pub record StandsFor (desk : Desk P) (feed : FeedState) (history : History P) : Type 0 where
     pub drives : Drives desk.driver desk.ports desk.turns history.log
     pub fed : IsFed desk.next feed (turns_of history.log) history.events
-    pub gathered : Gathered desk.reports.items desk.turns desk.collector desk.over desk.kept history.given
+    pub gathered : Gathered desk.reports.items desk.turns desk.collector history.taken
 
   -- for some history
   abbrev pub Stands : Desk P → FeedState → Type 0

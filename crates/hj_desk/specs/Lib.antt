@@ -1,5 +1,9 @@
 pub mod Caller
 pub mod Desk
+pub mod InOrder
+pub mod Outlet
 pub mod Ports
+pub mod Releases
 pub mod Runs
 pub mod Steps
+pub mod Taken

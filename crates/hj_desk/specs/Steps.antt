@@ -1,48 +1,45 @@
 -- What each step of a desk does.
-use Rattle.std.specs.Prelude.{◌≡◌, ◌≢◌, ◌⊎◌, ℕ, ◌+◌, ◌-◌, ◌^◌, true, false, ◌&&◌, ◌||◌, if◌then◌else◌, is_some, List, [], ◌∷◌, ◌++◌, slice_get, slice_set, None, Some, IsSome, IsPermutation}
+use Rattle.std.specs.Prelude.{◌≡◌, ◌≢◌, ◌⊎◌, ℕ, ◌+◌, ◌-◌, ◌^◌, Bool, true, ◌&&◌, ◌||◌, if◌then◌else◌, is_some, List, [], ◌∷◌, ◌++◌, slice_get, slice_set, None, Some, IsSome}
 use Rattle.std.specs.declared.option.Option.{Option}
-use Rattle.std.specs.List.{All}
 use Rattle.hj_base.specs.declared.numbers.CoreNo.{CoreNo}
 use Rattle.hj_base.specs.declared.numbers.Side.{Side}
 use Rattle.hj_base.specs.declared.numbers.Side.TheVariants.{Left, Right}
 use Rattle.hj_base.specs.Journals.{taken}
 use Rattle.hj_msg.specs.declared.drain.Drained.{Drained}
-use Rattle.hj_msg.specs.declared.drain.Drained.TheVariants.{Kept, Refused}
+use Rattle.hj_msg.specs.declared.drain.Drained.TheVariants.{Kept}
 use Rattle.hj_msg.specs.declared.event.Event as event
 use Rattle.hj_msg.specs.declared.event.Event.TheVariants as happens
-use Rattle.hj_msg.specs.declared.event.Pair.{Pair}
 use Rattle.hj_msg.specs.declared.feed.Given.{Given}
 use Rattle.hj_msg.specs.declared.feed.Given.TheVariants.{Event, Stop}
 use Rattle.hj_msg.specs.declared.fin.Fin.{Fin}
 use Rattle.hj_msg.specs.declared.fin.Fin.TheVariants as fin
 use Rattle.hj_msg.specs.declared.message.Msg.{Msg}
 use Rattle.hj_msg.specs.declared.message.Report.{Report}
-use Rattle.hj_msg.specs.Drain.{AreKept, Drainage, IsLastRefused, TakesAll, pairs_in}
 use Rattle.hj_msg.specs.Driver.{DriverTurn, admission, receipt, closing, port_of}
-use Rattle.hj_msg.specs.Emission.{is_within}
 use Rattle.hj_msg.specs.Feed.{FeedState}
-use Rattle.hj_msg.specs.Met.{pairs_of}
-use Rattle.hj_msg.specs.Valid.{later}
 use Rattle.hj_driver.specs.declared.answers.Closing.TheVariants as answer
 use Rattle.hj_driver.specs.Driver.{cause_of, closing_of, is_finished}
-use Rattle.hj_collect.specs.Collector.{after_report, has_ended, least_mark}
+use Rattle.hj_collect.specs.Collector.{CollectorState, after_report, has_ended}
+use Rattle.hj_collect.specs.StandsFor as collect
 use Rattle.hj_link.specs.Seen.{ReceiverSeen}
+use Rattle.hj_raw.specs.Items.{Taken, lists_of}
 use Rattle.hj_desk.specs.declared.desk.Desk.{Desk}
 use Rattle.hj_desk.specs.declared.step.Step.{Step}
 use Rattle.hj_desk.specs.declared.step.Step.TheVariants.{Did, Idle, Spent, Memory}
 use Rattle.hj_desk.specs.Ports.{KeepsLinks, Notes, IsQuiet, FoundEmpty, FoundFull}
 use Rattle.hj_desk.specs.Desk.{History, StandsFor}
+use Rattle.hj_desk.specs.Outlet.{KeepsReport, LosesReport}
 
 module _ {P : Type 0} where
-  -- the history with a turn of the driver behind the others, with more events, or with more pairs
+  -- the history with a turn of the driver behind the others, with more events, or with one more report
   abbrev pub with_turn : ℕ → DriverTurn P → History P → History P
   with_turn number turn history = record history { log = history.log ++ record { number = number; turn = turn } ∷ [] }
 
   abbrev pub with_events : List (event.Event P) → History P → History P
   with_events events history = record history { events = history.events ++ events }
 
-  abbrev pub with_pairs : List (Pair P) → History P → History P
-  with_pairs pairs history = record history { given = history.given ++ pairs }
+  abbrev pub with_report : Taken P → History P → History P
+  with_report report history = record history { taken = history.taken ++ report ∷ [] }
 
   -- Whatever a desk stood for, it stands for the same.
   abbrev pub StandsAsBefore : Desk P → Desk P → Type 0
@@ -105,7 +102,12 @@ module _ {P : Type 0} where
     pub link : after.link ≡ before.link
     pub capacity : after.capacity ≡ before.capacity
 
-  -- A report of a core was taken under the next number, and the collector took note of it.
+  -- a report of a core, under the next number
+  abbrev pub next_taken : CoreNo → Report P → Desk P → Taken P
+  next_taken core report desk = record { turn = desk.turns; core = core.0; report = report }
+
+  -- A report of a core was taken under the next number, and the collector took note of it. Whatever the desk stood for, it stands for
+  -- that with this report behind.
   pub record TakesReport (core : CoreNo) (report : Report P) (old new : Desk P) : Type 0 where
     pub before : ReceiverSeen (Report P)
     pub after : ReceiverSeen (Report P)
@@ -113,8 +115,8 @@ module _ {P : Type 0} where
     pub noted : after.journal ≡ before.journal ++ taken old.turns report ∷ []
     pub number : new.turns ≡ old.turns + 1
     pub collector : new.collector ≡ after_report core report old.collector
-    pub others : new ≡ record old { reports = new.reports; turns = new.turns; collector = new.collector; kept = new.kept; over = new.over }
-    pub stands : StandsAsBefore old new
+    pub others : new ≡ record old { reports = new.reports; turns = new.turns; collector = new.collector; over = new.over }
+    pub stands : (feed : FeedState) (history : History P) → StandsFor old feed history → StandsFor new feed (with_report (next_taken core report old) history)
 
   -- A step found no report of a core.
   pub record FindsNoReport (core : CoreNo) (old new : Desk P) : Type 0 where
@@ -126,17 +128,6 @@ module _ {P : Type 0} where
     pub looked : after.empty_looks ≡ before.empty_looks + 1
     pub others : new ≡ record old { reports = new.reports }
     pub stands : StandsAsBefore old new
-
-  -- The next report of a core is taken: its pairs are kept too; or memory ran out for them.
-  abbrev pub Collects : CoreNo → Step → Desk P → Desk P → Type 0
-  Collects core Did old new = (report : Report P) × TakesReport core report old new × (new.over ≡ old.over) × IsPermutation (old.kept ++ pairs_of report) new.kept
-  Collects core Idle old new = FindsNoReport core old new
-  Collects core Spent old new = IsSpent old × (new ≡ old)
-  Collects core Memory old new = (report : Report P) × TakesReport core report old new × (new.over ≡ true) × (new.kept ≡ old.kept)
-
-  -- No pair that is kept is within the marks of the cores; or memory ran out.
-  abbrev pub NoneDue : Desk P → Type 0
-  NoneDue desk = (desk.over ≡ true) ⊎ All (λ pair. is_within (least_mark desk.collector) (later pair) ≡ false) desk.kept
 
   -- How a run ended, if it did: memory ran out, at the desk or at a core; or all is done.
   abbrev pub end_of : Desk P → Option Fin
@@ -150,15 +141,16 @@ module _ {P : Type 0} where
   reports_of (Some (Event (happens.Quiet at side))) cores = cores
   reports_of other cores = 0
 
-  -- How pairs were answered: each one was kept, and no further one is due; or the last one was refused, and each other one kept.
-  abbrev pub AreAnswered : Drained → List (Drainage P) → Desk P → Type 0
-  AreAnswered Kept pairs desk = AreKept pairs × NoneDue desk
-  AreAnswered Refused pairs desk = IsLastRefused pairs
+  -- What a desk and its outlet do of reports.
+  module _ {O : Type 0} (gave : O → ℕ → List (Taken P) → Bool → Drained → O → Type 0) where
+    -- The next report of a core is taken: the outlet keeps what it makes of it; or memory ran out for that.
+    abbrev pub Collects : CoreNo → Step → Desk P → O → Desk P → O → Type 0
+    Collects core Did old unkept new kept = (report : Report P) × TakesReport core report old new × (new.over ≡ old.over) × KeepsReport gave new.collector report unkept kept
+    Collects core Idle old unkept new kept = FindsNoReport core old new × (kept ≡ unkept)
+    Collects core Spent old unkept new kept = IsSpent old × (new ≡ old) × (kept ≡ unkept)
+    Collects core Memory old unkept new kept = (report : Report P) × TakesReport core report old new × (new.over ≡ true) × LosesReport gave new.collector report unkept kept
 
-  -- Pairs were given to a drain. Whatever the desk stood for, it stands for that with these pairs behind.
-  pub record GivesPairs {D : Type 0} (takes : D → Pair P → Drained → D → Type 0) (old : Desk P) (unfilled : D) (answer : Drained) (new : Desk P) (filled : D) : Type 0 where
-    pub pairs : List (Drainage P)
-    pub drain : TakesAll takes unfilled pairs filled
-    pub answered : AreAnswered answer pairs new
-    pub others : new ≡ record old { kept = new.kept }
-    pub stands : (feed : FeedState) (history : History P) → StandsFor old feed history → StandsFor new feed (with_pairs (pairs_in pairs) history)
+    -- The outlet gave what is due, up to the first thing that was refused; where memory ran out it gave nothing.
+    pub record Gives (rests : O → CollectorState → Type 0) (answer : Drained) (desk : Desk P) (old new : O) : Type 0 where
+      pub gives : (begun : O) (cores : ℕ) (taken : List (Taken P)) → collect.StandsFor desk.collector (lists_of cores taken) → gave begun cores taken desk.over Kept old → gave begun cores taken desk.over answer new
+      pub rested : answer ≡ Kept → (desk.over ≡ true) ⊎ rests new desk.collector

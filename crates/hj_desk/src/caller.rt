@@ -1,11 +1,12 @@
-//! The calling thread of a run: what it does in a round, between the feed, the chain and the drain.
+//! The calling thread of a run: what it does in a round, between the feed, the chain and the outlet.
 ghost use Rattle.std.specs.Prelude.{◌<◌, ◌≤◌, [], length};
 ghost use Rattle.hj_msg.specs.declared.feed.Given.{Given as Answer};
 
 use crate::desk::Desk;
+use crate::outlet::Outlet;
 use crate::step::Step;
 use hj_base::{CoreNo, Share, Side};
-use hj_msg::{Drain, Drained, Feed, Fin};
+use hj_msg::{Drained, Feed, Fin};
 
 /// How many messages, reports or events in a row are handled at one place.
 const BATCH: u32 = 64;
@@ -23,32 +24,33 @@ pub enum Round {
 
 /// What the calling thread has of a run.
 #[derive(Drop)]
-pub struct Caller<P: Drop, F, D> {
+pub struct Caller<P: Drop, F, O> {
     pub desk: Desk<P>,
     /// Where the events come from.
     pub feed: F,
-    /// Where the pairs go.
-    pub drain: D,
+    /// What becomes of the reports.
+    pub outlet: O,
     /// How many reports are still to come of the rows that were put.
     pub awaited: u64,
 }
 
-impl<P: Share + Drop, F: Feed<P>, D: Drain<P>> Caller<P, F, D> {
+impl<P: Share + Drop, F: Feed<P>, O: Outlet<P>> Caller<P, F, O> {
+    ghost use Rattle.hj_msg.specs.declared.drain.Drained.TheVariants.{Kept};
     ghost use Rattle.hj_desk.specs.Desk.{Stands};
     ghost use Rattle.hj_desk.specs.Caller.{Goes, GoesRound, GoesOnAsking};
 
-    /// Does one round: takes what came out of the chain and what the cores reported, gives the pairs that are due, and
-    /// puts events. Waits for the feed only if all that was put has left the chain, every report of it was taken, and
-    /// every pair that is due was given.
+    /// Does one round: takes what came out of the chain and what the cores reported, gives what is due, and
+    /// puts events. Waits for the feed only if all that was put has left the chain, every report of it was taken, and all
+    /// that is due was given.
     pub fn round(&mut self) -> Round
         requires stands { Stands self.old.desk (F.state self.old.feed) }
         requires few { length self.old.desk.reports.items ≤ 64 }
-        ensures { GoesRound F.gives F.state D.takes result self.old self.new }
+        ensures { GoesRound F.gives F.state O.gave O.rests result self.old self.new }
     {
         let at_left = self.receive_from(Side::Left);
         let at_right = self.receive_from(Side::Right);
         let collected = self.collect_all();
-        if self.desk.release(&mut self.drain) == Drained::Refused {
+        if self.desk.release(&mut self.outlet) == Drained::Refused {
             return Round::Over(Fin::Refused);
         }
         if let Some(fin) = self.desk.end() {
@@ -64,7 +66,7 @@ impl<P: Share + Drop, F: Feed<P>, D: Drain<P>> Caller<P, F, D> {
 
     /// Takes the messages that wait at a port, and returns whether there was one.
     fn receive_from(&mut self, port: Side) -> bool
-        ensures { Goes F.gives F.state D.takes self.old [] [] self.new }
+        ensures { Goes F.gives F.state O.gave self.old [] Kept self.new }
     {
         for taken in 0..BATCH {
             if self.desk.receive(port) != Step::Did {
@@ -78,7 +80,7 @@ impl<P: Share + Drop, F: Feed<P>, D: Drain<P>> Caller<P, F, D> {
     fn collect_all(&mut self) -> bool
         requires stands { Stands self.old.desk (F.state self.old.feed) }
         requires few { length self.old.desk.reports.items ≤ 64 }
-        ensures { Goes F.gives F.state D.takes self.old [] [] self.new }
+        ensures { Goes F.gives F.state O.gave self.old [] Kept self.new }
     {
         let mut collected = false;
         for place in 0..self.desk.cores() {
@@ -93,10 +95,10 @@ impl<P: Share + Drop, F: Feed<P>, D: Drain<P>> Caller<P, F, D> {
     fn collect_from(&mut self, core: CoreNo) -> bool
         requires stands { Stands self.old.desk (F.state self.old.feed) }
         requires in_range { core.0 < length self.old.desk.reports.items }
-        ensures { Goes F.gives F.state D.takes self.old [] [] self.new }
+        ensures { Goes F.gives F.state O.gave self.old [] Kept self.new }
     {
         for taken in 0..BATCH {
-            if self.desk.collect(core) != Step::Did {
+            if self.desk.collect(core, &mut self.outlet) != Step::Did {
                 return taken > 0;
             }
             self.awaited = self.awaited.saturating_sub(1);
@@ -107,7 +109,7 @@ impl<P: Share + Drop, F: Feed<P>, D: Drain<P>> Caller<P, F, D> {
     /// Puts events one after another, as long as that may be done, and returns whether it put one.
     fn admit_all(&mut self) -> bool
         requires { Stands self.old.desk (F.state self.old.feed) }
-        ensures { GoesOnAsking F.gives F.state D.takes self.old self.new }
+        ensures { GoesOnAsking F.gives F.state O.gave self.old self.new }
     {
         for put in 0..BATCH {
             if !self.admit_next() {
@@ -121,7 +123,7 @@ impl<P: Share + Drop, F: Feed<P>, D: Drain<P>> Caller<P, F, D> {
     #[inline(always)]
     fn admit_next(&mut self) -> bool
         requires { Stands self.old.desk (F.state self.old.feed) }
-        ensures { GoesOnAsking F.gives F.state D.takes self.old self.new }
+        ensures { GoesOnAsking F.gives F.state O.gave self.old self.new }
     {
         if !self.knows_next() {
             return false;
@@ -138,7 +140,7 @@ impl<P: Share + Drop, F: Feed<P>, D: Drain<P>> Caller<P, F, D> {
     /// to be done.
     #[inline(always)]
     fn knows_next(&mut self) -> bool
-        ensures { GoesOnAsking F.gives F.state D.takes self.old self.new }
+        ensures { GoesOnAsking F.gives F.state O.gave self.old self.new }
     {
         if !self.desk.is_unasked() {
             return true;

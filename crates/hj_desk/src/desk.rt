@@ -1,18 +1,17 @@
-//! What the calling thread does of a run: it drives the chain at its two ends, takes the cores' reports and gives the
-//! pairs.
-ghost use Rattle.std.specs.Prelude.{◌≡◌, ◌↔◌, ◌+◌, ◌<◌, ◌≤◌, ◌∷◌, ◌&&◌, true, false, [], length, Some, None, All, IfOk, IfSome, IfNone, IsPermutation};
+//! What the calling thread does of a run: it drives the chain at its two ends, and takes the cores' reports.
+ghost use Rattle.std.specs.Prelude.{◌≡◌, ◌↔◌, ◌<◌, ◌≤◌, ◌&&◌, true, false, [], length, Some, None, All, IfOk};
 ghost use Rattle.hj_msg.specs.Driver.{port_of};
 ghost use Rattle.hj_driver.specs.Driver.{cause_of, closing_of, count_of, is_finished};
 ghost use Rattle.hj_collect.specs.Collector.{has_ended};
 
+use crate::outlet::Outlet;
 use crate::ports::Ports;
 use crate::step::Step;
 use hj_base::{CoreNo, Memory, Share, Side};
 use hj_collect::Collector;
 use hj_driver::{Admitted, Closing, Driver};
 use hj_link::{LeftEnd, Receiver, RightEnd};
-use hj_msg::{Drain, Drained, Event, Feed, Fin, Given, Msg, Pair, Report};
-use hj_order::Ordered;
+use hj_msg::{Drained, Event, Feed, Fin, Given, Msg, Report};
 use std::alloc::Global;
 
 /// The calling thread's part of a run. It holds the two ends of the chain and the receivers of the cores' reports, and
@@ -24,13 +23,11 @@ pub struct Desk<P: Drop> {
     /// The receiver of each core's reports, by the place of the core.
     pub reports: Vec<Receiver<Report<P>>>,
     pub collector: Collector,
-    /// The pairs that were met and weren't given yet.
-    pub kept: Ordered<P>,
     /// What the feed said last, if it isn't used up.
     pub next: Option<Given<P>>,
     /// The number of the next turn.
     pub turns: u64,
-    /// Whether memory ran out for the pairs of a report.
+    /// Whether memory ran out for what is made of a report.
     pub over: bool,
 }
 
@@ -41,7 +38,7 @@ impl<P: Share + Drop> Desk<P> {
     ghost use Rattle.hj_msg.specs.Feed.{FeedState, event_in, first_numbering};
     ghost use Rattle.hj_desk.specs.Ports.{end_at};
     ghost use Rattle.hj_desk.specs.Desk.{History, StandsFor, Stands, nothing_happened};
-    ghost use Rattle.hj_desk.specs.Steps.{IsSpent, Turns, Receives, Admits, Collects, NoneDue, GivesPairs, end_of, reports_of, with_events, with_pairs};
+    ghost use Rattle.hj_desk.specs.Steps.{IsSpent, Receives, Admits, Collects, Gives, end_of, reports_of, with_events};
 
     /// Makes the part of a run in which nothing happened yet, over the two ends of the chain and the receivers of the
     /// cores' reports, with at most `flight` events outstanding.
@@ -69,7 +66,6 @@ impl<P: Share + Drop> Desk<P> {
             ports: Ports { left, right },
             reports,
             collector,
-            kept: Ordered::new(alloc),
             next: None,
             turns: 0,
             over: false,
@@ -143,12 +139,12 @@ impl<P: Share + Drop> Desk<P> {
         }
     }
 
-    /// Takes the next report of a core, and keeps its pairs. If memory runs out for them, they are lost.
+    /// Takes the next report of a core, and lets an outlet keep what it makes of it. If memory runs out for that, it is lost.
     #[inline(always)]
-    pub fn collect(&mut self, core: CoreNo) -> Step
+    pub fn collect<O: Outlet<P>>(&mut self, core: CoreNo, outlet: &mut O) -> Step
         requires stands { (feed : FeedState) × Stands self.old feed }
         requires in_range { core.0 < length self.old.reports.items }
-        ensures { Collects core result self.old self.new }
+        ensures { Collects O.gave core result self.old outlet.old self.new outlet.new }
     {
         if self.is_spent() {
             return Step::Spent;
@@ -158,23 +154,21 @@ impl<P: Share + Drop> Desk<P> {
         };
         self.turns += 1;
         self.collector.note(core, &report);
-        if self.kept.keep(&self.collector, &report).is_err() {
+        if outlet.keep(&self.collector, &report).is_err() {
             self.over = true;
             return Step::Memory;
         }
         Step::Did
     }
 
-    /// Gives the drain the pairs that are due, one after the other, up to the first one that it refuses.
-    pub fn release<D: Drain<P>>(&mut self, drain: &mut D) -> Drained
-        ensures { GivesPairs D.takes self.old drain.old result self.new drain.new }
+    /// Lets an outlet give what is due, up to the first thing that is refused. Where memory ran out for a report nothing is given.
+    pub fn release<O: Outlet<P>>(&self, outlet: &mut O) -> Drained
+        ensures { Gives O.gave O.rests result self.now outlet.old outlet.new }
     {
-        while let Some(pair) = self.pair() {
-            if drain.pair(pair) == Drained::Refused {
-                return Drained::Refused;
-            }
+        if self.over {
+            return Drained::Kept;
         }
-        Drained::Kept
+        outlet.release(&self.collector)
     }
 
     /// Returns whether the driver took both closes, and of each core the report of its end was taken.
@@ -259,20 +253,6 @@ impl<P: Share + Drop> Desk<P> {
         self.ports.put_closes(self.turns);
         self.turns += 1;
         Step::Did
-    }
-
-    /// Removes the next pair that is due, if there is one, and returns it.
-    fn pair(&mut self) -> Option<Pair<P>>
-        ensures stands { IfSome result (λ pair. (feed : FeedState) (history : History P) → StandsFor self.old feed history → StandsFor self.new feed (with_pairs (pair ∷ []) history)) }
-        ensures fewer { IfSome result (λ pair. IsPermutation self.old.kept (pair ∷ self.new.kept)) }
-        ensures none { IfNone result (NoneDue self.old × (self.new ≡ self.old)) }
-        ensures others { self.new ≡ record self.old { kept = self.new.kept } }
-    {
-        if self.over {
-            return None;
-        }
-        let mark = self.collector.punctuation()?;
-        self.kept.release(mark)
     }
 }
 

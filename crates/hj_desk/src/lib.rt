@@ -1,15 +1,19 @@
 //! The calling thread's part of a run on threads: it puts events into the chain of cores, takes what the cores report,
-//! and gives the pairs.
+//! and gives what is made of that.
 #![tactic(auto)]
 
 mod caller;
 mod desk;
+mod in_order;
 mod laws;
+mod outlet;
 mod ports;
 mod step;
 
 pub use caller::{Caller, Round};
 pub use desk::Desk;
+pub use in_order::InOrder;
 pub use laws::desks_give_the_join;
+pub use outlet::Outlet;
 pub use ports::Ports;
 pub use step::Step;

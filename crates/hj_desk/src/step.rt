@@ -7,6 +7,6 @@ pub enum Step {
     Idle,
     /// No turn number is left, so nothing was put or taken, and never will be.
     Spent,
-    /// A report was taken, and memory ran out for its pairs. No pair is given from now on.
+    /// A report was taken, and memory ran out for what is made of it. Nothing is given from now on.
     Memory,
 }

@@ -5,4 +5,4 @@ use Rattle.hj_crew.specs.Teams.{TeamStays}
 use Rattle.hj_crew.proofs.drive.drive.Given as goal
 
 abbrev pub invariant-loop : goal.invariant-loop
-invariant-loop g l = record { goes : GoesRound g.F.Feed.gives g.F.Feed.state g.D.Drain.takes GotOn l.fn.caller l.caller; own : AllZip TeamStays l.fn.own l.own }
+invariant-loop g l = record { goes : GoesRound g.F.Feed.gives g.F.Feed.state g.O.Outlet.gave g.O.Outlet.rests GotOn l.fn.caller l.caller; own : AllZip TeamStays l.fn.own l.own }

@@ -19,19 +19,19 @@ close_crew-ran-requires-clause-crew g c =
     let back = c.run_crew-caller.result in
     let manned = c.requires.crew.1 in (
       c.requires.crew.0,
-      crew-back g.F.Feed.gives g.F.Feed.state g.D.Drain.takes c.requires.crew.0 c.args.plan.now.size.chain.cores c.args.plan.now.size.chain.flight
-          (record { desk = c.args.crew.desk; feed = c.args.feed; drain = c.args.drain; awaited = 0 }) back.caller back.fin c.run_crew-caller.ensures.ends c.args.crew.teams.items back.teams.items manned.chain
+      crew-back g.F.Feed.gives g.F.Feed.state g.O.Outlet.gave g.O.Outlet.rests c.requires.crew.0 c.args.plan.now.size.chain.cores c.args.plan.now.size.chain.flight
+          (record { desk = c.args.crew.desk; feed = c.args.feed; outlet = c.args.outlet; awaited = 0 }) back.caller back.fin c.run_crew-caller.ensures.ends c.args.crew.teams.items back.teams.items manned.chain
           c.run_crew-caller.ensures.teams,
     )
 
 pub returns : goal.returns
 returns g c = λ join manned.
-    let begun : Caller g.row.P.Denot g.row.F.Denot g.row.D.Denot = record { desk = c.args.crew.desk; feed = c.args.feed; drain = c.args.drain; awaited = 0 } in
+    let begun : Caller g.row.P.Denot g.row.F.Denot g.row.O.Denot = record { desk = c.args.crew.desk; feed = c.args.feed; outlet = c.args.outlet; awaited = 0 } in
     let back = c.run_crew-caller.result in
     let crew =
-    crew-back g.F.Feed.gives g.F.Feed.state g.D.Drain.takes join c.args.plan.now.size.chain.cores c.args.plan.now.size.chain.flight begun back.caller back.fin c.run_crew-caller.ensures.ends c.args.crew.teams.items back.teams.items manned.chain
+    crew-back g.F.Feed.gives g.F.Feed.state g.O.Outlet.gave g.O.Outlet.rests join c.args.plan.now.size.chain.cores c.args.plan.now.size.chain.flight begun back.caller back.fin c.run_crew-caller.ensures.ends c.args.crew.teams.items back.teams.items manned.chain
     c.run_crew-caller.ensures.teams
     in
-    shows-run g.F.Feed.gives g.F.Feed.state g.D.Drain.takes join c.args.plan.now.size.chain.cores c.args.plan.now.size.chain.flight begun back.caller back.fin c.run_crew-caller.ensures.ends c.args.crew.teams.items back.teams.items manned.chain
-    c.run_crew-caller.ensures.teams g.J.Join.predicate c.close_crew-ran.result (manned.stands (g.F.Feed.state c.args.feed) c.requires.fresh) c.args.plan.now.size.chain.some_cores (c.close_crew-ran.ensures.closed join crew)
+    shows-run g.F.Feed.gives g.F.Feed.state g.O.Outlet.gave g.O.Outlet.rests join c.args.plan.now.size.chain.cores c.args.plan.now.size.chain.flight begun back.caller back.fin c.run_crew-caller.ensures.ends c.args.crew.teams.items back.teams.items manned.chain
+    c.run_crew-caller.ensures.teams g.J.Join.predicate c.close_crew-ran.result (manned.stands (g.F.Feed.state c.args.feed) c.requires.fresh) manned.going c.args.plan.now.size.chain.some_cores (c.close_crew-ran.ensures.closed join crew)
     c.close_crew-ran.ensures.flight c.close_crew-ran.ensures.ended

@@ -12,7 +12,7 @@ pub returns-clause-reports : goal.returns-clause-reports
 returns-clause-reports g c = λ workers desk feed history stood parts. all_reports workers desk feed history stood parts
 
 pub returns-clause-in_order : goal.returns-clause-in_order
-returns-clause-in_order g c = λ workers desk feed history stood parts. begins_join workers desk feed history stood parts
+returns-clause-in_order g c = λ workers desk feed history stood parts over kept given released. begins_join workers desk feed history stood parts over kept given released
 
 pub returns-clause-whole : goal.returns-clause-whole
-returns-clause-whole g c = λ workers desk feed history stood parts uncut done none. whole_join workers desk feed history stood parts uncut done none
+returns-clause-whole g c = λ workers desk feed history stood parts uncut done given released. whole_join workers desk feed history stood parts uncut done given released

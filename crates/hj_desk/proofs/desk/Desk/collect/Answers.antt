@@ -1,32 +1,35 @@
-use Rattle.std.proofs.Common.{◌≡◌, ◌+◌, ◌++◌, true, refl, sym, ◌∙◌, IsPermutation, true≢false}
-use Rattle.hj_msg.specs.Met.{pairs_of}
+use Rattle.std.proofs.Common.{◌+◌, true, refl, sym, ◌∙◌}
+use Rattle.hj_desk.specs.Outlet.{KeepsReport, LosesReport}
 use Rattle.hj_desk.proofs.Collecting.{finds-none, granted, refused, takes-report}
 use Rattle.hj_desk.proofs.desk.Desk.collect.Goals as goal
 
 pub returns-in_default : goal.returns-in_default
-returns-in_default g c =
-    finds-none c.args.self.now c.args.core c.from.result c.from.ensures c.index_mut.result.now c.take.new.self c.requires.in_range c.index_mut.ensures.value c.take.ensures.link.0 c.take.ensures.link.1 c.in_default.ensures.same c.in_default.ensures.empty.0
-    c.in_default.ensures.empty.2
+returns-in_default g c = (
+  finds-none c.args.self.now c.args.core c.from.result c.from.ensures c.index_mut.result.now c.take.new.self c.requires.in_range c.index_mut.ensures.value c.take.ensures.link.0 c.take.ensures.link.1 c.in_default.ensures.same c.in_default.ensures.empty.0
+      c.in_default.ensures.empty.2,
+  refl,
+)
 
 pub returns-then-is_err : goal.returns-then-is_err
 returns-then-is_err g c =
     let old = c.args.self.now in
-    let same : c.keep.new.self ≡ old.kept = refused c.keep.result (c.keep.new.self ≡ old.kept) (sym c.is_err.ensures.value ∙ c.if-is_err.true) c.keep.ensures.err in (
+    let lost : LosesReport g.O.Outlet.gave c.note.new.self c.in-Some.report c.args.outlet.now c.keep.new.self =
+    refused c.keep.result (LosesReport g.O.Outlet.gave c.note.new.self c.in-Some.report c.args.outlet.now c.keep.new.self) (sym c.is_err.ensures.value ∙ c.if-is_err.true) c.keep.ensures.lost in (
       c.in-Some.report,
       takes-report old c.args.core c.from.result c.from.ensures c.index_mut.result.now c.take.new.self c.requires.in_range c.index_mut.ensures.value c.take.ensures.link.0 c.take.ensures.link.1 c.in-Some.report (old.turns + 1) refl c.in-Some.ensures.taken.0 c.note.new.self
-          c.note.ensures true c.keep.new.self (λ lasts. absurd (true≢false lasts)),
+          c.note.ensures true,
       refl,
-      same,
+      lost,
     )
 
 pub returns : goal.returns
 returns g c =
     let old = c.args.self.now in
-    let more : IsPermutation (old.kept ++ pairs_of c.in-Some.report) c.keep.new.self =
-    granted c.keep.result (IsPermutation (old.kept ++ pairs_of c.in-Some.report) c.keep.new.self) (sym c.is_err.ensures.value ∙ c.if-is_err.false) c.keep.ensures.ok in (
+    let kept : KeepsReport g.O.Outlet.gave c.note.new.self c.in-Some.report c.args.outlet.now c.keep.new.self =
+    granted c.keep.result (KeepsReport g.O.Outlet.gave c.note.new.self c.in-Some.report c.args.outlet.now c.keep.new.self) (sym c.is_err.ensures.value ∙ c.if-is_err.false) c.keep.ensures.kept in (
       c.in-Some.report,
       takes-report old c.args.core c.from.result c.from.ensures c.index_mut.result.now c.take.new.self c.requires.in_range c.index_mut.ensures.value c.take.ensures.link.0 c.take.ensures.link.1 c.in-Some.report (old.turns + 1) refl c.in-Some.ensures.taken.0 c.note.new.self
-          c.note.ensures old.over c.keep.new.self (λ lasts. (lasts, more)),
+          c.note.ensures old.over,
       refl,
-      more,
+      kept,
     )
