@@ -1,11 +1,12 @@
 -- Fields with a comma behind each are a record's text but for its last comma and its end.
-use Rattle.std.proofs.Common.{◌≡◌, ℕ, ◌+◌, ◌-◌, ◌<◌, Bool, true, false, cond, eqb, List, [], ◌∷◌, ◌++◌, length, map, take, refl, sym, ap, ◌∙◌, append_assoc, arith, length-append}
+use Rattle.std.proofs.Common.{◌≡◌, ◌≢◌, ℕ, suc, ◌+◌, ◌-◌, ◌<◌, ◌≤◌, Bool, true, false, cond, eqb, List, [], ◌∷◌, ◌++◌, length, map, take, refl, sym, ap, ◌∙◌, append_assoc, arith, length-append}
 use Rattle.std.proofs.Math.Seq.{take-length}
 use Rattle.std.proofs.lemmas.Bool.Decides.{nat_tests}
 use Rattle.std.proofs.lemmas.List.{take-append-le}
+use Rattle.std.proofs.lemmas.List.Concat.{flat_map-append}
 use Rattle.csv.specs.Writing.{default_writer, field_text, fields_text, is_blank, row_body, row_text}
 use Rattle.hj_value.specs.declared.field.Field.{Field}
-use Rattle.hj_emit.specs.Cells.{cells}
+use Rattle.hj_emit.specs.Cells.{cell, cells}
 use Rattle.hj_emit.specs.Line.{field_bytes}
 
 fields_cells : (rest : List Field) → fields_text default_writer (map field_bytes rest) ++ 44 ∷ [] ≡ 44 ∷ cells rest
@@ -47,16 +48,47 @@ blank_body (field ∷ next ∷ rest) =
 ended : (fields : List (List ℕ)) (blank : Bool) → is_blank default_writer fields ≡ blank → row_text default_writer fields ≡ row_body default_writer fields ++ (cond blank (34 ∷ 34 ∷ []) [] ++ 10 ∷ [])
 ended fields blank e = ap (λ b. row_body default_writer fields ++ (cond b (34 ∷ 34 ∷ []) [] ++ 10 ∷ [])) e
 
+take-behind : (front back : List ℕ) (k : ℕ) → take (length front + k) (front ++ back) ≡ front ++ take k back
+take-behind [] back k = let same : 0 + k ≡ k = omega arith in ap (λ j. take j back) same
+take-behind (x ∷ front) back k =
+    let same : suc (length front) + k ≡ suc (length front + k) = omega arith in
+    ap (λ j. take j (x ∷ (front ++ back))) same ∙ ap (λ l. x ∷ l) (take-behind front back k)
+
+-- the last comma is taken off
+pub popped : (front : List ℕ) (fields : List Field) (old new : List ℕ) (n : ℕ) → old ≡ front ++ cells fields → n ≡ length old → length front < n → new ≡ take (n - 1) old → new ≡ front ++ row_body default_writer (map field_bytes fields)
+popped front fields old new n e long some taken =
+    let count : n - 1 ≡ length front + (length (cells fields) - 1) = omega (arith, ap length e, length-append front (cells fields)) in
+    taken ∙ ap (λ l. take (n - 1) l) e ∙ ap (λ k. take k (front ++ cells fields)) count ∙ take-behind front (cells fields) (length (cells fields) - 1)
+    ∙ ap (λ l. front ++ l) (popped_body fields (cells fields) refl)
+
+-- where no field stands there is none
+pub none_popped : (front : List ℕ) (fields : List Field) (old : List ℕ) (n : ℕ) → old ≡ front ++ cells fields → n ≡ length old → n ≤ length front → old ≡ front ++ row_body default_writer (map field_bytes fields)
+none_popped front [] old n e long none = e
+none_popped front (field ∷ rest) old n e long none =
+    absurd (omega (arith, ap length e, length-append front (cells (field ∷ rest)), ap length (body_cells field rest), length-append (row_body default_writer (map field_bytes (field ∷ rest))) (44 ∷ [])))
+
 -- the line of a record that shows no byte
-pub blank_line : (fields : List Field) (old popped new : List ℕ) (n : ℕ) → old ≡ cells fields → n ≡ length old → popped ≡ take (n - 1) old → eqb (length popped) 0 ≡ true → new ≡ popped ++ 34 ∷ 34 ∷ 10 ∷ [] → new ≡ row_text default_writer (map field_bytes fields)
-blank_line fields old popped new n e long front none grown =
-    let body : popped ≡ row_body default_writer (map field_bytes fields) = front ∙ ap (λ k. take (k - 1) old) long ∙ popped_body fields old e in
-    let blank : is_blank default_writer (map field_bytes fields) ≡ true = blank_body (map field_bytes fields) ∙ ap (λ (l : List ℕ). eqb (length l) 0) (sym body) ∙ none in
-    grown ∙ ap (λ l. l ++ 34 ∷ 34 ∷ 10 ∷ []) body ∙ sym (ended (map field_bytes fields) true blank)
+pub blank_line : (front : List ℕ) (fields : List Field) (old new : List ℕ) (n : ℕ) → old ≡ front ++ row_body default_writer (map field_bytes fields) → n ≡ length old → n ≡ length front → new ≡ old ++ 34 ∷ 34 ∷ 10 ∷ []
+    → new ≡ front ++ row_text default_writer (map field_bytes fields)
+blank_line front fields old new n e long none grown =
+    let body = row_body default_writer (map field_bytes fields) in
+    let zero_long : length body ≡ 0 = omega (arith, ap length e, length-append front body) in
+    let blank : is_blank default_writer (map field_bytes fields) ≡ true = blank_body (map field_bytes fields) ∙ ap (λ k. eqb k 0) zero_long in
+    grown ∙ ap (λ l. l ++ 34 ∷ 34 ∷ 10 ∷ []) e ∙ append_assoc front body (34 ∷ 34 ∷ 10 ∷ []) ∙ ap (λ l. front ++ l) (sym (ended (map field_bytes fields) true blank))
 
 -- any other line
-pub full_line : (fields : List Field) (old popped new : List ℕ) (n : ℕ) → old ≡ cells fields → n ≡ length old → popped ≡ take (n - 1) old → eqb (length popped) 0 ≡ false → new ≡ popped ++ 10 ∷ [] → new ≡ row_text default_writer (map field_bytes fields)
-full_line fields old popped new n e long front some grown =
-    let body : popped ≡ row_body default_writer (map field_bytes fields) = front ∙ ap (λ k. take (k - 1) old) long ∙ popped_body fields old e in
-    let full : is_blank default_writer (map field_bytes fields) ≡ false = blank_body (map field_bytes fields) ∙ ap (λ (l : List ℕ). eqb (length l) 0) (sym body) ∙ some in
-    grown ∙ ap (λ l. l ++ 10 ∷ []) body ∙ sym (ended (map field_bytes fields) false full)
+pub full_line : (front : List ℕ) (fields : List Field) (old new : List ℕ) (n : ℕ) → old ≡ front ++ row_body default_writer (map field_bytes fields) → n ≡ length old → n ≢ length front → new ≡ old ++ 10 ∷ []
+    → new ≡ front ++ row_text default_writer (map field_bytes fields)
+full_line front fields old new n e long some grown =
+    let body = row_body default_writer (map field_bytes fields) in
+    let long_body : 0 < length body = omega (arith, some, ap length e, length-append front body) in
+    let full : is_blank default_writer (map field_bytes fields) ≡ false = blank_body (map field_bytes fields) ∙ not_none (length body) long_body in
+    grown ∙ ap (λ l. l ++ 10 ∷ []) e ∙ append_assoc front body (10 ∷ []) ∙ ap (λ l. front ++ l) (sym (ended (map field_bytes fields) false full))
+  where
+    not_none : (k : ℕ) → 0 < k → eqb k 0 ≡ false
+    not_none k h = grind (arith, nat_tests)
+
+-- the cells of two rows
+pub both_cells : (old left_filled both : List ℕ) (left right : List Field) → left_filled ≡ old ++ cells left → both ≡ left_filled ++ cells right → both ≡ old ++ cells (left ++ right)
+both_cells old left_filled both left right first second =
+    second ∙ ap (λ l. l ++ cells right) first ∙ append_assoc old (cells left) (cells right) ∙ ap (λ l. old ++ l) (sym (flat_map-append (λ (field : Field). cell (field_bytes field)) left right))

@@ -1,6 +1,6 @@
-ghost use Rattle.std.specs.Prelude.{◌≡◌, ◌++◌, [], ◌∷◌, List, map, OnOk};
+ghost use Rattle.std.specs.Prelude.{◌≡◌, ◌++◌, [], ◌∷◌, ℕ, List, length, map, OnOk};
 ghost use Rattle.std.specs.Fmt.{signed_decimal};
-ghost use Rattle.csv.specs.Writing.{default_writer, escaped, field_text, needs_byte, needs_quotes, quoted, row_text};
+ghost use Rattle.csv.specs.Writing.{default_writer, escaped, field_text, needs_byte, needs_quotes, quoted, row_body, row_text};
 ghost use Rattle.hj_emit.specs.Cells.{cells};
 ghost use Rattle.hj_value.specs.declared.field.Field.{Field};
 ghost use Rattle.hj_emit.specs.Line.{field_bytes, line_of};
@@ -15,9 +15,19 @@ pub fn fill_line(line: &mut Vec<u8>, left: &Row, right: &Row) -> Result<(), Memo
     ensures { OnOk result (line.new.items ≡ line_of left.now right.now) }
 {
     line.clear();
-    push_row(line, left)?;
-    push_row(line, right)?;
-    end_line(line)
+    push_line(line, left, right)
+}
+
+/// Appends the line of two joined rows, as the function `line` makes it. Takes memory only to grow; after an error a part of
+/// the line may stand behind what was there.
+#[inline(always)]
+pub fn push_line(text: &mut Vec<u8>, left: &Row, right: &Row) -> Result<(), Memory>
+    ensures { OnOk result (text.new.items ≡ text.old.items ++ line_of left.now right.now) }
+{
+    let start = text.len();
+    push_row(text, left)?;
+    push_row(text, right)?;
+    end_line(text, start)
 }
 
 /// Appends a row's fields, with a comma after each.
@@ -104,17 +114,27 @@ fn push_escaped(text: &mut Vec<u8>, byte: u8) -> Result<(), Memory>
     Ok(())
 }
 
-/// Ends a line of fields with a comma after each: a line feed comes in place of the last comma. If no byte is left, two
-/// quotes stand for the one empty field.
-fn end_line(text: &mut Vec<u8>) -> Result<(), Memory>
-    ensures { (fields : List Field) → text.old.items ≡ cells fields
-        → OnOk result (text.new.items ≡ row_text default_writer (map field_bytes fields)) }
+/// Ends a line of fields that begins at `start`, with a comma after each: a line feed comes in place of the last comma. If
+/// no byte of it is left, two quotes stand for the one empty field.
+fn end_line(text: &mut Vec<u8>, start: usize) -> Result<(), Memory>
+    ensures { (front : List ℕ) (fields : List Field) → length front ≡ start → text.old.items ≡ front ++ cells fields
+        → OnOk result (text.new.items ≡ front ++ row_text default_writer (map field_bytes fields)) }
 {
-    text.pop();
-    if text.is_empty() {
+    drop_comma(text, start);
+    if text.len() == start {
         text.extend_from_slice(b"\"\"\n")?;
         return Ok(());
     }
     text.push(b'\n')?;
     Ok(())
+}
+
+/// Takes off the comma after the last of the fields that begin at `start`.
+fn drop_comma(text: &mut Vec<u8>, start: usize)
+    ensures { (front : List ℕ) (fields : List Field) → length front ≡ start → text.old.items ≡ front ++ cells fields
+        → text.new.items ≡ front ++ row_body default_writer (map field_bytes fields) }
+{
+    if text.len() > start {
+        text.pop();
+    }
 }

@@ -4,6 +4,6 @@
 mod fill;
 mod writer;
 
-pub use fill::fill_line;
+pub use fill::{fill_line, push_line};
 pub use hj_base::Bytes as LineBytes;
 pub use writer::line;
