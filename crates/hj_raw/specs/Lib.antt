@@ -1,4 +1,6 @@
 pub mod Drain
+pub mod Ending
 pub mod Items
+pub mod Telling
 pub mod Text
 pub mod Waiting

@@ -44,7 +44,7 @@ impl<P> RawItems<P> {
     #[inline(always)]
     pub fn next(&mut self) -> Option<RawItem<P>>
         ensures first { IfSome result (λ item. self.old.items ≡ item_of item ∷ self.new.items) }
-        ensures none { IfNone result (self.old.items ≡ []) }
+        ensures none { IfNone result ((self.old.items ≡ []) × (self.new.items ≡ [])) }
         ensures mark { self.new.mark ≡ self.old.mark }
     {
         self.items.pop_front()

@@ -10,5 +10,5 @@ mod line;
 pub use drain::RawDrain;
 pub use item::RawItem;
 pub use items::RawItems;
-pub use laws::raw_items_grow;
-pub use line::{mark_line, pair_line};
+pub use laws::{raw_items_grow, raw_items_tell_of_the_join};
+pub use line::{fill_mark_line, fill_pair_line, mark_line, pair_line};

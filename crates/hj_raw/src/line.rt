@@ -4,7 +4,7 @@ ghost use Rattle.hj_raw.specs.Text.{mark_text, pair_text};
 
 use hj_base::{EventNo, Memory};
 use hj_collect::Mark;
-use hj_emit::{LineBytes, fill_line};
+use hj_emit::{LineBytes, push_line};
 use hj_msg::Pair;
 use hj_value::SharedRow;
 use itoa::Buffer;
@@ -15,14 +15,8 @@ use std::alloc::Global;
 pub fn pair_line(alloc: Global, pair: &Pair<SharedRow>) -> Result<LineBytes, Memory>
     ensures { IfOk result (λ line. line ≡ pair_text pair.now) }
 {
-    let mut rows = Vec::new(alloc);
-    fill_line(&mut rows, pair.left.row(), pair.right.row())?;
     let mut line = Vec::new(alloc);
-    push_number(&mut line, pair.left_no)?;
-    line.push(b',')?;
-    push_number(&mut line, pair.right_no)?;
-    line.push(b',')?;
-    line.extend_from_slice(&rows)?;
+    fill_pair_line(&mut line, pair)?;
     Ok(LineBytes::from_vec(line))
 }
 
@@ -31,13 +25,36 @@ pub fn mark_line(alloc: Global, mark: Mark) -> Result<LineBytes, Memory>
     ensures { IfOk result (λ line. line ≡ mark_text (meaning mark)) }
 {
     let mut line = Vec::new(alloc);
+    fill_mark_line(&mut line, mark)?;
+    Ok(LineBytes::from_vec(line))
+}
+
+/// Fills `line` with the line of a pair, as the function `pair_line` makes it, in place of what it held. Takes memory only to
+/// grow; after an error it holds a part of the line.
+pub fn fill_pair_line(line: &mut Vec<u8>, pair: &Pair<SharedRow>) -> Result<(), Memory>
+    ensures { OnOk result (line.new.items ≡ pair_text pair.now) }
+{
+    line.clear();
+    push_number(line, pair.left_no)?;
+    line.push(b',')?;
+    push_number(line, pair.right_no)?;
+    line.push(b',')?;
+    push_line(line, pair.left.row(), pair.right.row())
+}
+
+/// Fills `line` with the line of a mark, as the function `mark_line` makes it, in place of what it held. Takes memory only to
+/// grow; after an error it holds a part of the line.
+pub fn fill_mark_line(line: &mut Vec<u8>, mark: Mark) -> Result<(), Memory>
+    ensures { OnOk result (line.new.items ≡ mark_text (meaning mark)) }
+{
+    line.clear();
     line.push(b'#')?;
     match mark {
-        Mark::UpTo(last) => push_number(&mut line, last)?,
+        Mark::UpTo(last) => push_number(line, last)?,
         Mark::All => line.extend_from_slice(b"all")?,
     }
     line.push(b'\n')?;
-    Ok(LineBytes::from_vec(line))
+    Ok(())
 }
 
 /// Appends a number in decimal.
