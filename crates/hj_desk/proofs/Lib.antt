@@ -5,6 +5,7 @@ pub mod Going
 pub mod InTurn
 pub mod Numbers
 pub mod Ordering
+pub mod RawGiving
 pub mod Releasing
 pub mod Rounds
 pub mod Runs

@@ -3,6 +3,7 @@ pub mod Desk
 pub mod InOrder
 pub mod Outlet
 pub mod Ports
+pub mod Raw
 pub mod Releases
 pub mod Runs
 pub mod Steps

@@ -8,6 +8,7 @@ mod in_order;
 mod laws;
 mod outlet;
 mod ports;
+mod raw;
 mod step;
 
 pub use caller::{Caller, Round};
@@ -16,4 +17,5 @@ pub use in_order::InOrder;
 pub use laws::desks_give_the_join;
 pub use outlet::Outlet;
 pub use ports::Ports;
+pub use raw::Raw;
 pub use step::Step;
