@@ -58,7 +58,7 @@ impl Actor {
 
     /// Returns the place after this actor's, among those of a chain of this many cores.
     #[inline(always)]
-    pub(crate) fn place_behind(self, cores: usize) -> usize
+    pub fn place_behind(self, cores: usize) -> usize
         requires { cores ≤ 64 }
         ensures { result ≡ place_behind cores self }
     {

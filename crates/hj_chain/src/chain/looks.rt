@@ -1,4 +1,4 @@
-ghost use Rattle.std.specs.Prelude.{◌≡◌, length};
+ghost use Rattle.std.specs.Prelude.{◌≡◌, ◌≤◌, length};
 ghost use Rattle.std.specs.Option.{option_copied};
 ghost use Rattle.hj_chain.specs.Chain.{action_of, first};
 ghost use Rattle.hj_chain.specs.Looks.{last, message_taken};
@@ -24,7 +24,8 @@ impl<P: Share + Drop, J: Join<P> + Drop, L: Store<P, J> + Drop, R: Store<P, J> +
 
     /// Returns how many cores the chain has.
     pub fn cores(&self) -> usize
-        ensures { result ≡ length self.now.state.cores }
+        ensures count { result ≡ length self.now.state.cores }
+        ensures few { result ≤ 64 }
     {
         self.cores.len()
     }

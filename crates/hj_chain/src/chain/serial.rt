@@ -274,7 +274,7 @@ impl<P: Share + Drop, J: Join<P> + Drop, L: Store<P, J> + Drop, R: Store<P, J> +
 
     /// Returns the enabled actor that a random number names; not the driver's put where it would wait, if there is
     /// another.
-    fn drawn(&self, draw: u64, waits: bool) -> Option<Actor>
+    pub fn drawn(&self, draw: u64, waits: bool) -> Option<Actor>
         ensures { (ready : Bool) → waits ≡ would_wait ready self.now.state → result ≡ slice_get (drawn_from ready self.now.state) (draw % length (drawn_from ready self.now.state)) }
     {
         let enabled = self.enabled();
@@ -290,7 +290,7 @@ impl<P: Share + Drop, J: Join<P> + Drop, L: Store<P, J> + Drop, R: Store<P, J> +
     /// Returns the first enabled actor from this place on, all the way round; the driver's put comes last where it
     /// would wait.
     #[cold]
-    fn first_from(&self, place: usize, waits: bool) -> Option<Actor>
+    pub fn first_from(&self, place: usize, waits: bool) -> Option<Actor>
         requires { place ≤ length (actors (length self.now.state.cores)) }
         ensures { result ≡ slice_get (filter (is_enabled self.now.state) (in_turn (length self.now.state.cores) waits place)) 0 }
     {
