@@ -56,7 +56,7 @@ actor_short (Core place Left) numbered = omega (arith, few_digits place.0 number
 actor_short (Core place Right) numbered = omega (arith, few_digits place.0 numbered, length-append (decimal place.0) (82 ∷ []))
 actor_short (Collect place) numbered = omega (arith, few_digits place.0 numbered)
 
-heads : (x y : ℕ) (xs ys : List ℕ) → x ∷ xs ≡ y ∷ ys → x ≡ y
+pub heads : (x y : ℕ) (xs ys : List ℕ) → x ∷ xs ≡ y ∷ ys → x ≡ y
 heads x y xs ys e = cc
 
 tails : (x y : ℕ) (xs ys : List ℕ) → x ∷ xs ≡ y ∷ ys → xs ≡ ys
@@ -66,7 +66,7 @@ longer : (x y : ℕ) (xs ys : List ℕ) → x ≡ y → xs ≡ ys → x ∷ xs �
 longer x y xs ys e f = cc
 
 -- What has no comma and comes before the first one begins the text before it.
-comma_behind : (front tail text rest : List ℕ) → NoComma front → NoComma text → front ++ tail ≡ text ++ 44 ∷ rest
+pub comma_behind : (front tail text rest : List ℕ) → NoComma front → NoComma text → front ++ tail ≡ text ++ 44 ∷ rest
     → (more : List ℕ) × (text ≡ front ++ more) × NoComma more × (tail ≡ more ++ 44 ∷ rest)
 comma_behind [] tail text rest p q e = (text, refl, q, e)
 comma_behind (f ∷ fs) tail [] rest p q e = absurd (p.0 (heads f 44 (fs ++ tail) rest e))
@@ -86,7 +86,7 @@ none_so_long front later p long actor rest numbered e =
     let split = comma_behind front later (actor_text actor) rest p (actor_no_comma actor numbered) e in
     omega (arith, ap length split.1, length-append front split.0, actor_short actor numbered)
 
-no_more : (front more text later rest : List ℕ) → text ≡ front ++ more → NoComma more → 44 ∷ later ≡ more ++ 44 ∷ rest → text ≡ front
+pub no_more : (front more text later rest : List ℕ) → text ≡ front ++ more → NoComma more → 44 ∷ later ≡ more ++ 44 ∷ rest → text ≡ front
 no_more front [] text later rest e p f = e ∙ append-nil front
 no_more front (m ∷ ms) text later rest e p f = absurd (p.0 (sym (heads 44 m later (ms ++ 44 ∷ rest) f)))
 

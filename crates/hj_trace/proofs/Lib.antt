@@ -1,5 +1,8 @@
-mod Commas
+pub mod Commas
 mod Numbers
 mod Partners
+pub mod Plays
 mod Ports
-mod Streams
+pub mod Readings
+pub mod Reported
+pub mod Streams

@@ -1,8 +1,11 @@
 pub mod Actors
+pub mod Checking
+pub mod Choosing
 pub mod Doing
 pub mod Faults
 pub mod Line
 pub mod Messages
+pub mod Play
 pub mod Puts
+pub mod Steps
 pub mod Stream
-pub mod Trace

@@ -63,17 +63,21 @@ abbrev pub reported_text : {P : Type 0} → Option (Report P) → List ℕ
 reported_text None = nothing
 reported_text (Some report) = report_text report
 
--- The line of a step in which an actor of a chain of n cores does this: its front, and then what is reported.
-abbrev pub front_text : {P : Type 0} → ℕ → Actor → Action P → List ℕ
-front_text n actor action = actor_text actor ++ codes "," ++ taken_text action ++ codes "," ++ messages_text (leftward n action) ++ codes "," ++ messages_text (rightward n action) ++ codes ","
+-- What the line of a step says behind the actor, in a chain of n cores that does this: its front, and then what is reported.
+abbrev pub front_text : {P : Type 0} → ℕ → Action P → List ℕ
+front_text n action = taken_text action ++ codes "," ++ messages_text (leftward n action) ++ codes "," ++ messages_text (rightward n action) ++ codes ","
 
-abbrev pub line_of : {P : Type 0} → (P → P → Bool) → ChainState P → Actor → Action P → List ℕ
-line_of matches chain actor action = front_text (length chain.cores) actor action ++ reported_text (reported matches chain action) ++ codes "\n"
+abbrev pub step_text : {P : Type 0} → (P → P → Bool) → ChainState P → Action P → List ℕ
+step_text matches chain action = front_text (length chain.cores) action ++ reported_text (reported matches chain action) ++ codes "\n"
 
--- The line of a step of an actor. An actor that finds nothing to do makes no step.
-abbrev pub line_if : {P : Type 0} → (P → P → Bool) → ChainState P → Actor → Option (Action P) → List ℕ
-line_if matches chain actor None = []
-line_if matches chain actor (Some action) = line_of matches chain actor action
+-- An actor that finds nothing to do makes no step.
+abbrev pub text_if : {P : Type 0} → (P → P → Bool) → ChainState P → Option (Action P) → List ℕ
+text_if matches chain None = []
+text_if matches chain (Some action) = step_text matches chain action
 
+abbrev pub said : {P : Type 0} → (P → P → Bool) → ChainState P → Actor → List ℕ
+said matches chain actor = text_if matches chain (action_of chain actor)
+
+-- The line of a step of an actor: the actor, a comma, and what it says behind.
 abbrev pub line_text : {P : Type 0} → (P → P → Bool) → ChainState P → Actor → List ℕ
-line_text matches chain actor = line_if matches chain actor (action_of chain actor)
+line_text matches chain actor = actor_text actor ++ codes "," ++ said matches chain actor

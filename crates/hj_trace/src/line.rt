@@ -32,28 +32,22 @@ pub enum Doing<'a, P> {
     Collects(CoreNo, &'a Report<P>),
 }
 
-/// Appends the line of a step up to its report, in a chain of this many cores: the actor, what is taken, and what is put to the left
-/// and to the right.
-pub fn push_front<P>(
-    text: &mut Vec<u8>,
-    actor: Actor,
-    doing: &Doing<'_, P>,
-    cores: usize,
-) -> Result<(), Memory>
-    ensures { OnOk result (text.new.items ≡ text.old.items ++ front_text cores actor (action_in doing.now)) }
-{
-    push_taking(text, actor, doing)?;
-    push_putting(text, doing, cores)
-}
-
-/// Appends who makes a step and what is taken, with a comma behind each.
-fn push_taking<P>(text: &mut Vec<u8>, actor: Actor, doing: &Doing<'_, P>) -> Result<(), Memory>
-    ensures { OnOk result (text.new.items ≡ text.old.items ++ (actor_text actor ++ codes "," ++ taken_text (action_in doing.now) ++ codes ",")) }
+/// Appends who makes a step, with a comma behind.
+pub fn push_maker(text: &mut Vec<u8>, actor: Actor) -> Result<(), Memory>
+    ensures { OnOk result (text.new.items ≡ text.old.items ++ (actor_text actor ++ codes ",")) }
 {
     push_actor(text, actor)?;
-    push_words(text, ",")?;
-    push_taken(text, doing)?;
     push_words(text, ",")
+}
+
+/// Appends what the line of a step in a chain of this many cores says behind the actor, up to its report: what is taken, and what is
+/// put to the left and to the right.
+pub fn push_front<P>(text: &mut Vec<u8>, doing: &Doing<'_, P>, cores: usize) -> Result<(), Memory>
+    ensures { OnOk result (text.new.items ≡ text.old.items ++ front_text cores (action_in doing.now)) }
+{
+    push_taken(text, doing)?;
+    push_words(text, ",")?;
+    push_putting(text, doing, cores)
 }
 
 /// Appends what is put to the left and to the right, with a comma behind each.
