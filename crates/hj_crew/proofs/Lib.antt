@@ -7,6 +7,7 @@ pub mod Keeping
 pub mod Linking
 pub mod MadeTeams
 pub mod Manning
+pub mod RawRuns
 pub mod Running
 pub mod Staying
 pub mod Teaming

@@ -4,6 +4,7 @@ pub mod Deal
 pub mod Ends
 pub mod Links
 pub mod Ran
+pub mod RanRaw
 pub mod Room
 pub mod RunsCrew
 pub mod Stores

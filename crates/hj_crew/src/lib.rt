@@ -12,10 +12,12 @@ mod making;
 mod pause;
 mod plan;
 mod ran;
+mod raw_run;
 mod room;
 mod run;
 mod team;
 
 pub use plan::{CrewPlan, CrewSize, Stores};
 pub use ran::Ran;
+pub use raw_run::run_raw;
 pub use run::run_threads;

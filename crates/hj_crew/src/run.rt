@@ -90,7 +90,7 @@ pub fn run_threads<
 }
 
 /// Lets the crew of a chain run until the run has ended, and closes it.
-fn run_and_close<
+pub(crate) fn run_and_close<
     P: Share + Send + Drop,
     J: Join<P> + Send + Drop,
     L: Store<P, J> + Send + Drop,
