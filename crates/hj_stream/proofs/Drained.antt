@@ -20,12 +20,12 @@ pub record Draining : Type 0 where
   pub told : Option (List ℕ)
   pub faults : ℕ
 
-kept_whole : (last : Sent) → answer_by last ≡ Kept → last ≡ sent.Whole
+pub kept_whole : (last : Sent) → answer_by last ≡ Kept → last ≡ sent.Whole
 kept_whole sent.Whole is = refl
 kept_whole sent.Failed is = absurd (let wrong : Refused ≡ Kept = is in cc)
 kept_whole sent.Memory is = absurd (let wrong : Refused ≡ Kept = is in cc)
 
-refused_apart : (last : Sent) → answer_by last ≡ Refused → last ≢ sent.Whole
+pub refused_apart : (last : Sent) → answer_by last ≡ Refused → last ≢ sent.Whole
 refused_apart sent.Whole is same = let wrong : Kept ≡ Refused = is in cc
 refused_apart sent.Failed is same = let wrong : sent.Failed ≡ sent.Whole = same in cc
 refused_apart sent.Memory is same = let wrong : sent.Memory ≡ sent.Whole = same in cc
@@ -36,7 +36,7 @@ pub record SendsFront (bytes : List ℕ) (old new : Draining) : Type 0 where
   pub faults : CountsFaults new.last old.faults new.faults
   pub refused : new.last ≢ sent.Whole
 
-front_sent : (last : Sent) (bytes : List ℕ) (old new : Option (List ℕ)) → last ≢ sent.Whole → Sends last bytes old new → AppendsFront bytes old new
+pub front_sent : (last : Sent) (bytes : List ℕ) (old new : Option (List ℕ)) → last ≢ sent.Whole → Sends last bytes old new → AppendsFront bytes old new
 front_sent sent.Whole bytes old new apart sends = absurd (apart refl)
 front_sent sent.Failed bytes old new apart sends = sends
 front_sent sent.Memory bytes old new apart sends = sends

@@ -6,5 +6,8 @@ pub mod Going
 pub mod Joining
 pub mod Over
 pub mod Prefixes
+pub mod RawBetween
+pub mod RawDrained
+pub mod RawOver
 pub mod Reading
 pub mod Walks

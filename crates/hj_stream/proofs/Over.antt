@@ -83,7 +83,7 @@ ends_done count next.TooMany events left_follows right_follows all wrote written
 ends_done count next.Memory events left_follows right_follows all wrote written each = tt
 
 -- the events ended, and the lines of all were sent
-over_last : (line : Line) (query : Parts) (limit : ℕ) (events : Events) (last : Next) (merger later : Merging) (before mid now : Role → RoleState) (old new : Option (List ℕ))
+pub over_last : (line : Line) (query : Parts) (limit : ℕ) (events : Events) (last : Next) (merger later : Merging) (before mid now : Role → RoleState) (old new : Option (List ℕ))
     → Reads query limit events merger before mid → TakesNext last merger later mid now → Appends old new (joined_text line query events) → JoinsOver line (ended_by (length events) last) fin.Done query limit before now old new events (kang (holds query) events)
 over_last line query limit events last merger later before mid now old new reads takes written = record {
   joins = record {
@@ -115,7 +115,7 @@ over_last line query limit events last merger later before mid now old new reads
 }
 
 -- a prefix of the lines of the events given was sent
-over_begun : (line : Line) (made : Outcome) (ended : Fin) → SaysBegun made → ((all : Type 0) → EndsRun made ended all) → (was : Option Outcome) (query : Parts) (limit : ℕ) (before : Role → RoleState) (events : Events) (pairs : Pairs) (now : Feeding) (old new : Option (List ℕ))
+pub over_begun : (line : Line) (made : Outcome) (ended : Fin) → SaysBegun made → ((all : Type 0) → EndsRun made ended all) → (was : Option Outcome) (query : Parts) (limit : ℕ) (before : Role → RoleState) (events : Events) (pairs : Pairs) (now : Feeding) (old new : Option (List ℕ))
     → Fed was query limit before events now → (sends : AppendsFront (joined_text line query events) old new) → IsPrefix sends.grown (text_by line pairs) → JoinsOver line made ended query limit before now.roles old new events pairs
 over_begun line made ended says so None query limit before events pairs now old new fed sends front =
     let reads = fed.reads in
@@ -170,7 +170,7 @@ over_begun line made ended says so (Some kept) query limit before events pairs n
       ends = so _;
     }
 
-refusal_ends : (last : Sent) (all : Type 0) → EndsRun (refusal_of last) fin.Refused all
+pub refusal_ends : (last : Sent) (all : Type 0) → EndsRun (refusal_of last) fin.Refused all
 refusal_ends sent.Whole all = tt
 refusal_ends sent.Failed all = refl
 refusal_ends sent.Memory all = tt

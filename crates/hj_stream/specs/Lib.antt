@@ -6,4 +6,6 @@ pub mod Feeding
 pub mod InStep
 pub mod Joining
 pub mod JoinText
+pub mod RawEnds
+pub mod RawJoining
 pub mod Runs

@@ -3,6 +3,7 @@ ghost use Rattle.hj_output.specs.declared.output.Sent.TheVariants as sent;
 ghost use Rattle.hj_output.specs.Output.{CountsFaults, Sends};
 ghost use Rattle.hj_stream.specs.Draining.{refusal_of};
 
+use crate::outcome::outcome_of_refusal;
 use crate::{Outcome, PairLine};
 use hj_base::{Memory, Sink};
 use hj_msg::{Drain, Drained, Pair};
@@ -49,11 +50,7 @@ impl<'a, K: Sink, L: PairLine> LineDrain<'a, K, L> {
         requires { self.now.last ≢ sent.Whole }
         ensures { result ≡ refusal_of self.now.last }
     {
-        match self.last {
-            Sent::Whole => unreachable!(),
-            Sent::Failed => Outcome::SinkFault,
-            Sent::Memory => Outcome::Memory,
-        }
+        outcome_of_refusal(self.last)
     }
 
     /// Sends the line of a pair in one write, and the rest again where the sink took less.

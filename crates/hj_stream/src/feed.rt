@@ -14,6 +14,8 @@ use hj_event::{Merger, Next};
 use hj_msg::{Event, Feed, Given};
 use hj_value::SharedRow;
 
+mod ended;
+
 /// Gives the events of two streams, as a merger has them, and keeps how they ended.
 #[derive(Drop)]
 pub struct EventFeed<'a, O: Outside> {

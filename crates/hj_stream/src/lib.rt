@@ -7,8 +7,10 @@ mod feed;
 mod history;
 mod line;
 mod outcome;
+mod raw;
 
 pub use drain::LineDrain;
 pub use feed::EventFeed;
 pub use line::{JoinedLine, PairLine};
 pub use outcome::{Outcome, outcome_of};
+pub use raw::{RawLineDrain, raw_outcome_of};

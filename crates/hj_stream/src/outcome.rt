@@ -1,6 +1,7 @@
 ghost use Rattle.std.specs.Prelude.{◌≡◌, ◌≢◌, true, is_some};
 ghost use Rattle.hj_msg.specs.declared.fin.Fin.TheVariants as fin;
 ghost use Rattle.hj_output.specs.declared.output.Sent.TheVariants as sent;
+ghost use Rattle.hj_stream.specs.Draining.{refusal_of};
 ghost use Rattle.hj_stream.specs.Ending.{EndsAs};
 ghost use Rattle.hj_stream.specs.Ends.{last_in, outcome_in};
 
@@ -8,6 +9,7 @@ use crate::{EventFeed, LineDrain, PairLine};
 use hj_base::{Outside, Role, Side, Sink};
 use hj_event::RecordFault;
 use hj_msg::Fin;
+use hj_output::Sent;
 
 /// Says how a join ended.
 #[derive(Clone, Copy, Debug, PartialEq, Eq)]
@@ -47,5 +49,17 @@ pub fn outcome_of<O: Outside, K: Sink, L: PairLine>(
         Fin::Done => feed.outcome(),
         Fin::Refused => drain.outcome(),
         Fin::Memory => Outcome::Memory,
+    }
+}
+
+/// Returns the outcome of a join whose last line was sent so, and refused.
+pub(crate) fn outcome_of_refusal(last: Sent) -> Outcome
+    requires { last ≢ sent.Whole }
+    ensures { result ≡ refusal_of last }
+{
+    match last {
+        Sent::Whole => unreachable!(),
+        Sent::Failed => Outcome::SinkFault,
+        Sent::Memory => Outcome::Memory,
     }
 }
