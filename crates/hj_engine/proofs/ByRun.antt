@@ -65,7 +65,7 @@ all_emitted matches events ran pairs is begins all =
     same_lists pairs (emitted (reports_of ran)) begins
     (subst (λ (joined : List (Pair _)). IsPrefix (emitted (reports_of ran)) joined) (sym all) (emits_prefix (run_of matches events ran) is (reports_of ran) (reports_taken matches events ran is)))
 
-ends_whole : (made : Outcome) (ended : Fin) (had wrote all : Type 0) → (ended ≡ fin.Done → wrote → all) → EndsRun made ended (had × wrote) → EndsRun made ended (had × all)
+pub ends_whole : (made : Outcome) (ended : Fin) (had wrote all : Type 0) → (ended ≡ fin.Done → wrote → all) → EndsRun made ended (had × wrote) → EndsRun made ended (had × all)
 ends_whole outcome.SinkFault ended had wrote all by is = is
 ends_whole outcome.Memory ended had wrote all by is = tt
 ends_whole (outcome.Done events) ended had wrote all by is = (is.0, (is.1.0, by is.0 is.1.1))
@@ -89,7 +89,7 @@ module _ {F D : Type 0} {gives : F → Given (List Field) → F → Type 0} {sta
   all_given done = all_emitted (holds query) (events_in runs.answers) ran (pairs_in runs.taken) runs.run runs.in_order (all_taken ran.ended (state to).stopped runs.taken (kang (holds query) (events_in runs.answers)) runs.ends done)
 
   -- what it shows of a join that it made
-  pub shows : {line : Line} {made : Outcome} {limit : ℕ} {before now : Role → RoleState} {old new : Option (List ℕ)} (over : JoinsOver line made ran.ended query limit before now old new (events_in runs.answers) (pairs_in runs.taken)) → ShowsJoinBy over.joins cores in_flight ran
+  pub shows : {line : Line} {made : Outcome} {limit : ℕ} {before now : Role → RoleState} {old new : Option (List ℕ)} (over : JoinsOver line made ran.ended query limit before now old new (events_in runs.answers) (pairs_in runs.taken)) → ShowsJoinBy line over.joins cores in_flight ran
   shows {line} {made} over = record {
     links = runs.links;
     queues = runs.queues;

@@ -1,3 +1,4 @@
 pub mod Beginning
+pub mod ByRaw
 pub mod ByRun
 pub mod Ran

@@ -1,3 +1,4 @@
 pub mod Running
 pub mod Showing
+pub mod ShowingRaw
 pub mod Stores

@@ -14,14 +14,14 @@ use Rattle.hj_eval.specs.Holds.{holds}
 use Rattle.hj_crew.specs.Ran.{RanSeen, reports_of, run_of}
 use Rattle.hj_stream.specs.declared.outcome.Outcome.{Outcome}
 use Rattle.hj_stream.specs.Joining.{Joins, JoinsBy}
-use Rattle.hj_stream.specs.JoinText.{Line, text_by}
+use Rattle.hj_stream.specs.JoinText.{Line, pair_line, text_by}
 use Rattle.hj_stream.specs.Runs.{EndsRun, OfEvents}
 
-module _ {line : Line} {ended : Outcome} {query : Parts} {limit : ℕ} {before now : Role → RoleState} {old new : Option (List ℕ)} where
+module _ {ended : Outcome} {query : Parts} {limit : ℕ} {before now : Role → RoleState} {old new : Option (List ℕ)} where
   -- A run of this many cores, with at most this many events outstanding, made this join. Its journals make a run under the query, over
   -- events that begin those of the streams; and what was written begins the text of the pairs that the reports of this very run let
   -- through. Where the events ended, the run had all of them, and all of that text was written.
-  pub record ShowsJoinBy (joins : JoinsBy line ended query limit before now old new) (cores in_flight : ℕ) (ran : RanSeen (List Field)) : Type 0 where
+  pub record ShowsJoinBy (line : Line) (joins : JoinsBy line ended query limit before now old new) (cores in_flight : ℕ) (ran : RanSeen (List Field)) : Type 0 where
     pub links : length ran.links ≡ cores + 1
     pub queues : length ran.queues ≡ cores
     pub flight : ran.flight ≡ in_flight
@@ -32,7 +32,6 @@ module _ {line : Line} {ended : Outcome} {query : Parts} {limit : ℕ} {before n
     pub writes : IsPrefix joins.grown (text_by line (emitted (reports_of ran)))
     pub ends : EndsRun ended ran.ended (OfEvents joins (λ all. events ≡ all) × (joins.grown ≡ text_by line (emitted (reports_of ran))))
 
-module _ {ended : Outcome} {query : Parts} {limit : ℕ} {before now : Role → RoleState} {old new : Option (List ℕ)} where
   -- The same of a join that writes the line of each pair as an output has it.
   abbrev pub ShowsJoin : Joins ended query limit before now old new → (cores in_flight : ℕ) → RanSeen (List Field) → Type 0
-  ShowsJoin joins cores in_flight ran = ShowsJoinBy joins cores in_flight ran
+  ShowsJoin joins cores in_flight ran = ShowsJoinBy pair_line joins cores in_flight ran

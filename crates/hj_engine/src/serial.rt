@@ -5,6 +5,7 @@ ghost use Rattle.hj_event.specs.Roles.{IsInStep};
 ghost use Rattle.hj_stream.specs.Ends.{IsUnasked};
 ghost use Rattle.hj_stream.specs.Joining.{CountsSinkFault, Joins, JoinsBy};
 
+use crate::lines::LineJoin;
 use crate::run::{SerialPlan, run_chain};
 use hj_base::{Gate, Outside, Sink};
 use hj_event::Merger;
@@ -31,34 +32,56 @@ pub fn join_serial<O: Outside, K: Sink, G: Gate>(
     ensures faults { CountsSinkFault result (K.faults out.old) (K.faults out.new) }
     ensures names { (name : List ℕ) → O.under outside.new name ≡ O.under outside.old name }
 {
-    let Ok(mut merger) = Merger::new(alloc, query, limit) else {
-        return Outcome::Memory;
+    let join = LineJoin {
+        query,
+        limit,
+        lines: &JoinedLine,
     };
-    join_merged(alloc, query, plan, limit, &mut merger, outside, out)
+    join_serial_by(alloc, &join, plan, outside, out)
 }
 
-/// Joins the events of a new merger.
-fn join_merged<O: Outside, K: Sink, G: Gate>(
+/// Joins the streams Left and Right of `outside` as `join_serial` does, but writes for each pair the line that `join` says.
+pub fn join_serial_by<L: PairLine, O: Outside, K: Sink, G: Gate>(
     alloc: Global,
-    query: &Query,
+    join: &LineJoin<'_, L>,
     plan: &SerialPlan<'_, G>,
-    limit: u64,
-    merger: &mut Merger,
     outside: &mut O,
     out: &mut K,
 ) -> Outcome
-    requires merger { IsNew query.now limit merger.old }
     requires left { IsInStep false (O.state outside.old role.Left) }
     requires right { IsInStep false (O.state outside.old role.Right) }
-    ensures joins { Joins result query.now limit (O.state outside.old) (O.state outside.new)
+    ensures joins { JoinsBy (L.line join.now.lines.now) result join.now.query.now join.now.limit (O.state outside.old) (O.state outside.new)
         (K.told out.old) (K.told out.new) }
     ensures faults { CountsSinkFault result (K.faults out.old) (K.faults out.new) }
     ensures names { (name : List ℕ) → O.under outside.new name ≡ O.under outside.old name }
 {
-    let mut feed = EventFeed::new(merger, limit, outside);
+    let Ok(mut merger) = Merger::new(alloc, join.query, join.limit) else {
+        return Outcome::Memory;
+    };
+    join_merged(alloc, join, plan, &mut merger, outside, out)
+}
+
+/// Joins the events of a new merger.
+fn join_merged<L: PairLine, O: Outside, K: Sink, G: Gate>(
+    alloc: Global,
+    join: &LineJoin<'_, L>,
+    plan: &SerialPlan<'_, G>,
+    merger: &mut Merger,
+    outside: &mut O,
+    out: &mut K,
+) -> Outcome
+    requires merger { IsNew join.now.query.now join.now.limit merger.old }
+    requires left { IsInStep false (O.state outside.old role.Left) }
+    requires right { IsInStep false (O.state outside.old role.Right) }
+    ensures joins { JoinsBy (L.line join.now.lines.now) result join.now.query.now join.now.limit (O.state outside.old) (O.state outside.new)
+        (K.told out.old) (K.told out.new) }
+    ensures faults { CountsSinkFault result (K.faults out.old) (K.faults out.new) }
+    ensures names { (name : List ℕ) → O.under outside.new name ≡ O.under outside.old name }
+{
+    let mut feed = EventFeed::new(merger, join.limit, outside);
     let mut line = Vec::new(alloc);
-    let mut drain = LineDrain::new(out, &JoinedLine, &mut line);
-    join_feed(alloc, query, plan, &mut feed, &mut drain)
+    let mut drain = LineDrain::new(out, join.lines, &mut line);
+    join_feed(alloc, join.query, plan, &mut feed, &mut drain)
 }
 
 /// Joins the events of a feed that gave none yet, and writes the line of each pair.

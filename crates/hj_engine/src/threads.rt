@@ -7,6 +7,7 @@ ghost use Rattle.hj_stream.specs.Joining.{CountsSinkFault, Joins, JoinsBy};
 ghost use Rattle.hj_engine.specs.Showing.{ShowsJoin, ShowsJoinBy};
 
 use crate::crew::run_crew;
+use crate::lines::LineJoin;
 use hj_base::{Gate, Memory, Outside, Sink};
 use hj_crew::{CrewPlan, Ran};
 use hj_event::Merger;
@@ -44,37 +45,67 @@ pub fn join_threads<T: Threads + Wait + Clock + Sync, O: Outside, K: Sink, G: Ga
     ensures faults { CountsSinkFault result.0 (K.faults out.old) (K.faults out.new) }
     ensures names { (name : List ℕ) → O.under outside.new name ≡ O.under outside.old name }
 {
-    let Ok(mut merger) = Merger::new(alloc, query, limit) else {
-        return (Outcome::Memory, None);
+    let join = LineJoin {
+        query,
+        limit,
+        lines: &JoinedLine,
     };
-    join_merged(alloc, query, plan, limit, &mut merger, outside, out)
+    join_threads_by(alloc, &join, plan, outside, out)
 }
 
-/// Joins the events of a new merger.
-fn join_merged<T: Threads + Wait + Clock + Sync, O: Outside, K: Sink, G: Gate + Sync>(
+/// Joins the streams Left and Right of `outside` as `join_threads` does, but writes for each pair the line that `join` says.
+pub fn join_threads_by<
+    L: PairLine,
+    T: Threads + Wait + Clock + Sync,
+    O: Outside,
+    K: Sink,
+    G: Gate + Sync,
+>(
     alloc: Global,
-    query: &Query,
+    join: &LineJoin<'_, L>,
     plan: &CrewPlan<'_, T, G>,
-    limit: u64,
-    merger: &mut Merger,
     outside: &mut O,
     out: &mut K,
 ) -> (Outcome, Option<Ran<SharedRow>>)
-    requires merger { IsNew query.now limit merger.old }
     requires left { IsInStep false (O.state outside.old role.Left) }
     requires right { IsInStep false (O.state outside.old role.Right) }
-    ensures joins { (joins : Joins result.0 query.now limit (O.state outside.old) (O.state outside.new)
-        (K.told out.old) (K.told out.new)) × IfSome result.1 (ShowsJoin joins plan.now.size.chain.cores plan.now.size.chain.flight) }
+    ensures joins { (joins : JoinsBy (L.line join.now.lines.now) result.0 join.now.query.now join.now.limit (O.state outside.old) (O.state outside.new)
+        (K.told out.old) (K.told out.new)) × IfSome result.1 (ShowsJoinBy (L.line join.now.lines.now) joins plan.now.size.chain.cores plan.now.size.chain.flight) }
     ensures no_run { IfNone result.1 (result.0 ≡ Outcome.Memory) }
     ensures untouched { IfNone result.1 ((O.state outside.new ≡ O.state outside.old) × (K.told out.new ≡ K.told out.old)) }
     ensures faults { CountsSinkFault result.0 (K.faults out.old) (K.faults out.new) }
     ensures names { (name : List ℕ) → O.under outside.new name ≡ O.under outside.old name }
 {
-    let feed = EventFeed::new(merger, limit, outside);
+    let Ok(mut merger) = Merger::new(alloc, join.query, join.limit) else {
+        return (Outcome::Memory, None);
+    };
+    join_merged(alloc, join, plan, &mut merger, outside, out)
+}
+
+/// Joins the events of a new merger.
+fn join_merged<L: PairLine, T: Threads + Wait + Clock + Sync, O: Outside, K: Sink, G: Gate + Sync>(
+    alloc: Global,
+    join: &LineJoin<'_, L>,
+    plan: &CrewPlan<'_, T, G>,
+    merger: &mut Merger,
+    outside: &mut O,
+    out: &mut K,
+) -> (Outcome, Option<Ran<SharedRow>>)
+    requires merger { IsNew join.now.query.now join.now.limit merger.old }
+    requires left { IsInStep false (O.state outside.old role.Left) }
+    requires right { IsInStep false (O.state outside.old role.Right) }
+    ensures joins { (joins : JoinsBy (L.line join.now.lines.now) result.0 join.now.query.now join.now.limit (O.state outside.old) (O.state outside.new)
+        (K.told out.old) (K.told out.new)) × IfSome result.1 (ShowsJoinBy (L.line join.now.lines.now) joins plan.now.size.chain.cores plan.now.size.chain.flight) }
+    ensures no_run { IfNone result.1 (result.0 ≡ Outcome.Memory) }
+    ensures untouched { IfNone result.1 ((O.state outside.new ≡ O.state outside.old) × (K.told out.new ≡ K.told out.old)) }
+    ensures faults { CountsSinkFault result.0 (K.faults out.old) (K.faults out.new) }
+    ensures names { (name : List ℕ) → O.under outside.new name ≡ O.under outside.old name }
+{
+    let feed = EventFeed::new(merger, join.limit, outside);
     let mut line = Vec::new(alloc);
-    let drain = LineDrain::new(out, &JoinedLine, &mut line);
+    let drain = LineDrain::new(out, join.lines, &mut line);
     let mut ran = None;
-    let joined = join_feed(alloc, query, plan, feed, drain, &mut ran);
+    let joined = join_feed(alloc, join.query, plan, feed, drain, &mut ran);
     (joined.ended, ran)
 }
 
@@ -112,7 +143,7 @@ fn join_feed<
         → (joins : JoinsBy (L.line drain.entry.lines.now) result.ended query.now limit
         (O.state feed.entry.outside.now) (O.state result.feed.outside.now)
         (K.told drain.entry.out.now) (K.told result.drain.out.now))
-        × IfSome ran.new (ShowsJoinBy joins plan.now.size.chain.cores plan.now.size.chain.flight) }
+        × IfSome ran.new (ShowsJoinBy (L.line drain.entry.lines.now) joins plan.now.size.chain.cores plan.now.size.chain.flight) }
     ensures no_run { IfNone ran.new (result.ended ≡ Outcome.Memory) }
     ensures untouched { IfNone ran.new ((O.state result.feed.outside.now ≡ O.state feed.entry.outside.now)
         × (K.told result.drain.out.now ≡ K.told drain.entry.out.now)) }

@@ -1,20 +1,21 @@
 use Rattle.std.proofs.Common.{◌≡◌, rules, subst₂, IfSome}
 use Rattle.std.specs.Prelude.{IfNone}
-use Rattle.hj_stream.specs.Joining.{Joins}
-use Rattle.hj_engine.specs.Showing.{ShowsJoin}
+use Rattle.hj_stream.specs.Joining.{JoinsBy}
+use Rattle.hj_engine.specs.Showing.{ShowsJoinBy}
 use Rattle.hj_engine.proofs.threads.join_merged.Goals as goal
 
 pub join_feed-joined-requires-clause-unasked : goal.join_feed-joined-requires-clause-unasked
-join_feed-joined-requires-clause-unasked g c κs within = (c.args.limit, c.new-feed.ensures.unasked c.args.query.now c.requires.merger)
+join_feed-joined-requires-clause-unasked g c κs within = (c.args.join.now.limit, c.new-feed.ensures.unasked c.args.join.now.query.now c.requires.merger)
 
 pub returns-clause-joins : goal.returns-clause-joins
 returns-clause-joins g c =
-    let joins = rw (c.new-feed.ensures.outside, c.new-drain.ensures.out) at (c.join_feed-joined.ensures.joins c.args.limit (c.new-feed.ensures.unasked c.args.query.now c.requires.merger)) in
+    let join = c.args.join.now in
+    let joins = rw (c.new-feed.ensures.outside, c.new-drain.ensures.out, c.new-drain.ensures.lines) at (c.join_feed-joined.ensures.joins join.limit (c.new-feed.ensures.unasked join.query.now c.requires.merger)) in
     let plan = c.args.plan.now in
     let outside = g.O.Outside.state c.args.outside.now in
     let out = g.K.Sink.told c.args.out.now in
     subst₂
-    (λ (o : g.row.O.Denot) (k : g.row.K.Denot). (joins : Joins c.join_feed-joined.result.ended c.args.query.now c.args.limit outside (g.O.Outside.state o) out (g.K.Sink.told k)) × IfSome c.join_feed-joined.new.ran (ShowsJoin joins plan.size.chain.cores plan.size.chain.flight))
+    (λ (o : g.row.O.Denot) (k : g.row.K.Denot). (joins : JoinsBy (g.L.PairLine.line join.lines.now) c.join_feed-joined.result.ended join.query.now join.limit outside (g.O.Outside.state o) out (g.K.Sink.told k)) × IfSome c.join_feed-joined.new.ran (ShowsJoinBy (g.L.PairLine.line join.lines.now) joins plan.size.chain.cores plan.size.chain.flight))
     (search rules) (search rules) joins
 
 pub returns-clause-untouched : goal.returns-clause-untouched

@@ -1,0 +1,99 @@
+ghost use Rattle.std.specs.Prelude.{◌≡◌, IfOk, OnErr};
+ghost use Rattle.hj_msg.specs.Feed.{IsFresh};
+ghost use Rattle.hj_eval.specs.Holds.{holds};
+ghost use Rattle.hj_crew.specs.RanRaw.{RunsRaw};
+ghost use Rattle.hj_engine.specs.Stores.{AreReady};
+
+use crate::stores::{PlannedStores, planned_stores};
+use hj_base::{Gate, Memory};
+use hj_crew::{CrewPlan, Ran, Stores, run_raw};
+use hj_eval::{QueryJoin, ReadyQuery};
+use hj_msg::{Feed, Join, Store};
+use hj_query::Query;
+use hj_raw::RawDrain;
+use hj_value::SharedRow;
+use std::alloc::Global;
+use std::sync::Wait;
+use std::thread::Threads;
+use std::time::Clock;
+
+/// Runs a new chain on threads, with stores of the kind that the query's condition asks for, between a feed that gave no event
+/// yet and a drain of raw items. Both are handed back. Where memory runs out before a thread is started, neither was asked.
+pub(crate) fn run_raw_crew<
+    T: Threads + Wait + Clock + Sync,
+    F: Feed<SharedRow> + Drop,
+    D: RawDrain<SharedRow> + Drop,
+    G: Gate + Sync,
+>(
+    alloc: Global,
+    query: &Query,
+    plan: &CrewPlan<'_, T, G>,
+    feed: F,
+    drain: D,
+) -> (Result<Ran<SharedRow>, Memory>, F, D)
+    requires { IsFresh (F.state feed) }
+    ensures runs { IfOk result.0 (RunsRaw F.gives F.state D.takes (holds query.now) plan.now.size.chain.cores plan.now.size.chain.flight feed result.1 drain result.2) }
+    ensures refused { OnErr result.0 ((result.1 ≡ feed) × (result.2 ≡ drain)) }
+{
+    let Ok(stores) = planned_stores(alloc, query, plan.size.chain.cores) else {
+        return (Err(Memory), feed, drain);
+    };
+    let Ok(ready) = ReadyQuery::new(alloc, query) else {
+        return (Err(Memory), feed, drain);
+    };
+    let join = QueryJoin::new(&ready);
+    match stores {
+        PlannedStores::Hash(stores) => run_light(alloc, plan, &join, stores, feed, drain),
+        PlannedStores::Ordered(stores) => run_light(alloc, plan, &join, stores, feed, drain),
+        PlannedStores::Columns(stores) => run_over(alloc, plan, &join, stores, feed, drain),
+        PlannedStores::List(stores) => run_over(alloc, plan, &join, stores, feed, drain),
+    }
+}
+
+/// Runs a new chain on threads over these stores, which may be probed by the join, and where a probe looks at few rows.
+fn run_light<
+    J: Join<SharedRow> + Send + Drop,
+    S: Store<SharedRow, J> + Send + Drop,
+    T: Threads + Wait + Clock + Sync,
+    F: Feed<SharedRow> + Drop,
+    D: RawDrain<SharedRow> + Drop,
+    G: Gate + Sync,
+>(
+    alloc: Global,
+    plan: &CrewPlan<'_, T, G>,
+    join: &J,
+    stores: Stores<S, S>,
+    feed: F,
+    drain: D,
+) -> (Result<Ran<SharedRow>, Memory>, F, D)
+    requires fresh { IsFresh (F.state feed) }
+    requires stores { AreReady S.entries S.suits join.now plan.now.size.chain.cores stores }
+    ensures runs { IfOk result.0 (RunsRaw F.gives F.state D.takes (J.predicate join.now) plan.now.size.chain.cores plan.now.size.chain.flight feed result.1 drain result.2) }
+    ensures refused { OnErr result.0 ((result.1 ≡ feed) × (result.2 ≡ drain)) }
+{
+    run_over(alloc, &plan.for_light_cores(), join, stores, feed, drain)
+}
+
+/// Runs a new chain on threads over these stores, which may be probed by the join.
+fn run_over<
+    J: Join<SharedRow> + Send + Drop,
+    S: Store<SharedRow, J> + Send + Drop,
+    T: Threads + Wait + Clock + Sync,
+    F: Feed<SharedRow> + Drop,
+    D: RawDrain<SharedRow> + Drop,
+    G: Gate + Sync,
+>(
+    alloc: Global,
+    plan: &CrewPlan<'_, T, G>,
+    join: &J,
+    stores: Stores<S, S>,
+    feed: F,
+    drain: D,
+) -> (Result<Ran<SharedRow>, Memory>, F, D)
+    requires fresh { IsFresh (F.state feed) }
+    requires stores { AreReady S.entries S.suits join.now plan.now.size.chain.cores stores }
+    ensures runs { IfOk result.0 (RunsRaw F.gives F.state D.takes (J.predicate join.now) plan.now.size.chain.cores plan.now.size.chain.flight feed result.1 drain result.2) }
+    ensures refused { OnErr result.0 ((result.1 ≡ feed) × (result.2 ≡ drain)) }
+{
+    run_raw(alloc, plan, join, stores, feed, drain)
+}
