@@ -1,7 +1,7 @@
 //! Words of the command line.
 
 use crate::texts::same;
-use hj_base::Setup;
+use hj_base::{Name, Setup};
 use hj_words::{Order, read_words};
 use std::alloc::{AllocError, Global};
 use std::process::Abort;
@@ -65,39 +65,87 @@ gen 100001 1 0 1
 gen 1 0 0 1
 gen 1 1000000001 0 1
 gen 1 1 18446744073709551616 1
-gen 1 1 1";
+gen 1 1 1
+raw --threads 0 q a b
+raw --threads 65 q a b
+raw --schedule 1 q a b
+raw --schedule 1 --threads 0 q a b
+raw q a
+raw q a b c";
 
-/// Writes an order as a line that spells it, with each number that may be left out.
-fn told(alloc: Global, order: &Order) -> Result<String, AllocError> {
+/// Names the command of an order.
+fn command(order: &Order) -> &'static str {
     match order {
-        Order::Equi { w, left, right } => {
-            let (left, right) = (left.text(), right.text());
-            format!(in alloc; "equi {w} {left} {right}")
-        }
+        Order::Equi { .. } => "equi",
+        Order::Join { .. } => "join",
+        Order::Check { .. } => "check",
+        Order::Gen { .. } => "gen",
+        Order::Raw { .. } => "raw",
+    }
+}
+
+/// Writes the numbers of an order, with each that may be left out.
+fn numbers(alloc: Global, order: &Order) -> Result<String, AllocError> {
+    match order {
+        Order::Equi { w, .. } => format!(in alloc; " {w}"),
         Order::Join {
             setup,
             limit,
             schedule,
-            query,
-            left,
-            right,
+            ..
         } => {
+            let (setup, seed) = (told_setup(alloc, setup)?, schedule.unwrap_or(0));
+            format!(in alloc; " {setup} {limit} {seed}")
+        }
+        Order::Check { .. } => Ok(String::new(alloc)),
+        Order::Gen { n, keys, seed, w } => format!(in alloc; " {n} {keys} {seed} {w}"),
+        Order::Raw { setup, limit, .. } => {
             let setup = told_setup(alloc, setup)?;
-            let seed = schedule.unwrap_or(0);
-            let (query, left, right) = (query.text(), left.text(), right.text());
-            format!(in alloc; "join {setup} {limit} {seed} {query} {left} {right}")
+            format!(in alloc; " {setup} {limit}")
         }
-        Order::Check { query } => {
-            let query = query.text();
-            format!(in alloc; "check {query}")
-        }
-        Order::Gen { n, keys, seed, w } => format!(in alloc; "gen {n} {keys} {seed} {w}"),
     }
 }
 
 fn told_setup(alloc: Global, setup: &Setup) -> Result<String, AllocError> {
     let (cores, threads, flight) = (setup.cores, setup.threads, setup.flight);
     format!(in alloc; "{cores} {threads} {flight}")
+}
+
+/// Writes the names of an order.
+fn names(alloc: Global, order: &Order) -> Result<String, AllocError> {
+    match order {
+        Order::Equi { left, right, .. } => listed(alloc, &[left, right]),
+        Order::Join {
+            query,
+            left,
+            right,
+            ..
+        }
+        | Order::Raw {
+            query,
+            left,
+            right,
+            ..
+        } => listed(alloc, &[query, left, right]),
+        Order::Check { query } => listed(alloc, &[query]),
+        Order::Gen { .. } => Ok(String::new(alloc)),
+    }
+}
+
+/// Writes names, with a blank before each.
+fn listed(alloc: Global, names: &[&Name]) -> Result<String, AllocError> {
+    let mut list = String::new(alloc);
+    for name in names {
+        list.push(' ')?;
+        list.push_str(name.text())?;
+    }
+    Ok(list)
+}
+
+/// Writes an order as a line that spells it, with each number that may be left out.
+fn told(alloc: Global, order: &Order) -> Result<String, AllocError> {
+    let (command, numbers, names) = (command(order), numbers(alloc, order)?, names(alloc, order)?);
+    format!(in alloc; "{command}{numbers}{names}")
 }
 
 /// Tells what words spell: an order, or why there is none.
@@ -123,7 +171,7 @@ fn refuses_what_spells_no_order(rt: HostRuntime) {
     assert_eq!(rt; none.as_str(), "usage");
 }
 
-/// Lines of words, and what each spells: for a join first cores, threads, flight, most events and seed.
+/// Lines of words, and what each spells: for a join first cores, threads, flight, most events and seed, as far as it has them.
 const ORDERS: &str = "\
 join q a b | join 4 4 32 4294967295 0 q a b
 join --cores=2 -- q -a b | join 2 4 32 4294967295 0 q -a b
@@ -134,7 +182,9 @@ join --schedule 18446744073709551615 --threads 00 --max-events 1 --flight 256 q 
 join 4 0 256 1 18446744073709551615 q a= b
 equi 00000000000001000000 a -- -b | equi 1000000 a -b
 check q- | check q-
-gen 0 1000000000 18446744073709551615 1 | gen 0 1000000000 18446744073709551615 1";
+gen 0 1000000000 18446744073709551615 1 | gen 0 1000000000 18446744073709551615 1
+raw q a b | raw 4 4 32 4294967295 q a b
+raw --cores=64 q --threads 1 a --max-events 7 --flight=1 b | raw 64 1 1 7 q a b";
 
 #[test]
 fn reads_orders(rt: HostRuntime) {

@@ -1,14 +1,18 @@
 -- The arguments of each command, and what is found among them.
-use Rattle.std.proofs.Common.{◌≡◌, Bool, true, false, List, [], ◌∷◌, ◌++◌, map, Some, None, refl, sym, ap, true≢false, codes}
+use Rattle.std.proofs.Common.{◌≡◌, ◌&&◌, ℕ, suc, Bool, true, false, not, List, [], ◌∷◌, ◌++◌, map, Some, None, refl, sym, ap, true≢false, codes}
+use Rattle.std.specs.List.{list_all, list_any}
 use Rattle.std.specs.Str.{bytes_eq}
 use Rattle.std.proofs.lemmas.Slice.Eq.{bytes_eq-Decides}
-use Rattle.clap.specs.Walk.{Rule, arg_by_id, arg_by_long}
-use Rattle.clap.specs.Simple.{App}
+use Rattle.clap.specs.Faults.{is_simple_and_free}
+use Rattle.clap.specs.Simple.{App, built, is_simple}
+use Rattle.clap.specs.Takes.{is_given}
+use Rattle.clap.specs.Walk.{Row, Rule, arg_by_id, arg_by_long, arg_by_short, is_empty}
 use Rattle.hj_words.specs.Arguments.{command_app}
 use Rattle.hj_words.specs.Orders.{check_names, equi_names, gen_names, join_names, join_options, no_options}
+use Rattle.hj_words.specs.Orders.{raw_options}
 use Rattle.hj_words.specs.Values.{Text, is_among}
 use Rattle.hj_words.proofs.Given.{IsRead}
-use Rattle.hj_words.proofs.Commands.{Finds, Places, option_arg, positional_arg}
+use Rattle.hj_words.proofs.Commands.{Finds, Places, option_arg, positional_arg, top_of}
 
 -- the options, and the arguments behind them
 abbrev pub options_then : List Text → List Rule → List Rule
@@ -50,131 +54,89 @@ long_unknown (o ∷ options) behind name none e = go (bytes_eq o name) refl (lon
         let rest : is_among name options ≡ false = rw is at e in
         rw is (more rest)
 
+-- words by their place, from a place on
+abbrev pub positional_args : ℕ → List Text → List Rule
+positional_args place [] = []
+positional_args place (name ∷ names) = positional_arg place name ∷ positional_args (suc place) names
+
+-- the arguments of a command with these options, and these names for words by their place
+abbrev pub args_of : List Text → List Text → List Rule
+args_of options names = options_then options (positional_args 1 names)
+
+no_long : (place : ℕ) (names : List Text) (name : Text) → arg_by_long (positional_args place names) name ≡ None
+no_long place [] name = refl
+no_long place (n ∷ names) name = no_long (suc place) names name
+
+no_short : (options : List Text) (place : ℕ) (names : List Text) (x : ℕ) → arg_by_short (options_then options (positional_args place names)) x ≡ None
+no_short [] place [] x = refl
+no_short [] place (n ∷ names) x = no_short [] (suc place) names x
+no_short (o ∷ options) place names x = no_short options place names x
+
+no_defaults : (options : List Text) (place : ℕ) (names : List Text) → list_all (λ a. is_empty a.defaults) (options_then options (positional_args place names)) ≡ true
+no_defaults [] place [] = refl
+no_defaults [] place (n ∷ names) = no_defaults [] (suc place) names
+no_defaults (o ∷ options) place names = no_defaults options place names
+
+none_missing : (options : List Text) (place : ℕ) (names : List Text) (rows : List Row)
+    → list_any (λ a. a.required && not (is_given a.id rows)) (options_then options (positional_args place names)) ≡ false
+none_missing [] place [] rows = refl
+none_missing [] place (n ∷ names) rows = none_missing [] (suc place) names rows
+none_missing (o ∷ options) place names rows = none_missing options place names rows
+
+finds : (options names : List Text) → Finds options (args_of options names)
+finds options names = record {
+  long = long_found options (positional_args 1 names);
+  by_id = id_found options (positional_args 1 names);
+  unknown = λ name e. long_unknown options (positional_args 1 names) name (no_long 1 names name) e;
+  short = no_short options 1 names;
+  defaults = no_defaults options 1 names;
+  optional = none_missing options 1 names;
+}
+
+-- A command is read, once this of it computes.
+plain_read : (title : Text) (options names : List Text) → Places (args_of options names) 1 names
+    → built (command_app title options names) ≡ record { top = top_of title (args_of options names); subs = [] }
+    → (command_app title options names).top.no_binary_name ≡ true → is_simple (command_app title options names) ≡ true
+    → is_simple_and_free (command_app title options names) ≡ true → IsRead (command_app title options names) options names
+plain_read title options names places is_built all_words simple free = record {
+  title = title;
+  args = args_of options names;
+  finds = finds options names;
+  places = places;
+  is_built = is_built;
+  all_words = all_words;
+  simple = simple;
+  free = free;
+}
+
 -- ---- the commands
 
 abbrev pub equi_app : App
 equi_app = command_app (codes "equi") no_options equi_names
 
-abbrev pub equi_args : List Rule
-equi_args = options_then no_options (positional_arg 1 (codes "w") ∷ positional_arg 2 (codes "left") ∷ positional_arg 3 (codes "right") ∷ [])
-
-equi_finds : Finds no_options equi_args
-equi_finds = record {
-  long = λ name e. absurd (true≢false (sym e));
-  by_id = λ name e. absurd (true≢false (sym e));
-  unknown = λ name e. refl;
-  short = λ x. refl;
-  defaults = refl;
-  optional = λ rows. refl;
-}
-
-equi_places : Places equi_args 1 equi_names
-equi_places = (refl, refl, (refl, refl, (refl, refl, refl)))
-
 pub equi_read : IsRead equi_app no_options equi_names
-equi_read = record {
-  title = codes "equi";
-  args = equi_args;
-  finds = equi_finds;
-  places = equi_places;
-  is_built = refl;
-  all_words = refl;
-  simple = refl;
-  free = refl;
-}
+equi_read = plain_read (codes "equi") no_options equi_names (refl, refl, (refl, refl, (refl, refl, refl))) refl refl refl refl
 
 abbrev pub check_app : App
 check_app = command_app (codes "check") no_options check_names
 
-abbrev pub check_args : List Rule
-check_args = options_then no_options (positional_arg 1 (codes "query") ∷ [])
-
-check_finds : Finds no_options check_args
-check_finds = record {
-  long = λ name e. absurd (true≢false (sym e));
-  by_id = λ name e. absurd (true≢false (sym e));
-  unknown = λ name e. refl;
-  short = λ x. refl;
-  defaults = refl;
-  optional = λ rows. refl;
-}
-
-check_places : Places check_args 1 check_names
-check_places = (refl, refl, refl)
-
 pub check_read : IsRead check_app no_options check_names
-check_read = record {
-  title = codes "check";
-  args = check_args;
-  finds = check_finds;
-  places = check_places;
-  is_built = refl;
-  all_words = refl;
-  simple = refl;
-  free = refl;
-}
+check_read = plain_read (codes "check") no_options check_names (refl, refl, refl) refl refl refl refl
 
 abbrev pub gen_app : App
 gen_app = command_app (codes "gen") no_options gen_names
 
-abbrev pub gen_args : List Rule
-gen_args = options_then no_options (positional_arg 1 (codes "n") ∷ positional_arg 2 (codes "keys") ∷ positional_arg 3 (codes "seed") ∷ positional_arg 4 (codes "w") ∷ [])
-
-gen_finds : Finds no_options gen_args
-gen_finds = record {
-  long = λ name e. absurd (true≢false (sym e));
-  by_id = λ name e. absurd (true≢false (sym e));
-  unknown = λ name e. refl;
-  short = λ x. refl;
-  defaults = refl;
-  optional = λ rows. refl;
-}
-
-gen_places : Places gen_args 1 gen_names
-gen_places = (refl, refl, (refl, refl, (refl, refl, (refl, refl, refl))))
-
 pub gen_read : IsRead gen_app no_options gen_names
-gen_read = record {
-  title = codes "gen";
-  args = gen_args;
-  finds = gen_finds;
-  places = gen_places;
-  is_built = refl;
-  all_words = refl;
-  simple = refl;
-  free = refl;
-}
+gen_read = plain_read (codes "gen") no_options gen_names (refl, refl, (refl, refl, (refl, refl, (refl, refl, refl)))) refl refl refl refl
 
 abbrev pub join_app : App
 join_app = command_app (codes "join") join_options join_names
 
-abbrev pub join_behind : List Rule
-join_behind = positional_arg 1 (codes "query") ∷ positional_arg 2 (codes "left") ∷ positional_arg 3 (codes "right") ∷ []
-
-abbrev pub join_args : List Rule
-join_args = options_then join_options join_behind
-
-join_finds : Finds join_options join_args
-join_finds = record {
-  long = long_found join_options join_behind;
-  by_id = id_found join_options join_behind;
-  unknown = λ name e. long_unknown join_options join_behind name refl e;
-  short = λ x. refl;
-  defaults = refl;
-  optional = λ rows. refl;
-}
-
-join_places : Places join_args 1 join_names
-join_places = (refl, refl, (refl, refl, (refl, refl, refl)))
-
 pub join_read : IsRead join_app join_options join_names
-join_read = record {
-  title = codes "join";
-  args = join_args;
-  finds = join_finds;
-  places = join_places;
-  is_built = refl;
-  all_words = refl;
-  simple = refl;
-  free = refl;
-}
+join_read = plain_read (codes "join") join_options join_names (refl, refl, (refl, refl, (refl, refl, refl))) refl refl refl refl
+
+abbrev pub raw_app : App
+raw_app = command_app (codes "raw") raw_options join_names
+
+pub raw_read : IsRead raw_app raw_options join_names
+raw_read = plain_read (codes "raw") raw_options join_names (refl, refl, (refl, refl, (refl, refl, refl))) refl refl refl refl

@@ -4,8 +4,9 @@ use Rattle.std.specs.Str.{all_ascii_digits, bytes_eq}
 use Rattle.std.specs.Str.Parse.{digits_value}
 use Rattle.hj_words.specs.Values.{Text, Value, given, text_of}
 use Rattle.hj_words.specs.declared.order.Order.{Order}
-use Rattle.hj_words.specs.declared.read.JoinNumbers.{JoinNumbers}
-use Rattle.hj_words.specs.declared.order.Order.TheVariants.{Equi, Join, Check, Gen}
+use Rattle.hj_words.specs.declared.names.JoinNames.{JoinNames}
+use Rattle.hj_words.specs.declared.numbers.JoinNumbers.{JoinNumbers}
+use Rattle.hj_words.specs.declared.order.Order.TheVariants.{Equi, Join, Check, Gen, Raw}
 
 -- 1 to 20 decimal digits
 abbrev pub is_number : Text → Bool
@@ -58,9 +59,9 @@ schedule_of threads None = Some None
 schedule_of threads (Some word) =
     if threads == 0 then option_map (λ seed. Some seed) (number_of 0 most_seed word) else None
 
--- the numbers of the texts of `join`'s options
-unfoldable pub join_numbers : Option Text → Option Text → Option Text → Option Text → Option Text → Option JoinNumbers
-join_numbers cores threads flight limit schedule =
+-- the numbers of the texts of a join's options, on at least this many threads
+unfoldable pub join_numbers : ℕ → Option Text → Option Text → Option Text → Option Text → Option Text → Option JoinNumbers
+join_numbers fewest cores threads flight limit schedule =
     option_and_then (λ cores.
     option_and_then (λ threads.
     option_and_then (λ flight.
@@ -73,27 +74,39 @@ join_numbers cores threads flight limit schedule =
     (schedule_of threads schedule))
     (number_or most_events 1 most_events limit))
     (number_or 32 1 256 flight))
-    (number_or 4 0 64 threads))
+    (number_or 4 fewest 64 threads))
     (number_or 4 1 64 cores)
 
--- the order of `join` with these numbers, and the names of these texts
-unfoldable pub join_order : JoinNumbers → Option Text → Option Text → Option Text → Option Order
-join_order numbers query left right =
+-- the numbers that the words give the options of `join`
+abbrev pub numbers_among : List Value → Option JoinNumbers
+numbers_among values =
+    join_numbers 0 (text_of (codes "cores") values) (text_of (codes "threads") values)
+    (text_of (codes "flight") values) (text_of (codes "max-events") values)
+    (text_of (codes "schedule") values)
+
+-- the names of these texts, of a join's query and of its streams
+unfoldable pub names_in : Option Text → Option Text → Option Text → Option JoinNames
+names_in query left right =
     option_and_then (λ query.
     option_and_then (λ left.
-    option_map (λ right. Join numbers.setup numbers.limit numbers.schedule query left right)
+    option_map (λ right. record { query = query; left = left; right = right })
     (name_in right))
     (name_in left))
     (name_in query)
 
+-- the names that a join's words give
+abbrev pub names_among : List Value → Option JoinNames
+names_among values = names_in (text_of (codes "query") values) (text_of (codes "left") values) (text_of (codes "right") values)
+
+-- an order with numbers and names, where both are there
+abbrev pub order_with : (JoinNumbers → JoinNames → Order) → Option JoinNumbers → Option JoinNames → Option Order
+order_with make numbers names = option_and_then (λ numbers. option_map (λ names. make numbers names) names) numbers
+
 -- `join [--cores N] [--threads N] [--flight N] [--max-events N] [--schedule SEED] QUERY LEFT RIGHT`
 abbrev pub join_of : List Value → Option Order
 join_of values =
-    option_and_then (λ numbers. join_order numbers (text_of (codes "query") values)
-    (text_of (codes "left") values) (text_of (codes "right") values))
-    (join_numbers (text_of (codes "cores") values) (text_of (codes "threads") values)
-    (text_of (codes "flight") values) (text_of (codes "max-events") values)
-    (text_of (codes "schedule") values))
+    order_with (λ numbers names. Join numbers.setup numbers.limit numbers.schedule names.query names.left names.right)
+    (numbers_among values) (names_among values)
 
 -- `check QUERY`
 abbrev pub check_of : List Value → Option Order
@@ -117,6 +130,14 @@ abbrev pub gen_of : List Value → Option Order
 gen_of values = gen_order (text_of (codes "n") values) (text_of (codes "keys") values)
     (text_of (codes "seed") values) (text_of (codes "w") values)
 
+-- `raw [--cores N] [--threads N] [--flight N] [--max-events N] QUERY LEFT RIGHT`, on one thread at least
+abbrev pub raw_of : List Value → Option Order
+raw_of values =
+    order_with (λ numbers names. Raw numbers.setup numbers.limit names.query names.left names.right)
+    (join_numbers 1 (text_of (codes "cores") values) (text_of (codes "threads") values)
+    (text_of (codes "flight") values) (text_of (codes "max-events") values) None)
+    (names_among values)
+
 abbrev pub no_options : List Text
 no_options = []
 
@@ -136,6 +157,9 @@ check_names = codes "query" ∷ []
 abbrev pub gen_names : List Text
 gen_names = codes "n" ∷ codes "keys" ∷ codes "seed" ∷ codes "w" ∷ []
 
+abbrev pub raw_options : List Text
+raw_options = codes "cores" ∷ codes "threads" ∷ codes "flight" ∷ codes "max-events" ∷ []
+
 -- The order that the words behind a command spell, if they spell one.
 abbrev pub equi_spelled : List Text → Option Order
 equi_spelled words = option_and_then equi_of (given no_options equi_names words)
@@ -149,6 +173,9 @@ check_spelled words = option_and_then check_of (given no_options check_names wor
 abbrev pub gen_spelled : List Text → Option Order
 gen_spelled words = option_and_then gen_of (given no_options gen_names words)
 
+abbrev pub raw_spelled : List Text → Option Order
+raw_spelled words = option_and_then raw_of (given raw_options join_names words)
+
 -- The order that the words spell, if they spell one.
 abbrev pub order_of : List Text → Option Order
 order_of [] = None
@@ -157,4 +184,5 @@ order_of (command ∷ words) =
     else if bytes_eq command (codes "join") then join_spelled words
     else if bytes_eq command (codes "check") then check_spelled words
     else if bytes_eq command (codes "gen") then gen_spelled words
+    else if bytes_eq command (codes "raw") then raw_spelled words
     else None

@@ -3,16 +3,16 @@ use Rattle.std.specs.Prelude.{ℕ, ◌≤◌}
 use Rattle.hj_base.specs.declared.numbers.Setup.{Setup}
 use Rattle.hj_words.specs.Orders.{most_events, most_rows}
 use Rattle.hj_words.specs.declared.order.Order.{Order}
-use Rattle.hj_words.specs.declared.order.Order.TheVariants.{Equi, Join, Check, Gen}
+use Rattle.hj_words.specs.declared.order.Order.TheVariants.{Equi, Join, Check, Gen, Raw}
 
 pub record IsFrom (low high value : ℕ) : Type 0 where
   pub least : low ≤ value
   pub most : value ≤ high
 
--- the numbers of `join`'s options
-pub record AreOptions (setup : Setup) (most : ℕ) : Type 0 where
+-- the numbers of a join's options, on at least this many threads
+pub record AreOptions (fewest : ℕ) (setup : Setup) (most : ℕ) : Type 0 where
   pub cores : IsFrom 1 64 setup.cores
-  pub threads : IsFrom 0 64 setup.threads
+  pub threads : IsFrom fewest 64 setup.threads
   pub flight : IsFrom 1 256 setup.flight
   pub limit : IsFrom 1 most_events most
 
@@ -24,6 +24,7 @@ pub record AreNumbers (rows different window : ℕ) : Type 0 where
 
 abbrev pub IsInRange : Order → Type 0
 IsInRange (Equi w left right) = IsFrom 1 most_rows w
-IsInRange (Join setup limit schedule query left right) = AreOptions setup limit
+IsInRange (Join setup limit schedule query left right) = AreOptions 0 setup limit
 IsInRange (Check query) = Unit {0}
 IsInRange (Gen n keys seed w) = AreNumbers n keys w
+IsInRange (Raw setup limit query left right) = AreOptions 1 setup limit

@@ -5,6 +5,7 @@ ghost use Rattle.clap.specs.Simple.{with_rule};
 ghost use Rattle.clap.specs.Words.{app_of, rule_of};
 ghost use Rattle.hj_words.specs.Arguments.{Accepts, Carries, Refuses, bare_app, command_app, option_rule, positional_rule};
 ghost use Rattle.hj_words.specs.Orders.{no_options, equi_names, join_options, join_names, check_names, gen_names};
+ghost use Rattle.hj_words.specs.Orders.{raw_options};
 ghost use Rattle.hj_words.specs.Values.{given};
 
 use crate::order::Usage;
@@ -12,6 +13,10 @@ use clap::{Arg, ArgAction, ArgMatches, Command};
 use std::alloc::{AllocError, Global};
 
 const JOIN_OPTIONS: [&str; 5] = ["cores", "threads", "flight", "max-events", "schedule"];
+
+const RAW_OPTIONS: [&str; 4] = ["cores", "threads", "flight", "max-events"];
+
+const JOIN_NAMES: [&str; 3] = ["query", "left", "right"];
 
 /// Reads the values of the words after `equi`.
 pub fn equi_matches<'a>(alloc: Global, words: &'a [String]) -> Result<ArgMatches<'a>, Usage>
@@ -28,13 +33,7 @@ pub fn join_matches<'a>(alloc: Global, words: &'a [String]) -> Result<ArgMatches
     ensures err { IfErr result (λ fault. fault ≡ Usage.Words
         → given join_options join_names (map string_bytes words.entry.now) ≡ None) }
 {
-    matches(
-        alloc,
-        "join",
-        &JOIN_OPTIONS,
-        &["query", "left", "right"],
-        words,
-    )
+    matches(alloc, "join", &JOIN_OPTIONS, &JOIN_NAMES, words)
 }
 
 /// Reads the values of the words after `check`.
@@ -53,6 +52,15 @@ pub fn gen_matches<'a>(alloc: Global, words: &'a [String]) -> Result<ArgMatches<
         → given no_options gen_names (map string_bytes words.entry.now) ≡ None) }
 {
     matches(alloc, "gen", &[], &["n", "keys", "seed", "w"], words)
+}
+
+/// Reads the values of the words after `raw`.
+pub fn raw_matches<'a>(alloc: Global, words: &'a [String]) -> Result<ArgMatches<'a>, Usage>
+    ensures ok { IfOk result (Carries raw_options join_names (map string_bytes words.entry.now)) }
+    ensures err { IfErr result (λ fault. fault ≡ Usage.Words
+        → given raw_options join_names (map string_bytes words.entry.now) ≡ None) }
+{
+    matches(alloc, "raw", &RAW_OPTIONS, &JOIN_NAMES, words)
 }
 
 /// Reads the values of the words after a command with these options, and these names for words by their place.

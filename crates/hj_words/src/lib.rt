@@ -2,6 +2,8 @@
 #![tactic(auto)]
 
 mod arguments;
+mod names;
+mod numbers;
 mod order;
 mod read;
 mod values;

@@ -45,6 +45,19 @@ pub enum Order {
         /// How many rows each window holds, from 1 to 1,000,000.
         w: u32,
     },
+    /// `raw QUERY LEFT RIGHT`: the pairs of the join of two streams as they come, with marks between them.
+    Raw {
+        /// How the join is spread out, on one thread at least.
+        setup: Setup,
+        /// How many events are taken at most, from 1 to 4,294,967,295.
+        limit: u64,
+        /// The name of the query.
+        query: Name,
+        /// The name of the left stream.
+        left: Name,
+        /// The name of the right stream.
+        right: Name,
+    },
 }
 
 /// Why no order was read.
