@@ -17,11 +17,11 @@ pub record TwoHeld : Type 0 where
 abbrev pub open_role : HeldState → RoleState
 open_role stream = record { phase = opened [] stream.ended; faults = 0; left = Some stream.rest }
 
--- The role of a query is never begun.
+-- No other role is ever begun.
 abbrev pub held_role : TwoHeld → Role → RoleState
-held_role held role.Query = record { phase = unbegun; faults = 0; left = None }
 held_role held role.Left = open_role held.left
 held_role held role.Right = open_role held.right
+held_role held other = record { phase = unbegun; faults = 0; left = None }
 
 -- a text that was taken, and how often a write was refused for memory
 pub record KeptState : Type 0 where

@@ -55,7 +55,7 @@ impl HeldStream {
     }
 }
 
-/// Two streams in memory, both open from the start. No read of them fails. There is no query.
+/// Two streams in memory, both open from the start. No read of them fails. There is no other role.
 #[derive(Debug, Drop)]
 pub struct HeldStreams {
     left: HeldStream,
@@ -89,17 +89,17 @@ impl Outside for HeldStreams {
 
     fn start(&mut self, role: Role, _name: &str) -> Opened {
         match role {
-            // There is room for none.
-            Role::Query => Opened::Memory,
             Role::Left | Role::Right => unreachable!(),
+            // There is room for no other.
+            _ => Opened::Memory,
         }
     }
 
     fn read(&mut self, role: Role, buf: &mut [u8]) -> Got {
         match role {
-            Role::Query => unreachable!(),
             Role::Left => self.left.read(buf),
             Role::Right => self.right.read(buf),
+            _ => unreachable!(),
         }
     }
 }

@@ -20,7 +20,12 @@ use Rattle.hj_event.specs.declared.fault.RecordFault.{RecordFault}
 use Rattle.hj_event.specs.declared.fault.RecordFault.TheVariants as fault
 
 abbrev pub usage_note : List ℕ
-usage_note = codes "usage: equi W LEFT RIGHT | join [--cores N] [--threads N] [--flight N] [--max-events N] [--schedule SEED] QUERY LEFT RIGHT | check QUERY | gen N KEYS SEED W\n"
+usage_note = codes "usage: equi W LEFT RIGHT"
+    ++ codes " | join [--cores N] [--threads N] [--flight N] [--max-events N] [--schedule SEED] QUERY LEFT RIGHT"
+    ++ codes " | check QUERY"
+    ++ codes " | gen N KEYS SEED W"
+    ++ codes " | raw [--cores N] [--threads N] [--flight N] [--max-events N] QUERY LEFT RIGHT"
+    ++ codes "\n"
 
 abbrev pub side_name : Side → List ℕ
 side_name side.Left = codes "left"
@@ -28,8 +33,12 @@ side_name side.Right = codes "right"
 
 abbrev pub role_name : Role → List ℕ
 role_name role.Query = codes "query"
+role_name role.SecondQuery = codes "second query"
 role_name role.Left = codes "left"
 role_name role.Right = codes "right"
+role_name role.Third = codes "third"
+role_name role.Trace = codes "trace"
+role_name role.Output = codes "output"
 
 abbrev pub source_note : Role → List ℕ
 source_note of = codes "source: " ++ role_name of ++ codes "\n"

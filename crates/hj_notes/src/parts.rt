@@ -51,8 +51,12 @@ pub fn role_name(role: Role) -> Part
 {
     match role {
         Role::Query => Part::Words("query"),
+        Role::SecondQuery => Part::Words("second query"),
         Role::Left => Part::Words("left"),
         Role::Right => Part::Words("right"),
+        Role::Third => Part::Words("third"),
+        Role::Trace => Part::Words("trace"),
+        Role::Output => Part::Words("output"),
     }
 }
 

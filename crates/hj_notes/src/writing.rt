@@ -10,7 +10,8 @@ use hj_base::Sink;
 
 const USAGE: &str = "\
 usage: equi W LEFT RIGHT | join [--cores N] [--threads N] [--flight N] [--max-events N] [--schedule SEED] QUERY LEFT RIGHT \
-| check QUERY | gen N KEYS SEED W\n";
+| check QUERY | gen N KEYS SEED W \
+| raw [--cores N] [--threads N] [--flight N] [--max-events N] QUERY LEFT RIGHT\n";
 
 /// Writes the note of an ending, and answers its status.
 pub fn report<N: Sink>(notes: &mut N, ended: Result<(), Note>) -> u8
