@@ -15,10 +15,10 @@ use Rattle.hj_opening.specs.Calls.{Call}
 use Rattle.hj_opening.specs.Check.{BeginsCanonical, WritesCanonical}
 use Rattle.hj_opening.specs.Generating.{BeginsSummary, WritesSummary}
 use Rattle.hj_opening.specs.Run.{RunsOrder}
-use Rattle.hj_opening.specs.Serve.{BeginsInOrder, BeginsSource, Ends, EndsBy, EndsCheck, EndsGen, EndsJoin, FailsJoin, IsJoinDecided, IsJoinFront, IsJoinRole, JoinsAll, JoinsWhole, NothingFails, RefusesNamed, RefusesQuery, status_of_ending}
+use Rattle.hj_opening.specs.Serve.{BeginsInOrder, BeginsSource, Ends, EndsBy, EndsCheck, EndsGen, EndsJoin, FailsJoin, IsJoinDecided, IsJoinFront, IsJoinRole, IsQueryAlone, IsRead, JoinsAll, JoinsWhole, NothingFails, RefusesNamed, RefusesQuery, status_of_ending}
 use Rattle.hj_opening.specs.Serve as says
 use Rattle.hj_opening.specs.Streams.{Fails, IsBegunUnder}
-use Rattle.hj_opening.specs.Words.{Names, Recipe, Source, check_query, join_streams, keyed, most_events, named, sum_up}
+use Rattle.hj_opening.specs.Words.{Names, Recipe, Source, TextKind, check_query, join_streams, keyed, most_events, named, sum_up}
 use Rattle.hj_opening.proofs.Phases.{Roles}
 
 abbrev pub End : Type 0
@@ -35,24 +35,35 @@ sink_kept _ before now counts other = counts
 
 -- ---- a join
 
-join_others : (source : Source) (now : Roles) → BeginsSource source (now role.Query).phase → (of : Role) → ¬ (IsJoinRole source of) → (now of).phase ≡ unbegun
-join_others (keyed rows) now begun role.Query unread = begun
-join_others (keyed rows) now begun role.Left unread = absurd (unread (λ e. cc))
-join_others (keyed rows) now begun role.Right unread = absurd (unread (λ e. cc))
-join_others (named name) now begun of unread = absurd (unread tt)
+-- no role is begun but those of the query and of the two streams
+abbrev pub NoOther : Roles → Type 0
+NoOther now = (of : Role) → of ≢ role.Query → of ≢ role.Left → of ≢ role.Right → (now of).phase ≡ unbegun
 
-module _ (source : Source) (names : Names) (limit : ℕ) (call : Call) where
+unread_query : (source : Source) (now : Roles) → BeginsSource source (now role.Query).phase → ¬ (IsRead source) → (now role.Query).phase ≡ unbegun
+unread_query (keyed rows) now begun unread = begun
+unread_query (named name) now begun unread = absurd (unread tt)
+
+pub join_others : (source : Source) (now : Roles) → BeginsSource source (now role.Query).phase → NoOther now → (of : Role) → ¬ (IsJoinRole source of) → (now of).phase ≡ unbegun
+join_others source now begun none role.Query unread = unread_query source now begun unread
+join_others source now begun none role.Left unread = absurd (unread tt)
+join_others source now begun none role.Right unread = absurd (unread tt)
+join_others source now begun none role.SecondQuery unread = none role.SecondQuery (λ e. cc) (λ e. cc) (λ e. cc)
+join_others source now begun none role.Third unread = none role.Third (λ e. cc) (λ e. cc) (λ e. cc)
+join_others source now begun none role.Trace unread = none role.Trace (λ e. cc) (λ e. cc) (λ e. cc)
+join_others source now begun none role.Output unread = none role.Output (λ e. cc) (λ e. cc) (λ e. cc)
+
+module _ (kind : TextKind) (source : Source) (names : Names) (limit : ℕ) (call : Call) where
   abbrev pub JoinCause : End → Type 0
-  JoinCause (Ok done) = JoinsWhole source names limit call
+  JoinCause (Ok done) = JoinsWhole kind source names limit call
   JoinCause (Err why.Usage) = ⊥
   JoinCause (Err (why.BadQuery found)) = RefusesNamed found source call
-  JoinCause (Err (why.BadRecord side at found)) = JoinsAll (λ ending. ending ≡ bad side at found) source names limit call
-  JoinCause (Err (why.Source of)) = FailsJoin of source names limit call
+  JoinCause (Err (why.BadRecord side at found)) = JoinsAll kind (λ ending. ending ≡ bad side at found) source names limit call
+  JoinCause (Err (why.Source of)) = FailsJoin kind of source names limit call
   JoinCause (Err why.Sink) = Unit {0}
   JoinCause (Err why.Memory) = Unit {0}
-  JoinCause (Err (why.TooManyEvents most)) = (most ≡ limit) × JoinsAll (λ ending. ending ≡ too_many) source names limit call
+  JoinCause (Err (why.TooManyEvents most)) = (most ≡ limit) × JoinsAll kind (λ ending. ending ≡ too_many) source names limit call
 
-  join_ends : (ended : End) → JoinCause ended → CountsSink ended call.faults_before call.faults_now → Ends (EndsJoin source names limit call) (status_of_end ended) (text_of_end ended) call
+  join_ends : (ended : End) → JoinCause ended → CountsSink ended call.faults_before call.faults_now → Ends (EndsJoin kind source names limit call) (status_of_end ended) (text_of_end ended) call
   join_ends (Ok done) cause counts = says.own (says.joined refl refl cause)
   join_ends (Err why.Usage) cause counts = absurd cause
   join_ends (Err (why.BadQuery found)) cause counts = says.own (says.bad_query found refl refl cause)
@@ -62,37 +73,37 @@ module _ (source : Source) (names : Names) (limit : ℕ) (call : Call) where
   join_ends (Err why.Memory) cause counts = says.memory refl refl
   join_ends (Err (why.TooManyEvents most)) cause counts = says.own (says.events refl (ap (λ (n : ℕ). text_of_end (Err (why.TooManyEvents n))) cause.0) cause.1)
 
-  ends_by : (status : ℕ) (ending : Ending) → status ≡ status_of_ending ending → JoinsAll (λ e. e ≡ ending) source names limit call → EndsBy status source names limit call
+  ends_by : (status : ℕ) (ending : Ending) → status ≡ status_of_ending ending → JoinsAll kind (λ e. e ≡ ending) source names limit call → EndsBy status source names limit call
   ends_by status ending is all =
       let w = all.2 in
       record { query = all.0; accepted = all.1; left = w.left; right = w.right; streams = w.streams; ending = is ∙ sym (ap status_of_ending w.ending) }
 
-  ends_clean : (status : ℕ) → status ≡ 0 → JoinsWhole source names limit call → EndsBy status source names limit call
+  ends_clean : (status : ℕ) → status ≡ 0 → JoinsWhole kind source names limit call → EndsBy status source names limit call
   ends_clean status is all =
       let w = all.2 in
       record { query = all.0; accepted = all.1; left = w.left; right = w.right; streams = w.streams; ending = is ∙ sym (ap status_of_ending w.ending) }
 
-  own_decides : (status : ℕ) (note : List ℕ) → EndsJoin source names limit call status note → NothingFails call → IsJoinDecided status source names limit call
+  own_decides : (status : ℕ) (note : List ℕ) → EndsJoin kind source names limit call status note → NothingFails call → IsJoinDecided status source names limit call
   own_decides status note (says.joined is told whole) none = inr (ends_clean status is whole)
   own_decides status note (says.bad_query found is told refuses) none = inl (is, (found, refuses))
   own_decides status note (says.bad_record side at found is told all) none = inr (ends_by status (bad side at found) is all)
   own_decides status note (says.failed_source of is told fails) none = absurd (none.roles of fails.fails)
   own_decides status note (says.events is told all) none = inr (ends_by status too_many is all)
 
-  join_decides : (status : ℕ) (note : List ℕ) → Ends (EndsJoin source names limit call) status note call → NothingFails call → (status ≡ 6) ⊎ IsJoinDecided status source names limit call
+  join_decides : (status : ℕ) (note : List ℕ) → Ends (EndsJoin kind source names limit call) status note call → NothingFails call → (status ≡ 6) ⊎ IsJoinDecided status source names limit call
   join_decides status note (says.own how) none = inr (own_decides status note how none)
   join_decides status note (says.failed_sink is told rose) none = absurd (none.sink rose)
   join_decides status note (says.memory is told) none = inl is
 
-  pub join_runs : (ended : End) → JoinCause ended → CountsSink ended call.faults_before call.faults_now → (grown : List ℕ) → Appends call.old call.new grown → (grown ≡ []) ⊎ IsJoinFront source names limit call grown
-      → BeginsInOrder source names call → RunsOrder ended (join_streams source names limit) call
-  join_runs ended cause counts grown written front roles = record {
+  pub join_runs : (ended : End) → JoinCause ended → CountsSink ended call.faults_before call.faults_now → (grown : List ℕ) → Appends call.old call.new grown → (grown ≡ []) ⊎ IsJoinFront kind source names limit call grown
+      → BeginsInOrder source names call → ((of : Role) → ¬ (IsJoinRole source of) → (call.now of).phase ≡ unbegun) → RunsOrder ended (join_streams kind source names limit) call
+  join_runs ended cause counts grown written front roles none = record {
     keeps = record {
       ends = join_ends ended cause counts;
       grown = grown;
       written = written;
       front = front;
-      others = join_others source call.now roles.query;
+      others = none;
       sink = sink_kept ended call.faults_before call.faults_now counts;
     };
     roles = roles;
@@ -100,11 +111,6 @@ module _ (source : Source) (names : Names) (limit : ℕ) (call : Call) where
   }
 
 -- ---- a check
-
-query_alone : (now : Roles) → (now role.Left).phase ≡ unbegun → (now role.Right).phase ≡ unbegun → (of : Role) → ¬ (of ≡ role.Query) → (now of).phase ≡ unbegun
-query_alone now left right role.Query other = absurd (other refl)
-query_alone now left right role.Left other = left
-query_alone now left right role.Right other = right
 
 module _ (name : List ℕ) (call : Call) where
   abbrev pub CheckCause : End → Type 0
@@ -141,14 +147,14 @@ module _ (name : List ℕ) (call : Call) where
   check_decides status note (says.memory is told) none = inl is
 
   pub check_runs : (ended : End) → CheckCause ended → CountsSink ended call.faults_before call.faults_now → (grown : List ℕ) → Appends call.old call.new grown → (grown ≡ []) ⊎ BeginsCanonical grown name call
-      → IsBegunUnder name (call.now role.Query).phase → (call.now role.Left).phase ≡ unbegun → (call.now role.Right).phase ≡ unbegun → RunsOrder ended (check_query name) call
-  check_runs ended cause counts grown written front query left right = record {
+      → IsBegunUnder name (call.now role.Query).phase → IsQueryAlone call.now → RunsOrder ended (check_query name) call
+  check_runs ended cause counts grown written front query alone = record {
     keeps = record {
       ends = check_ends ended cause counts;
       grown = grown;
       written = written;
       front = front;
-      others = query_alone call.now left right;
+      others = alone;
       sink = sink_kept ended call.faults_before call.faults_now counts;
     };
     query = query;

@@ -1,5 +1,5 @@
 -- The join of two streams that are ready: what its outcome says of the streams of the call, and so of the order.
-use Rattle.std.proofs.Common.{◌≡◌, ◌⊎◌, ◌+◌, ◌^◌, ◌-◌, min, ℕ, Bool, true, false, List, [], Ok, Err, Result, None, Some, unwrap_or, sym, ◌∙◌, ap, subst, inl, inr, refl, arith, append-nil}
+use Rattle.std.proofs.Common.{◌≡◌, ◌≢◌, ◌⊎◌, ◌+◌, ◌^◌, ◌-◌, min, ℕ, Bool, true, false, List, [], Ok, Err, Result, None, Some, unwrap_or, sym, ◌∙◌, ap, subst, inl, inr, refl, arith, append-nil}
 use Rattle.std.proofs.lemmas.Bool.{cases_lt}
 use Rattle.std.specs.Io.KnownBytes.{Appends, Consumes, IsAtEnd}
 use Rattle.std.specs.declared.option.Option.{Option}
@@ -8,30 +8,32 @@ use Rattle.hj_base.specs.declared.numbers.Side.TheVariants as side
 use Rattle.hj_base.specs.declared.outside.Role.{Role}
 use Rattle.hj_base.specs.declared.outside.Role.TheVariants as role
 use Rattle.hj_base.specs.Counts.{Rose}
-use Rattle.hj_base.specs.Journals.{IsPrefix}
-use Rattle.hj_base.specs.Outside.{RoleState, opened, role_of}
+use Rattle.hj_base.specs.Outside.{RoleState, opened, role_of, unbegun}
 use Rattle.hj_stream.specs.declared.outcome.Outcome.{Outcome}
 use Rattle.hj_stream.specs.declared.outcome.Outcome.TheVariants as outcome
 use Rattle.hj_stream.specs.Joining.{AreEnded, CountsSinkFault, FailsOn, Joins, WritesText}
-use Rattle.hj_stream.specs.JoinText.{JoinResult, join_result}
+use Rattle.hj_stream.specs.JoinText.{join_result}
 use Rattle.hj_event.specs.Arrivals.{Ending, clean, bad, unread, too_many}
+use Rattle.hj_event.specs.Events.{events_of}
 use Rattle.hj_event.specs.Roles.{CountsFailure, IsReadOn, name_of}
 use Rattle.hj_event.specs.Sides.{Follows, at_its_end, in_front}
 use Rattle.hj_query.specs.Parts.{Parts}
 use Rattle.hj_record.specs.Pieces.{Stream}
+use Rattle.hj_raw.specs.Text.{raw_text}
 use Rattle.hj_notes.specs.declared.note.Note.{Note}
 use Rattle.hj_notes.specs.declared.note.Note.TheVariants as note
 use Rattle.hj_opening.specs.Calls.{Call, call}
-use Rattle.hj_opening.specs.Joining.{BeginsText, WritesAll, WritesWhole}
+use Rattle.hj_opening.specs.Joining.{BeginsText, JoinsKind, WritesAll, WritesWhole}
 use Rattle.hj_opening.specs.Opening.{AreOpened, IsOpened}
 use Rattle.hj_opening.specs.Queries.{IsQueryOf}
 use Rattle.hj_opening.specs.Ready.{IsReady}
 use Rattle.hj_opening.specs.Run.{RunsOrder, end_of}
-use Rattle.hj_opening.specs.Serve.{Accepts, AreOpen, BeginsSource}
+use Rattle.hj_opening.specs.Serve.{Accepts, AreOpen, BeginsSource, IsJoinRole}
 use Rattle.hj_opening.specs.Streams.{AreStreams, Fails, IsStream, NoneFails, StandsFor, has_ended}
-use Rattle.hj_opening.specs.Words.{Names, Source, join_streams}
+use Rattle.hj_opening.specs.Texts.{IsTextFront, IsWholeText, WritesKind}
+use Rattle.hj_opening.specs.Words.{Names, Source, TextKind, join_streams, pair_lines, raw_items}
 use Rattle.hj_opening.proofs.Endings.{CountsSink, JoinCause, join_runs}
-use Rattle.hj_opening.proofs.Prefixes.{begins_all}
+use Rattle.hj_opening.proofs.Prefixes.{begins_all, begins_itself}
 use Rattle.hj_opening.proofs.Phases.{Roles, begun-opened, open-opened}
 use Rattle.hj_opening.proofs.Readying.{reads_side}
 
@@ -43,24 +45,30 @@ SomeFails before now = (of : Role) × Fails of before now
 rose_or_not : (before now : ℕ) → ¬ (Rose before now) ⊎ Rose before now
 rose_or_not before now = elim (cases_lt now (min (before + 1) (2 ^ 64 - 1))) [ inl below ↦ inl (λ rose. omega (arith, below, rose)) | inr above ↦ inr above ]
 
-fails_or_none : (before now : Roles) → NoneFails before now ⊎ SomeFails before now
+-- this role fails, or what holds where it doesn't
+unless_fails : {A : Type 0} (of : Role) (before now : Roles) → (¬ (Fails of before now) → A ⊎ SomeFails before now) → A ⊎ SomeFails before now
 unfolding SomeFails
+unless_fails of before now next = elim (rose_or_not (before of).faults (now of).faults) [ inl calm ↦ next calm | inr rose ↦ inr (of, rose) ]
+
+fails_or_none : (before now : Roles) → NoneFails before now ⊎ SomeFails before now
 fails_or_none before now =
-    elim (rose_or_not (before role.Query).faults (now role.Query).faults) [
-      | inr rose ↦ inr (role.Query, rose)
-      | inl query ↦ elim (rose_or_not (before role.Left).faults (now role.Left).faults) [
-        | inr rose ↦ inr (role.Left, rose)
-        | inl left ↦ elim (rose_or_not (before role.Right).faults (now role.Right).faults) [
-          | inr rose ↦ inr (role.Right, rose)
-          | inl right ↦ inl (by_role query left right)
-        ]
-      ]
-    ]
+    unless_fails role.Query before now (λ q.
+    unless_fails role.SecondQuery before now (λ s.
+    unless_fails role.Left before now (λ l.
+    unless_fails role.Right before now (λ r.
+    unless_fails role.Third before now (λ t.
+    unless_fails role.Trace before now (λ c.
+    unless_fails role.Output before now (λ o.
+    inl (by_role q s l r t c o))))))))
   where
-    by_role : ¬ (Fails role.Query before now) → ¬ (Fails role.Left before now) → ¬ (Fails role.Right before now) → NoneFails before now
-    by_role query left right role.Query = query
-    by_role query left right role.Left = left
-    by_role query left right role.Right = right
+    by_role : ¬ (Fails role.Query before now) → ¬ (Fails role.SecondQuery before now) → ¬ (Fails role.Left before now) → ¬ (Fails role.Right before now) → ¬ (Fails role.Third before now) → ¬ (Fails role.Trace before now) → ¬ (Fails role.Output before now) → NoneFails before now
+    by_role q s l r t c o role.Query = q
+    by_role q s l r t c o role.SecondQuery = s
+    by_role q s l r t c o role.Left = l
+    by_role q s l r t c o role.Right = r
+    by_role q s l r t c o role.Third = t
+    by_role q s l r t c o role.Trace = c
+    by_role q s l r t c o role.Output = o
 
 -- ---- the stream of a role that was read
 
@@ -154,37 +162,83 @@ whole_behind true ended bytes rest none end follows = absurd cc
 whole_behind false true bytes rest none end follows = ap (λ (s : Stream). s.whole) follows
 whole_behind false false bytes rest none end follows = absurd cc
 
+-- ---- the text
+
+-- a whole text is a front of itself
+whole_begins : (kind : TextKind) (query : Parts) (left right : Stream) (limit : ℕ) (text : List ℕ) → IsWholeText kind query left right limit text → IsTextFront kind query left right limit text
+whole_begins pair_lines query left right limit text whole = begins_all text (join_result query left right limit).text (sym whole)
+whole_begins raw_items query left right limit text whole = record {
+  first = (events_of query left right limit).events;
+  are_first = begins_itself (events_of query left right limit).events;
+  items = whole.items;
+  tells = whole.tells;
+  begins = begins_all text (raw_text whole.items) (sym whole.is);
+}
+
+writes_lines : (ended : Outcome) (query : Parts) (left right : Stream) (limit : ℕ) (grown : List ℕ) → WritesText ended grown (join_result query left right limit) → WritesKind pair_lines ended query left right limit grown
+writes_lines (outcome.Done events) query left right limit grown w = (w.0, w.1)
+writes_lines (outcome.Bad of at why) query left right limit grown w = w
+writes_lines (outcome.SourceFault role.Query) query left right limit grown w = absurd w
+writes_lines (outcome.SourceFault role.SecondQuery) query left right limit grown w = absurd w
+writes_lines (outcome.SourceFault role.Left) query left right limit grown w = w
+writes_lines (outcome.SourceFault role.Right) query left right limit grown w = w
+writes_lines (outcome.SourceFault role.Third) query left right limit grown w = absurd w
+writes_lines (outcome.SourceFault role.Trace) query left right limit grown w = absurd w
+writes_lines (outcome.SourceFault role.Output) query left right limit grown w = absurd w
+writes_lines outcome.SinkFault query left right limit grown w = w
+writes_lines outcome.TooMany query left right limit grown w = w
+writes_lines outcome.Memory query left right limit grown w = w
+
+-- a join that writes the line of each pair
+pub joins_lines : {ended : Outcome} {query : Parts} {limit : ℕ} {before now : Roles} {old new : Option (List ℕ)} → Joins ended query limit before now old new → JoinsKind pair_lines ended query limit before now old new
+joins_lines {ended} {query} {limit} joins = record {
+  left_bytes = joins.left_bytes;
+  right_bytes = joins.right_bytes;
+  left_failed = joins.left_failed;
+  right_failed = joins.right_failed;
+  left_ended = joins.left_ended;
+  right_ended = joins.right_ended;
+  left = joins.left;
+  right = joins.right;
+  failed = joins.failed;
+  others = joins.others;
+  grown = joins.grown;
+  written = joins.written;
+  text = λ l r l_follows r_follows. writes_lines ended query (in_front joins.left_bytes l) (in_front joins.right_bytes r) limit joins.grown (joins.text l r l_follows r_follows);
+  ends = joins.ends;
+}
+
 -- ---- the causes of an ending, under a query
 
 -- A stream failed: where both are open, the events end in its missing read, and the whole text of these events was
 -- written; else nothing was written.
-record FailsStream (of : Role) (query : Parts) (limit : ℕ) (names : Names) (call : Call) : Type 0 where
+record FailsStream (kind : TextKind) (of : Role) (query : Parts) (limit : ℕ) (names : Names) (call : Call) : Type 0 where
   pub side : Side
   pub is : of ≡ role_of side
   pub fails : Fails of call.before call.now
   pub unopened : ¬ (AreOpen call.now) → Appends call.old call.new []
-  pub opened : AreOpen call.now → WritesAll (λ ending. ending ≡ unread side) query limit names call
+  pub opened : AreOpen call.now → WritesAll kind (λ ending. ending ≡ unread side) query limit names call
 
-abbrev CauseUnder : Result (Unit {0}) Note → Parts → ℕ → Names → Call → Type 0
-CauseUnder (Ok done) query limit names call = WritesWhole query limit names call
-CauseUnder (Err (note.BadRecord side at found)) query limit names call =
-    WritesAll (λ ending. ending ≡ bad side at found) query limit names call
-CauseUnder (Err (note.Source of)) query limit names call = FailsStream of query limit names call
-CauseUnder (Err note.Sink) query limit names call = Unit {0}
-CauseUnder (Err note.Memory) query limit names call = Unit {0}
-CauseUnder (Err (note.TooManyEvents most)) query limit names call =
-    (most ≡ limit) × WritesAll (λ ending. ending ≡ too_many) query limit names call
-CauseUnder (Err other) query limit names call = ⊥
+abbrev CauseUnder : TextKind → Result (Unit {0}) Note → Parts → ℕ → Names → Call → Type 0
+CauseUnder kind (Ok done) query limit names call = WritesWhole kind query limit names call
+CauseUnder kind (Err (note.BadRecord side at found)) query limit names call =
+    WritesAll kind (λ ending. ending ≡ bad side at found) query limit names call
+CauseUnder kind (Err (note.Source of)) query limit names call = FailsStream kind of query limit names call
+CauseUnder kind (Err note.Sink) query limit names call = Unit {0}
+CauseUnder kind (Err note.Memory) query limit names call = Unit {0}
+CauseUnder kind (Err (note.TooManyEvents most)) query limit names call =
+    (most ≡ limit) × WritesAll kind (λ ending. ending ≡ too_many) query limit names call
+CauseUnder kind (Err other) query limit names call = ⊥
 
 -- ---- the outcome
 
-module _ (query : Parts) (limit : ℕ) (names : Names) (under : List ℕ → Option (List ℕ)) (before mid now : Roles) (old new : Option (List ℕ)) (faults faults' : ℕ) where
+module _ (kind : TextKind) (query : Parts) (limit : ℕ) (names : Names) (under : List ℕ → Option (List ℕ)) (before mid now : Roles) (old new : Option (List ℕ)) (faults faults' : ℕ) where
   -- What a join says of the streams of this call.
   record Found (ended : Outcome) (left_failed right_failed left_ended right_ended : Bool) (grown : List ℕ) : Type 0 where
     pub of_left : Stream
     pub of_right : Stream
     pub streams : AreStreams names under before now of_left of_right
-    pub text : WritesText ended grown (join_result query of_left of_right limit)
+    pub text : WritesKind kind ended query of_left of_right limit grown
     pub failed : FailsOn ended left_failed right_failed
     pub left_whole : left_failed ≡ false → left_ended ≡ true → of_left.whole ≡ true
     pub right_whole : right_failed ≡ false → right_ended ≡ true → of_right.whole ≡ true
@@ -195,7 +249,7 @@ module _ (query : Parts) (limit : ℕ) (names : Names) (under : List ℕ → Opt
     pub left_fails : left_failed ≡ true → Fails role.Left before now
     pub right_fails : right_failed ≡ true → Fails role.Right before now
 
-  found_by : (ended : Outcome) → AreOpened names under before mid → (joins : Joins ended query limit mid now old new) → Found ended joins.left_failed joins.right_failed joins.left_ended joins.right_ended joins.grown
+  found_by : (ended : Outcome) → AreOpened names under before mid → (joins : JoinsKind kind ended query limit mid now old new) → Found ended joins.left_failed joins.right_failed joins.left_ended joins.right_ended joins.grown
   found_by ended are joins =
       let which = fails_or_none before now in
       let l = behind names.left (under names.left) role.Left before mid now joins.left_failed joins.left_ended joins.left_bytes are.of_left joins.left which in
@@ -220,30 +274,34 @@ module _ (query : Parts) (limit : ℕ) (names : Names) (under : List ℕ → Opt
   this = call under before now old new faults faults'
 
   module _ (ended : Outcome) (left_failed right_failed left_ended right_ended : Bool) (grown : List ℕ) (written : Appends old new grown) (found : Found ended left_failed right_failed left_ended right_ended grown) where
-    joined : JoinResult
-    joined = join_result query found.of_left found.of_right limit
+    abbrev IsWritten : Type 0
+    IsWritten = IsWholeText kind query found.of_left found.of_right limit grown
 
-    begins : IsPrefix grown joined.text → BeginsText grown query limit names this
-    unfolding this joined
+    abbrev ending : Ending
+    ending = (join_result query found.of_left found.of_right limit).ending
+
+    begins : IsTextFront kind query found.of_left found.of_right limit grown → BeginsText kind grown query limit names this
+    unfolding this
     begins front = record { left = found.of_left; right = found.of_right; streams = found.streams; begins = front }
 
-    begins_whole : grown ≡ joined.text → BeginsText grown query limit names this
-    unfolding joined
-    begins_whole e = begins (begins_all grown joined.text (sym e))
+    begins_whole : IsWritten → BeginsText kind grown query limit names this
+    begins_whole whole = begins (whole_begins kind query found.of_left found.of_right limit grown whole)
 
-    writes_all : (ending : Ending) → grown ≡ joined.text → joined.ending ≡ ending → WritesAll (λ e. e ≡ ending) query limit names this
-    unfolding this joined
-    writes_all ending all ends = record {
+    writes_all : (found_so : Ending) → IsWritten → ending ≡ found_so → WritesAll kind (λ e. e ≡ found_so) query limit names this
+    unfolding this
+    writes_all found_so whole ends = record {
       left = found.of_left;
       right = found.of_right;
       streams = found.streams;
       ending = ends;
-      written = subst (λ (bytes : List ℕ). Appends old new bytes) all written;
+      text = grown;
+      whole = whole;
+      written = written;
     }
 
-    writes_whole : left_failed ≡ false → right_failed ≡ false → left_ended ≡ true → right_ended ≡ true → grown ≡ joined.text → joined.ending ≡ clean → WritesWhole query limit names this
-    unfolding this joined
-    writes_whole left_unfailed right_unfailed left_end right_end all ends = record {
+    writes_whole : left_failed ≡ false → right_failed ≡ false → left_ended ≡ true → right_ended ≡ true → IsWritten → ending ≡ clean → WritesWhole kind query limit names this
+    unfolding this
+    writes_whole left_unfailed right_unfailed left_end right_end whole ends = record {
       left = found.of_left;
       right = found.of_right;
       streams = found.streams;
@@ -252,10 +310,12 @@ module _ (query : Parts) (limit : ℕ) (names : Names) (under : List ℕ → Opt
       left_ended = (found.left_phase ∙ ap (λ (b : Bool). opened names.left b) left_end, found.left_at_end left_end);
       right_ended = (found.right_phase ∙ ap (λ (b : Bool). opened names.right b) right_end, found.right_at_end right_end);
       ending = ends;
-      written = subst (λ (bytes : List ℕ). Appends old new bytes) all written;
+      text = grown;
+      whole = whole;
+      written = written;
     }
 
-    fails_stream : (side : Side) → Fails (role_of side) before now → grown ≡ joined.text → joined.ending ≡ unread side → FailsStream (role_of side) query limit names this
+    fails_stream : (side : Side) → Fails (role_of side) before now → IsWritten → ending ≡ unread side → FailsStream kind (role_of side) query limit names this
     unfolding this
     fails_stream side fails all ends = record {
       side = side;
@@ -267,13 +327,16 @@ module _ (query : Parts) (limit : ℕ) (names : Names) (under : List ℕ → Opt
 
   -- the cause of the ending, and what was written
   caused : (ended : Outcome) (left_failed right_failed left_ended right_ended : Bool) (grown : List ℕ) → Appends old new grown → Found ended left_failed right_failed left_ended right_ended grown → AreEnded ended left_ended right_ended
-      → CauseUnder (end_of limit ended) query limit names this × BeginsText grown query limit names this
-  unfolding joined
+      → CauseUnder kind (end_of limit ended) query limit names this × BeginsText kind grown query limit names this
   caused (outcome.Done events) lf rf le re grown w f ends =
       (writes_whole (outcome.Done events) lf rf le re grown w f f.failed.0 f.failed.1 ends.0 ends.1 f.text.0 f.text.1, begins_whole (outcome.Done events) lf rf le re grown w f f.text.0)
   caused (outcome.Bad of at why) lf rf le re grown w f ends =
       (writes_all (outcome.Bad of at why) lf rf le re grown w f (bad of at why) f.text.0 f.text.1, begins_whole (outcome.Bad of at why) lf rf le re grown w f f.text.0)
   caused (outcome.SourceFault role.Query) lf rf le re grown w f ends = absurd f.text
+  caused (outcome.SourceFault role.SecondQuery) lf rf le re grown w f ends = absurd f.text
+  caused (outcome.SourceFault role.Third) lf rf le re grown w f ends = absurd f.text
+  caused (outcome.SourceFault role.Trace) lf rf le re grown w f ends = absurd f.text
+  caused (outcome.SourceFault role.Output) lf rf le re grown w f ends = absurd f.text
   caused (outcome.SourceFault role.Left) lf rf le re grown w f ends =
       (fails_stream (outcome.SourceFault role.Left) lf rf le re grown w f side.Left (f.left_fails f.failed.0) f.text.0 f.text.1, begins_whole (outcome.SourceFault role.Left) lf rf le re grown w f f.text.0)
   caused (outcome.SourceFault role.Right) lf rf le re grown w f ends =
@@ -294,7 +357,7 @@ module _ (query : Parts) (limit : ℕ) (names : Names) (under : List ℕ → Opt
   -- ---- the order
 
   module _ (source : Source) (accepts : Accepts source query this) where
-    order_cause : (end : Result (Unit {0}) Note) → CauseUnder end query limit names this → JoinCause source names limit this end
+    order_cause : (end : Result (Unit {0}) Note) → CauseUnder kind end query limit names this → JoinCause kind source names limit this end
     unfolding this
     order_cause (Ok done) cause = (query, accepts, cause)
     order_cause (Err (note.BadRecord of at found)) cause = (query, accepts, cause)
@@ -311,27 +374,38 @@ module _ (query : Parts) (limit : ℕ) (names : Names) (under : List ℕ → Opt
     order_cause (Err (note.BadQuery found)) cause = absurd cause
 
   module _ (source : Source) (ready : IsReady query source names under before mid) where
-    pub query_stays : (ended : Outcome) → Joins ended query limit mid now old new → IsQueryOf source query under (before role.Query) (now role.Query)
-    query_stays ended joins = subst (λ (s : RoleState). IsQueryOf source query under (before role.Query) s) (sym joins.query_role) ready.accepted
+    pub query_stays : (ended : Outcome) → JoinsKind kind ended query limit mid now old new → IsQueryOf source query under (before role.Query) (now role.Query)
+    query_stays ended joins = subst (λ (s : RoleState). IsQueryOf source query under (before role.Query) s) (sym (joins.others role.Query (λ e. cc) (λ e. cc))) ready.accepted
 
-    joins_as : (ended : Outcome) → Joins ended query limit mid now old new → CountsSinkFault ended faults faults'
-        → RunsOrder (end_of limit ended) (join_streams source names limit) (call under before now old new faults faults')
+    -- a join begins no role
+    none_else : (ended : Outcome) → JoinsKind kind ended query limit mid now old new → (of : Role) → ¬ (IsJoinRole source of) → (now of).phase ≡ unbegun
+    none_else ended joins = λ of none. ap (λ (s : RoleState). s.phase) (joins.others of (not_left of none) (not_right of none)) ∙ ready.others of none
+      where
+        not_left : (of : Role) → ¬ (IsJoinRole source of) → of ≢ role.Left
+        not_left of none e = none (reads_side source of side.Left e)
+
+        not_right : (of : Role) → ¬ (IsJoinRole source of) → of ≢ role.Right
+        not_right of none e = none (reads_side source of side.Right e)
+
+    joins_as : (ended : Outcome) → JoinsKind kind ended query limit mid now old new → CountsSinkFault ended faults faults'
+        → RunsOrder (end_of limit ended) (join_streams kind source names limit) (call under before now old new faults faults')
     unfolding this
     joins_as ended joins counts =
         let found = found_by ended ready.opened joins in
         let came = caused ended joins.left_failed joins.right_failed joins.left_ended joins.right_ended joins.grown joins.written found joins.ends in
         let accepts : Accepts source query this = query_stays ended joins in
-        join_runs source names limit (call under before now old new faults faults') (end_of limit ended) (order_cause source accepts (end_of limit ended) came.0) (counts_sink ended counts)
+        join_runs kind source names limit (call under before now old new faults faults') (end_of limit ended) (order_cause source accepts (end_of limit ended) came.0) (counts_sink ended counts)
         joins.grown joins.written (inr (query, accepts, came.1))
         (record {
-          query = subst (λ (s : RoleState). BeginsSource source s.phase) (sym joins.query_role) ready.begun;
+          query = subst (λ (s : RoleState). BeginsSource source s.phase) (sym (joins.others role.Query (λ e. cc) (λ e. cc))) ready.begun;
           left = begun-opened names.left joins.left_ended (now role.Left).phase found.left_phase;
           right = begun-opened names.right joins.right_ended (now role.Right).phase found.right_phase;
           query_first = λ started. (query, accepts);
           left_first = λ started. open-opened names.left joins.left_ended (now role.Left).phase found.left_phase;
         })
+        (none_else ended joins)
 
-    pub joins_so : (end : Result (Unit {0}) Note) (ended : Outcome) → end ≡ end_of limit ended → Joins ended query limit mid now old new → CountsSinkFault ended faults faults'
-        → RunsOrder end (join_streams source names limit) (call under before now old new faults faults')
+    pub joins_so : (end : Result (Unit {0}) Note) (ended : Outcome) → end ≡ end_of limit ended → JoinsKind kind ended query limit mid now old new → CountsSinkFault ended faults faults'
+        → RunsOrder end (join_streams kind source names limit) (call under before now old new faults faults')
     joins_so end ended e joins counts =
-        subst (λ (r : Result (Unit {0}) Note). RunsOrder r (join_streams source names limit) (call under before now old new faults faults')) (sym e) (joins_as ended joins counts)
+        subst (λ (r : Result (Unit {0}) Note). RunsOrder r (join_streams kind source names limit) (call under before now old new faults faults')) (sym e) (joins_as ended joins counts)

@@ -18,20 +18,19 @@ use Rattle.hj_opening.specs.Ready.{EndsEarly, IsReady}
 use Rattle.hj_opening.specs.Run.{RunsOrder}
 use Rattle.hj_opening.specs.Serve.{AreOpen, BeginsInOrder, BeginsSource, IsJoinRole}
 use Rattle.hj_opening.specs.Streams.{Fails, IsBegunUnder}
-use Rattle.hj_opening.specs.Words.{Names, Order, Source, join_streams, keyed, named}
-use Rattle.hj_opening.proofs.Endings.{CountsSink, JoinCause, join_runs}
+use Rattle.hj_opening.specs.Words.{Names, Order, Source, TextKind, join_streams}
+use Rattle.hj_opening.proofs.Endings.{CountsSink, JoinCause, NoOther, join_others, join_runs}
 use Rattle.hj_opening.proofs.Phases.{Roles, begun-opened, begun-refused, begun-unbegun, fails_as, not_open-refused, not_open-unbegun, open-opened}
 use Rattle.hj_opening.proofs.RunningOrders.{join_refused}
 
 -- a side's role is one of a join's
 pub reads_side : (source : Source) (of : Role) (side : Side) → of ≡ role_of side → IsJoinRole source of
-reads_side (keyed rows) of side.Left e = λ is. cc
-reads_side (keyed rows) of side.Right e = λ is. cc
-reads_side (named name) of side e = tt
+reads_side source of side.Left e = subst (λ (r : Role). IsJoinRole source r) (sym e) tt
+reads_side source of side.Right e = subst (λ (r : Role). IsJoinRole source r) (sym e) tt
 
-module _ (source : Source) (names : Names) (limit : ℕ) (under : List ℕ → Option (List ℕ)) (before : Roles) (unbegun_before : (of : Role) → (before of).phase ≡ unbegun) where
+module _ (kind : TextKind) (source : Source) (names : Names) (limit : ℕ) (under : List ℕ → Option (List ℕ)) (before : Roles) (unbegun_before : (of : Role) → (before of).phase ≡ unbegun) where
   abbrev this_join : Order
-  this_join = join_streams source names limit
+  this_join = join_streams kind source names limit
 
   abbrev EndsThis : Note → Roles → Type 0
   EndsThis note now = EndsEarly note this_join under before now
@@ -44,15 +43,15 @@ module _ (source : Source) (names : Names) (limit : ℕ) (under : List ℕ → O
 
     pub query_refused : (note : Note) → GetsQuery (Err note) source under before now → EndsThis note now
     query_refused (why.BadQuery found) gets = record {
-      runs = λ told faults. join_refused under before now told faults unbegun_before source names limit (why.BadQuery found) gets;
+      runs = λ told faults. join_refused under before now told faults unbegun_before kind source names limit (why.BadQuery found) gets;
       early = inl refl;
     }
     query_refused (why.Source failed) gets = record {
-      runs = λ told faults. join_refused under before now told faults unbegun_before source names limit (why.Source failed) gets;
+      runs = λ told faults. join_refused under before now told faults unbegun_before kind source names limit (why.Source failed) gets;
       early = inr (inr (refl, λ are. not_open-unbegun (now role.Left).phase (left_stays gets.others) are.0));
     }
     query_refused why.Memory gets = record {
-      runs = λ told faults. join_refused under before now told faults unbegun_before source names limit why.Memory gets;
+      runs = λ told faults. join_refused under before now told faults unbegun_before kind source names limit why.Memory gets;
       early = inr (inl refl);
     }
     query_refused why.Usage gets = absurd gets.cause
@@ -77,14 +76,14 @@ module _ (source : Source) (names : Names) (limit : ℕ) (under : List ℕ → O
       begun = subst (λ (s : RoleState). BeginsSource source s.phase) (sym query_stays) gets.begun
 
       -- and a stream couldn't be opened
-      module _ (left : IsBegunUnder names.left (now role.Left).phase) (right : IsBegunUnder names.right (now role.Right).phase) (left_first : (now role.Right).phase ≢ unbegun → IsOpen (now role.Left).phase) where
+      module _ (left : IsBegunUnder names.left (now role.Left).phase) (right : IsBegunUnder names.right (now role.Right).phase) (left_first : (now role.Right).phase ≢ unbegun → IsOpen (now role.Left).phase) (none : NoOther now) where
         begins : (told : Option (List ℕ)) (faults : ℕ) → BeginsInOrder source names (call under before now told told faults faults)
         begins told faults = record { query = begun; left = left; right = right; query_first = λ started. (query, accepted); left_first = left_first }
 
         -- nothing was written
-        ends_so : (note : Note) (told : Option (List ℕ)) (faults : ℕ) → JoinCause source names limit (call under before now told told faults faults) (Err note) → CountsSink (Err note) faults faults
+        ends_so : (note : Note) (told : Option (List ℕ)) (faults : ℕ) → JoinCause kind source names limit (call under before now told told faults faults) (Err note) → CountsSink (Err note) faults faults
             → RunsOrder (Err note) this_join (call under before now told told faults faults)
-        ends_so note told faults cause counts = join_runs source names limit (call under before now told told faults faults) (Err note) cause counts [] (Appends-nil told) (inl refl) (begins told faults)
+        ends_so note told faults cause counts = join_runs kind source names limit (call under before now told told faults faults) (Err note) cause counts [] (Appends-nil told) (inl refl) (begins told faults) (join_others source now begun none)
 
         start_failed : (failed : Role) (of : Side) → failed ≡ role_of of → Fails failed before now → ¬ (AreOpen now) → EndsThis (why.Source failed) now
         start_failed failed of is fails closed = record {
@@ -96,16 +95,19 @@ module _ (source : Source) (names : Names) (limit : ℕ) (under : List ℕ → O
         start_wants_memory : EndsThis why.Memory now
         start_wants_memory = record { runs = λ told faults. ends_so why.Memory told faults tt refl; early = inr (inl refl) }
 
+    none_left : (now : Roles) → ChangesOnly role.Left asked now → NoOther now
+    none_left now others = λ of no_query no_left no_right. ap (λ (s : RoleState). s.phase) (others of no_left ∙ gets.others of no_query) ∙ unbegun_before of
+
     -- the left stream couldn't be opened
     pub left_unopened : (now : Roles) (note : Note) (told : Option (List ℕ)) → ChangesOnly role.Left asked now → Opens (Err note) role.Left names.left told (asked role.Left) (now role.Left) → EndsThis note now
     left_unopened now (why.Source failed) told others opens =
         let right : (now role.Right).phase ≡ unbegun = ap (λ (s : RoleState). s.phase) (others role.Right (λ e. cc) ∙ right_asked) ∙ unbegun_before role.Right in
-        start_failed now (others role.Query (λ e. cc)) (begun-refused names.left (now role.Left).phase opens.1.phase) (begun-unbegun names.right (now role.Right).phase right) (λ started. absurd (started right))
+        start_failed now (others role.Query (λ e. cc)) (begun-refused names.left (now role.Left).phase opens.1.phase) (begun-unbegun names.right (now role.Right).phase right) (λ started. absurd (started right)) (none_left now others)
         failed side.Left opens.0 (fails_as failed role.Left before now opens.0 (subst (λ (s : RoleState). Rose s.faults (now role.Left).faults) left_asked opens.1.fails)) (λ are. not_open-unbegun (now role.Right).phase right are.1)
     left_unopened now why.Memory told others opens =
         let left : (now role.Left).phase ≡ unbegun = ap (λ (s : RoleState). s.phase) (opens ∙ left_asked) ∙ unbegun_before role.Left in
         let right : (now role.Right).phase ≡ unbegun = ap (λ (s : RoleState). s.phase) (others role.Right (λ e. cc) ∙ right_asked) ∙ unbegun_before role.Right in
-        start_wants_memory now (others role.Query (λ e. cc)) (begun-unbegun names.left (now role.Left).phase left) (begun-unbegun names.right (now role.Right).phase right) (λ started. absurd (started right))
+        start_wants_memory now (others role.Query (λ e. cc)) (begun-unbegun names.left (now role.Left).phase left) (begun-unbegun names.right (now role.Right).phase right) (λ started. absurd (started right)) (none_left now others)
     left_unopened now why.Usage told others opens = absurd opens
     left_unopened now (why.BadQuery found) told others opens = absurd opens
     left_unopened now (why.BadRecord of at found) told others opens = absurd opens
@@ -120,17 +122,20 @@ module _ (source : Source) (names : Names) (limit : ℕ) (under : List ℕ → O
       query_stays : now role.Query ≡ asked role.Query
       query_stays = opening_right role.Query (λ e. cc) ∙ opening role.Query (λ e. cc)
 
+      none_right : NoOther now
+      none_right = λ of no_query no_left no_right. ap (λ (s : RoleState). s.phase) (opening_right of no_right ∙ opening of no_left ∙ gets.others of no_query) ∙ unbegun_before of
+
       right_mid : mid role.Right ≡ before role.Right
       right_mid = opening role.Right (λ e. cc) ∙ right_asked
 
       -- and the right one couldn't be
       pub right_unopened : (note : Note) (told : Option (List ℕ)) → Opens (Err note) role.Right names.right told (mid role.Right) (now role.Right) → EndsThis note now
       right_unopened (why.Source failed) told opens =
-          start_failed now query_stays (begun-opened names.left false (now role.Left).phase left_open) (begun-refused names.right (now role.Right).phase opens.1.phase) (λ started. open-opened names.left false (now role.Left).phase left_open)
+          start_failed now query_stays (begun-opened names.left false (now role.Left).phase left_open) (begun-refused names.right (now role.Right).phase opens.1.phase) (λ started. open-opened names.left false (now role.Left).phase left_open) none_right
           failed side.Right opens.0 (fails_as failed role.Right before now opens.0 (subst (λ (s : RoleState). Rose s.faults (now role.Right).faults) right_mid opens.1.fails)) (λ are. not_open-refused names.right (now role.Right).phase opens.1.phase are.1)
       right_unopened why.Memory told opens =
           let right : (now role.Right).phase ≡ unbegun = ap (λ (s : RoleState). s.phase) (opens ∙ right_mid) ∙ unbegun_before role.Right in
-          start_wants_memory now query_stays (begun-opened names.left false (now role.Left).phase left_open) (begun-unbegun names.right (now role.Right).phase right) (λ started. open-opened names.left false (now role.Left).phase left_open)
+          start_wants_memory now query_stays (begun-opened names.left false (now role.Left).phase left_open) (begun-unbegun names.right (now role.Right).phase right) (λ started. open-opened names.left false (now role.Left).phase left_open) none_right
       right_unopened why.Usage told opens = absurd opens
       right_unopened (why.BadQuery found) told opens = absurd opens
       right_unopened (why.BadRecord of at found) told opens = absurd opens
@@ -143,6 +148,7 @@ module _ (source : Source) (names : Names) (limit : ℕ) (under : List ℕ → O
         accepted = accepted now query_stays;
         faults = ap (λ (s : RoleState). s.faults) query_stays ∙ gets.cause.1;
         begun = begun now query_stays;
+        others = join_others source now (begun now query_stays) none_right;
         opened = record {
           of_left = record {
             phase = left_open;

@@ -19,10 +19,10 @@ use Rattle.hj_opening.specs.Check.{BeginsCanonical}
 use Rattle.hj_opening.specs.Opening.{GetsQuery, QueryCause}
 use Rattle.hj_opening.specs.Queries.{IsRefused}
 use Rattle.hj_opening.specs.Run.{RunsOrder}
-use Rattle.hj_opening.specs.Serve.{IsJoinRole}
+use Rattle.hj_opening.specs.Serve.{IsJoinRole, IsQueryAlone, IsRead}
 use Rattle.hj_opening.specs.Streams.{Fails}
-use Rattle.hj_opening.specs.Words.{Names, Source, check_query, join_streams, keyed, named}
-use Rattle.hj_opening.proofs.Endings.{CheckCause, CountsSink, End, JoinCause, check_runs, join_runs}
+use Rattle.hj_opening.specs.Words.{Names, Source, TextKind, check_query, join_streams, keyed, named}
+use Rattle.hj_opening.proofs.Endings.{CheckCause, CountsSink, End, JoinCause, check_runs, join_others, join_runs}
 use Rattle.hj_opening.proofs.Phases.{Roles, begun-unbegun}
 use Rattle.hj_opening.proofs.Prefixes.{begins_all}
 
@@ -34,10 +34,13 @@ not_open state e o = subst IsOpen e o
 query_role-fails : (failed : Role) (before now : Roles) → failed ≡ role.Query → Rose (before role.Query).faults (now role.Query).faults → Fails failed before now
 query_role-fails failed before now e rose = subst (λ (r : Role). Fails r before now) (sym e) rose
 
+is_read : (source : Source) (name : List ℕ) → source ≡ named name → IsRead source
+is_read (keyed rows) name e = absurd cc
+is_read (named given) name e = tt
+
 -- the role of a query that is read under a name is one of a join's
-reads_query : (source : Source) (name : List ℕ) (of : Role) → source ≡ named name → IsJoinRole source of
-reads_query (keyed rows) name of e = absurd cc
-reads_query (named given) name of e = tt
+reads_query : (source : Source) (name : List ℕ) (of : Role) → source ≡ named name → of ≡ role.Query → IsJoinRole source of
+reads_query source name of e is = subst (λ (r : Role). IsJoinRole source r) (sym is) (is_read source name e)
 
 name_of : Source → List ℕ
 name_of (keyed rows) = []
@@ -64,30 +67,29 @@ module _ (under : List ℕ → Option (List ℕ)) (before now : Roles) (told : O
   no_fault why.Sink source cause = absurd cause
   no_fault (why.TooManyEvents limit) source cause = absurd cause
 
-  module _ (left : (now role.Left).phase ≡ unbegun) (right : (now role.Right).phase ≡ unbegun) where
-    join_cause : (source : Source) (names : Names) (limit : ℕ) (note : Note) → QueryCause (Err note) source under (before role.Query) (now role.Query) → JoinCause source names limit this (Err note)
-    join_cause source names limit (why.BadQuery found) cause = record {
+  module _ (alone : IsQueryAlone now) where
+    join_cause : (kind : TextKind) (source : Source) (names : Names) (limit : ℕ) (note : Note) → QueryCause (Err note) source under (before role.Query) (now role.Query) → JoinCause kind source names limit this (Err note)
+    join_cause kind source names limit (why.BadQuery found) cause = record {
       name = cause.0;
       named_so = cause.1;
-      refuses = record { refused = cause.2; left = left; right = right; nothing = Appends-nil told };
+      refuses = record { refused = cause.2; alone = alone; nothing = Appends-nil told };
     }
-    join_cause source names limit (why.Source failed) cause = record {
-      has = reads_query source cause.0 failed cause.1;
+    join_cause kind source names limit (why.Source failed) cause = record {
+      has = reads_query source cause.0 failed cause.1 cause.2;
       fails = query_role-fails failed before now cause.2 cause.3;
       unopened = λ no. Appends-nil told;
-      opened = λ are. absurd (not_open (now role.Left) left are.0);
+      opened = λ are. absurd (not_open (now role.Left) (alone role.Left (λ e. cc)) are.0);
     }
-    join_cause source names limit why.Memory cause = tt
-    join_cause source names limit why.Usage cause = absurd cause
-    join_cause source names limit (why.BadRecord of at found) cause = absurd cause
-    join_cause source names limit why.Sink cause = absurd cause
-    join_cause source names limit (why.TooManyEvents most) cause = absurd cause
+    join_cause kind source names limit why.Memory cause = tt
+    join_cause kind source names limit why.Usage cause = absurd cause
+    join_cause kind source names limit (why.BadRecord of at found) cause = absurd cause
+    join_cause kind source names limit why.Sink cause = absurd cause
+    join_cause kind source names limit (why.TooManyEvents most) cause = absurd cause
 
     check_cause : (name : List ℕ) (note : Note) → QueryCause (Err note) (named name) under (before role.Query) (now role.Query) → CheckCause name this (Err note)
     check_cause name (why.BadQuery found) cause = record {
       refused = subst (λ (n : List ℕ). IsRefused found n (under n) (before role.Query) (now role.Query)) (same_name name cause.0 cause.1) cause.2;
-      left = left;
-      right = right;
+      alone = alone;
       nothing = Appends-nil told;
     }
     check_cause name (why.Source failed) cause = (cause.2, cause.3, Appends-nil told)
@@ -99,12 +101,13 @@ module _ (under : List ℕ → Option (List ℕ)) (before now : Roles) (told : O
 
   module _ (unbegun_before : (of : Role) → (before of).phase ≡ unbegun) where
     -- a join
-    pub join_refused : (source : Source) (names : Names) (limit : ℕ) (note : Note) → GetsQuery (Err note) source under before now
-        → RunsOrder (Err note) (join_streams source names limit) (call under before now told told faults faults)
-    join_refused source names limit note gets =
-        let left : (now role.Left).phase ≡ unbegun = stays_unbegun before now role.Left (λ e. cc) gets.others (unbegun_before role.Left) in
-        let right : (now role.Right).phase ≡ unbegun = stays_unbegun before now role.Right (λ e. cc) gets.others (unbegun_before role.Right) in
-        join_runs source names limit this (Err note) (join_cause left right source names limit note gets.cause) (no_fault note source gets.cause) [] (Appends-nil told) (inl refl)
+    pub join_refused : (kind : TextKind) (source : Source) (names : Names) (limit : ℕ) (note : Note) → GetsQuery (Err note) source under before now
+        → RunsOrder (Err note) (join_streams kind source names limit) (call under before now told told faults faults)
+    join_refused kind source names limit note gets =
+        let alone : IsQueryAlone now = λ of other. stays_unbegun before now of other gets.others (unbegun_before of) in
+        let left : (now role.Left).phase ≡ unbegun = alone role.Left (λ e. cc) in
+        let right : (now role.Right).phase ≡ unbegun = alone role.Right (λ e. cc) in
+        join_runs kind source names limit this (Err note) (join_cause alone kind source names limit note gets.cause) (no_fault note source gets.cause) [] (Appends-nil told) (inl refl)
         (record {
           query = gets.begun;
           left = begun-unbegun names.left (now role.Left).phase left;
@@ -112,14 +115,14 @@ module _ (under : List ℕ → Option (List ℕ)) (before now : Roles) (told : O
           query_first = λ begun. absurd (begun left);
           left_first = λ begun. absurd (begun right);
         })
+        (join_others source now gets.begun (λ of no_query no_left no_right. alone of no_query))
 
     -- a check
     pub check_refused : (name : List ℕ) (note : Note) → GetsQuery (Err note) (named name) under before now
         → RunsOrder (Err note) (check_query name) (call under before now told told faults faults)
     check_refused name note gets =
-        let left : (now role.Left).phase ≡ unbegun = stays_unbegun before now role.Left (λ e. cc) gets.others (unbegun_before role.Left) in
-        let right : (now role.Right).phase ≡ unbegun = stays_unbegun before now role.Right (λ e. cc) gets.others (unbegun_before role.Right) in
-        check_runs name this (Err note) (check_cause left right name note gets.cause) (no_fault note (named name) gets.cause) [] (Appends-nil told) (inl refl) gets.begun left right
+        let alone : IsQueryAlone now = λ of other. stays_unbegun before now of other gets.others (unbegun_before of) in
+        check_runs name this (Err note) (check_cause alone name note gets.cause) (no_fault note (named name) gets.cause) [] (Appends-nil told) (inl refl) gets.begun alone
 
 -- ---- a check that got its query
 
@@ -131,7 +134,7 @@ module _ (name : List ℕ) (under : List ℕ → Option (List ℕ)) (before now 
       → (grown : List ℕ) → Appends old new grown → (grown ≡ []) ⊎ BeginsCanonical grown name (ended_so old new faults faults') → RunsOrder ended (check_query name) (ended_so old new faults faults')
   runs_check old new faults faults' ended cause counts grown written front =
       check_runs name (ended_so old new faults faults') ended cause counts grown written front gets.begun
-      (stays_unbegun before now role.Left (λ e. cc) gets.others (unbegun_before role.Left)) (stays_unbegun before now role.Right (λ e. cc) gets.others (unbegun_before role.Right))
+      (λ of other. stays_unbegun before now of other gets.others (unbegun_before of))
 
   -- the text couldn't be made
   pub check_unmade : (told : Option (List ℕ)) (faults : ℕ) → RunsOrder (Err why.Memory) (check_query name) (call under before now told told faults faults)

@@ -70,9 +70,9 @@ module _ (under : List ℕ → Option (List ℕ)) (before : Roles) (old : Option
     };
     no_order = inr refl;
   }
-  no_memory (Some (join_streams source names limit)) = join_runs source names limit untouched (Err why.Memory) tt refl [] (Appends-nil old) (inl refl) (begins_none source names)
+  no_memory (Some (join_streams kind source names limit)) = join_runs kind source names limit untouched (Err why.Memory) tt refl [] (Appends-nil old) (inl refl) (begins_none source names) (λ of none. unbegun_before of)
   no_memory (Some (check_query name)) =
-      check_runs name untouched (Err why.Memory) tt refl [] (Appends-nil old) (inl refl) (begun-unbegun name (before role.Query).phase (unbegun_before role.Query)) (unbegun_before role.Left) (unbegun_before role.Right)
+      check_runs name untouched (Err why.Memory) tt refl [] (Appends-nil old) (inl refl) (begun-unbegun name (before role.Query).phase (unbegun_before role.Query)) (λ of other. unbegun_before of)
   no_memory (Some (sum_up recipe)) = gen_runs recipe untouched (Err why.Memory) tt refl [] (Appends-nil old) (inl refl) (λ of. refl) unbegun_before
 
   no_words : ServesOrder None 1 usage_note untouched

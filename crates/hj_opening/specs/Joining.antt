@@ -1,26 +1,35 @@
 -- What a call of a join did from its query on: of which streams, up to which ending, and how much of the text it wrote.
-use Rattle.std.specs.Prelude.{◌≡◌, ℕ, List, true}
+use Rattle.std.specs.Prelude.{◌≡◌, ℕ, Bool, List, true, false}
+use Rattle.std.specs.declared.option.Option.{Option}
 use Rattle.std.specs.Io.KnownBytes.{Appends}
+use Rattle.hj_base.specs.declared.outside.Role.{Role}
 use Rattle.hj_base.specs.declared.outside.Role.TheVariants as role
-use Rattle.hj_base.specs.Journals.{IsPrefix}
+use Rattle.hj_base.specs.Outside.{RoleState, ChangesOnlyStreams}
 use Rattle.hj_event.specs.Arrivals.{Ending, clean}
+use Rattle.hj_event.specs.Roles.{IsReadOn}
+use Rattle.hj_event.specs.Sides.{Follows, in_front}
+use Rattle.hj_stream.specs.declared.outcome.Outcome.{Outcome}
+use Rattle.hj_stream.specs.Joining.{AreEnded, FailsOn}
 use Rattle.hj_stream.specs.JoinText.{join_result}
 use Rattle.hj_query.specs.Parts.{Parts}
 use Rattle.hj_record.specs.Pieces.{Stream}
 use Rattle.hj_opening.specs.Calls.{Call}
 use Rattle.hj_opening.specs.Streams.{AreStreams, IsReadToEnd}
-use Rattle.hj_opening.specs.Words.{Names}
+use Rattle.hj_opening.specs.Texts.{IsTextFront, IsWholeText, WritesKind}
+use Rattle.hj_opening.specs.Words.{Names, TextKind}
 
--- The events of the streams end so, and the whole text of their join was written.
-pub record WritesAll (EndsSo : Ending → Type 0) (query : Parts) (limit : ℕ) (names : Names) (call : Call) : Type 0 where
+-- The events of the streams end so, and a whole text of their join was written.
+pub record WritesAll (kind : TextKind) (EndsSo : Ending → Type 0) (query : Parts) (limit : ℕ) (names : Names) (call : Call) : Type 0 where
   pub left : Stream
   pub right : Stream
   pub streams : AreStreams names call.under call.before call.now left right
   pub ending : EndsSo (join_result query left right limit).ending
-  pub written : Appends call.old call.new (join_result query left right limit).text
+  pub text : List ℕ
+  pub whole : IsWholeText kind query left right limit text
+  pub written : Appends call.old call.new text
 
--- Both streams were read to their ends, their events end with them, and the whole text of their join was written.
-pub record WritesWhole (query : Parts) (limit : ℕ) (names : Names) (call : Call) : Type 0 where
+-- Both streams were read to their ends, their events end with them, and a whole text of their join was written.
+pub record WritesWhole (kind : TextKind) (query : Parts) (limit : ℕ) (names : Names) (call : Call) : Type 0 where
   pub left : Stream
   pub right : Stream
   pub streams : AreStreams names call.under call.before call.now left right
@@ -29,11 +38,34 @@ pub record WritesWhole (query : Parts) (limit : ℕ) (names : Names) (call : Cal
   pub left_ended : IsReadToEnd names.left (call.now role.Left)
   pub right_ended : IsReadToEnd names.right (call.now role.Right)
   pub ending : (join_result query left right limit).ending ≡ clean
-  pub written : Appends call.old call.new (join_result query left right limit).text
+  pub text : List ℕ
+  pub whole : IsWholeText kind query left right limit text
+  pub written : Appends call.old call.new text
 
--- These bytes are a front of the text of the join of the streams.
-pub record BeginsText (grown : List ℕ) (query : Parts) (limit : ℕ) (names : Names) (call : Call) : Type 0 where
+-- These bytes are a front of a text of the join of the streams.
+pub record BeginsText (kind : TextKind) (grown : List ℕ) (query : Parts) (limit : ℕ) (names : Names) (call : Call) : Type 0 where
   pub left : Stream
   pub right : Stream
   pub streams : AreStreams names call.under call.before call.now left right
-  pub begins : IsPrefix grown (join_result query left right limit).text
+  pub begins : IsTextFront kind query left right limit grown
+
+-- A join that writes a text of this kind: these bytes of both streams were read, this text was written, and whatever comes after
+-- the bytes, it is what the outcome says. Nothing comes after a read that answered the end, and after a failed one the stream is
+-- cut off.
+pub record JoinsKind (kind : TextKind) (ended : Outcome) (query : Parts) (limit : ℕ) (before now : Role → RoleState)
+    (old new : Option (List ℕ)) : Type 0 where
+  pub left_bytes : List ℕ
+  pub right_bytes : List ℕ
+  pub left_failed : Bool
+  pub right_failed : Bool
+  pub left_ended : Bool
+  pub right_ended : Bool
+  pub left : IsReadOn left_failed left_bytes false left_ended (before role.Left) (now role.Left)
+  pub right : IsReadOn right_failed right_bytes false right_ended (before role.Right) (now role.Right)
+  pub failed : FailsOn ended left_failed right_failed
+  pub others : ChangesOnlyStreams before now
+  pub grown : List ℕ
+  pub written : Appends old new grown
+  pub text : (l r : Stream) → Follows left_failed left_ended l → Follows right_failed right_ended r
+      → WritesKind kind ended query (in_front left_bytes l) (in_front right_bytes r) limit grown
+  pub ends : AreEnded ended left_ended right_ended

@@ -9,4 +9,5 @@ pub mod Ready
 pub mod Run
 pub mod Serve
 pub mod Streams
+pub mod Texts
 pub mod Words

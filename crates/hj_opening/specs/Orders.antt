@@ -11,5 +11,6 @@ source_seen (source.Named name) = words.named name.now
 abbrev pub names_seen : JoinOrder → words.Names
 names_seen join = record { left = join.left.now; right = join.right.now }
 
-abbrev pub join_seen : JoinOrder → words.Order
-join_seen join = words.join_streams (source_seen join.source) (names_seen join) join.limit
+-- The order of a join that writes such a text.
+abbrev pub join_seen : words.TextKind → JoinOrder → words.Order
+join_seen kind join = words.join_streams kind (source_seen join.source) (names_seen join) join.limit

@@ -23,7 +23,7 @@ use Rattle.hj_opening.specs.Generating.{BeginsSummary, WritesSummary}
 use Rattle.hj_opening.specs.Joining.{BeginsText, WritesAll, WritesWhole}
 use Rattle.hj_opening.specs.Queries.{IsQueryOf, IsRefused}
 use Rattle.hj_opening.specs.Streams.{AreStreams, Fails, IsBegunUnder, NoneFails}
-use Rattle.hj_opening.specs.Words.{Names, Order, Recipe, Source, check_query, join_streams, keyed, most_events, named, sum_up}
+use Rattle.hj_opening.specs.Words.{Names, Order, Recipe, Source, TextKind, check_query, join_streams, keyed, most_events, named, sum_up}
 
 -- ---- What all commands promise.
 
@@ -47,16 +47,19 @@ pub record Keeps (EndsSo : ℕ → List ℕ → Type 0) (IsFront : List ℕ → 
   -- A fault of the sink is told as such.
   pub sink : status ≢ 5 → call.faults_now ≡ call.faults_before
 
+-- No role but the query's is begun.
+abbrev pub IsQueryAlone : (Role → RoleState) → Type 0
+IsQueryAlone now = (of : Role) → of ≢ role.Query → (now of).phase ≡ unbegun
+
 -- Nothing failed: no role's count of faults rose, and that of the sink didn't.
 pub record NothingFails (call : Call) : Type 0 where
   pub roles : NoneFails call.before call.now
   pub sink : ¬ (Rose call.faults_before call.faults_now)
 
--- The text of the query under this name was read and has this first fault. No stream was begun, and nothing written.
+-- The text of the query under this name was read and has this first fault. No other role was begun, and nothing written.
 pub record RefusesQuery (found : QueryFault) (name : List ℕ) (call : Call) : Type 0 where
   pub refused : IsRefused found name (call.under name) (call.before role.Query) (call.now role.Query)
-  pub left : (call.now role.Left).phase ≡ unbegun
-  pub right : (call.now role.Right).phase ≡ unbegun
+  pub alone : IsQueryAlone call.now
   pub nothing : Appends call.old call.new []
 
 -- ---- Words that spell no order.
@@ -75,26 +78,35 @@ pub record ServesNone (status : ℕ) (note : List ℕ) (call : Call) : Type 0 wh
 abbrev pub Accepts : Source → Parts → Call → Type 0
 Accepts source query call = IsQueryOf source query call.under (call.before role.Query) (call.now role.Query)
 
+-- The query is read under a name.
+abbrev pub IsRead : Source → Type 0
+IsRead (keyed rows) = ⊥
+IsRead (named name) = Unit {0}
+
 -- The roles of its streams, and of a query that is read under a name.
 abbrev pub IsJoinRole : Source → Role → Type 0
-IsJoinRole (keyed rows) of = of ≢ role.Query
-IsJoinRole (named name) of = Unit {0}
+IsJoinRole source role.Query = IsRead source
+IsJoinRole source role.Left = Unit {0}
+IsJoinRole source role.Right = Unit {0}
+IsJoinRole source other = ⊥
 
 -- both streams are open
 abbrev pub AreOpen : (Role → RoleState) → Type 0
 AreOpen now = IsOpen (now role.Left).phase × IsOpen (now role.Right).phase
 
 -- It was made under the accepted query, of streams whose events end so; the whole text was written.
-abbrev pub JoinsAll : (Ending → Type 0) → Source → Names → ℕ → Call → Type 0
-JoinsAll EndsSo source names limit call = (query : Parts) × Accepts source query call × WritesAll EndsSo query limit names call
+abbrev pub JoinsAll : TextKind → (Ending → Type 0) → Source → Names → ℕ → Call → Type 0
+JoinsAll kind EndsSo source names limit call =
+    (query : Parts) × Accepts source query call × WritesAll kind EndsSo query limit names call
 
 -- And both streams were read to their ends.
-abbrev pub JoinsWhole : Source → Names → ℕ → Call → Type 0
-JoinsWhole source names limit call = (query : Parts) × Accepts source query call × WritesWhole query limit names call
+abbrev pub JoinsWhole : TextKind → Source → Names → ℕ → Call → Type 0
+JoinsWhole kind source names limit call = (query : Parts) × Accepts source query call × WritesWhole kind query limit names call
 
 -- The bytes are a front of its text.
-abbrev pub IsJoinFront : Source → Names → ℕ → Call → List ℕ → Type 0
-IsJoinFront source names limit call grown = (query : Parts) × Accepts source query call × BeginsText grown query limit names call
+abbrev pub IsJoinFront : TextKind → Source → Names → ℕ → Call → List ℕ → Type 0
+IsJoinFront kind source names limit call grown =
+    (query : Parts) × Accepts source query call × BeginsText kind grown query limit names call
 
 -- The query that is read under a name was refused.
 pub record RefusesNamed (found : QueryFault) (source : Source) (call : Call) : Type 0 where
@@ -104,23 +116,23 @@ pub record RefusesNamed (found : QueryFault) (source : Source) (call : Call) : T
 
 -- This role failed. Where both streams are open, it is the one in whose missing read the events end, and the whole text of
 -- these events was written; else nothing was written.
-pub record FailsJoin (of : Role) (source : Source) (names : Names) (limit : ℕ) (call : Call) : Type 0 where
+pub record FailsJoin (kind : TextKind) (of : Role) (source : Source) (names : Names) (limit : ℕ) (call : Call) : Type 0 where
   pub has : IsJoinRole source of
   pub fails : Fails of call.before call.now
   pub unopened : ¬ (AreOpen call.now) → Appends call.old call.new []
   pub opened : AreOpen call.now
-      → (side : Side) × (of ≡ role_of side) × JoinsAll (λ ending. ending ≡ unread side) source names limit call
+      → (side : Side) × (of ≡ role_of side) × JoinsAll kind (λ ending. ending ≡ unread side) source names limit call
 
-pub data EndsJoin (source : Source) (names : Names) (limit : ℕ) (call : Call) (status : ℕ) (note : List ℕ) : Type 0 where
-  joined : status ≡ 0 → note ≡ [] → JoinsWhole source names limit call → EndsJoin source names limit call status note
+pub data EndsJoin (kind : TextKind) (source : Source) (names : Names) (limit : ℕ) (call : Call) (status : ℕ) (note : List ℕ) : Type 0 where
+  joined : status ≡ 0 → note ≡ [] → JoinsWhole kind source names limit call → EndsJoin kind source names limit call status note
   bad_query : (found : QueryFault) → status ≡ 2 → note ≡ query_note found
-      → RefusesNamed found source call → EndsJoin source names limit call status note
+      → RefusesNamed found source call → EndsJoin kind source names limit call status note
   bad_record : (side : Side) (at : ℕ) (found : RecordFault) → status ≡ 3 → note ≡ record_note side at found
-      → JoinsAll (λ ending. ending ≡ bad side at found) source names limit call → EndsJoin source names limit call status note
+      → JoinsAll kind (λ ending. ending ≡ bad side at found) source names limit call → EndsJoin kind source names limit call status note
   failed_source : (of : Role) → status ≡ 4 → note ≡ source_note of
-      → FailsJoin of source names limit call → EndsJoin source names limit call status note
+      → FailsJoin kind of source names limit call → EndsJoin kind source names limit call status note
   events : status ≡ 7 → note ≡ events_note limit
-      → JoinsAll (λ ending. ending ≡ too_many) source names limit call → EndsJoin source names limit call status note
+      → JoinsAll kind (λ ending. ending ≡ too_many) source names limit call → EndsJoin kind source names limit call status note
 
 abbrev pub BeginsSource : Source → Phase → Type 0
 BeginsSource (keyed rows) phase = phase ≡ unbegun
@@ -155,8 +167,8 @@ abbrev pub IsJoinDecided : ℕ → Source → Names → ℕ → Call → Type 0
 IsJoinDecided status source names limit call =
     ((status ≡ 2) × ((found : QueryFault) × RefusesNamed found source call)) ⊎ EndsBy status source names limit call
 
-pub record ServesJoin (source : Source) (names : Names) (limit : ℕ) (status : ℕ) (note : List ℕ) (call : Call) : Type 0 where
-  pub keeps : Keeps (EndsJoin source names limit call) (IsJoinFront source names limit call) (IsJoinRole source) status note call
+pub record ServesJoin (kind : TextKind) (source : Source) (names : Names) (limit : ℕ) (status : ℕ) (note : List ℕ) (call : Call) : Type 0 where
+  pub keeps : Keeps (EndsJoin kind source names limit call) (IsJoinFront kind source names limit call) (IsJoinRole source) status note call
   pub roles : BeginsInOrder source names call
   -- Where nothing fails, the query and the ending of the events decide the status, or memory ran out.
   pub complete : NothingFails call → (status ≡ 6) ⊎ IsJoinDecided status source names limit call
@@ -193,7 +205,7 @@ pub record ServesGen (recipe : Recipe) (status : ℕ) (note : List ℕ) (call : 
 
 abbrev pub ServesOrder : Option Order → ℕ → List ℕ → Call → Type 0
 ServesOrder None status note call = ServesNone status note call
-ServesOrder (Some (join_streams source names limit)) status note call = ServesJoin source names limit status note call
+ServesOrder (Some (join_streams kind source names limit)) status note call = ServesJoin kind source names limit status note call
 ServesOrder (Some (check_query name)) status note call = ServesCheck name status note call
 ServesOrder (Some (sum_up recipe)) status note call = ServesGen recipe status note call
 

@@ -19,6 +19,13 @@ pub record Names : Type 0 where
   pub left : List ℕ
   pub right : List ℕ
 
+-- What a command writes of the join of two streams.
+pub data TextKind : Type 0 where
+  -- the line of each pair, in the order of the sequential join
+  pair_lines : TextKind
+  -- the pairs as the cores meet them, and marks between them that tell up to which number all have come
+  raw_items : TextKind
+
 -- the two streams that `gen N KEYS SEED W` makes and joins: so many rows each, with so many keys, by the draws of a seed,
 -- over windows of so many rows
 pub record Recipe : Type 0 where
@@ -31,16 +38,18 @@ pub record Recipe : Type 0 where
 -- `check QUERY` writes the canonical text of the query under this name, and `gen N KEYS SEED W` sums up the join of two
 -- streams that it makes.
 pub data Order : Type 0 where
-  join_streams : Source → Names → (limit : ℕ) → Order
+  join_streams : TextKind → Source → Names → (limit : ℕ) → Order
   check_query : (name : List ℕ) → Order
   sum_up : Recipe → Order
 
 -- How many cores and threads a join has, how many events are under way, and in which order its steps come, is left out:
 -- no status, text or note depends on it.
 abbrev pub asked_by : spelled.Order → Order
-asked_by (spells.Equi w left right) = join_streams (keyed w) (record { left = left; right = right }) most_events
+asked_by (spells.Equi w left right) = join_streams pair_lines (keyed w) (record { left = left; right = right }) most_events
 asked_by (spells.Join setup limit schedule query left right) =
-    join_streams (named query) (record { left = left; right = right }) limit
+    join_streams pair_lines (named query) (record { left = left; right = right }) limit
+asked_by (spells.Raw setup limit query left right) =
+    join_streams raw_items (named query) (record { left = left; right = right }) limit
 asked_by (spells.Check query) = check_query query
 asked_by (spells.Gen n keys seed w) = sum_up (record { rows = n; keys = keys; seed = seed; window = w })
 

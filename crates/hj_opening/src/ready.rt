@@ -3,6 +3,7 @@ ghost use Rattle.hj_base.specs.declared.outside.Role.{Role};
 ghost use Rattle.hj_base.specs.Outside.{unbegun};
 ghost use Rattle.hj_opening.specs.Orders.{join_seen};
 ghost use Rattle.hj_opening.specs.Ready.{MakesReady};
+ghost use Rattle.hj_opening.specs.Words.{TextKind};
 
 use crate::query::{open, query_of};
 use crate::source::JoinOrder;
@@ -19,7 +20,7 @@ pub fn make_ready<O: Outside>(
     outside: &mut O,
 ) -> Result<Query, Note>
     requires { (of : Role) → (O.state outside.old of).phase ≡ unbegun }
-    ensures { MakesReady result (join_seen join.entry) (O.under outside.old) (O.state outside.old) (O.state outside.new) }
+    ensures { (kind : TextKind) → MakesReady result (join_seen kind join.entry) (O.under outside.old) (O.state outside.old) (O.state outside.new) }
 {
     let query = query_of(alloc, join.source, outside)?;
     open(outside, Role::Left, join.left)?;
