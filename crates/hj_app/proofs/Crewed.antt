@@ -9,16 +9,20 @@ use Rattle.hj_crew.specs.Ran.{RanSeen}
 use Rattle.hj_stream.specs.declared.outcome.Outcome.{Outcome}
 use Rattle.hj_stream.specs.declared.outcome.Outcome.TheVariants as outcome
 use Rattle.hj_stream.specs.Joining.{Joins}
+use Rattle.hj_stream.specs.RawJoining.{JoinsRaw}
 use Rattle.hj_engine.specs.Showing.{ShowsJoin}
+use Rattle.hj_engine.specs.ShowingRaw.{ShowsRaw}
 use Rattle.hj_notes.specs.declared.note.Note.{Note}
-use Rattle.hj_opening.specs.Calls.{call}
-use Rattle.hj_app.specs.Crew.{CameToJoin, Crew, ShowsStreams}
+use Rattle.hj_opening.specs.Calls.{Call, call}
+use Rattle.hj_app.specs.Crew.{CameToJoin, Crew, ShowsOrder, ShowsRawStreams, ShowsStreams}
 use Rattle.hj_notes.specs.NoteText.{status_of, status_of_end}
 use Rattle.hj_app.specs.OnCrew.{RunsOnCrew}
+use Rattle.hj_opening.specs.Joining.{JoinsKind}
 use Rattle.hj_opening.specs.Ready.{EndsEarly, IsReady}
 use Rattle.hj_opening.specs.Run.{RunsOrder, end_of}
-use Rattle.hj_opening.specs.Words.{Names, Order, Source, join_streams}
-use Rattle.hj_opening.proofs.Joined.{query_stays}
+use Rattle.hj_opening.specs.Serve.{Accepts}
+use Rattle.hj_opening.specs.Words.{Names, Order, Source, TextKind, join_streams, pair_lines, raw_items}
+use Rattle.hj_opening.proofs.Joined.{joins_lines, query_stays}
 use Rattle.hj_opening.proofs.Phases.{Roles, open-opened}
 use Rattle.hj_opening.proofs.Endings.{End}
 
@@ -51,8 +55,14 @@ not_refused limit outcome.SinkFault = ((λ e. omega (arith, e)), (λ e. omega (a
 not_refused limit outcome.TooMany = ((λ e. omega (arith, e)), (λ e. omega (arith, e)))
 not_refused limit outcome.Memory = ((λ e. omega (arith, e)), (λ e. omega (arith, e)))
 
-module _ (crew : Crew) (source : Source) (names : Names) (limit : ℕ) (under : List ℕ → Option (List ℕ)) (before mid now : Roles) (old new : Option (List ℕ)) (query : Parts) (ready : IsReady query source names under before mid)
-    (ended : Outcome) (joins : Joins ended query limit mid now old new) (faults faults' : ℕ) where
+module _ (crew : Crew) (kind : TextKind) (source : Source) (names : Names) (limit : ℕ) (under : List ℕ → Option (List ℕ)) (before mid now : Roles) (old new : Option (List ℕ)) (query : Parts) (ready : IsReady query source names under before mid)
+    (ended : Outcome) (joins : JoinsKind kind ended query limit mid now old new) (faults faults' : ℕ) where
+  abbrev this_call : Call
+  this_call = call under before now old new faults faults'
+
+  abbrev this_join : Order
+  this_join = join_streams kind source names limit
+
   abbrev ends_with : ℕ
   ends_with = status_of_end (end_of limit ended)
 
@@ -66,10 +76,32 @@ module _ (crew : Crew) (source : Source) (names : Names) (limit : ℕ) (under : 
         streams = λ four. (open-opened _ joins.left_ended (now role.Left).phase joins.left.in_step.phase, open-opened _ joins.right_ended (now role.Right).phase joins.right.in_step.phase);
       }
 
-  shows_streams : (ran : RanSeen (List Field)) → ShowsJoin joins crew.cores crew.flight ran → ShowsStreams crew source names limit ends_with (call under before now old new faults faults') ran
-  shows_streams ran shows = record {
+  -- the query of the order, as it stands behind the join
+  pub accepted : Accepts source query this_call
+  accepted = query_stays kind query limit names under before mid now old new faults faults' source ready ended joins
+
+  handed : (ran : Shown) → IfNone ran (ended ≡ outcome.Memory) → ends_with ≢ 6 → CameToJoin (Some crew) ends_with now → IsSome ran
+  handed None memory other back = absurd (other (ap (λ (o : Outcome). status_of_end (end_of limit o)) memory))
+  handed (Some ran) memory other back = refl
+
+  pub runs_joined : (end : End) (ran : Shown) → end ≡ end_of limit ended → RunsOrder end this_join this_call
+      → IfSome ran (ShowsOrder crew this_join ends_with this_call) → IfNone ran (ended ≡ outcome.Memory)
+      → RunsOnCrew crew (record { end = end; ran = ran }) this_join this_call
+  runs_joined end ran is runs shows memory =
+      subst (λ (e : End). RunsOrder e this_join this_call → RunsOnCrew crew (record { end = e; ran = ran }) this_join this_call) (sym is)
+      (λ so. record { runs = so; ran = λ other. ((λ some. all_came), (λ back. handed ran memory other back)); shows = shows }) runs
+
+-- ---- what the run shows
+
+module _ (crew : Crew) (source : Source) (names : Names) (limit : ℕ) (under : List ℕ → Option (List ℕ)) (before mid now : Roles) (old new : Option (List ℕ)) (query : Parts) (ready : IsReady query source names under before mid)
+    (ended : Outcome) (faults faults' : ℕ) where
+  -- of a join that wrote the line of each pair
+  pub shows_lines : (joins : Joins ended query limit mid now old new) (ran : Shown) → IfSome ran (ShowsJoin joins crew.cores crew.flight)
+      → IfSome ran (ShowsStreams crew source names limit (status_of_end (end_of limit ended)) (call under before now old new faults faults'))
+  shows_lines joins None shows = tt
+  shows_lines joins (Some ran) shows = record {
     query = query;
-    accepted = query_stays query limit names under before mid now old new faults faults' source ready ended joins;
+    accepted = accepted crew pair_lines source names limit under before mid now old new query ready ended (joins_lines joins) faults faults';
     opened = mid;
     are_opened = ready.opened;
     outcome = ended;
@@ -78,17 +110,17 @@ module _ (crew : Crew) (source : Source) (names : Names) (limit : ℕ) (under : 
     shows = shows;
   }
 
-  shown : (ran : Shown) → IfSome ran (ShowsJoin joins crew.cores crew.flight) → IfSome ran (ShowsStreams crew source names limit ends_with (call under before now old new faults faults'))
-  shown None shows = tt
-  shown (Some ran) shows = shows_streams ran shows
-
-  handed : (ran : Shown) → IfNone ran (ended ≡ outcome.Memory) → ends_with ≢ 6 → CameToJoin (Some crew) ends_with now → IsSome ran
-  handed None memory other back = absurd (other (ap (λ (o : Outcome). status_of_end (end_of limit o)) memory))
-  handed (Some ran) memory other back = refl
-
-  pub runs_joined : (end : End) (ran : Shown) → end ≡ end_of limit ended → RunsOrder end (join_streams source names limit) (call under before now old new faults faults')
-      → IfSome ran (ShowsJoin joins crew.cores crew.flight) → IfNone ran (ended ≡ outcome.Memory)
-      → RunsOnCrew crew (record { end = end; ran = ran }) (join_streams source names limit) (call under before now old new faults faults')
-  runs_joined end ran is runs shows memory =
-      subst (λ (e : End). RunsOrder e (join_streams source names limit) (call under before now old new faults faults') → RunsOnCrew crew (record { end = e; ran = ran }) (join_streams source names limit) (call under before now old new faults faults')) (sym is)
-      (λ so. record { runs = so; ran = λ other. ((λ some. all_came), (λ back. handed ran memory other back)); shows = shown ran shows }) runs
+  -- of one whose pairs were written as they were met
+  pub shows_items : (joins : JoinsRaw ended query limit mid now old new) (ran : Shown) → JoinsKind raw_items ended query limit mid now old new → IfSome ran (ShowsRaw joins crew.cores crew.flight)
+      → IfSome ran (ShowsRawStreams crew source names limit (status_of_end (end_of limit ended)) (call under before now old new faults faults'))
+  shows_items joins None kind shows = tt
+  shows_items joins (Some ran) kind shows = record {
+    query = query;
+    accepted = accepted crew raw_items source names limit under before mid now old new query ready ended kind faults faults';
+    opened = mid;
+    are_opened = ready.opened;
+    outcome = ended;
+    status_of_outcome = refl;
+    joins = joins;
+    shows = shows;
+  }

@@ -1,4 +1,6 @@
 pub mod Crewed
 pub mod MadeJoin
 pub mod MemoryRoles
+pub mod Opened
+pub mod RawJoined
 pub mod Summed

@@ -109,6 +109,10 @@ module _ (recipe : Recipe) (query : Parts) (few : recipe.rows ≤ 100000) (some 
     only outcome.TooMany joins counts = too_many≢clean (sym (text_as outcome.TooMany joins joins.failed.0 joins.failed.1).1 ∙ ends)
     only outcome.SinkFault joins counts = omega (arith, counts.1)
     only (outcome.SourceFault role.Query) joins counts = text_as (outcome.SourceFault role.Query) joins joins.failed.0 joins.failed.1
+    only (outcome.SourceFault role.SecondQuery) joins counts = text_as (outcome.SourceFault role.SecondQuery) joins joins.failed.0 joins.failed.1
+    only (outcome.SourceFault role.Third) joins counts = text_as (outcome.SourceFault role.Third) joins joins.failed.0 joins.failed.1
+    only (outcome.SourceFault role.Trace) joins counts = text_as (outcome.SourceFault role.Trace) joins joins.failed.0 joins.failed.1
+    only (outcome.SourceFault role.Output) joins counts = text_as (outcome.SourceFault role.Output) joins joins.failed.0 joins.failed.1
     only (outcome.SourceFault role.Left) joins counts = no_fault joins.left_failed joins.left_bytes joins.left_ended (unread_stream left) after.left joins.failed.0 joins.left
     only (outcome.SourceFault role.Right) joins counts = no_fault joins.right_failed joins.right_bytes joins.right_ended (unread_stream right) after.right joins.failed.1 joins.right
 

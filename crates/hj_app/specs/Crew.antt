@@ -1,6 +1,7 @@
 -- The chains that threads turn for the orders of a call of `serve`, and what the runs show that it hands back.
 use Rattle.std.specs.Prelude.{◌≡◌, ◌≢◌, ◌==◌, ℕ, List, [], None, Some, IsSome, false, if◌then◌else◌, option_and_then}
 use Rattle.std.specs.declared.option.Option.{Option}
+use Rattle.hj_base.specs.declared.numbers.Setup.{Setup}
 use Rattle.hj_base.specs.declared.outside.Role.{Role}
 use Rattle.hj_base.specs.Outside.{RoleState}
 use Rattle.hj_value.specs.declared.field.Field.{Field}
@@ -13,7 +14,9 @@ use Rattle.hj_crew.specs.Ran.{RanSeen}
 use Rattle.hj_stream.specs.declared.outcome.Outcome.{Outcome}
 use Rattle.hj_stream.specs.declared.outcome.Outcome.TheVariants as outcome
 use Rattle.hj_stream.specs.Joining.{Joins}
+use Rattle.hj_stream.specs.RawJoining.{JoinsRaw}
 use Rattle.hj_engine.specs.Showing.{ShowsJoin}
+use Rattle.hj_engine.specs.ShowingRaw.{ShowsRaw}
 use Rattle.hj_opening.specs.Calls.{Call}
 use Rattle.hj_opening.specs.Generating.{left_stream, right_stream}
 use Rattle.hj_held.specs.Held.{held_role}
@@ -21,7 +24,7 @@ use Rattle.hj_notes.specs.NoteText.{status_of_end}
 use Rattle.hj_opening.specs.Opening.{AreOpened}
 use Rattle.hj_opening.specs.Run.{end_of}
 use Rattle.hj_opening.specs.Serve.{Accepts, AreOpen}
-use Rattle.hj_opening.specs.Words.{Names, Order, Recipe, Source, asked_by, check_query, join_streams, most_events, sum_up}
+use Rattle.hj_opening.specs.Words.{Names, Order, Recipe, Source, asked_by, check_query, join_streams, most_events, pair_lines, raw_items, sum_up}
 
 -- A chain that threads turn: how many cores it has, and how many events are under way in it at most.
 pub record Crew : Type 0 where
@@ -32,11 +35,15 @@ pub record Crew : Type 0 where
 abbrev pub usual_crew : Crew
 usual_crew = record { cores = 4; flight = 32 }
 
+-- the one of these numbers, where there are threads
+abbrev pub crew_with : Setup → Option Crew
+crew_with setup = if setup.threads == 0 then None else Some (record { cores = setup.cores; flight = setup.flight })
+
 -- The chain that threads turn for an order. A join with no threads has none, and neither has a check.
 abbrev pub crew_of : spelled.Order → Option Crew
 crew_of (spells.Equi w left right) = Some usual_crew
-crew_of (spells.Join setup limit schedule query left right) =
-    if setup.threads == 0 then None else Some (record { cores = setup.cores; flight = setup.flight })
+crew_of (spells.Join setup limit schedule query left right) = crew_with setup
+crew_of (spells.Raw setup limit query left right) = Some (record { cores = setup.cores; flight = setup.flight })
 crew_of (spells.Check query) = None
 crew_of (spells.Gen n keys seed w) = Some usual_crew
 
@@ -44,6 +51,7 @@ crew_of (spells.Gen n keys seed w) = Some usual_crew
 abbrev pub threads_of : spelled.Order → ℕ
 threads_of (spells.Equi w left right) = 4
 threads_of (spells.Join setup limit schedule query left right) = setup.threads
+threads_of (spells.Raw setup limit query left right) = setup.threads
 threads_of (spells.Check query) = 0
 threads_of (spells.Gen n keys seed w) = 4
 
@@ -74,6 +82,18 @@ pub record ShowsStreams (crew : Crew) (source : Source) (names : Names) (limit s
   pub joins : Joins outcome query limit opened call.now call.old call.new
   pub shows : ShowsJoin joins crew.cores crew.flight ran
 
+-- A run made the join of a call whose pairs were written as they were met: under the accepted query, of the two streams from where
+-- they were opened to where they stand now, into the output of the call; and the status is that of its outcome.
+pub record ShowsRawStreams (crew : Crew) (source : Source) (names : Names) (limit status : ℕ) (call : Call) (ran : RanSeen (List Field)) : Type 0 where
+  pub query : Parts
+  pub accepted : Accepts source query call
+  pub opened : Role → RoleState
+  pub are_opened : AreOpened names call.under call.before opened
+  pub outcome : Outcome
+  pub status_of_outcome : status ≡ status_of_end (end_of limit outcome)
+  pub joins : JoinsRaw outcome query limit opened call.now call.old call.new
+  pub shows : ShowsRaw joins crew.cores crew.flight ran
+
 -- the roles of the two streams of a recipe, which stand in memory; nothing was read of them
 abbrev pub made_roles : Recipe → Role → RoleState
 made_roles recipe = held_role (record {
@@ -93,7 +113,8 @@ pub record ShowsMade (crew : Crew) (recipe : Recipe) (limit : ℕ) (ran : RanSee
 
 -- A run of this crew made the join of an order.
 abbrev pub ShowsOrder : Crew → Order → ℕ → Call → RanSeen (List Field) → Type 0
-ShowsOrder crew (join_streams source names limit) status call ran = ShowsStreams crew source names limit status call ran
+ShowsOrder crew (join_streams pair_lines source names limit) status call ran = ShowsStreams crew source names limit status call ran
+ShowsOrder crew (join_streams raw_items source names limit) status call ran = ShowsRawStreams crew source names limit status call ran
 ShowsOrder crew (check_query name) status call ran = ⊥
 ShowsOrder crew (sum_up recipe) status call ran = ShowsMade crew recipe most_events ran
 

@@ -3,7 +3,7 @@ use Rattle.std.specs.Prelude.{ℕ, None, Some}
 use Rattle.std.specs.declared.option.Option.{Option}
 use Rattle.hj_crew.specs.declared.plan.CrewSize.{CrewSize}
 use Rattle.hj_opening.specs.Orders.{join_seen}
-use Rattle.hj_opening.specs.Words.{Order, check_query, sum_up}
+use Rattle.hj_opening.specs.Words.{Order, check_query, pair_lines, raw_items, sum_up}
 use Rattle.hj_app.specs.declared.plan.AloneOrder.{AloneOrder}
 use Rattle.hj_app.specs.declared.plan.AloneOrder.TheVariants as alone
 use Rattle.hj_app.specs.declared.plan.ThreadsOrder.{ThreadsOrder}
@@ -16,10 +16,11 @@ use Rattle.hj_app.specs.Serial.{Serial}
 
 abbrev pub asked_alone : AloneOrder → Order
 asked_alone (alone.Check name) = check_query name.now
-asked_alone (alone.Join join size chooser) = join_seen join
+asked_alone (alone.Join join size chooser) = join_seen pair_lines join
 
 abbrev pub asked_threads : ThreadsOrder → Order
-asked_threads (threads.Join join) = join_seen join
+asked_threads (threads.Join join) = join_seen pair_lines join
+asked_threads (threads.Raw join) = join_seen raw_items join
 asked_threads (threads.Gen recipe) = sum_up (recipe_seen recipe)
 
 abbrev pub asked_turning : Turning → Order

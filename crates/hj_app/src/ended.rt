@@ -1,3 +1,5 @@
+ghost use Rattle.std.specs.Prelude.{◌≡◌, Err, None};
+
 use hj_crew::Ran;
 use hj_notes::Note;
 use hj_value::SharedRow;
@@ -9,4 +11,16 @@ pub struct Ended {
     pub end: Result<(), Note>,
     /// The run of the threads, where the join was made.
     pub ran: Option<Ran<SharedRow>>,
+}
+
+impl Ended {
+    /// Ends an order before its join.
+    pub fn early(note: Note) -> Ended
+        ensures { result ≡ record { end = Err note; ran = None } }
+    {
+        Ended {
+            end: Err(note),
+            ran: None,
+        }
+    }
 }

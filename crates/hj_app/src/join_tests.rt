@@ -20,6 +20,19 @@ fn joins_on_equal_keys(rt: HostRuntime) {
     run_all(&rt, rt.alloc(), &[EQUI, JOIN], KEYED);
 }
 
+/// Pairs as one core meets them, with the marks between them.
+const RAW: &str = "\
+;on l.k = r.k;1,7/3,7/;2,7/;0,1,1,7,2,7/#0/2,1,3,7,2,7/#1/#all/;;0
+;on l.k = r.k;;;#all/;;0
+;on l.k = r.k;1,7/x,7/;2,7/;#all/;left record 2: NotNumber column 1/;3
+;on l.k = r.k;1,7/;?;;source: right/;4";
+
+#[test]
+fn writes_pairs_as_they_are_met(rt: HostRuntime) {
+    let words = "raw --cores 1 --threads 1 --flight 1 query left right";
+    run_all(&rt, rt.alloc(), &[words], RAW);
+}
+
 #[test]
 fn expires_rows_by_the_window(rt: HostRuntime) {
     run_all(

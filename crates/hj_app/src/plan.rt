@@ -1,14 +1,14 @@
-ghost use Rattle.std.specs.Prelude.{◌≡◌};
-ghost use Rattle.hj_words.specs.Ranges.{IsInRange};
-ghost use Rattle.hj_app.specs.Crew.{crew_of, threads_of, usual_crew};
+ghost use Rattle.std.specs.Prelude.{◌≡◌, ◌≤◌};
+ghost use Rattle.hj_words.specs.Ranges.{IsFrom, IsInRange};
+ghost use Rattle.hj_app.specs.Crew.{crew_of, crew_with, threads_of, usual_crew};
 ghost use Rattle.hj_app.specs.Orders.{chooser_of};
-ghost use Rattle.hj_app.specs.Serial.{serial_of};
-ghost use Rattle.hj_app.specs.Turning.{crew_seen};
+ghost use Rattle.hj_app.specs.Serial.{serial_of, serial_with};
+ghost use Rattle.hj_app.specs.Turning.{asked_turning, crew_seen, crew_turning, serial_turning, threads_turning};
 ghost use Rattle.hj_opening.specs.Orders.{join_seen, source_seen};
-ghost use Rattle.hj_opening.specs.Words.{join_streams};
+ghost use Rattle.hj_opening.specs.Words.{TextKind, join_streams, named, pair_lines};
 
 use crate::recipe::Recipe;
-use hj_base::{ChainSize, Name};
+use hj_base::{ChainSize, Name, Setup};
 use hj_chain::Chooser;
 use hj_crew::CrewSize;
 use hj_opening::{JoinOrder, Keyed, Source};
@@ -45,13 +45,14 @@ pub enum AloneOrder<'a> {
 pub enum ThreadsOrder<'a> {
     /// A join of two streams.
     Join(JoinOrder<'a>),
+    /// A join of two streams, whose pairs are written as they are met.
+    Raw(JoinOrder<'a>),
     /// The summary of a join of two streams that are made.
     Gen(Recipe),
 }
 
 impl<'a> Turning<'a> {
     ghost use Rattle.hj_opening.specs.Words.{asked_by};
-    ghost use Rattle.hj_app.specs.Turning.{asked_turning, crew_turning, serial_turning, threads_turning};
 
     /// Gives the one who does what an order says: the calling thread for `join --threads 0` and for `check`, threads for every
     /// other order.
@@ -75,25 +76,16 @@ impl<'a> Turning<'a> {
                 query,
                 left,
                 right,
+            } => { join_turning(named_join(query, left, right, *limit), setup, *schedule) }
+            Order::Raw {
+                setup,
+                limit,
+                query,
+                left,
+                right,
             } => {
-                let join = join_of(Source::Named(query.text()), left, right, *limit);
-                let size = ChainSize {
-                    cores: setup.cores,
-                    flight: setup.flight,
-                };
-                if setup.threads > 0 {
-                    let size = CrewSize {
-                        chain: size,
-                        threads: setup.threads,
-                    };
-                    Turning::Threads(ThreadsOrder::Join(join), size)
-                } else {
-                    Turning::Alone(AloneOrder::Join {
-                        join,
-                        size,
-                        chooser: chooser(*schedule),
-                    })
-                }
+                let join = named_join(query, left, right, *limit);
+                Turning::Threads(ThreadsOrder::Raw(join), crew_size(setup))
             }
             Order::Check { query } => Turning::Alone(AloneOrder::Check(query.text())),
             Order::Gen { n, keys, seed, w } => {
@@ -109,9 +101,62 @@ impl<'a> Turning<'a> {
     }
 }
 
+/// Gives the one who makes a join with these numbers: the calling thread where there are no threads.
+fn join_turning<'a>(join: JoinOrder<'a>, setup: &Setup, schedule: Option<u64>) -> Turning<'a>
+    requires cores { IsFrom 1 64 setup.now.cores }
+    requires flight { IsFrom 1 256 setup.now.flight }
+    ensures asked { asked_turning result ≡ join_seen pair_lines join.entry }
+    ensures crew { crew_turning result ≡ crew_with setup.now }
+    ensures threads { threads_turning result ≡ setup.now.threads }
+    ensures serial { serial_turning result ≡ serial_with setup.now schedule }
+{
+    if setup.threads > 0 {
+        return Turning::Threads(ThreadsOrder::Join(join), crew_size(setup));
+    }
+    Turning::Alone(AloneOrder::Join {
+        join,
+        size: chain_size(setup),
+        chooser: chooser(schedule),
+    })
+}
+
+/// Gives the size of the crew that these numbers name.
+fn crew_size(setup: &Setup) -> CrewSize
+    requires cores { IsFrom 1 64 setup.now.cores }
+    requires flight { IsFrom 1 256 setup.now.flight }
+    requires threads { 1 ≤ setup.now.threads }
+    ensures crew { crew_seen result ≡ record { cores = setup.now.cores; flight = setup.now.flight } }
+    ensures threads { result.threads ≡ setup.now.threads }
+{
+    CrewSize {
+        chain: chain_size(setup),
+        threads: setup.threads,
+    }
+}
+
+/// Gives the size of the chain that these numbers name.
+fn chain_size(setup: &Setup) -> ChainSize
+    requires cores { IsFrom 1 64 setup.now.cores }
+    requires flight { IsFrom 1 256 setup.now.flight }
+    ensures cores { result.cores ≡ setup.now.cores }
+    ensures flight { result.flight ≡ setup.now.flight }
+{
+    ChainSize {
+        cores: setup.cores,
+        flight: setup.flight,
+    }
+}
+
+/// Gives the join of the streams under two names, by the query under a name, with this many events at most.
+fn named_join<'a>(query: &'a Name, left: &'a Name, right: &'a Name, limit: u64) -> JoinOrder<'a>
+    ensures { (kind : TextKind) → join_seen kind result ≡ join_streams kind (named query.now) (record { left = left.now; right = right.now }) limit }
+{
+    join_of(Source::Named(query.text()), left, right, limit)
+}
+
 /// Gives the join of the streams under two names, by the query from this source, with this many events at most.
 fn join_of<'a>(source: Source<'a>, left: &'a Name, right: &'a Name, limit: u64) -> JoinOrder<'a>
-    ensures { join_seen result ≡ join_streams (source_seen source.entry) (record { left = left.now; right = right.now }) limit }
+    ensures { (kind : TextKind) → join_seen kind result ≡ join_streams kind (source_seen source.entry) (record { left = left.now; right = right.now }) limit }
 {
     JoinOrder {
         source,

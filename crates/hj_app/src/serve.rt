@@ -13,7 +13,7 @@ ghost use Rattle.hj_opening.specs.Words.{asked_by, order_of};
 
 use crate::ended::Ended;
 use crate::generate::generate;
-use crate::join::join_on_threads;
+use crate::join::{join_on_threads, join_raw_on_threads};
 use crate::plan::{ThreadsOrder, Turning};
 use crate::serial::serve_serial;
 use hj_base::{Gate, Outside, Sink};
@@ -144,6 +144,7 @@ fn run_on_threads<T: Threads + Wait + Clock + Sync, O: Outside, K: Sink, G: Gate
 {
     match order {
         ThreadsOrder::Join(join) => join_on_threads(alloc, join, plan, outside, out),
+        ThreadsOrder::Raw(join) => join_raw_on_threads(alloc, join, plan, outside, out),
         ThreadsOrder::Gen(recipe) => generate(alloc, recipe, plan, out),
     }
 }

@@ -1,0 +1,53 @@
+use Rattle.std.proofs.Common.{sym, subst}
+use Rattle.hj_opening.specs.Calls.{call}
+use Rattle.hj_app.specs.declared.ended.Ended.{Ended}
+use Rattle.hj_app.specs.OnCrew.{RunsOnCrew}
+use Rattle.hj_opening.specs.Orders.{join_seen, names_seen, source_seen}
+use Rattle.hj_opening.specs.Words.{raw_items}
+use Rattle.hj_opening.proofs.Joined.{joins_so}
+use Rattle.hj_app.specs.Turning.{crew_seen}
+use Rattle.hj_app.proofs.Crewed.{runs_early, runs_joined, shows_items}
+use Rattle.hj_app.proofs.RawJoined.{joins_items, untouched_out}
+use Rattle.hj_app.proofs.Opened.{in_step}
+use Rattle.hj_app.proofs.join.join_raw_on_threads.Goals as goal
+
+pub returns-in-Err : goal.returns-in-Err
+returns-in-Err g c =
+    let under = g.O.Outside.under c.args.outside.now in
+    let out = g.K.Sink.told c.args.out.now in
+    let faults = g.K.Sink.faults c.args.out.now in
+    let crew = crew_seen c.args.plan.now.size in
+    let order = join_seen raw_items c.args.join in
+    let before = g.O.Outside.state c.args.outside.now in
+    let now = g.O.Outside.state c.make_ready.new.outside in
+    subst (λ (ended : Ended). RunsOnCrew crew ended order (call under before now out out faults faults)) (sym c.early.ensures)
+    (runs_early crew c.in-Err.note order under before now out faults (c.in-Err.ensures raw_items))
+
+pub join_raw-outcome-requires-clause-left : goal.join_raw-outcome-requires-clause-left
+join_raw-outcome-requires-clause-left g c κs within = in_step _ _ _ _ (c.in-Ok.ensures raw_items).opened.of_left
+
+pub join_raw-outcome-requires-clause-right : goal.join_raw-outcome-requires-clause-right
+join_raw-outcome-requires-clause-right g c κs within = in_step _ _ _ _ (c.in-Ok.ensures raw_items).opened.of_right
+
+pub returns : goal.returns
+returns g c =
+    let under = g.O.Outside.under c.args.outside.now in
+    let before = g.O.Outside.state c.args.outside.now in
+    let ready = g.O.Outside.state c.make_ready.new.outside in
+    let now = g.O.Outside.state c.join_raw-outcome.new.outside in
+    let old = g.K.Sink.told c.args.out.now in
+    let new = g.K.Sink.told c.join_raw-outcome.new.out in
+    let faults = g.K.Sink.faults c.args.out.now in
+    let faults' = g.K.Sink.faults c.join_raw-outcome.new.out in
+    let crew = crew_seen c.args.plan.now.size in
+    let source = source_seen c.args.join.source in
+    let names = names_seen c.args.join in
+    let limit = c.args.join.limit in
+    let ended = c.join_raw-outcome.result.0 in
+    let ran = c.join_raw-outcome.result.1 in
+    let made = c.join_raw-outcome.ensures in
+    let joins = joins_items made.joins.0 crew.cores crew.flight ran made.joins.1 made.no_run (untouched_out _ _ ran made.untouched) in
+    let is_ready = c.in-Ok.ensures raw_items in
+    runs_joined crew raw_items source names limit under before ready now old new c.in-Ok.query is_ready ended joins faults faults' c.end_of.result ran c.end_of.ensures
+    (joins_so raw_items c.in-Ok.query limit names under before ready now old new faults faults' source is_ready c.end_of.result ended c.end_of.ensures joins made.faults)
+    (shows_items crew source names limit under before ready now old new c.in-Ok.query is_ready ended faults faults' made.joins.0 ran joins made.joins.1) made.no_run
