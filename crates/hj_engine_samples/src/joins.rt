@@ -21,16 +21,16 @@ use std::test::Fail;
 use std::thread::{self, Threads};
 use std::time::Clock;
 
-const TEN: &str =
+pub(crate) const TEN: &str =
     "left (ts int, k int) right (ts int, k int) window left rows 10 window right rows 10 on l.k = r.k";
 
 /// Two streams that are joined, the query, and the most events.
 #[derive(Clone, Copy)]
-struct Streams {
-    query: &'static str,
-    limit: u64,
-    left: &'static str,
-    right: &'static str,
+pub(crate) struct Streams {
+    pub(crate) query: &'static str,
+    pub(crate) limit: u64,
+    pub(crate) left: &'static str,
+    pub(crate) right: &'static str,
 }
 
 /// Rows at 1, 3, .. and at 2, 4, .., of which each is joined with the one before it and the one after it.
@@ -62,7 +62,7 @@ fn joins_neighbours_one_event_at_a_time(rt: HostRuntime) -> Result<(), Fail> {
     Ok(())
 }
 
-const TRADES_AND_QUOTES: Streams = Streams {
+pub(crate) const TRADES_AND_QUOTES: Streams = Streams {
     query: "left (ts int, sym text, px int, qty int) right (ts int, sym text, bid int, size int) \
         window left rows 100 window right time 5000 \
         on l.sym = r.sym and l.px within 10 of r.bid and not l.qty < r.size",
@@ -73,7 +73,8 @@ const TRADES_AND_QUOTES: Streams = Streams {
         7500,CD,200,20\n9000,AB,115,50\n",
 };
 
-const TRADES_WITH_QUOTES: &str = "1000,AB,100,50,1000,AB,101,40\n1000,AB,100,50,2500,AB,108,30\n\
+pub(crate) const TRADES_WITH_QUOTES: &str =
+    "1000,AB,100,50,1000,AB,101,40\n1000,AB,100,50,2500,AB,108,30\n\
     2000,AB,105,30,2500,AB,108,30\n4000,CD,195,40,1200,CD,205,20\n4000,CD,195,40,3500,CD,190,40\n\
     3000,AB,120,80,5000,AB,110,70\n6000,AB,98,60,2500,AB,108,30\n6000,AB,98,60,6000,AB,99,60\n\
     4000,CD,195,40,7500,CD,200,20\n7000,CD,207,25,7500,CD,200,20\n9000,AB,111,90,5000,AB,110,70\n\
@@ -194,7 +195,7 @@ fn joined<G: Gate>(
 }
 
 /// Makes the two streams in memory, under the names `l` and `r`.
-fn stored(alloc: Global, streams: Streams) -> Result<MemOutside, Memory>
+pub(crate) fn stored(alloc: Global, streams: Streams) -> Result<MemOutside, Memory>
     ensures left { IfOk result (λ outside. (role_at outside role.Left).phase ≡ unbegun) }
     ensures right { IfOk result (λ outside. (role_at outside role.Right).phase ≡ unbegun) }
 {

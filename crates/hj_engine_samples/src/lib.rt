@@ -3,3 +3,5 @@
 
 #[cfg(test)]
 mod joins;
+#[cfg(test)]
+mod raw;
