@@ -13,7 +13,7 @@ use Rattle.hj_msg.specs.declared.fin.Fin.TheVariants as fin
 use Rattle.hj_msg.specs.declared.message.Report.{Report}
 use Rattle.hj_msg.specs.Feed.{FeedState, events_in}
 use Rattle.hj_msg.specs.Met.{AreAllReportsOf}
-use Rattle.hj_msg.specs.Run.{Run, IsRun}
+use Rattle.hj_msg.specs.Run.{Run}
 use Rattle.hj_msg.proofs.Members.{Contains-filter, Contains-map, Contains-nil}
 use Rattle.hj_link.specs.Seen.{WaySeen}
 use Rattle.hj_collect.specs.Collector.{CollectorState}
