@@ -136,6 +136,13 @@ impl KeptText {
     {
         &self.text
     }
+
+    /// Gives up all bytes that were written, in their order.
+    pub fn into_bytes(self) -> Bytes
+        ensures { result ≡ self.text }
+    {
+        Bytes::from_vec(self.text)
+    }
 }
 
 impl Sink for KeptText {
