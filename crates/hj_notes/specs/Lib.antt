@@ -2,3 +2,4 @@ pub mod NoteText
 pub mod NoteWritten
 pub mod Notes
 pub mod Parts
+pub mod TwiceText

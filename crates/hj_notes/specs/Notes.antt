@@ -25,6 +25,7 @@ usage_note = codes "usage: equi W LEFT RIGHT"
     ++ codes " | check QUERY"
     ++ codes " | gen N KEYS SEED W"
     ++ codes " | raw [--cores N] [--threads N] [--flight N] [--max-events N] QUERY LEFT RIGHT"
+    ++ codes " | twice [--cores N] [--threads N] [--flight N] [--max-events N] [--schedule SEED] QUERY LEFT RIGHT QUERY THIRD"
     ++ codes "\n"
 
 abbrev pub side_name : Side → List ℕ
@@ -72,9 +73,13 @@ fault_text (fault.Piece found) = piece_text found
 fault_text (fault.Row found) = row_text found
 fault_text (fault.TimeBack before found) = codes "TimeBack " ++ signed_decimal before ++ codes " " ++ signed_decimal found
 
--- A bad record: its side, its number from 1, and its fault.
+-- A bad record: the name of its stream, its number from 1, and its fault.
+abbrev pub stream_note : List ℕ → ℕ → RecordFault → List ℕ
+stream_note stream at found = stream ++ codes " record " ++ decimal at ++ codes ": " ++ fault_text found ++ codes "\n"
+
+-- one of a side
 abbrev pub record_note : Side → ℕ → RecordFault → List ℕ
-record_note of at found = side_name of ++ codes " record " ++ decimal at ++ codes ": " ++ fault_text found ++ codes "\n"
+record_note of at found = stream_note (side_name of) at found
 
 -- What a query text has to go on with, by its name.
 abbrev pub wanted_text : Wanted → List ℕ
@@ -146,6 +151,10 @@ abbrev pub place_text : Option ℕ → List ℕ
 place_text None = []
 place_text (Some place) = codes " at " ++ decimal place
 
--- A refused query: its first fault and the fault's place.
+-- A refused query: its name, its first fault and the fault's place.
+abbrev pub refused_note : List ℕ → QueryFault → List ℕ
+refused_note name found = name ++ codes ": " ++ query_text found ++ place_text (query_place found) ++ codes "\n"
+
+-- the one of a run with one query, or the first of two
 abbrev pub query_note : QueryFault → List ℕ
-query_note found = codes "query: " ++ query_text found ++ place_text (query_place found) ++ codes "\n"
+query_note found = refused_note (role_name role.Query) found

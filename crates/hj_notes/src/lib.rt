@@ -5,7 +5,9 @@ mod note;
 mod parts;
 mod query_note;
 mod record_note;
+mod twice_note;
 mod writing;
 
 pub use note::Note;
+pub use twice_note::{TwiceNote, report_twice, write_twice_note};
 pub use writing::{report, write_note};

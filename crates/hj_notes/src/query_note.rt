@@ -1,6 +1,6 @@
 ghost use Rattle.std.specs.Prelude.{◌≡◌};
 ghost use Rattle.std.specs.List.{flat_map};
-ghost use Rattle.hj_notes.specs.Notes.{query_note, query_place, query_text, lex_place, lex_text, place_text, wanted_text};
+ghost use Rattle.hj_notes.specs.Notes.{refused_note, query_place, query_text, lex_place, lex_text, place_text, wanted_text};
 ghost use Rattle.hj_notes.specs.NoteWritten.{NoteWritten};
 ghost use Rattle.hj_notes.specs.Parts.{part_text};
 
@@ -9,14 +9,15 @@ use hj_base::Sink;
 use hj_lex::LexFault;
 use hj_query::{QueryFault, Wanted};
 
-/// Writes the note of a refused query: its first fault, and the fault's place.
-pub fn put_query<N: Sink>(notes: &mut N, fault: QueryFault)
-    ensures { NoteWritten (query_note fault) (N.told notes.old) (N.told notes.new) (N.refusals notes.old) (N.refusals notes.new) }
+/// Writes the note of a refused query: its name, its first fault, and the fault's place.
+pub fn put_query<N: Sink>(notes: &mut N, name: Part, fault: QueryFault)
+    ensures { NoteWritten (refused_note (part_text name) fault) (N.told notes.old) (N.told notes.new) (N.refusals notes.old) (N.refusals notes.new) }
 {
     let [kind, wanted] = query_parts(fault);
     let [at, place] = place_parts(query_place(fault));
     let parts = [
-        Part::Words("query: "),
+        name,
+        Part::Words(": "),
         kind,
         wanted,
         at,

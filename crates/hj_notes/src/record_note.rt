@@ -1,21 +1,21 @@
 ghost use Rattle.std.specs.Prelude.{◌≡◌};
 ghost use Rattle.std.specs.List.{flat_map};
-ghost use Rattle.hj_notes.specs.Notes.{piece_text, row_text, fault_text, record_note};
+ghost use Rattle.hj_notes.specs.Notes.{piece_text, row_text, fault_text, stream_note};
 ghost use Rattle.hj_notes.specs.NoteWritten.{NoteWritten};
 ghost use Rattle.hj_notes.specs.Parts.{part_text};
 
-use crate::parts::{NOTHING, Part, put_parts, side_name};
-use hj_base::{Side, Sink};
+use crate::parts::{NOTHING, Part, put_parts};
+use hj_base::Sink;
 use hj_event::{RecordFault, RowFault};
 use hj_record::PieceFault;
 
-/// Writes the note of a bad record: its side, its number from 1, and its fault.
-pub fn put_record<N: Sink>(notes: &mut N, side: Side, at: u64, fault: RecordFault)
-    ensures { NoteWritten (record_note side at fault) (N.told notes.old) (N.told notes.new) (N.refusals notes.old) (N.refusals notes.new) }
+/// Writes the note of a bad record: its stream's name, its number from 1, and its fault.
+pub fn put_record<N: Sink>(notes: &mut N, stream: Part, at: u64, fault: RecordFault)
+    ensures { NoteWritten (stream_note (part_text stream) at fault) (N.told notes.old) (N.told notes.new) (N.refusals notes.old) (N.refusals notes.new) }
 {
     let [kind, first, between, second] = fault_parts(fault);
     let parts = [
-        side_name(side),
+        stream,
         Part::Words(" record "),
         Part::Number(at),
         Part::Words(": "),

@@ -3,15 +3,16 @@ ghost use Rattle.hj_notes.specs.NoteText.{note_text, status_of_end, text_of_end}
 ghost use Rattle.hj_notes.specs.NoteWritten.{NoteWritten};
 
 use crate::note::Note;
-use crate::parts::{Part, put_parts, role_name};
+use crate::parts::{Part, put_parts, role_name, side_name};
 use crate::query_note::put_query;
 use crate::record_note::put_record;
-use hj_base::Sink;
+use hj_base::{Role, Sink};
 
 const USAGE: &str = "\
 usage: equi W LEFT RIGHT | join [--cores N] [--threads N] [--flight N] [--max-events N] [--schedule SEED] QUERY LEFT RIGHT \
 | check QUERY | gen N KEYS SEED W \
-| raw [--cores N] [--threads N] [--flight N] [--max-events N] QUERY LEFT RIGHT\n";
+| raw [--cores N] [--threads N] [--flight N] [--max-events N] QUERY LEFT RIGHT \
+| twice [--cores N] [--threads N] [--flight N] [--max-events N] [--schedule SEED] QUERY LEFT RIGHT QUERY THIRD\n";
 
 /// Writes the note of an ending, and answers its status.
 pub fn report<N: Sink>(notes: &mut N, ended: Result<(), Note>) -> u8
@@ -33,8 +34,8 @@ pub fn write_note<N: Sink>(notes: &mut N, note: &Note)
 {
     match *note {
         Note::Usage => put_parts(notes, &[Part::Words(USAGE)]),
-        Note::BadQuery(fault) => put_query(notes, fault),
-        Note::BadRecord { side, at, fault } => put_record(notes, side, at, fault),
+        Note::BadQuery(fault) => put_query(notes, role_name(Role::Query), fault),
+        Note::BadRecord { side, at, fault } => put_record(notes, side_name(side), at, fault),
         Note::Source(role) => put_parts(
             notes,
             &[Part::Words("source: "), role_name(role), Part::Words("\n")],
