@@ -71,7 +71,13 @@ raw --threads 65 q a b
 raw --schedule 1 q a b
 raw --schedule 1 --threads 0 q a b
 raw q a
-raw q a b c";
+raw q a b c
+twice q a b r
+twice q a b . c
+twice q a b r -
+twice q a b r c d
+twice --schedule 1 q a b r c
+twice --threads 65 q a b r c";
 
 /// Names the command of an order.
 fn command(order: &Order) -> &'static str {
@@ -81,6 +87,7 @@ fn command(order: &Order) -> &'static str {
         Order::Check { .. } => "check",
         Order::Gen { .. } => "gen",
         Order::Raw { .. } => "raw",
+        Order::Twice { .. } => "twice",
     }
 }
 
@@ -89,6 +96,12 @@ fn numbers(alloc: Global, order: &Order) -> Result<String, AllocError> {
     match order {
         Order::Equi { w, .. } => format!(in alloc; " {w}"),
         Order::Join {
+            setup,
+            limit,
+            schedule,
+            ..
+        }
+        | Order::Twice {
             setup,
             limit,
             schedule,
@@ -129,6 +142,14 @@ fn names(alloc: Global, order: &Order) -> Result<String, AllocError> {
         } => listed(alloc, &[query, left, right]),
         Order::Check { query } => listed(alloc, &[query]),
         Order::Gen { .. } => Ok(String::new(alloc)),
+        Order::Twice {
+            query,
+            left,
+            right,
+            second,
+            third,
+            ..
+        } => listed(alloc, &[query, left, right, second, third]),
     }
 }
 
@@ -184,7 +205,9 @@ equi 00000000000001000000 a -- -b | equi 1000000 a -b
 check q- | check q-
 gen 0 1000000000 18446744073709551615 1 | gen 0 1000000000 18446744073709551615 1
 raw q a b | raw 4 4 32 4294967295 q a b
-raw --cores=64 q --threads 1 a --max-events 7 --flight=1 b | raw 64 1 1 7 q a b";
+raw --cores=64 q --threads 1 a --max-events 7 --flight=1 b | raw 64 1 1 7 q a b
+twice q a b r c | twice 4 4 32 4294967295 0 q a b r c
+twice --schedule 3 q --threads=0 a b --cores 1 r --flight 2 c --max-events 1 | twice 1 0 2 1 3 q a b r c";
 
 #[test]
 fn reads_orders(rt: HostRuntime) {

@@ -6,7 +6,7 @@ use Rattle.hj_words.specs.Values.{Text, Value, given, text_of}
 use Rattle.hj_words.specs.declared.order.Order.{Order}
 use Rattle.hj_words.specs.declared.names.JoinNames.{JoinNames}
 use Rattle.hj_words.specs.declared.numbers.JoinNumbers.{JoinNumbers}
-use Rattle.hj_words.specs.declared.order.Order.TheVariants.{Equi, Join, Check, Gen, Raw}
+use Rattle.hj_words.specs.declared.order.Order.TheVariants.{Equi, Join, Check, Gen, Raw, Twice}
 
 -- 1 to 20 decimal digits
 abbrev pub is_number : Text → Bool
@@ -138,6 +138,18 @@ raw_of values =
     (text_of (codes "flight") values) (text_of (codes "max-events") values) None)
     (names_among values)
 
+-- `twice [--cores N] [--threads N] [--flight N] [--max-events N] [--schedule SEED] QUERY LEFT RIGHT QUERY THIRD`, whose options are
+-- those of `join`
+abbrev pub twice_of : List Value → Option Order
+twice_of values =
+    option_and_then (λ second.
+    option_and_then (λ third.
+    order_with (λ numbers names.
+    Twice numbers.setup numbers.limit numbers.schedule names.query names.left names.right second third)
+    (numbers_among values) (names_among values))
+    (name_in (text_of (codes "third") values)))
+    (name_in (text_of (codes "second") values))
+
 abbrev pub no_options : List Text
 no_options = []
 
@@ -160,6 +172,9 @@ gen_names = codes "n" ∷ codes "keys" ∷ codes "seed" ∷ codes "w" ∷ []
 abbrev pub raw_options : List Text
 raw_options = codes "cores" ∷ codes "threads" ∷ codes "flight" ∷ codes "max-events" ∷ []
 
+abbrev pub twice_names : List Text
+twice_names = codes "query" ∷ codes "left" ∷ codes "right" ∷ codes "second" ∷ codes "third" ∷ []
+
 -- The order that the words behind a command spell, if they spell one.
 abbrev pub equi_spelled : List Text → Option Order
 equi_spelled words = option_and_then equi_of (given no_options equi_names words)
@@ -176,6 +191,9 @@ gen_spelled words = option_and_then gen_of (given no_options gen_names words)
 abbrev pub raw_spelled : List Text → Option Order
 raw_spelled words = option_and_then raw_of (given raw_options join_names words)
 
+abbrev pub twice_spelled : List Text → Option Order
+twice_spelled words = option_and_then twice_of (given join_options twice_names words)
+
 -- The order that the words spell, if they spell one.
 abbrev pub order_of : List Text → Option Order
 order_of [] = None
@@ -185,4 +203,5 @@ order_of (command ∷ words) =
     else if bytes_eq command (codes "check") then check_spelled words
     else if bytes_eq command (codes "gen") then gen_spelled words
     else if bytes_eq command (codes "raw") then raw_spelled words
+    else if bytes_eq command (codes "twice") then twice_spelled words
     else None

@@ -3,7 +3,7 @@ use Rattle.std.specs.Prelude.{ℕ, ◌≤◌}
 use Rattle.hj_base.specs.declared.numbers.Setup.{Setup}
 use Rattle.hj_words.specs.Orders.{most_events, most_rows}
 use Rattle.hj_words.specs.declared.order.Order.{Order}
-use Rattle.hj_words.specs.declared.order.Order.TheVariants.{Equi, Join, Check, Gen, Raw}
+use Rattle.hj_words.specs.declared.order.Order.TheVariants.{Equi, Join, Check, Gen, Raw, Twice}
 
 pub record IsFrom (low high value : ℕ) : Type 0 where
   pub least : low ≤ value
@@ -28,3 +28,4 @@ IsInRange (Join setup limit schedule query left right) = AreOptions 0 setup limi
 IsInRange (Check query) = Unit {0}
 IsInRange (Gen n keys seed w) = AreNumbers n keys w
 IsInRange (Raw setup limit query left right) = AreOptions 1 setup limit
+IsInRange (Twice setup limit schedule query left right second third) = AreOptions 0 setup limit

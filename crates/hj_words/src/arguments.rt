@@ -5,7 +5,7 @@ ghost use Rattle.clap.specs.Simple.{with_rule};
 ghost use Rattle.clap.specs.Words.{app_of, rule_of};
 ghost use Rattle.hj_words.specs.Arguments.{Accepts, Carries, Refuses, bare_app, command_app, option_rule, positional_rule};
 ghost use Rattle.hj_words.specs.Orders.{no_options, equi_names, join_options, join_names, check_names, gen_names};
-ghost use Rattle.hj_words.specs.Orders.{raw_options};
+ghost use Rattle.hj_words.specs.Orders.{raw_options, twice_names};
 ghost use Rattle.hj_words.specs.Values.{given};
 
 use crate::order::Usage;
@@ -61,6 +61,16 @@ pub fn raw_matches<'a>(alloc: Global, words: &'a [String]) -> Result<ArgMatches<
         → given raw_options join_names (map string_bytes words.entry.now) ≡ None) }
 {
     matches(alloc, "raw", &RAW_OPTIONS, &JOIN_NAMES, words)
+}
+
+/// Reads the values of the words after `twice`.
+pub fn twice_matches<'a>(alloc: Global, words: &'a [String]) -> Result<ArgMatches<'a>, Usage>
+    ensures ok { IfOk result (Carries join_options twice_names (map string_bytes words.entry.now)) }
+    ensures err { IfErr result (λ fault. fault ≡ Usage.Words
+        → given join_options twice_names (map string_bytes words.entry.now) ≡ None) }
+{
+    let names = ["query", "left", "right", "second", "third"];
+    matches(alloc, "twice", &JOIN_OPTIONS, &names, words)
 }
 
 /// Reads the values of the words after a command with these options, and these names for words by their place.

@@ -58,6 +58,25 @@ pub enum Order {
         /// The name of the right stream.
         right: Name,
     },
+    /// `twice QUERY LEFT RIGHT QUERY THIRD`: the join of the pairs of the join of two streams with a third stream.
+    Twice {
+        /// How both joins are spread out.
+        setup: Setup,
+        /// How many events each join takes at most, from 1 to 4,294,967,295.
+        limit: u64,
+        /// The seed by which a run without threads is interleaved; None where the actors take turns.
+        schedule: Option<u64>,
+        /// The name of the first join's query.
+        query: Name,
+        /// The name of the first join's left stream.
+        left: Name,
+        /// The name of the first join's right stream.
+        right: Name,
+        /// The name of the second join's query.
+        second: Name,
+        /// The name of the second join's right stream.
+        third: Name,
+    },
 }
 
 /// Why no order was read.

@@ -1,8 +1,11 @@
 ghost use Rattle.std.specs.Prelude.{◌≡◌, IfOk, IfErr, IfSome, Some, None, map, option_map, string_bytes};
-ghost use Rattle.hj_words.specs.Orders.{order_of, equi_spelled, join_spelled, check_spelled, gen_spelled, gen_order, raw_spelled};
+ghost use Rattle.hj_words.specs.Orders.{order_of, equi_spelled, join_spelled, check_spelled, gen_spelled, gen_order};
+ghost use Rattle.hj_words.specs.Orders.{raw_spelled, twice_spelled};
 ghost use Rattle.hj_words.specs.Ranges.{IsInRange};
 
-use crate::arguments::{check_matches, equi_matches, gen_matches, join_matches, raw_matches};
+use crate::arguments::{
+    check_matches, equi_matches, gen_matches, join_matches, raw_matches, twice_matches,
+};
 use crate::names::{named, names_among};
 use crate::numbers::{join_numbers, numbers_among};
 use crate::order::{Order, Usage};
@@ -26,6 +29,7 @@ pub fn read_words(alloc: Global, words: &[String]) -> Result<Order, Usage>
         "check" => read_check(alloc, rest),
         "gen" => read_gen(alloc, rest),
         "raw" => read_raw(alloc, rest),
+        "twice" => read_twice(alloc, rest),
         _ => Err(Usage::Words),
     }
 }
@@ -140,5 +144,28 @@ fn read_raw(alloc: Global, words: &[String]) -> Result<Order, Usage>
         query: names.query,
         left: names.left,
         right: names.right,
+    })
+}
+
+/// Reads the order of the words after `twice`.
+fn read_twice(alloc: Global, words: &[String]) -> Result<Order, Usage>
+    ensures ok { IfOk result (λ order. twice_spelled (map string_bytes words.now) ≡ Some order) }
+    ensures ranges { IfOk result IsInRange }
+    ensures err { IfErr result (λ fault. fault ≡ Usage.Words → twice_spelled (map string_bytes words.now) ≡ None) }
+{
+    let matches = twice_matches(alloc, words)?;
+    let second = named(alloc, matches.get_str("second"))?;
+    let third = named(alloc, matches.get_str("third"))?;
+    let numbers = numbers_among(&matches).ok_or(Usage::Words)?;
+    let names = names_among(alloc, &matches)?;
+    Ok(Order::Twice {
+        setup: numbers.setup,
+        limit: numbers.limit,
+        schedule: numbers.schedule,
+        query: names.query,
+        left: names.left,
+        right: names.right,
+        second,
+        third,
     })
 }
