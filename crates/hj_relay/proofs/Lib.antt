@@ -1,0 +1,10 @@
+pub mod Arriving
+pub mod Each
+pub mod FieldKinds
+pub mod LeftEnd
+pub mod Lines
+pub mod Numbers
+pub mod Pairs
+pub mod Places
+pub mod ReadBack
+pub mod Rows

@@ -1,0 +1,4 @@
+pub mod Fits
+pub mod Relay
+pub mod Rows
+pub mod Twice
