@@ -1,0 +1,2 @@
+pub mod BothJoins
+pub mod Kept
