@@ -15,7 +15,9 @@ use Rattle.hj_opening.specs.Calls.{Call}
 use Rattle.hj_opening.specs.Check.{BeginsCanonical, WritesCanonical}
 use Rattle.hj_opening.specs.Generating.{BeginsSummary, WritesSummary}
 use Rattle.hj_opening.specs.Run.{RunsOrder}
-use Rattle.hj_opening.specs.Serve.{BeginsInOrder, BeginsSource, Ends, EndsBy, EndsCheck, EndsGen, EndsJoin, FailsJoin, IsJoinDecided, IsJoinFront, IsJoinRole, IsQueryAlone, IsRead, JoinsAll, JoinsWhole, NothingFails, RefusesNamed, RefusesQuery, status_of_ending}
+use Rattle.hj_opening.specs.Keeping.{Ends, IsQueryAlone, NothingFails, RefusesQuery, status_of_ending}
+use Rattle.hj_opening.specs.Serve.{BeginsInOrder, BeginsSource, EndsBy, EndsCheck, EndsGen, EndsJoin, FailsJoin, IsJoinDecided, IsJoinFront, IsJoinRole, IsRead, JoinsAll, JoinsWhole, RefusesNamed}
+use Rattle.hj_opening.specs.Keeping as keeping
 use Rattle.hj_opening.specs.Serve as says
 use Rattle.hj_opening.specs.Streams.{Fails, IsBegunUnder}
 use Rattle.hj_opening.specs.Words.{Names, Recipe, Source, TextKind, check_query, join_streams, keyed, most_events, named, sum_up}
@@ -64,14 +66,14 @@ module _ (kind : TextKind) (source : Source) (names : Names) (limit : ℕ) (call
   JoinCause (Err (why.TooManyEvents most)) = (most ≡ limit) × JoinsAll kind (λ ending. ending ≡ too_many) source names limit call
 
   join_ends : (ended : End) → JoinCause ended → CountsSink ended call.faults_before call.faults_now → Ends (EndsJoin kind source names limit call) (status_of_end ended) (text_of_end ended) call
-  join_ends (Ok done) cause counts = says.own (says.joined refl refl cause)
+  join_ends (Ok done) cause counts = keeping.own (says.joined refl refl cause)
   join_ends (Err why.Usage) cause counts = absurd cause
-  join_ends (Err (why.BadQuery found)) cause counts = says.own (says.bad_query found refl refl cause)
-  join_ends (Err (why.BadRecord side at found)) cause counts = says.own (says.bad_record side at found refl refl cause)
-  join_ends (Err (why.Source of)) cause counts = says.own (says.failed_source of refl refl cause)
-  join_ends (Err why.Sink) cause counts = says.failed_sink refl refl counts
-  join_ends (Err why.Memory) cause counts = says.memory refl refl
-  join_ends (Err (why.TooManyEvents most)) cause counts = says.own (says.events refl (ap (λ (n : ℕ). text_of_end (Err (why.TooManyEvents n))) cause.0) cause.1)
+  join_ends (Err (why.BadQuery found)) cause counts = keeping.own (says.bad_query found refl refl cause)
+  join_ends (Err (why.BadRecord side at found)) cause counts = keeping.own (says.bad_record side at found refl refl cause)
+  join_ends (Err (why.Source of)) cause counts = keeping.own (says.failed_source of refl refl cause)
+  join_ends (Err why.Sink) cause counts = keeping.failed_sink refl refl counts
+  join_ends (Err why.Memory) cause counts = keeping.memory refl refl
+  join_ends (Err (why.TooManyEvents most)) cause counts = keeping.own (says.events refl (ap (λ (n : ℕ). text_of_end (Err (why.TooManyEvents n))) cause.0) cause.1)
 
   ends_by : (status : ℕ) (ending : Ending) → status ≡ status_of_ending ending → JoinsAll kind (λ e. e ≡ ending) source names limit call → EndsBy status source names limit call
   ends_by status ending is all =
@@ -91,9 +93,9 @@ module _ (kind : TextKind) (source : Source) (names : Names) (limit : ℕ) (call
   own_decides status note (says.events is told all) none = inr (ends_by status too_many is all)
 
   join_decides : (status : ℕ) (note : List ℕ) → Ends (EndsJoin kind source names limit call) status note call → NothingFails call → (status ≡ 6) ⊎ IsJoinDecided status source names limit call
-  join_decides status note (says.own how) none = inr (own_decides status note how none)
-  join_decides status note (says.failed_sink is told rose) none = absurd (none.sink rose)
-  join_decides status note (says.memory is told) none = inl is
+  join_decides status note (keeping.own how) none = inr (own_decides status note how none)
+  join_decides status note (keeping.failed_sink is told rose) none = absurd (none.sink rose)
+  join_decides status note (keeping.memory is told) none = inl is
 
   pub join_runs : (ended : End) → JoinCause ended → CountsSink ended call.faults_before call.faults_now → (grown : List ℕ) → Appends call.old call.new grown → (grown ≡ []) ⊎ IsJoinFront kind source names limit call grown
       → BeginsInOrder source names call → ((of : Role) → ¬ (IsJoinRole source of) → (call.now of).phase ≡ unbegun) → RunsOrder ended (join_streams kind source names limit) call
@@ -124,13 +126,13 @@ module _ (name : List ℕ) (call : Call) where
   CheckCause (Err (why.TooManyEvents most)) = ⊥
 
   check_ends : (ended : End) → CheckCause ended → CountsSink ended call.faults_before call.faults_now → Ends (EndsCheck name call) (status_of_end ended) (text_of_end ended) call
-  check_ends (Ok done) cause counts = says.own (says.checked refl refl cause)
+  check_ends (Ok done) cause counts = keeping.own (says.checked refl refl cause)
   check_ends (Err why.Usage) cause counts = absurd cause
-  check_ends (Err (why.BadQuery found)) cause counts = says.own (says.refused found refl refl cause)
+  check_ends (Err (why.BadQuery found)) cause counts = keeping.own (says.refused found refl refl cause)
   check_ends (Err (why.BadRecord side at found)) cause counts = absurd cause
-  check_ends (Err (why.Source of)) cause counts = says.own (says.failed_query refl (ap source_note cause.0) cause.1 cause.2)
-  check_ends (Err why.Sink) cause counts = says.failed_sink refl refl counts
-  check_ends (Err why.Memory) cause counts = says.memory refl refl
+  check_ends (Err (why.Source of)) cause counts = keeping.own (says.failed_query refl (ap source_note cause.0) cause.1 cause.2)
+  check_ends (Err why.Sink) cause counts = keeping.failed_sink refl refl counts
+  check_ends (Err why.Memory) cause counts = keeping.memory refl refl
   check_ends (Err (why.TooManyEvents most)) cause counts = absurd cause
 
   abbrev CheckDecided : ℕ → Type 0
@@ -142,9 +144,9 @@ module _ (name : List ℕ) (call : Call) where
   own_check status note (says.failed_query is told fails nothing) none = absurd (none.roles role.Query fails)
 
   check_decides : (status : ℕ) (note : List ℕ) → Ends (EndsCheck name call) status note call → NothingFails call → (status ≡ 6) ⊎ CheckDecided status
-  check_decides status note (says.own how) none = inr (own_check status note how none)
-  check_decides status note (says.failed_sink is told rose) none = absurd (none.sink rose)
-  check_decides status note (says.memory is told) none = inl is
+  check_decides status note (keeping.own how) none = inr (own_check status note how none)
+  check_decides status note (keeping.failed_sink is told rose) none = absurd (none.sink rose)
+  check_decides status note (keeping.memory is told) none = inl is
 
   pub check_runs : (ended : End) → CheckCause ended → CountsSink ended call.faults_before call.faults_now → (grown : List ℕ) → Appends call.old call.new grown → (grown ≡ []) ⊎ BeginsCanonical grown name call
       → IsBegunUnder name (call.now role.Query).phase → IsQueryAlone call.now → RunsOrder ended (check_query name) call
@@ -171,9 +173,9 @@ module _ (recipe : Recipe) (call : Call) where
   GenCause (Err other) = ⊥
 
   gen_ends : (ended : End) → GenCause ended → CountsSink ended call.faults_before call.faults_now → Ends (EndsGen recipe call) (status_of_end ended) (text_of_end ended) call
-  gen_ends (Ok done) cause counts = says.own (says.summed refl refl cause)
-  gen_ends (Err why.Sink) cause counts = says.failed_sink refl refl counts
-  gen_ends (Err why.Memory) cause counts = says.memory refl refl
+  gen_ends (Ok done) cause counts = keeping.own (says.summed refl refl cause)
+  gen_ends (Err why.Sink) cause counts = keeping.failed_sink refl refl counts
+  gen_ends (Err why.Memory) cause counts = keeping.memory refl refl
   gen_ends (Err why.Usage) cause counts = absurd cause
   gen_ends (Err (why.BadQuery found)) cause counts = absurd cause
   gen_ends (Err (why.BadRecord side at found)) cause counts = absurd cause
@@ -184,9 +186,9 @@ module _ (recipe : Recipe) (call : Call) where
   own_summed status note (says.summed is told written) = (is, written)
 
   gen_decides : (status : ℕ) (note : List ℕ) → Ends (EndsGen recipe call) status note call → NothingFails call → (status ≡ 6) ⊎ ((status ≡ 0) × WritesSummary recipe most_events call)
-  gen_decides status note (says.own how) none = inr (own_summed status note how)
-  gen_decides status note (says.failed_sink is told rose) none = absurd (none.sink rose)
-  gen_decides status note (says.memory is told) none = inl is
+  gen_decides status note (keeping.own how) none = inr (own_summed status note how)
+  gen_decides status note (keeping.failed_sink is told rose) none = absurd (none.sink rose)
+  gen_decides status note (keeping.memory is told) none = inl is
 
   pub gen_runs : (ended : End) → GenCause ended → CountsSink ended call.faults_before call.faults_now → (grown : List ℕ) → Appends call.old call.new grown → (grown ≡ []) ⊎ BeginsSummary grown recipe most_events
       → ((of : Role) → call.now of ≡ call.before of) → ((of : Role) → (call.now of).phase ≡ unbegun) → RunsOrder ended (sum_up recipe) call

@@ -39,7 +39,7 @@ use Rattle.hj_opening.proofs.Readying.{reads_side}
 
 -- ---- whether a role's count of faults rose
 
-SomeFails : Roles → Roles → Type 0
+pub SomeFails : Roles → Roles → Type 0
 SomeFails before now = (of : Role) × Fails of before now
 
 rose_or_not : (before now : ℕ) → ¬ (Rose before now) ⊎ Rose before now
@@ -50,7 +50,7 @@ unless_fails : {A : Type 0} (of : Role) (before now : Roles) → (¬ (Fails of b
 unfolding SomeFails
 unless_fails of before now next = elim (rose_or_not (before of).faults (now of).faults) [ inl calm ↦ next calm | inr rose ↦ inr (of, rose) ]
 
-fails_or_none : (before now : Roles) → NoneFails before now ⊎ SomeFails before now
+pub fails_or_none : (before now : Roles) → NoneFails before now ⊎ SomeFails before now
 fails_or_none before now =
     unless_fails role.Query before now (λ q.
     unless_fails role.SecondQuery before now (λ s.
@@ -107,7 +107,7 @@ unfolding rest_read
 came_read told left bytes ended c = subst (λ (xs : List ℕ). Consumes told left xs) (sym (append-nil bytes)) c
 
 -- What stands behind the bytes that were read of a role, so that with them it is the role's stream in this call.
-record Behind (told : Option (List ℕ)) (of : Role) (before now : Roles) (failed ended : Bool) (bytes : List ℕ) : Type 0 where
+pub record Behind (told : Option (List ℕ)) (of : Role) (before now : Roles) (failed ended : Bool) (bytes : List ℕ) : Type 0 where
   pub rest : Stream
   pub follows : Follows failed ended rest
   pub is : IsStream told of before now (in_front bytes rest)
@@ -117,14 +117,14 @@ module _ (name : List ℕ) (told : Option (List ℕ)) (of : Role) (before mid no
   came_of : Consumes told (now of).left bytes
   came_of = subst (λ (left : Option (List ℕ)). Consumes left (now of).left bytes) ready.left reads.came
 
-  phase_of : (now of).phase ≡ opened name ended
+  pub phase_of : (now of).phase ≡ opened name ended
   phase_of = reads.in_step.phase ∙ ap (λ (n : List ℕ). opened n ended) (reads.name ∙ ap name_of ready.phase)
 
   failure : (f : Bool) → f ≡ true → CountsFailure f (mid of).faults (now of).faults → Fails of before now
   failure true e counts = subst (λ (n : ℕ). Rose n (now of).faults) ready.faults counts.1
   failure false e counts = absurd cc
 
-  fails_of : failed ≡ true → Fails of before now
+  pub fails_of : failed ≡ true → Fails of before now
   fails_of e = failure failed e reads.faults
 
   unfailed : (f : Bool) → f ≡ failed → NoneFails before now → f ≡ false
@@ -153,11 +153,11 @@ module _ (name : List ℕ) (told : Option (List ℕ)) (of : Role) (before mid no
     };
   }
 
-  behind : NoneFails before now ⊎ SomeFails before now → Behind told of before now failed ended bytes
+  pub behind : NoneFails before now ⊎ SomeFails before now → Behind told of before now failed ended bytes
   behind which = elim which [ inl none ↦ behind_whole none | inr some ↦ behind_read some ]
 
 -- a stream of which the end was read, and of which no read failed
-whole_behind : (failed ended : Bool) (bytes : List ℕ) (rest : Stream) → failed ≡ false → ended ≡ true → Follows failed ended rest → (in_front bytes rest).whole ≡ true
+pub whole_behind : (failed ended : Bool) (bytes : List ℕ) (rest : Stream) → failed ≡ false → ended ≡ true → Follows failed ended rest → (in_front bytes rest).whole ≡ true
 whole_behind true ended bytes rest none end follows = absurd cc
 whole_behind false true bytes rest none end follows = ap (λ (s : Stream). s.whole) follows
 whole_behind false false bytes rest none end follows = absurd cc

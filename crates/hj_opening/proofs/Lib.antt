@@ -8,3 +8,7 @@ pub mod QueryReading
 pub mod Readying
 pub mod RunningOrders
 pub mod Serving
+pub mod TwiceEndings
+pub mod TwiceJoined
+pub mod TwiceReading
+pub mod TwiceReadying

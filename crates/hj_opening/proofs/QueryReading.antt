@@ -4,7 +4,6 @@ use Rattle.std.specs.Io.KnownBytes.{Consumes, IsAtEnd}
 use Rattle.std.specs.declared.option.Option.{Option}
 use Rattle.std.specs.Prelude.{IfSome}
 use Rattle.hj_base.specs.declared.outside.Role.{Role}
-use Rattle.hj_base.specs.declared.outside.Role.TheVariants as role
 use Rattle.hj_base.specs.Counts.{Rose}
 use Rattle.hj_base.specs.Journals.{IsPrefix}
 use Rattle.hj_base.specs.Outside.{RoleState, Phase, ChangesOnly, at_end, opened, unbegun}
@@ -62,10 +61,10 @@ begun_as name phase ended e = subst (λ (p : Phase). IsBegunUnder name p) (sym e
 
 -- ---- the query under a name
 
-module _ (name : List ℕ) (under : List ℕ → Option (List ℕ)) (before mid now : Role → RoleState) where
+module _ (asked : Role) (name : List ℕ) (under : List ℕ → Option (List ℕ)) (before mid now : Role → RoleState) where
   -- its stream couldn't be opened
-  pub unopened : (note : Note) → Opens (Err note) role.Query name (under name) (before role.Query) (now role.Query) → (before role.Query).phase ≡ unbegun
-      → ChangesOnly role.Query before now → GetsQuery (Err note) (named name) under before now
+  pub unopened : (note : Note) → Opens (Err note) asked name (under name) (before asked) (now asked) → (before asked).phase ≡ unbegun
+      → ChangesOnly asked before now → GetsQuery (Err note) asked (named name) under before now
   unopened (why.Source failed) opens none others = record {
     cause = (name, refl, opens.0, opens.1.fails);
     begun = subst (λ (p : Phase). IsBegunUnder name p) (sym opens.1.phase) refl;
@@ -82,56 +81,56 @@ module _ (name : List ℕ) (under : List ℕ → Option (List ℕ)) (before mid 
   unopened why.Sink opens none others = absurd opens
   unopened (why.TooManyEvents limit) opens none others = absurd opens
 
-  module _ (ready : IsOpened name (under name) (before role.Query) (mid role.Query)) (opening : ChangesOnly role.Query before mid) (reading : ChangesOnly role.Query mid now) where
-    others_stay : ChangesOnly role.Query before now
-    others_stay = changes_behind role.Query before mid now opening reading
+  module _ (ready : IsOpened name (under name) (before asked) (mid asked)) (opening : ChangesOnly asked before mid) (reading : ChangesOnly asked mid now) where
+    others_stay : ChangesOnly asked before now
+    others_stay = changes_behind asked before mid now opening reading
 
     -- it couldn't be read
-    pub unread : (note : Note) → ReadsText (Err note) (mid role.Query) (now role.Query) → GetsQuery (Err note) (named name) under before now
+    pub unread : (note : Note) → ReadsText (Err note) asked (mid asked) (now asked) → GetsQuery (Err note) asked (named name) under before now
     unread (why.Source failed) reads = record {
-      cause = (name, refl, reads.0, subst (λ (n : ℕ). Rose n (now role.Query).faults) ready.faults reads.2);
-      begun = begun_as name (now role.Query).phase false (reads.1 ∙ ready.phase);
+      cause = (name, refl, reads.0, subst (λ (n : ℕ). Rose n (now asked).faults) ready.faults reads.2);
+      begun = begun_as name (now asked).phase false (reads.1 ∙ ready.phase);
       others = others_stay;
     }
-    unread why.Memory reads = record { cause = tt; begun = begun_as name (now role.Query).phase false (reads ∙ ready.phase); others = others_stay }
+    unread why.Memory reads = record { cause = tt; begun = begun_as name (now asked).phase false (reads ∙ ready.phase); others = others_stay }
     unread why.Usage reads = absurd reads
     unread (why.BadQuery found) reads = absurd reads
     unread (why.BadRecord side at found) reads = absurd reads
     unread why.Sink reads = absurd reads
     unread (why.TooManyEvents limit) reads = absurd reads
 
-    whole : (text : List ℕ) → IsRead text (mid role.Query) (now role.Query) → IsReadWhole text name (under name) (before role.Query) (now role.Query)
+    whole : (text : List ℕ) → IsRead text (mid asked) (now asked) → IsReadWhole text name (under name) (before asked) (now asked)
     whole text read = record {
-      stands = stands (under name) (now role.Query).left text (came (under name) (mid role.Query).left (now role.Query).left text ready.left read.came) read.nothing_left;
+      stands = stands (under name) (now asked).left text (came (under name) (mid asked).left (now asked).left text ready.left read.came) read.nothing_left;
       ended = (read.phase ∙ ap at_end ready.phase, read.nothing_left);
       faults = read.faults ∙ ready.faults;
     }
 
-    too_far : (text : List ℕ) → IsReadPast text (mid role.Query) (now role.Query) → IsReadTooFar text name (under name) (before role.Query) (now role.Query)
+    too_far : (text : List ℕ) → IsReadPast text (mid asked) (now asked) → IsReadTooFar text name (under name) (before asked) (now asked)
     too_far text read = record {
       size = read.size;
-      stands = front_stands (under name) (now role.Query).left text (came (under name) (mid role.Query).left (now role.Query).left text ready.left read.came);
+      stands = front_stands (under name) (now asked).left text (came (under name) (mid asked).left (now asked).left text ready.left read.came);
       phase = read.phase ∙ ready.phase;
       faults = read.faults ∙ ready.faults;
     }
 
-    query_read : (text : List ℕ) → IsRead text (mid role.Query) (now role.Query) ⊎ IsReadPast text (mid role.Query) (now role.Query)
-        → IsQueryRead text name (under name) (before role.Query) (now role.Query)
+    query_read : (text : List ℕ) → IsRead text (mid asked) (now asked) ⊎ IsReadPast text (mid asked) (now asked)
+        → IsQueryRead text name (under name) (before asked) (now asked)
     query_read text reads = elim reads [ inl read ↦ inl (whole text read) | inr past ↦ inr (too_far text past) ]
 
-    begun_read : (text : List ℕ) → IsQueryRead text name (under name) (before role.Query) (now role.Query) → IsBegunUnder name (now role.Query).phase
-    begun_read text read = elim read [ inl all ↦ begun_as name (now role.Query).phase true all.ended.0 | inr far ↦ begun_as name (now role.Query).phase false far.phase ]
+    begun_read : (text : List ℕ) → IsQueryRead text name (under name) (before asked) (now asked) → IsBegunUnder name (now asked).phase
+    begun_read text read = elim read [ inl all ↦ begun_as name (now asked).phase true all.ended.0 | inr far ↦ begun_as name (now asked).phase false far.phase ]
 
-    faults_read : (text : List ℕ) → IsQueryRead text name (under name) (before role.Query) (now role.Query) → (now role.Query).faults ≡ (before role.Query).faults
+    faults_read : (text : List ℕ) → IsQueryRead text name (under name) (before asked) (now asked) → (now asked).faults ≡ (before asked).faults
     faults_read text read = elim read [ inl all ↦ all.faults | inr far ↦ far.faults ]
 
     -- a text that was read too far spells nothing
-    whole_spells : (text : List ℕ) (query : Parts) → IsQueryRead text name (under name) (before role.Query) (now role.Query) → Spells text query
-        → IsReadWhole text name (under name) (before role.Query) (now role.Query)
+    whole_spells : (text : List ℕ) (query : Parts) → IsQueryRead text name (under name) (before asked) (now asked) → Spells text query
+        → IsReadWhole text name (under name) (before asked) (now asked)
     whole_spells text query read spelled = elim read [ inl all ↦ all | inr far ↦ absurd (omega (arith, far.size, spelled.short)) ]
 
     -- the text was read
-    gets : (got : Result Parts Note) (text : List ℕ) → IsQueryRead text name (under name) (before role.Query) (now role.Query) → Parses got text → GetsQuery got (named name) under before now
+    gets : (got : Result Parts Note) (text : List ℕ) → IsQueryRead text name (under name) (before asked) (now asked) → Parses got text → GetsQuery got asked (named name) under before now
     gets (Ok query) text read parses = record {
       cause = (record { text = text; read = whole_spells text query read parses; spelled = parses }, faults_read text read);
       begun = begun_read text read;
@@ -149,6 +148,6 @@ module _ (name : List ℕ) (under : List ℕ → Option (List ℕ)) (before mid 
     gets (Err why.Sink) text read parses = absurd parses
     gets (Err (why.TooManyEvents limit)) text read parses = absurd parses
 
-    pub gets_query : (got : Result Parts Note) (text seen : List ℕ) → seen ≡ text → IsRead text (mid role.Query) (now role.Query) ⊎ IsReadPast text (mid role.Query) (now role.Query) → Parses got seen
-        → GetsQuery got (named name) under before now
+    pub gets_query : (got : Result Parts Note) (text seen : List ℕ) → seen ≡ text → IsRead text (mid asked) (now asked) ⊎ IsReadPast text (mid asked) (now asked) → Parses got seen
+        → GetsQuery got asked (named name) under before now
     gets_query got text seen same reads parses = gets got text (query_read text reads) (subst (λ (t : List ℕ). Parses got t) same parses)

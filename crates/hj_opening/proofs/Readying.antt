@@ -41,7 +41,7 @@ module _ (kind : TextKind) (source : Source) (names : Names) (limit : ℕ) (unde
     left_stays : ChangesOnly role.Query before now → (now role.Left).phase ≡ unbegun
     left_stays others = ap (λ (s : RoleState). s.phase) (others role.Left (λ e. cc)) ∙ unbegun_before role.Left
 
-    pub query_refused : (note : Note) → GetsQuery (Err note) source under before now → EndsThis note now
+    pub query_refused : (note : Note) → GetsQuery (Err note) role.Query source under before now → EndsThis note now
     query_refused (why.BadQuery found) gets = record {
       runs = λ told faults. join_refused under before now told faults unbegun_before kind source names limit (why.BadQuery found) gets;
       early = inl refl;
@@ -61,7 +61,7 @@ module _ (kind : TextKind) (source : Source) (names : Names) (limit : ℕ) (unde
 
   -- ---- the query was got
 
-  module _ (asked : Roles) (query : Parts) (gets : GetsQuery (Ok query) source under before asked) where
+  module _ (asked : Roles) (query : Parts) (gets : GetsQuery (Ok query) role.Query source under before asked) where
     left_asked : asked role.Left ≡ before role.Left
     left_asked = gets.others role.Left (λ e. cc)
 

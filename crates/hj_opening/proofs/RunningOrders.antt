@@ -19,7 +19,8 @@ use Rattle.hj_opening.specs.Check.{BeginsCanonical}
 use Rattle.hj_opening.specs.Opening.{GetsQuery, QueryCause}
 use Rattle.hj_opening.specs.Queries.{IsRefused}
 use Rattle.hj_opening.specs.Run.{RunsOrder}
-use Rattle.hj_opening.specs.Serve.{IsJoinRole, IsQueryAlone, IsRead}
+use Rattle.hj_opening.specs.Keeping.{IsQueryAlone}
+use Rattle.hj_opening.specs.Serve.{IsJoinRole, IsRead}
 use Rattle.hj_opening.specs.Streams.{Fails}
 use Rattle.hj_opening.specs.Words.{Names, Source, TextKind, check_query, join_streams, keyed, named}
 use Rattle.hj_opening.proofs.Endings.{CheckCause, CountsSink, End, JoinCause, check_runs, join_others, join_runs}
@@ -46,7 +47,7 @@ name_of : Source → List ℕ
 name_of (keyed rows) = []
 name_of (named name) = name
 
-same_name : (name given : List ℕ) → named name ≡ named given → given ≡ name
+pub same_name : (name given : List ℕ) → named name ≡ named given → given ≡ name
 unfolding name_of
 same_name name given e = sym (ap name_of e)
 
@@ -58,7 +59,7 @@ module _ (under : List ℕ → Option (List ℕ)) (before now : Roles) (told : O
   this = call under before now told told faults faults
 
   -- such an ending is no fault of the sink
-  no_fault : (note : Note) (source : Source) → QueryCause (Err note) source under (before role.Query) (now role.Query) → CountsSink (Err note) faults faults
+  no_fault : (note : Note) (source : Source) → QueryCause (Err note) role.Query source under (before role.Query) (now role.Query) → CountsSink (Err note) faults faults
   no_fault (why.BadQuery found) source cause = refl
   no_fault (why.Source failed) source cause = refl
   no_fault why.Memory source cause = refl
@@ -68,7 +69,7 @@ module _ (under : List ℕ → Option (List ℕ)) (before now : Roles) (told : O
   no_fault (why.TooManyEvents limit) source cause = absurd cause
 
   module _ (alone : IsQueryAlone now) where
-    join_cause : (kind : TextKind) (source : Source) (names : Names) (limit : ℕ) (note : Note) → QueryCause (Err note) source under (before role.Query) (now role.Query) → JoinCause kind source names limit this (Err note)
+    join_cause : (kind : TextKind) (source : Source) (names : Names) (limit : ℕ) (note : Note) → QueryCause (Err note) role.Query source under (before role.Query) (now role.Query) → JoinCause kind source names limit this (Err note)
     join_cause kind source names limit (why.BadQuery found) cause = record {
       name = cause.0;
       named_so = cause.1;
@@ -86,7 +87,7 @@ module _ (under : List ℕ → Option (List ℕ)) (before now : Roles) (told : O
     join_cause kind source names limit why.Sink cause = absurd cause
     join_cause kind source names limit (why.TooManyEvents most) cause = absurd cause
 
-    check_cause : (name : List ℕ) (note : Note) → QueryCause (Err note) (named name) under (before role.Query) (now role.Query) → CheckCause name this (Err note)
+    check_cause : (name : List ℕ) (note : Note) → QueryCause (Err note) role.Query (named name) under (before role.Query) (now role.Query) → CheckCause name this (Err note)
     check_cause name (why.BadQuery found) cause = record {
       refused = subst (λ (n : List ℕ). IsRefused found n (under n) (before role.Query) (now role.Query)) (same_name name cause.0 cause.1) cause.2;
       alone = alone;
@@ -101,7 +102,7 @@ module _ (under : List ℕ → Option (List ℕ)) (before now : Roles) (told : O
 
   module _ (unbegun_before : (of : Role) → (before of).phase ≡ unbegun) where
     -- a join
-    pub join_refused : (kind : TextKind) (source : Source) (names : Names) (limit : ℕ) (note : Note) → GetsQuery (Err note) source under before now
+    pub join_refused : (kind : TextKind) (source : Source) (names : Names) (limit : ℕ) (note : Note) → GetsQuery (Err note) role.Query source under before now
         → RunsOrder (Err note) (join_streams kind source names limit) (call under before now told told faults faults)
     join_refused kind source names limit note gets =
         let alone : IsQueryAlone now = λ of other. stays_unbegun before now of other gets.others (unbegun_before of) in
@@ -118,7 +119,7 @@ module _ (under : List ℕ → Option (List ℕ)) (before now : Roles) (told : O
         (join_others source now gets.begun (λ of no_query no_left no_right. alone of no_query))
 
     -- a check
-    pub check_refused : (name : List ℕ) (note : Note) → GetsQuery (Err note) (named name) under before now
+    pub check_refused : (name : List ℕ) (note : Note) → GetsQuery (Err note) role.Query (named name) under before now
         → RunsOrder (Err note) (check_query name) (call under before now told told faults faults)
     check_refused name note gets =
         let alone : IsQueryAlone now = λ of other. stays_unbegun before now of other gets.others (unbegun_before of) in
@@ -126,7 +127,7 @@ module _ (under : List ℕ → Option (List ℕ)) (before now : Roles) (told : O
 
 -- ---- a check that got its query
 
-module _ (name : List ℕ) (under : List ℕ → Option (List ℕ)) (before now : Roles) (unbegun_before : (of : Role) → (before of).phase ≡ unbegun) (query : Parts) (gets : GetsQuery (Ok query) (named name) under before now) where
+module _ (name : List ℕ) (under : List ℕ → Option (List ℕ)) (before now : Roles) (unbegun_before : (of : Role) → (before of).phase ≡ unbegun) (query : Parts) (gets : GetsQuery (Ok query) role.Query (named name) under before now) where
   abbrev ended_so : Option (List ℕ) → Option (List ℕ) → ℕ → ℕ → Call
   ended_so old new faults faults' = call under before now old new faults faults'
 

@@ -6,17 +6,23 @@ use Rattle.hj_base.specs.declared.outside.Role.{Role}
 use Rattle.hj_base.specs.declared.outside.Role.TheVariants as role
 use Rattle.hj_base.specs.Outside.{unbegun}
 use Rattle.hj_notes.specs.declared.note.Note.TheVariants as why
+use Rattle.hj_notes.specs.declared.twice_note.TwiceNote.TheVariants as why_twice
 use Rattle.hj_notes.specs.NoteText.{status_of_end, text_of_end}
 use Rattle.hj_notes.specs.NoteWritten.{NoteWritten}
+use Rattle.hj_notes.specs.TwiceText.{status_of_twice, text_of_twice}
 use Rattle.hj_notes.specs.Notes.{memory_note, usage_note}
 use Rattle.hj_opening.specs.Calls.{Call}
 use Rattle.hj_opening.specs.Calls.{call as as_call}
 use Rattle.hj_opening.specs.Run.{RunsOrder}
+use Rattle.hj_opening.specs.RunTwice.{RunsTwice}
 use Rattle.hj_opening.specs.Serve.{BeginsInOrder, BeginsSource, Serves, ServesOrder}
+use Rattle.hj_opening.specs.Keeping as keeping
 use Rattle.hj_opening.specs.Serve as says
-use Rattle.hj_opening.specs.Words.{Names, Order, Source, check_query, join_streams, keyed, named, sum_up}
+use Rattle.hj_opening.specs.TwoJoins.{BeginsTwice}
+use Rattle.hj_opening.specs.Words.{Names, Order, Source, TwiceNames, check_query, join_streams, join_twice, keyed, named, sum_up}
 use Rattle.hj_opening.proofs.Endings.{End, check_runs, gen_runs, join_runs}
 use Rattle.hj_opening.proofs.Phases.{Roles, begun-unbegun}
+use Rattle.hj_opening.proofs.TwiceEndings.{TwiceEnd, twice_runs}
 
 at_most_seven : (ended : End) → status_of_end ended ≤ 7
 at_most_seven (Ok done) = omega arith
@@ -28,6 +34,13 @@ at_most_seven (Err why.Sink) = omega arith
 at_most_seven (Err why.Memory) = omega arith
 at_most_seven (Err (why.TooManyEvents limit)) = omega arith
 
+at_most_twice : (ended : TwiceEnd) → status_of_twice ended ≤ 7
+at_most_twice (Ok done) = omega arith
+at_most_twice (Err (why_twice.Common found)) = at_most_seven (Err found)
+at_most_twice (Err (why_twice.BadSecondQuery found)) = omega arith
+at_most_twice (Err why_twice.Shape) = omega arith
+at_most_twice (Err (why_twice.BadSecondRecord side at found)) = omega arith
+
 -- an ending whose status was answered, and whose note was written
 serves_end : (call : Call) (status : ℕ) (ended : End) (order : Option Order) (told told' : Option (List ℕ)) (refused refused' : ℕ) → status ≡ status_of_end ended → ServesOrder order (status_of_end ended) (text_of_end ended) call
     → NoteWritten (text_of_end ended) told told' refused refused' → Serves status order call told told' refused refused'
@@ -38,6 +51,13 @@ serves_end call status ended order told told' refused refused' is serves w =
 pub serves_order : (call : Call) (status : ℕ) (ended : End) (order : Order) (told told' : Option (List ℕ)) (refused refused' : ℕ) → status ≡ status_of_end ended → RunsOrder ended order call
     → NoteWritten (text_of_end ended) told told' refused refused' → Serves status (Some order) call told told' refused refused'
 serves_order call status ended order told told' refused refused' is runs w = serves_end call status ended (Some order) told told' refused refused' is runs w
+
+-- two joins in a row that ran
+pub serves_twice : (call : Call) (status : ℕ) (ended : TwiceEnd) (names : TwiceNames) (limit : ℕ) (told told' : Option (List ℕ)) (refused refused' : ℕ) → status ≡ status_of_twice ended → RunsTwice ended names limit call
+    → NoteWritten (text_of_twice ended) told told' refused refused' → Serves status (Some (join_twice names limit)) call told told' refused refused'
+serves_twice call status ended names limit told told' refused refused' is runs w =
+    subst (λ (n : ℕ). Serves n (Some (join_twice names limit)) call told told' refused refused') (sym is)
+    (record { note = text_of_twice ended; serves = runs; noted = w; statuses = at_most_twice ended })
 
 -- ---- words that were read as no order
 
@@ -58,10 +78,23 @@ module _ (under : List ℕ → Option (List ℕ)) (before : Roles) (old : Option
     left_first = λ begun. absurd (begun (unbegun_before role.Right));
   }
 
+  begins_no_twice : (names : TwiceNames) → BeginsTwice names under before before
+  begins_no_twice names = record {
+    query = begun-unbegun names.query (before role.Query).phase (unbegun_before role.Query);
+    second = begun-unbegun names.second (before role.SecondQuery).phase (unbegun_before role.SecondQuery);
+    left = begun-unbegun names.streams.left (before role.Left).phase (unbegun_before role.Left);
+    right = begun-unbegun names.streams.right (before role.Right).phase (unbegun_before role.Right);
+    third = begun-unbegun names.third (before role.Third).phase (unbegun_before role.Third);
+    first_accepted = λ begun. absurd (begun (unbegun_before role.SecondQuery));
+    both_accepted = λ begun. absurd (begun (unbegun_before role.Left));
+    left_open = λ begun. absurd (begun (unbegun_before role.Right));
+    right_open = λ begun. absurd (begun (unbegun_before role.Third));
+  }
+
   no_memory : (order : Option Order) → ServesOrder order 6 memory_note untouched
   no_memory None = record {
     keeps = record {
-      ends = says.memory refl refl;
+      ends = keeping.memory refl refl;
       grown = [];
       written = Appends-nil old;
       front = inl refl;
@@ -73,12 +106,13 @@ module _ (under : List ℕ → Option (List ℕ)) (before : Roles) (old : Option
   no_memory (Some (join_streams kind source names limit)) = join_runs kind source names limit untouched (Err why.Memory) tt refl [] (Appends-nil old) (inl refl) (begins_none source names) (λ of none. unbegun_before of)
   no_memory (Some (check_query name)) =
       check_runs name untouched (Err why.Memory) tt refl [] (Appends-nil old) (inl refl) (begun-unbegun name (before role.Query).phase (unbegun_before role.Query)) (λ of other. unbegun_before of)
+  no_memory (Some (join_twice names limit)) = twice_runs names limit untouched (Err (why_twice.Common why.Memory)) tt refl [] (Appends-nil old) (inl refl) (begins_no_twice names) (λ of none. unbegun_before of)
   no_memory (Some (sum_up recipe)) = gen_runs recipe untouched (Err why.Memory) tt refl [] (Appends-nil old) (inl refl) (λ of. refl) unbegun_before
 
   no_words : ServesOrder None 1 usage_note untouched
   no_words = record {
     keeps = record {
-      ends = says.own (says.usage refl refl);
+      ends = keeping.own (says.usage refl refl);
       grown = [];
       written = Appends-nil old;
       front = inl refl;

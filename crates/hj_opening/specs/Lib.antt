@@ -2,12 +2,16 @@ pub mod Calls
 pub mod Check
 pub mod Generating
 pub mod Joining
+pub mod Keeping
 pub mod Opening
 pub mod Orders
 pub mod Queries
 pub mod Ready
+pub mod ReadyTwice
 pub mod Run
+pub mod RunTwice
 pub mod Serve
 pub mod Streams
 pub mod Texts
+pub mod TwoJoins
 pub mod Words

@@ -52,12 +52,11 @@ pub record IsReadPast (bytes : List ℕ) (before now : RoleState) : Type 0 where
   pub faults : now.faults ≡ before.faults
 
 -- Reading the text of an open role, as far as it can be that of a query.
-abbrev pub ReadsText : Result (Vec ℕ Global) Note → RoleState → RoleState → Type 0
-ReadsText (Ok text) before now = IsRead text.items before now ⊎ IsReadPast text.items before now
-ReadsText (Err (note.Source failed)) before now =
-    (failed ≡ role.Query) × (now.phase ≡ before.phase) × Rose before.faults now.faults
-ReadsText (Err note.Memory) before now = now.phase ≡ before.phase
-ReadsText (Err other) before now = ⊥
+abbrev pub ReadsText : Result (Vec ℕ Global) Note → Role → RoleState → RoleState → Type 0
+ReadsText (Ok text) of before now = IsRead text.items before now ⊎ IsReadPast text.items before now
+ReadsText (Err (note.Source failed)) of before now = (failed ≡ of) × (now.phase ≡ before.phase) × Rose before.faults now.faults
+ReadsText (Err note.Memory) of before now = now.phase ≡ before.phase
+ReadsText (Err other) of before now = ⊥
 
 -- The note of a fault: that memory ran out is no fault of the text.
 abbrev pub refusal_of : QueryFault → Note
@@ -71,24 +70,24 @@ Parses (Err (note.BadQuery found)) text = IsFirst text found
 Parses (Err note.Memory) text = Unit {0}
 Parses (Err other) text = ⊥
 
--- The query of a join, or why there is none.
-abbrev pub QueryCause : Result Parts Note → Source → (List ℕ → Option (List ℕ)) → RoleState → RoleState → Type 0
-QueryCause (Ok query) source under before now = IsQueryOf source query under before now × (now.faults ≡ before.faults)
-QueryCause (Err (note.BadQuery found)) source under before now =
+-- The query of a join, which is read for this role, or why there is none.
+abbrev pub QueryCause : Result Parts Note → Role → Source → (List ℕ → Option (List ℕ)) → RoleState → RoleState → Type 0
+QueryCause (Ok query) of source under before now = IsQueryOf source query under before now × (now.faults ≡ before.faults)
+QueryCause (Err (note.BadQuery found)) of source under before now =
     (name : List ℕ) × (source ≡ named name) × IsRefused found name (under name) before now
-QueryCause (Err (note.Source failed)) source under before now =
-    (name : List ℕ) × (source ≡ named name) × (failed ≡ role.Query) × Rose before.faults now.faults
-QueryCause (Err note.Memory) source under before now = Unit {0}
-QueryCause (Err other) source under before now = ⊥
+QueryCause (Err (note.Source failed)) of source under before now =
+    (name : List ℕ) × (source ≡ named name) × (failed ≡ of) × Rose before.faults now.faults
+QueryCause (Err note.Memory) of source under before now = Unit {0}
+QueryCause (Err other) of source under before now = ⊥
 
 -- Both streams of a join are open, each under its name, and nothing was read of them.
 pub record AreOpened (names : Names) (under : List ℕ → Option (List ℕ)) (before now : Role → RoleState) : Type 0 where
   pub of_left : IsOpened names.left (under names.left) (before role.Left) (now role.Left)
   pub of_right : IsOpened names.right (under names.right) (before role.Right) (now role.Right)
 
--- Getting the query of a join.
-pub record GetsQuery (got : Result Parts Note) (source : Source) (under : List ℕ → Option (List ℕ))
+-- Getting the query of a join, which is read for this role.
+pub record GetsQuery (got : Result Parts Note) (of : Role) (source : Source) (under : List ℕ → Option (List ℕ))
     (before now : Role → RoleState) : Type 0 where
-  pub cause : QueryCause got source under (before role.Query) (now role.Query)
-  pub begun : BeginsSource source (now role.Query).phase
-  pub others : ChangesOnly role.Query before now
+  pub cause : QueryCause got of source under (before of) (now of)
+  pub begun : BeginsSource source (now of).phase
+  pub others : ChangesOnly of before now

@@ -13,7 +13,7 @@ use Rattle.hj_opening.specs.Opening.{AreOpened}
 use Rattle.hj_opening.specs.Queries.{IsQueryOf}
 use Rattle.hj_opening.specs.Run.{RunsOrder}
 use Rattle.hj_opening.specs.Serve.{AreOpen, BeginsSource, IsJoinRole}
-use Rattle.hj_opening.specs.Words.{Names, Order, Source, check_query, join_streams, sum_up}
+use Rattle.hj_opening.specs.Words.{Names, Order, Source, check_query, join_streams, join_twice, sum_up}
 
 -- The query of a join was got, and both its streams are open; nothing was read of them, and nothing failed.
 pub record IsReady (query : Parts) (source : Source) (names : Names) (under : List ℕ → Option (List ℕ)) (before now : Role → RoleState) : Type 0 where
@@ -33,4 +33,5 @@ abbrev pub MakesReady : Result Parts Note → Order → (List ℕ → Option (Li
 MakesReady (Ok query) (join_streams kind source names limit) under before now = IsReady query source names under before now
 MakesReady (Ok query) (check_query name) under before now = ⊥
 MakesReady (Ok query) (sum_up recipe) under before now = ⊥
+MakesReady (Ok query) (join_twice names limit) under before now = ⊥
 MakesReady (Err note) order under before now = EndsEarly note order under before now

@@ -1,18 +1,17 @@
 -- What a call of `serve` promises, by the status that it answers and the note that goes with it.
 -- Each command has its endings, each with its status, its note and its cause, and a record of what it promises; what all
--- commands promise is said once, in `Keeps`.
+-- commands promise is said once, in `Keeps` of Keeping.antt.
 use Rattle.std.specs.Prelude.{◌≡◌, ◌≢◌, ◌≤◌, ◌⊎◌, ℕ, List, [], None, Some}
 use Rattle.std.specs.Io.KnownBytes.{Appends}
 use Rattle.std.specs.declared.option.Option.{Option}
 use Rattle.hj_base.specs.declared.numbers.Side.{Side}
 use Rattle.hj_base.specs.declared.outside.Role.{Role}
 use Rattle.hj_base.specs.declared.outside.Role.TheVariants as role
-use Rattle.hj_base.specs.Counts.{Rose}
 use Rattle.hj_base.specs.Outside.{RoleState, Phase, unbegun, IsOpen, role_of}
 use Rattle.hj_event.specs.declared.fault.RecordFault.{RecordFault}
-use Rattle.hj_event.specs.Arrivals.{Ending, clean, bad, unread, too_many}
+use Rattle.hj_event.specs.Arrivals.{Ending, bad, unread, too_many}
 use Rattle.hj_notes.specs.NoteWritten.{NoteWritten}
-use Rattle.hj_notes.specs.Notes.{events_note, memory_note, query_note, record_note, sink_note, source_note, usage_note}
+use Rattle.hj_notes.specs.Notes.{events_note, query_note, record_note, source_note, usage_note}
 use Rattle.hj_query.specs.declared.fault.QueryFault.{QueryFault}
 use Rattle.hj_query.specs.Parts.{Parts}
 use Rattle.hj_record.specs.Pieces.{Stream}
@@ -21,46 +20,11 @@ use Rattle.hj_opening.specs.Calls.{Call}
 use Rattle.hj_opening.specs.Check.{BeginsCanonical, WritesCanonical}
 use Rattle.hj_opening.specs.Generating.{BeginsSummary, WritesSummary}
 use Rattle.hj_opening.specs.Joining.{BeginsText, WritesAll, WritesWhole}
-use Rattle.hj_opening.specs.Queries.{IsQueryOf, IsRefused}
-use Rattle.hj_opening.specs.Streams.{AreStreams, Fails, IsBegunUnder, NoneFails}
-use Rattle.hj_opening.specs.Words.{Names, Order, Recipe, Source, TextKind, check_query, join_streams, keyed, most_events, named, sum_up}
-
--- ---- What all commands promise.
-
--- Why a command ends: by one of its own endings, or because the output failed, or because memory ran out.
-pub data Ends (EndsSo : ℕ → List ℕ → Type 0) (status : ℕ) (note : List ℕ) (call : Call) : Type 0 where
-  own : EndsSo status note → Ends EndsSo status note call
-  failed_sink : status ≡ 5 → note ≡ sink_note → Rose call.faults_before call.faults_now → Ends EndsSo status note call
-  memory : status ≡ 6 → note ≡ memory_note → Ends EndsSo status note call
-
--- A command with these endings, with these beginnings of its text, and with these roles.
-pub record Keeps (EndsSo : ℕ → List ℕ → Type 0) (IsFront : List ℕ → Type 0) (Reads : Role → Type 0)
-    (status : ℕ) (note : List ℕ) (call : Call) : Type 0 where
-  -- The status and the note have a cause.
-  pub ends : Ends EndsSo status note call
-  -- Whatever the status, nothing was written, or a front of the text.
-  pub grown : List ℕ
-  pub written : Appends call.old call.new grown
-  pub front : (grown ≡ []) ⊎ IsFront grown
-  -- No other role is begun.
-  pub others : (of : Role) → ¬ (Reads of) → (call.now of).phase ≡ unbegun
-  -- A fault of the sink is told as such.
-  pub sink : status ≢ 5 → call.faults_now ≡ call.faults_before
-
--- No role but the query's is begun.
-abbrev pub IsQueryAlone : (Role → RoleState) → Type 0
-IsQueryAlone now = (of : Role) → of ≢ role.Query → (now of).phase ≡ unbegun
-
--- Nothing failed: no role's count of faults rose, and that of the sink didn't.
-pub record NothingFails (call : Call) : Type 0 where
-  pub roles : NoneFails call.before call.now
-  pub sink : ¬ (Rose call.faults_before call.faults_now)
-
--- The text of the query under this name was read and has this first fault. No other role was begun, and nothing written.
-pub record RefusesQuery (found : QueryFault) (name : List ℕ) (call : Call) : Type 0 where
-  pub refused : IsRefused found name (call.under name) (call.before role.Query) (call.now role.Query)
-  pub alone : IsQueryAlone call.now
-  pub nothing : Appends call.old call.new []
+use Rattle.hj_opening.specs.Keeping.{Keeps, NothingFails, RefusesQuery, status_of_ending}
+use Rattle.hj_opening.specs.Queries.{IsQueryOf}
+use Rattle.hj_opening.specs.Streams.{AreStreams, Fails, IsBegunUnder}
+use Rattle.hj_opening.specs.TwoJoins.{ServesTwice}
+use Rattle.hj_opening.specs.Words.{Names, Order, Recipe, Source, TextKind, check_query, join_streams, join_twice, keyed, most_events, named, sum_up}
 
 -- ---- Words that spell no order.
 
@@ -147,12 +111,6 @@ pub record BeginsInOrder (source : Source) (names : Names) (call : Call) : Type 
   pub query_first : (call.now role.Left).phase ≢ unbegun → (query : Parts) × Accepts source query call
   pub left_first : (call.now role.Right).phase ≢ unbegun → IsOpen (call.now role.Left).phase
 
-abbrev pub status_of_ending : Ending → ℕ
-status_of_ending clean = 0
-status_of_ending (bad side at found) = 3
-status_of_ending (unread side) = 4
-status_of_ending too_many = 7
-
 -- The status is the one of the ending of the events of the streams.
 pub record EndsBy (status : ℕ) (source : Source) (names : Names) (limit : ℕ) (call : Call) : Type 0 where
   pub query : Parts
@@ -208,6 +166,7 @@ ServesOrder None status note call = ServesNone status note call
 ServesOrder (Some (join_streams kind source names limit)) status note call = ServesJoin kind source names limit status note call
 ServesOrder (Some (check_query name)) status note call = ServesCheck name status note call
 ServesOrder (Some (sum_up recipe)) status note call = ServesGen recipe status note call
+ServesOrder (Some (join_twice names limit)) status note call = ServesTwice names limit status note call
 
 -- What a call does for an order, or for words that spell none: what its command promises, with a note of which a front stands
 -- among the notes, and all of it unless a write of it was refused.

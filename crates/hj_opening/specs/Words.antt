@@ -19,6 +19,17 @@ pub record Names : Type 0 where
   pub left : List ℕ
   pub right : List ℕ
 
+-- the names of the two queries and of the three streams of two joins in a row
+pub record TwiceNames : Type 0 where
+  -- the first query
+  pub query : List ℕ
+  -- the streams of the first join
+  pub streams : Names
+  -- the second query
+  pub second : List ℕ
+  -- the right stream of the second join
+  pub third : List ℕ
+
 -- What a command writes of the join of two streams.
 pub data TextKind : Type 0 where
   -- the line of each pair, in the order of the sequential join
@@ -34,13 +45,15 @@ pub record Recipe : Type 0 where
   pub seed : ℕ
   pub window : ℕ
 
--- `equi W LEFT RIGHT` and `join QUERY LEFT RIGHT` join two streams under a query, with so many events at most,
--- `check QUERY` writes the canonical text of the query under this name, and `gen N KEYS SEED W` sums up the join of two
--- streams that it makes.
+-- `equi W LEFT RIGHT`, `join QUERY LEFT RIGHT` and `raw QUERY LEFT RIGHT` join two streams under a query, with so many events at
+-- most, and each writes a text of its own of that join. `check QUERY` writes the canonical text of the query under this name, and
+-- `gen N KEYS SEED W` sums up the join of two streams that it makes. `twice QUERY LEFT RIGHT QUERY THIRD` joins the pairs of a first
+-- join with a third stream, with so many events at most in each of both joins.
 pub data Order : Type 0 where
   join_streams : TextKind → Source → Names → (limit : ℕ) → Order
   check_query : (name : List ℕ) → Order
   sum_up : Recipe → Order
+  join_twice : TwiceNames → (limit : ℕ) → Order
 
 -- How many cores and threads a join has, how many events are under way, and in which order its steps come, is left out:
 -- no status, text or note depends on it.
@@ -51,6 +64,8 @@ asked_by (spells.Join setup limit schedule query left right) =
 asked_by (spells.Raw setup limit query left right) =
     join_streams raw_items (named query) (record { left = left; right = right }) limit
 asked_by (spells.Check query) = check_query query
+asked_by (spells.Twice setup limit schedule query left right second third) =
+    join_twice (record { query = query; streams = record { left = left; right = right }; second = second; third = third }) limit
 asked_by (spells.Gen n keys seed w) = sum_up (record { rows = n; keys = keys; seed = seed; window = w })
 
 -- What the words order, if they spell an order.

@@ -6,7 +6,7 @@ ghost use Rattle.hj_opening.specs.Run.{RunsOrder};
 ghost use Rattle.hj_opening.specs.Words.{check_query};
 
 use crate::query::read_query;
-use hj_base::{Outside, Sink};
+use hj_base::{Outside, Role, Sink};
 use hj_notes::Note;
 use hj_output::{Sent, put_all};
 use hj_query::print;
@@ -25,7 +25,7 @@ pub fn check<O: Outside, K: Sink>(
         (call (O.under outside.old) (O.state outside.old) (O.state outside.new) (K.told out.old) (K.told out.new)
         (K.faults out.old) (K.faults out.new)) }
 {
-    let query = read_query(alloc, name, outside)?;
+    let query = read_query(alloc, Role::Query, name, outside)?;
     let canonical = print(alloc, &query)?;
     match put_all(out, canonical.bytes()) {
         Sent::Whole => Ok(()),

@@ -8,9 +8,11 @@ mod keyed;
 mod query;
 mod ready;
 mod source;
+mod twice;
 
 pub use checking::check;
 pub use ending::end_of;
 pub use keyed::Keyed;
 pub use ready::make_ready;
 pub use source::{JoinOrder, Source};
+pub use twice::{TwiceOrder, TwoQueries, end_of_twice, make_twice_ready};

@@ -1,6 +1,6 @@
 ghost use Rattle.std.specs.Prelude.{◌≡◌, List, ℕ};
 ghost use Rattle.hj_base.specs.declared.outside.Role.{Role};
-ghost use Rattle.hj_base.specs.declared.outside.Role.TheVariants as role;
+ghost use Rattle.hj_base.specs.declared.outside.Role.TheVariants as roles;
 ghost use Rattle.hj_base.specs.Outside.{unbegun, ChangesOnly, IsOpen};
 ghost use Rattle.hj_opening.specs.Opening.{GetsQuery, Opens, Parses, ReadsText, refusal_of};
 ghost use Rattle.hj_opening.specs.Orders.{source_seen};
@@ -26,24 +26,29 @@ pub fn query_of<O: Outside>(
     outside: &mut O,
 ) -> Result<Query, Note>
     requires { (of : Role) → (O.state outside.old of).phase ≡ unbegun }
-    ensures gets { GetsQuery result (source_seen source.entry) (O.under outside.old) (O.state outside.old) (O.state outside.new) }
+    ensures gets { GetsQuery result roles.Query (source_seen source.entry) (O.under outside.old) (O.state outside.old) (O.state outside.new) }
     ensures names { (name : List ℕ) → O.under outside.new name ≡ O.under outside.old name }
 {
     match source {
         Source::Keyed(keyed) => Ok(equi(alloc, keyed.rows)?),
-        Source::Named(name) => read_query(alloc, name, outside),
+        Source::Named(name) => read_query(alloc, Role::Query, name, outside),
     }
 }
 
-/// Opens the query under a name, reads its text, and parses it. The error is the note that says why there is none: its stream,
-/// its text, or memory.
-pub fn read_query<O: Outside>(alloc: Global, name: &str, outside: &mut O) -> Result<Query, Note>
-    requires { (of : Role) → (O.state outside.old of).phase ≡ unbegun }
-    ensures gets { GetsQuery result (named name.now) (O.under outside.old) (O.state outside.old) (O.state outside.new) }
+/// Opens the query of a role under a name, reads its text, and parses it. The error is the note that says why there is none: its
+/// stream, its text, or memory.
+pub fn read_query<O: Outside>(
+    alloc: Global,
+    role: Role,
+    name: &str,
+    outside: &mut O,
+) -> Result<Query, Note>
+    requires { (O.state outside.old role).phase ≡ unbegun }
+    ensures gets { GetsQuery result role (named name.now) (O.under outside.old) (O.state outside.old) (O.state outside.new) }
     ensures names { (other : List ℕ) → O.under outside.new other ≡ O.under outside.old other }
 {
-    open(outside, Role::Query, name)?;
-    let text = read_text(alloc, outside)?;
+    open(outside, role, name)?;
+    let text = read_text(alloc, role, outside)?;
     parsed(alloc, &text)
 }
 
@@ -61,21 +66,21 @@ pub fn open<O: Outside>(outside: &mut O, role: Role, name: &str) -> Result<(), N
     }
 }
 
-/// Reads the text of the open query to its end, or as far as it can be one.
-fn read_text<O: Outside>(alloc: Global, outside: &mut O) -> Result<Vec<u8>, Note>
-    requires { IsOpen (O.state outside.old role.Query).phase }
-    ensures reads { ReadsText result (O.state outside.old role.Query) (O.state outside.new role.Query) }
-    ensures others { ChangesOnly role.Query (O.state outside.old) (O.state outside.new) }
+/// Reads the text of a role's open query to its end, or as far as it can be one.
+fn read_text<O: Outside>(alloc: Global, role: Role, outside: &mut O) -> Result<Vec<u8>, Note>
+    requires { IsOpen (O.state outside.old role).phase }
+    ensures reads { ReadsText result role (O.state outside.old role) (O.state outside.new role) }
+    ensures others { ChangesOnly role (O.state outside.old) (O.state outside.new) }
     ensures names { (name : List ℕ) → O.under outside.new name ≡ O.under outside.old name }
 {
     let mut text = Vec::new(alloc);
     let mut portion = [0; MOST_IN_READ];
     'reads: while text.len() < TOO_MANY {
         let room = MOST_IN_READ.min(TOO_MANY - text.len());
-        match outside.read(Role::Query, &mut portion[..room]) {
+        match outside.read(role, &mut portion[..room]) {
             Got::Bytes(count) => text.extend_from_slice(&portion[..count])?,
             Got::End => return Ok(text),
-            Got::Failed => return Err(Note::Source(Role::Query)),
+            Got::Failed => return Err(Note::Source(role)),
         }
     }
     Ok(text)
