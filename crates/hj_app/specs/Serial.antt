@@ -25,3 +25,4 @@ serial_of (spells.Join setup limit schedule query left right) = serial_with setu
 serial_of (spells.Raw setup limit query left right) = None
 serial_of (spells.Check query) = None
 serial_of (spells.Gen n keys seed w) = None
+serial_of (spells.Twice setup limit schedule query left right second third) = None

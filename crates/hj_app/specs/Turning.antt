@@ -3,11 +3,14 @@ use Rattle.std.specs.Prelude.{ℕ, None, Some}
 use Rattle.std.specs.declared.option.Option.{Option}
 use Rattle.hj_crew.specs.declared.plan.CrewSize.{CrewSize}
 use Rattle.hj_opening.specs.Orders.{join_seen}
-use Rattle.hj_opening.specs.Words.{Order, check_query, pair_lines, raw_items, sum_up}
+use Rattle.hj_opening.specs.RunTwice.{twice_names}
+use Rattle.hj_opening.specs.Words.{Order, check_query, join_twice, pair_lines, raw_items, sum_up}
 use Rattle.hj_app.specs.declared.plan.AloneOrder.{AloneOrder}
 use Rattle.hj_app.specs.declared.plan.AloneOrder.TheVariants as alone
 use Rattle.hj_app.specs.declared.plan.ThreadsOrder.{ThreadsOrder}
 use Rattle.hj_app.specs.declared.plan.ThreadsOrder.TheVariants as threads
+use Rattle.hj_app.specs.declared.plan.TwicePlan.{TwicePlan}
+use Rattle.hj_app.specs.declared.plan.TwicePlan.TheVariants as plan
 use Rattle.hj_app.specs.declared.plan.Turning.{Turning}
 use Rattle.hj_app.specs.declared.plan.Turning.TheVariants as turning
 use Rattle.hj_app.specs.Crew.{Crew}
@@ -26,17 +29,21 @@ asked_threads (threads.Gen recipe) = sum_up (recipe_seen recipe)
 abbrev pub asked_turning : Turning → Order
 asked_turning (turning.Alone order) = asked_alone order
 asked_turning (turning.Threads order size) = asked_threads order
+asked_turning (turning.Twice joins made) = join_twice (twice_names joins) joins.limit
 
 abbrev pub crew_seen : CrewSize → Crew
 crew_seen size = record { cores = size.chain.cores; flight = size.chain.flight }
 
+-- the chain that threads turn, of which the run is handed back
 abbrev pub crew_turning : Turning → Option Crew
 crew_turning (turning.Alone order) = None
 crew_turning (turning.Threads order size) = Some (crew_seen size)
+crew_turning (turning.Twice joins made) = None
 
 abbrev pub threads_turning : Turning → ℕ
 threads_turning (turning.Alone order) = 0
 threads_turning (turning.Threads order size) = size.threads
+threads_turning (turning.Twice joins made) = 0
 
 abbrev pub serial_alone : AloneOrder → Option Serial
 serial_alone (alone.Check name) = None
@@ -45,3 +52,19 @@ serial_alone (alone.Join join size chooser) = Some (record { cores = size.cores;
 abbrev pub serial_turning : Turning → Option Serial
 serial_turning (turning.Alone order) = serial_alone order
 serial_turning (turning.Threads order size) = None
+serial_turning (turning.Twice joins made) = None
+
+-- the chain that threads turn for each of two joins in a row
+abbrev pub crew_twice : TwicePlan → Option Crew
+crew_twice (plan.Alone size chooser) = None
+crew_twice (plan.Threads size) = Some (crew_seen size)
+
+-- how many threads turn it
+abbrev pub threads_twice : TwicePlan → ℕ
+threads_twice (plan.Alone size chooser) = 0
+threads_twice (plan.Threads size) = size.threads
+
+-- the chain that the calling thread takes for each of two joins in a row
+abbrev pub serial_twice : TwicePlan → Option Serial
+serial_twice (plan.Alone size chooser) = Some (record { cores = size.cores; flight = size.flight; chooser = chooser })
+serial_twice (plan.Threads size) = None

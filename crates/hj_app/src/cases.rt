@@ -1,5 +1,6 @@
 //! Cases of whole runs through `serve`, over streams and sinks in memory. A line of a table is a case: what fails, what stands under
-//! `query`, `left` and `right`, what is written, the notes, and the status, with `;` between them. `/` stands for a line feed
+//! `query`, `left` and `right`, what is written, the notes, and the status, with `;` between them; a case of two joins in a row has
+//! besides what stands under `second` and `third`. `/` stands for a line feed
 //! and `~` for a carriage return, and a stream that is `?` isn't there. A query that begins with `on` is one of rows of two
 //! numbers over windows of ten rows.
 ghost use Rattle.std.specs.Prelude.{◌≡◌, ◌≤◌};
@@ -44,6 +45,8 @@ struct Case<'a> {
     out: &'a str,
     notes: &'a str,
     status: &'a str,
+    second: &'a str,
+    third: &'a str,
 }
 
 fn case_of<'a>(rt: &impl Abort, line: &'a str) -> Case<'a> {
@@ -56,6 +59,8 @@ fn case_of<'a>(rt: &impl Abort, line: &'a str) -> Case<'a> {
         out: fields.next().expect(rt, "the output"),
         notes: fields.next().expect(rt, "the notes"),
         status: fields.next().expect(rt, "the status"),
+        second: fields.next().unwrap_or("?"),
+        third: fields.next().unwrap_or("?"),
     }
 }
 
@@ -100,7 +105,9 @@ fn role_of(name: &str) -> Role {
     match name {
         "query" => Role::Query,
         "left" => Role::Left,
-        _ => Role::Right,
+        "right" => Role::Right,
+        "second" => Role::SecondQuery,
+        _ => Role::Third,
     }
 }
 
@@ -191,6 +198,8 @@ fn world_of(rt: &impl Abort, alloc: Global, case: Case<'_>, chunks: Chunks) -> W
     world.put(rt, alloc, "query", case.query);
     world.put(rt, alloc, "left", case.left);
     world.put(rt, alloc, "right", case.right);
+    world.put(rt, alloc, "second", case.second);
+    world.put(rt, alloc, "third", case.third);
     for what in case.failing.split_terminator(',') {
         world.fail(rt, failing_of(rt, what));
     }

@@ -23,6 +23,9 @@ mod serial;
 mod serve;
 #[cfg(test)]
 mod turn_tests;
+mod twice;
+#[cfg(test)]
+mod twice_tests;
 #[cfg(test)]
 mod word_tests;
 

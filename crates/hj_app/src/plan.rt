@@ -1,17 +1,20 @@
-ghost use Rattle.std.specs.Prelude.{◌≡◌, ◌≤◌};
-ghost use Rattle.hj_words.specs.Ranges.{IsFrom, IsInRange};
+ghost use Rattle.std.specs.Prelude.{◌≡◌, ◌≤◌, None, Some};
+ghost use Rattle.hj_words.specs.Orders.{most_rows};
+ghost use Rattle.hj_words.specs.Ranges.{AreNumbers, IsFrom, IsInRange};
 ghost use Rattle.hj_app.specs.Crew.{crew_of, crew_with, threads_of, usual_crew};
 ghost use Rattle.hj_app.specs.Orders.{chooser_of};
 ghost use Rattle.hj_app.specs.Serial.{serial_of, serial_with};
 ghost use Rattle.hj_app.specs.Turning.{asked_turning, crew_seen, crew_turning, serial_turning, threads_turning};
+ghost use Rattle.hj_app.specs.Turning.{crew_twice, serial_twice, threads_twice};
 ghost use Rattle.hj_opening.specs.Orders.{join_seen, source_seen};
-ghost use Rattle.hj_opening.specs.Words.{TextKind, join_streams, named, pair_lines};
+ghost use Rattle.hj_opening.specs.RunTwice.{twice_names};
+ghost use Rattle.hj_opening.specs.Words.{TextKind, join_streams, join_twice, keyed, most_events, named, pair_lines, raw_items, sum_up};
 
 use crate::recipe::Recipe;
 use hj_base::{ChainSize, Name, Setup};
 use hj_chain::Chooser;
 use hj_crew::CrewSize;
-use hj_opening::{JoinOrder, Keyed, Source};
+use hj_opening::{JoinOrder, Keyed, Source, TwiceOrder};
 use hj_words::Order;
 
 /// How many events a join numbers at most, where no option says otherwise.
@@ -24,6 +27,8 @@ pub enum Turning<'a> {
     Alone(AloneOrder<'a>),
     /// Threads turn the cores of a chain of this size, while the calling thread reads and writes.
     Threads(ThreadsOrder<'a>, CrewSize),
+    /// Two joins in a row, each by this plan.
+    Twice(TwiceOrder<'a>, TwicePlan),
 }
 
 /// What the calling thread does alone.
@@ -51,11 +56,24 @@ pub enum ThreadsOrder<'a> {
     Gen(Recipe),
 }
 
+/// Who makes each of two joins in a row.
+#[derive(Clone, Copy, Debug)]
+pub enum TwicePlan {
+    /// The calling thread alone, along a chain of this size.
+    Alone {
+        size: ChainSize,
+        /// The order of the chain's steps.
+        chooser: Chooser,
+    },
+    /// Threads turn the cores of a chain of this size.
+    Threads(CrewSize),
+}
+
 impl<'a> Turning<'a> {
     ghost use Rattle.hj_opening.specs.Words.{asked_by};
 
     /// Gives the one who does what an order says: the calling thread for `join --threads 0` and for `check`, threads for every
-    /// other order.
+    /// other order but `twice`, whose plan says who makes its joins.
     pub fn of(order: &'a Order) -> Turning<'a>
         requires { IsInRange order.now }
         ensures asked { asked_turning result ≡ asked_by order.now }
@@ -64,11 +82,7 @@ impl<'a> Turning<'a> {
         ensures serial { serial_turning result ≡ serial_of order.now }
     {
         match order {
-            Order::Equi { w, left, right } => {
-                let source = Source::Keyed(Keyed { rows: *w });
-                let join = join_of(source, left, right, MOST_EVENTS);
-                Turning::Threads(ThreadsOrder::Join(join), usual_size())
-            }
+            Order::Equi { w, left, right } => equi_turning(*w, left, right),
             Order::Join {
                 setup,
                 limit,
@@ -76,28 +90,90 @@ impl<'a> Turning<'a> {
                 query,
                 left,
                 right,
-            } => { join_turning(named_join(query, left, right, *limit), setup, *schedule) }
+            } => join_turning(named_join(query, left, right, *limit), setup, *schedule),
             Order::Raw {
                 setup,
                 limit,
                 query,
                 left,
                 right,
-            } => {
-                let join = named_join(query, left, right, *limit);
-                Turning::Threads(ThreadsOrder::Raw(join), crew_size(setup))
-            }
+            } => raw_turning(named_join(query, left, right, *limit), setup),
             Order::Check { query } => Turning::Alone(AloneOrder::Check(query.text())),
-            Order::Gen { n, keys, seed, w } => {
-                let recipe = Recipe {
-                    rows: *n,
-                    keys: *keys,
-                    seed: *seed,
-                    window: Keyed { rows: *w },
-                };
-                Turning::Threads(ThreadsOrder::Gen(recipe), usual_size())
-            }
+            Order::Gen { n, keys, seed, w } => gen_turning(*n, *keys, *seed, *w),
+            Order::Twice {
+                setup,
+                limit,
+                schedule,
+                query,
+                left,
+                right,
+                second,
+                third,
+            } => Turning::Twice(
+                two_joins(query, left, right, second, third, *limit),
+                twice_plan(setup, *schedule),
+            ),
         }
+    }
+}
+
+/// Gives the one who makes a join on equal keys, over windows of so many rows.
+fn equi_turning<'a>(w: u32, left: &'a Name, right: &'a Name) -> Turning<'a>
+    requires { IsFrom 1 most_rows w }
+    ensures asked { asked_turning result ≡ join_streams pair_lines (keyed w) (record { left = left.now; right = right.now }) most_events }
+    ensures crew { crew_turning result ≡ Some usual_crew }
+    ensures threads { threads_turning result ≡ 4 }
+    ensures serial { serial_turning result ≡ None }
+{
+    let source = Source::Keyed(Keyed { rows: w });
+    let join = join_of(source, left, right, MOST_EVENTS);
+    Turning::Threads(ThreadsOrder::Join(join), usual_size())
+}
+
+/// Gives the one who makes a join whose pairs are written as they are met, with these numbers.
+fn raw_turning<'a>(join: JoinOrder<'a>, setup: &Setup) -> Turning<'a>
+    requires cores { IsFrom 1 64 setup.now.cores }
+    requires flight { IsFrom 1 256 setup.now.flight }
+    requires threads { 1 ≤ setup.now.threads }
+    ensures asked { asked_turning result ≡ join_seen raw_items join.entry }
+    ensures crew { crew_turning result ≡ Some (record { cores = setup.now.cores; flight = setup.now.flight }) }
+    ensures threads { threads_turning result ≡ setup.now.threads }
+    ensures serial { serial_turning result ≡ None }
+{
+    Turning::Threads(ThreadsOrder::Raw(join), crew_size(setup))
+}
+
+/// Gives the one who makes two streams of so many rows, and sums up their join.
+fn gen_turning<'a>(n: u32, keys: u32, seed: u64, w: u32) -> Turning<'a>
+    requires { AreNumbers n keys w }
+    ensures asked { asked_turning result ≡ sum_up (record { rows = n; keys = keys; seed = seed; window = w }) }
+    ensures crew { crew_turning result ≡ Some usual_crew }
+    ensures threads { threads_turning result ≡ 4 }
+    ensures serial { serial_turning result ≡ None }
+{
+    let recipe = Recipe {
+        rows: n,
+        keys,
+        seed,
+        window: Keyed { rows: w },
+    };
+    Turning::Threads(ThreadsOrder::Gen(recipe), usual_size())
+}
+
+/// Gives the one who makes two joins in a row with these numbers: the calling thread where there are no threads.
+fn twice_plan(setup: &Setup, schedule: Option<u64>) -> TwicePlan
+    requires cores { IsFrom 1 64 setup.now.cores }
+    requires flight { IsFrom 1 256 setup.now.flight }
+    ensures crew { crew_twice result ≡ crew_with setup.now }
+    ensures threads { threads_twice result ≡ setup.now.threads }
+    ensures serial { serial_twice result ≡ serial_with setup.now schedule }
+{
+    if setup.threads > 0 {
+        return TwicePlan::Threads(crew_size(setup));
+    }
+    TwicePlan::Alone {
+        size: chain_size(setup),
+        chooser: chooser(schedule),
     }
 }
 
@@ -162,6 +238,29 @@ fn join_of<'a>(source: Source<'a>, left: &'a Name, right: &'a Name, limit: u64) 
         source,
         left: left.text(),
         right: right.text(),
+        limit,
+    }
+}
+
+/// Gives two joins in a row: of the streams under two names, by the query under a name, and of their pairs with the stream under a
+/// third name, by a second query, with this many events at most in each.
+fn two_joins<'a>(
+    query: &'a Name,
+    left: &'a Name,
+    right: &'a Name,
+    second: &'a Name,
+    third: &'a Name,
+    limit: u64,
+) -> TwiceOrder<'a>
+    ensures { join_twice (twice_names result) result.limit
+        ≡ join_twice (record { query = query.now; streams = record { left = left.now; right = right.now }; second = second.now; third = third.now }) limit }
+{
+    TwiceOrder {
+        query: query.text(),
+        left: left.text(),
+        right: right.text(),
+        second: second.text(),
+        third: third.text(),
         limit,
     }
 }

@@ -13,6 +13,10 @@ use std::time::Clock;
 /// Two left rows and the right one between them, which matches both.
 const THREE_ROWS: &str = ";on l.k = r.k;1,7/3,7/;2,7/;1,7,2,7/3,7,2,7/;;0";
 
+/// The two pairs of these rows, joined with a third stream.
+const TWO_JOINS: &str = ";on l.k = r.k;1,7/3,7/;2,7/;2,1,7,2,7,3,7/3,3,7,2,7,3,7/;;0;\
+left (ts int, a int, b int, c int, d int) right (ts int, k int) window left rows 10 window right rows 10 on l.b = r.k;3,7/";
+
 /// Counts the turns of two cores.
 #[derive(Drop)]
 struct CountingGate {
@@ -87,6 +91,12 @@ fn turns_each_core_in_a_thread_of_its_own(rt: HostRuntime) {
         ),
         (EQUI, THREE_ROWS, 4, 4),
         ("gen 1 1 1 1", ONE_ROW, 4, 4),
+        (
+            "twice --cores 2 --threads 2 query left right second third",
+            TWO_JOINS,
+            1,
+            2,
+        ),
     ] {
         let gate = MeetingGate {
             held,

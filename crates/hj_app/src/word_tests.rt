@@ -68,7 +68,8 @@ fn bounds_the_text_of_a_query(rt: HostRuntime) {
 const REFUSED: &str = "\
 ;12ab;1,7/;1,7/;;usage: equi W LEFT RIGHT | join [--cores N] [--threads N] [--flight N] [--max-events N] \
 [--schedule SEED] QUERY LEFT RIGHT | check QUERY | gen N KEYS SEED W \
-| raw [--cores N] [--threads N] [--flight N] [--max-events N] QUERY LEFT RIGHT/;1";
+| raw [--cores N] [--threads N] [--flight N] [--max-events N] QUERY LEFT RIGHT \
+| twice [--cores N] [--threads N] [--flight N] [--max-events N] [--schedule SEED] QUERY LEFT RIGHT QUERY THIRD/;1";
 
 #[test]
 fn refuses_words(rt: HostRuntime) {

@@ -1,8 +1,9 @@
 use Rattle.std.proofs.Common.{Some, subst}
 use Rattle.hj_opening.specs.Calls.{call}
 use Rattle.hj_opening.specs.Serve.{Serves}
+use Rattle.hj_opening.specs.RunTwice.{twice_names}
 use Rattle.hj_opening.specs.Words.{Order}
-use Rattle.hj_opening.proofs.Serving.{serves_order}
+use Rattle.hj_opening.proofs.Serving.{serves_order, serves_twice}
 use Rattle.hj_app.specs.Turning.{asked_threads}
 use Rattle.hj_app.proofs.serve.serve_order.Goals as goal
 
@@ -13,3 +14,10 @@ returns-in-Threads-clause-serves g c =
     (serves_order (call (g.O.Outside.under c.args.outside.now) (g.O.Outside.state c.args.outside.now) (g.O.Outside.state c.run_on_threads-ended.new.outside) (g.K.Sink.told c.args.out.now) (g.K.Sink.told c.run_on_threads-ended.new.out) (g.K.Sink.faults c.args.out.now) (g.K.Sink.faults c.run_on_threads-ended.new.out))
     c.report.result c.run_on_threads-ended.result.end (asked_threads c.in-Threads.asked) (g.N.Sink.told c.args.notes.now) (g.N.Sink.told c.report.new.notes) (g.N.Sink.refusals c.args.notes.now) (g.N.Sink.refusals c.report.new.notes)
     c.report.ensures.status c.run_on_threads-ended.ensures.runs c.report.ensures.note)
+
+pub returns-in-Twice-clause-serves : goal.returns-in-Twice-clause-serves
+returns-in-Twice-clause-serves g c =
+    let seen = call (g.O.Outside.under c.args.outside.now) (g.O.Outside.state c.args.outside.now) (g.O.Outside.state c.join_in_row.new.outside) (g.K.Sink.told c.args.out.now) (g.K.Sink.told c.join_in_row.new.out) (g.K.Sink.faults c.args.out.now) (g.K.Sink.faults c.join_in_row.new.out) in
+    subst (λ (order : Order). Serves c.report_twice.result (Some order) seen (g.N.Sink.told c.args.notes.now) (g.N.Sink.told c.report_twice.new.notes) (g.N.Sink.refusals c.args.notes.now) (g.N.Sink.refusals c.report_twice.new.notes)) c.in-Twice.ensures.asked
+    (serves_twice seen c.report_twice.result c.join_in_row.result (twice_names c.in-Twice.joins) c.in-Twice.joins.limit (g.N.Sink.told c.args.notes.now) (g.N.Sink.told c.report_twice.new.notes) (g.N.Sink.refusals c.args.notes.now) (g.N.Sink.refusals c.report_twice.new.notes)
+    c.report_twice.ensures.status c.join_in_row.ensures c.report_twice.ensures.note)
