@@ -2,6 +2,8 @@
 #![tactic(auto)]
 
 #[cfg(test)]
+mod in_a_row;
+#[cfg(test)]
 mod joins;
 #[cfg(test)]
 mod raw;
