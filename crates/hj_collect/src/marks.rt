@@ -1,5 +1,7 @@
-ghost use Rattle.std.specs.Prelude.{◌≡◌, ◌<◌, length, replicate, slice_set, IfOk, None};
-ghost use Rattle.hj_collect.specs.Marks.{meaning_of, least_of, with_raised, with_end};
+ghost use Rattle.std.specs.Prelude.{◌≡◌, ◌<◌, true, length, replicate, slice_set, IfOk, None, Some};
+ghost use Rattle.std.specs.declared.cmp.Ordering.TheVariants.{Less};
+ghost use Rattle.hj_msg.specs.Punctuation.{up_to};
+ghost use Rattle.hj_collect.specs.Marks.{compared, meaning_of, least_of, raised_to, with_raised, with_end};
 
 use crate::Mark;
 use crate::least::Least;
@@ -53,7 +55,12 @@ impl Marks {
         requires { core < length self.old }
         ensures { self.new ≡ with_raised core no.0 self.old }
     {
-        match self.of_cores[core] {
+        let before = self.of_cores[core];
+        if stays_least(self.least.mark, before, no) {
+            self.of_cores[core] = Some(Mark::UpTo(no));
+            return;
+        }
+        match before {
             None | Some(Mark::UpTo(_)) => self.set(core, Mark::UpTo(no)),
             Some(Mark::All) => {}
         }
@@ -79,5 +86,20 @@ impl Marks {
             Some(least) => least.with(Some(mark)),
             None => Least::of(&self.of_cores),
         };
+    }
+}
+
+/// Returns whether a mark is below one of a core, and below the number that comes in its place.
+#[inline(always)]
+fn stays_least(least: Option<Mark>, before: Option<Mark>, no: EventNo) -> bool
+    ensures before { result ≡ true → Less ≡ compared (meaning_of least) (meaning_of before) }
+    ensures after { result ≡ true → Less ≡ compared (meaning_of least) (Some (up_to no.0)) }
+    ensures raised { result ≡ true → raised_to no.0 (meaning_of before) ≡ Some (up_to no.0) }
+{
+    match (least, before) {
+        (Some(Mark::UpTo(least)), Some(Mark::UpTo(before))) => {
+            least.0 < before.0 && least.0 < no.0
+        }
+        _ => false,
     }
 }
