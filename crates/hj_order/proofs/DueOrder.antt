@@ -31,7 +31,7 @@ module _ {P : Type 0} where
   none_before x [] bound = All-nil (λ other. comes_before other x.pair ≡ false)
   none_before x (y ∷ ys) bound = All-cons (λ other. comes_before other x.pair ≡ false) y.pair (pairs_in ys) (not_before x y bound.0) (none_before x ys bound.1)
 
-  later_past : (mark : Mark) (p q : Pair P) → comes_before q p ≡ false → is_within (Some mark) (later p) ≡ false → is_within (Some mark) (later q) ≡ false
+  pub later_past : (mark : Mark) (p q : Pair P) → comes_before q p ≡ false → is_within (Some mark) (later p) ≡ false → is_within (Some mark) (later q) ≡ false
   later_past (up_to number) p q before past = grind (arith, nat_tests, before, past)
   later_past all p q before past = past
 

@@ -1,4 +1,5 @@
 pub mod Due
 mod DueOrder
+mod InOrder
 pub mod Emissions
 pub mod Shuffles

@@ -1,8 +1,9 @@
 -- Which of two pairs is due first.
-use Rattle.std.specs.Prelude.{List, map}
+use Rattle.std.specs.Prelude.{◌≡◌, false, List, [], ◌∷◌, All, map}
 use Rattle.std.specs.declared.cmp.Ordering.{Ordering}
 use Rattle.std.specs.Ordering.{nat_cmp, on, flip_args, then_cmp}
 use Rattle.hj_msg.specs.declared.event.Pair.{Pair}
+use Rattle.hj_msg.specs.Emission.{comes_before}
 use Rattle.hj_msg.specs.Valid.{later, earlier}
 use Rattle.hj_order.specs.declared.kept.Kept.{Kept}
 
@@ -13,3 +14,12 @@ due_cmp = flip_args (then_cmp (on (λ kept. later kept.pair) nat_cmp) (on (λ ke
 -- the pairs that are kept
 abbrev pub pairs_in : {P : Type 0} → List (Kept P) → List (Pair P)
 pairs_in kept = map (λ one. one.pair) kept
+
+-- none of these comes before that pair
+abbrev pub NoneBefore : {P : Type 0} → Pair P → List (Kept P) → Type 0
+NoneBefore pair kept = All (λ one. comes_before one.pair pair ≡ false) kept
+
+-- each of them is due no sooner than those ahead of it
+abbrev pub AreInOrder : {P : Type 0} → List (Kept P) → Type 0
+AreInOrder [] = Unit {0}
+AreInOrder (one ∷ others) = NoneBefore one.pair others × AreInOrder others

@@ -2,6 +2,7 @@ ghost use Rattle.std.specs.Prelude.{◌≡◌};
 ghost use Rattle.std.proofs.Common.{rules};
 ghost use Rattle.std.specs.Cmp.Rules.{comparing};
 ghost use Rattle.std.specs.Ordering.{as_partial_cmp, eq_by_cmp};
+ghost use Rattle.hj_msg.specs.Emission.{comes_before};
 ghost use Rattle.hj_msg.specs.Valid.{later, earlier};
 
 use hj_msg::Pair;
@@ -26,6 +27,15 @@ impl<P> Kept<P> {
         ensures { result ≡ earlier self.now.pair }
     {
         self.pair.left_no.0.min(self.pair.right_no.0)
+    }
+
+    /// Returns whether this pair is due before another one.
+    #[inline(always)]
+    pub(crate) fn is_due_before(&self, other: &Self) -> bool
+        ensures { result ≡ comes_before self.now.pair other.now.pair }
+    {
+        let (number, last) = (self.later(), other.later());
+        number < last || (number == last && self.earlier() < other.earlier())
     }
 }
 

@@ -1,36 +1,43 @@
-ghost use Rattle.std.specs.Prelude.{◌≡◌, ◌+◌, ◌≤◌, ◌↔◌, ◌++◌, ◌∷◌, [], List, All, true, false, vec_len, IsNone, IfSome, IfNone, OnOk, OnErr, Some, IsPermutation};
-ghost use Rattle.std.specs.BinaryHeap.{heap_items, heap_len, heap_capacity, KeepsHeap};
+ghost use Rattle.std.specs.Prelude.{◌≡◌, ◌+◌, ◌<◌, ◌≤◌, slice_get, ◌↔◌, ◌++◌, ◌∷◌, [], List, All, true, false, vec_len, IsNone, IfSome, IfNone, OnOk, OnErr, Some, IsPermutation};
+ghost use Rattle.std.specs.BinaryHeap.{heap_items, heap_len, heap_capacity, IsHeap, KeepsHeap};
+ghost use Rattle.std.specs.VecDeque.{deque_len, deque_capacity};
 ghost use Rattle.hj_msg.specs.Emission.{comes_before, is_within};
 ghost use Rattle.hj_msg.specs.Met.{pairs_of};
 ghost use Rattle.hj_msg.specs.Valid.{later};
 ghost use Rattle.hj_collect.specs.Marks.{meaning};
-ghost use Rattle.hj_order.specs.Due.{due_cmp, pairs_in};
+ghost use Rattle.hj_order.specs.Due.{due_cmp, pairs_in, AreInOrder, NoneBefore};
 
 use crate::kept::Kept;
 use hj_base::{Memory, Share};
 use hj_collect::{Collector, Mark};
 use hj_msg::{Pair, Report};
 use std::alloc::Global;
-use std::collections::BinaryHeap;
+use std::collections::{BinaryHeap, VecDeque};
 use std::marker::Model;
 
 /// Pairs that were met and are kept until they are due. Clauses see them in no order.
 #[derive(Debug, Drop)]
 pub struct Ordered<P> {
-    pairs: BinaryHeap<Kept<P>>,
+    /// Those that came late: one that is due later had come before.
+    late: BinaryHeap<Kept<P>>,
+    /// All others, each due no sooner than those ahead of it.
+    in_order: VecDeque<Kept<P>>,
 }
 
 impl<P> Model for Ordered<P> {
-    ghost use Rattle.std.specs.Prelude.{List};
+    ghost use Rattle.std.specs.Prelude.{List, ◌++◌};
     ghost use Rattle.std.specs.BinaryHeap.{heap_items, IsHeap};
     ghost use Rattle.hj_msg.specs.declared.event.Pair.{Pair};
-    ghost use Rattle.hj_order.specs.Due.{due_cmp, pairs_in};
+    ghost use Rattle.hj_order.specs.Due.{due_cmp, pairs_in, AreInOrder};
 
     ghost Value = { List (Pair P) };
 
-    ghost view = { λ ordered. pairs_in (heap_items ordered.pairs) };
+    ghost view = { λ ordered. pairs_in (heap_items ordered.late ++ ordered.in_order.items) };
 
-    ghost invariant = { λ ordered. IsHeap due_cmp (heap_items ordered.pairs) };
+    ghost invariant = { λ ordered. record {
+      late : IsHeap due_cmp (heap_items ordered.late);
+      in_order : AreInOrder ordered.in_order.items;
+    } };
 }
 
 impl<P> Ordered<P> {
@@ -39,7 +46,8 @@ impl<P> Ordered<P> {
         ensures { result ≡ [] }
     {
         Ordered {
-            pairs: BinaryHeap::new(alloc),
+            late: BinaryHeap::new(alloc),
+            in_order: VecDeque::new(alloc),
         }
     }
 }
@@ -51,8 +59,9 @@ impl<P: Drop> Ordered<P> {
         ensures ok { OnOk result (IsPermutation (self.old ++ pairs.items) self.new) }
         ensures err { OnErr result (self.new ≡ self.old) }
     {
-        self.pairs.reserve(pairs.len())?;
-        push_all(&mut self.pairs, pairs);
+        self.late.reserve(pairs.len())?;
+        self.in_order.reserve(pairs.len())?;
+        put_all(&mut self.late, &mut self.in_order, pairs);
         Ok(())
     }
 
@@ -66,10 +75,14 @@ impl<P: Drop> Ordered<P> {
         ensures none { IsNone result ↔ All (λ pair. is_within (Some (meaning up_to)) (later pair) ≡ false) self.old }
         ensures unchanged { IfNone result (self.new ≡ self.old) }
     {
-        if !is_within(self.pairs.peek()?.later(), up_to) {
+        if is_late_first(&self.late, &self.in_order) {
+            let pair = release_late(&mut self.late, up_to)?;
+            return Some(pair);
+        }
+        if !is_within(self.in_order.front()?.later(), up_to) {
             return None;
         }
-        let kept = self.pairs.pop()?;
+        let kept = self.in_order.pop_front()?;
         Some(kept.pair)
     }
 }
@@ -106,7 +119,9 @@ impl<P: Share + Drop> Ordered<P> {
         ensures ok { OnOk result (IsPermutation (self.old ++ pair ∷ []) self.new) }
         ensures err { OnErr result (self.new ≡ self.old) }
     {
-        self.pairs.push(Kept { pair })?;
+        self.late.reserve(1)?;
+        self.in_order.reserve(1)?;
+        put(&mut self.late, &mut self.in_order, Kept { pair });
         Ok(())
     }
 }
@@ -122,18 +137,89 @@ fn has_pairs<P>(report: &Report<P>) -> bool
     }
 }
 
-/// Puts pairs into a heap that has room for them.
+/// Puts pairs where they belong, where there is room for all of them in both.
 #[inline(always)]
-fn push_all<P: Drop>(heap: &mut BinaryHeap<Kept<P>>, pairs: Vec<Pair<P>>)
-    requires { heap_len heap.old + vec_len pairs ≤ heap_capacity heap.old }
-    ensures pairs { IsPermutation (pairs_in (heap_items heap.old) ++ pairs.items) (pairs_in (heap_items heap.new)) }
-    ensures order { KeepsHeap due_cmp (heap_items heap.old) (heap_items heap.new) }
+fn put_all<P: Drop>(
+    late: &mut BinaryHeap<Kept<P>>,
+    in_order: &mut VecDeque<Kept<P>>,
+    pairs: Vec<Pair<P>>,
+)
+    requires late_room { heap_len late.old + vec_len pairs ≤ heap_capacity late.old }
+    requires room { deque_len in_order.old + vec_len pairs ≤ deque_capacity in_order.old }
+    ensures pairs { IsPermutation (pairs_in (heap_items late.old ++ in_order.old.items) ++ pairs.items) (pairs_in (heap_items late.new ++ in_order.new.items)) }
+    ensures late { KeepsHeap due_cmp (heap_items late.old) (heap_items late.new) }
+    ensures order { AreInOrder in_order.old.items → AreInOrder in_order.new.items }
 {
     for pair in pairs {
-        if let Err(_) = heap.push(Kept { pair }) {
-            unreachable!()
-        }
+        put(late, in_order, Kept { pair });
     }
+}
+
+/// Puts a pair behind those that are in order if it is due no sooner than the last one, or else among those that came late.
+#[inline(always)]
+fn put<P: Drop>(late: &mut BinaryHeap<Kept<P>>, in_order: &mut VecDeque<Kept<P>>, kept: Kept<P>)
+    requires late_room { heap_len late.old < heap_capacity late.old }
+    requires room { deque_len in_order.old < deque_capacity in_order.old }
+    ensures put { IsPermutation (kept ∷ (heap_items late.old ++ in_order.old.items)) (heap_items late.new ++ in_order.new.items) }
+    ensures late { KeepsHeap due_cmp (heap_items late.old) (heap_items late.new) }
+    ensures order { AreInOrder in_order.old.items → AreInOrder in_order.new.items }
+    ensures late_room { (heap_len late.new ≤ heap_len late.old + 1) × (heap_capacity late.old ≤ heap_capacity late.new) }
+    ensures room { (deque_len in_order.new ≤ deque_len in_order.old + 1) × (deque_capacity in_order.new ≡ deque_capacity in_order.old) }
+{
+    if is_in_order(in_order, &kept) {
+        in_order.push_back_reserved(kept);
+    } else if let Err(_) = late.push(kept) {
+        unreachable!()
+    }
+}
+
+/// Returns whether a pair is due no sooner than the last one.
+#[inline(always)]
+fn is_in_order<P>(in_order: &VecDeque<Kept<P>>, kept: &Kept<P>) -> bool
+    ensures { result ≡ true → AreInOrder in_order.now.items → AreInOrder (in_order.now.items ++ kept.now ∷ []) }
+{
+    match in_order.back() {
+        Some(last) => !kept.is_due_before(last),
+        None => true,
+    }
+}
+
+/// Returns whether one that came late is due before the first of the others.
+#[inline(always)]
+fn is_late_first<P>(late: &BinaryHeap<Kept<P>>, in_order: &VecDeque<Kept<P>>) -> bool
+    requires late { IsHeap due_cmp (heap_items late.now) }
+    requires order { AreInOrder in_order.now.items }
+    ensures late { result ≡ true → (one : Kept P) → slice_get (heap_items late.now) 0 ≡ Some one → NoneBefore one.pair in_order.now.items }
+    ensures some { result ≡ true → 0 < heap_len late.now }
+    ensures first { result ≡ false → (one : Kept P) → slice_get in_order.now.items 0 ≡ Some one → NoneBefore one.pair (heap_items late.now) }
+    ensures none { result ≡ false → deque_len in_order.now ≡ 0 → heap_len late.now ≡ 0 }
+{
+    let Some(one) = late.peek() else {
+        return false;
+    };
+    match in_order.front() {
+        Some(first) => one.is_due_before(first),
+        None => true,
+    }
+}
+
+/// Removes the first pair of those that came late, if it is within the mark.
+#[inline(never)]
+fn release_late<P: Drop>(late: &mut BinaryHeap<Kept<P>>, up_to: Mark) -> Option<Pair<P>>
+    requires late { IsHeap due_cmp (heap_items late.old) }
+    ensures kept { IfSome result (λ pair. IsPermutation (heap_items late.old) (record { pair = pair } ∷ heap_items late.new)) }
+    ensures top { IfSome result (λ pair. slice_get (heap_items late.old) 0 ≡ Some (record { pair = pair })) }
+    ensures first { IfSome result (λ pair. NoneBefore pair (heap_items late.old)) }
+    ensures within { IfSome result (λ pair. is_within (Some (meaning up_to)) (later pair) ≡ true) }
+    ensures none { IfNone result (All (λ one. is_within (Some (meaning up_to)) (later one.pair) ≡ false) (heap_items late.old)) }
+    ensures unchanged { IfNone result (late.new ≡ late.old) }
+    ensures late { IsHeap due_cmp (heap_items late.new) }
+{
+    if !is_within(late.peek()?.later(), up_to) {
+        return None;
+    }
+    let kept = late.pop()?;
+    Some(kept.pair)
 }
 
 /// Returns whether a number is within a mark.
