@@ -1,16 +1,32 @@
 -- The rows that are gone by their age, found one after another on both sides.
-use Rattle.std.proofs.Common.{◌≡◌, true, false, cond, ltb, ℤ, List, [], ◌∷◌, ◌++◌, drop, sym, ap, ◌∙◌, subst, Some, None, Option, unwrap_or, append_assoc}
+use Rattle.std.proofs.Common.{◌≡◌, true, false, cond, ltb, ℤ, ◌-ℤ◌, refl, List, [], ◌∷◌, ◌++◌, drop, sym, ap, ◌∙◌, subst, Some, None, Option, unwrap_or, append_assoc}
 use Rattle.std.specs.List.{filter}
 use Rattle.hj_base.specs.declared.numbers.EventNo.{EventNo}
 use Rattle.hj_base.specs.declared.numbers.Side.{Side}
 use Rattle.hj_base.specs.declared.numbers.Side.TheVariants.{Left, Right}
 use Rattle.hj_window.specs.declared.side_rows.Due.{Due}
-use Rattle.hj_window.specs.LiveRows.{LiveRow, LiveRows, IsInOrder, is_gone}
+use Rattle.hj_base.specs.declared.numbers.Window.{Window}
+use Rattle.hj_base.specs.declared.numbers.Window.TheVariants.{Rows, Time}
+use Rattle.hj_window.specs.LiveRows.{LiveRow, LiveRows, IsInOrder, is_gone, is_gone_at, window_of}
 use Rattle.hj_window.specs.Numbers.{number_of, numbers_of}
-use Rattle.hj_window.specs.SideRows.{Kept, aged, due_rows, first_of}
+use Rattle.hj_window.specs.SideRows.{Kept, aged, counts_rows, due_rows, first_of}
 use Rattle.hj_window.specs.LiveView.{live_row, live_rows, among, merged, live_of}
 use Rattle.hj_window.proofs.Order.{in_order_filter}
 use Rattle.hj_window.proofs.Merging.{filter_merged, filter_seen, lefts_of, rights_of}
+
+never_gone : (window : Window) (age : ℤ) → counts_rows window ≡ true → is_gone_at window age ≡ false
+never_gone (Rows count) age counts = refl
+never_gone (Time span) age counts = cc
+
+stays_on : (live : LiveRows) (side : Side) (age : ℤ) → counts_rows live.left ≡ true → counts_rows live.right ≡ true → is_gone_at (window_of live side) age ≡ false
+stays_on live Left age left right = never_gone live.left age left
+stays_on live Right age left right = never_gone live.right age right
+
+-- where both windows count their rows, none is gone by its age
+pub none_gone : (live : LiveRows) (now : ℤ) (rows : List LiveRow) → counts_rows live.left ≡ true → counts_rows live.right ≡ true → filter (is_gone live now) rows ≡ []
+none_gone live now [] left right = refl
+none_gone live now (row ∷ rows) left right =
+    ap (λ b. cond b (row ∷ filter (is_gone live now) rows) (filter (is_gone live now) rows)) (stays_on live row.side (now -ℤ row.time) left right) ∙ none_gone live now rows left right
 
 -- the rows that are still to be answered
 abbrev pub still_due : ℤ → Kept → Kept → Option Due → Option Due → List LiveRow

@@ -7,7 +7,7 @@ use Rattle.hj_base.specs.declared.numbers.Window.{Window}
 use Rattle.hj_base.specs.declared.numbers.Window.TheVariants.{Rows, Time}
 use Rattle.hj_window.specs.declared.side_rows.HeldRow.{HeldRow}
 use Rattle.hj_window.specs.LiveRows.{is_gone_at}
-use Rattle.hj_window.specs.SideRows.{NoneBefore, IsInTime, is_aged, aged, unaged}
+use Rattle.hj_window.specs.SideRows.{NoneBefore, IsInTime, counts_rows, is_aged, aged, unaged}
 
 none_by_rows : (count : ℕ) (now : ℤ) (rows : List HeldRow) → aged (Rows count) now rows ≡ []
 none_by_rows count now [] = refl
@@ -39,6 +39,11 @@ all_unaged window now (held ∷ rows) none = elim (is_aged window now held) as (
   | true ↦ λ bad. cc
   | false ↦ λ none'. ap (λ l. held ∷ l) (all_unaged window now rows none')
 ] none
+
+-- under a window that counts its rows all stay
+pub counted_stay : (window : Window) (now : ℤ) (rows : List HeldRow) → counts_rows window ≡ true → unaged window now rows ≡ rows
+counted_stay (Rows count) now rows counts = all_unaged (Rows count) now rows (none_by_rows count now rows)
+counted_stay (Time span) now rows counts = cc
 
 in_time_drop : (rows : List HeldRow) (at : ℕ) → IsInTime rows → IsInTime (drop at rows)
 in_time_drop [] zero order = tt

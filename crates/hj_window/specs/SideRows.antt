@@ -1,5 +1,5 @@
 -- What is seen of the live rows of one side.
-use Rattle.std.specs.Prelude.{◌≡◌, ℕ, true, not, Bool, ℤ, ◌-ℤ◌, ◌≤ℤ◌, List, [], ◌∷◌, ◌++◌, length, filter, drop, nat_lt, if◌then◌else◌, Some, None}
+use Rattle.std.specs.Prelude.{◌≡◌, ℕ, true, false, not, Bool, ℤ, ◌-ℤ◌, ◌≤ℤ◌, List, [], ◌∷◌, ◌++◌, length, filter, drop, nat_lt, if◌then◌else◌, Some, None}
 use Rattle.std.specs.declared.option.Option.{Option}
 use Rattle.hj_base.specs.declared.numbers.EventNo.{EventNo}
 use Rattle.hj_base.specs.declared.numbers.Side.{Side}
@@ -40,6 +40,16 @@ aged window now rows = filter (is_aged window now) rows
 
 abbrev pub unaged : Window → ℤ → List HeldRow → List HeldRow
 unaged window now rows = filter (λ held. not (is_aged window now held)) rows
+
+-- Under a window that counts its rows none is aged.
+abbrev pub counts_rows : Window → Bool
+counts_rows (Rows count) = true
+counts_rows (Time span) = false
+
+-- whether the window counts its rows, and holds one more
+abbrev pub has_room : Window → List HeldRow → Bool
+has_room (Rows count) rows = nat_lt (length rows) count
+has_room (Time span) rows = false
 
 -- an aged row that was found, and those behind it
 abbrev pub due_rows : Window → ℤ → List HeldRow → Option Due → List HeldRow

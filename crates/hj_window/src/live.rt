@@ -73,8 +73,20 @@ impl Live {
         Ok(Expired { before, after })
     }
 
-    /// Returns the rows that are gone by their age at this time, in the order of their arrival.
+    /// Returns the rows that are gone by their age at this time, in the order of their arrival. Windows of rows look at none.
+    #[inline(always)]
     fn gone_at(&self, now: i64) -> Result<Numbers, Memory>
+        ensures { IfOk result (λ gone. gone ≡ numbers_of (filter (is_gone self.now now) self.now.rows)) }
+    {
+        if self.left.counts_rows() && self.right.counts_rows() {
+            return Ok(Numbers::new(self.alloc));
+        }
+        self.find_gone(now)
+    }
+
+    /// Finds the rows that are gone by their age at this time, in the order of their arrival.
+    #[inline(never)]
+    fn find_gone(&self, now: i64) -> Result<Numbers, Memory>
         ensures { IfOk result (λ gone. gone ≡ numbers_of (filter (is_gone self.now now) self.now.rows)) }
     {
         let mut gone = Numbers::new(self.alloc);
@@ -100,6 +112,26 @@ impl Live {
 /// number of the row that expires by that. If memory runs out, nothing changes.
 #[inline(always)]
 fn enter(own: &mut SideRows, other: &mut SideRows, held: HeldRow) -> Result<Option<EventNo>, Memory>
+    ensures windows { (own.new.window ≡ own.old.window) × (other.new.window ≡ other.old.window) }
+    ensures gone { IfOk result (λ gone. gone ≡ (overflow own.old.window (entered own.old held)).gone) }
+    ensures own_rows { OnOk result (own.new.rows ≡ (overflow own.old.window (entered own.old held)).rows) }
+    ensures other_rows { OnOk result (other.new.rows ≡ unaged other.old.window held.time other.old.rows) }
+    ensures err { OnErr result (IsAsBefore own.old own.new × IsAsBefore other.old other.new) }
+{
+    if own.counts_rows() && other.counts_rows() {
+        own.enter_counted(held)
+    } else {
+        enter_by_age(own, other, held)
+    }
+}
+
+/// Does the same where a window may be one of time.
+#[inline(never)]
+fn enter_by_age(
+    own: &mut SideRows,
+    other: &mut SideRows,
+    held: HeldRow,
+) -> Result<Option<EventNo>, Memory>
     ensures windows { (own.new.window ≡ own.old.window) × (other.new.window ≡ other.old.window) }
     ensures gone { IfOk result (λ gone. gone ≡ (overflow own.old.window (entered own.old held)).gone) }
     ensures own_rows { OnOk result (own.new.rows ≡ (overflow own.old.window (entered own.old held)).rows) }

@@ -1,7 +1,7 @@
-ghost use Rattle.std.specs.Prelude.{◌≡◌, ◌<◌, ◌≤◌, ◌-ℤ◌, ◌+◌, ◌++◌, [], ◌∷◌, length, drop, OnOk, OnErr};
+ghost use Rattle.std.specs.Prelude.{◌≡◌, ◌<◌, ◌≤◌, ◌-ℤ◌, ◌+◌, ◌++◌, [], ◌∷◌, true, length, drop, IfOk, OnOk, OnErr};
 ghost use Rattle.hj_window.specs.LiveRows.{is_gone_at};
 ghost use Rattle.std.specs.VecDeque.{deque_len, deque_capacity};
-ghost use Rattle.hj_window.specs.SideRows.{aged, unaged, due_rows, overflow, IsAsBefore, IsInTime, OnceInTime};
+ghost use Rattle.hj_window.specs.SideRows.{aged, unaged, counts_rows, due_rows, has_room, overflow, IsAsBefore, IsInTime, OnceInTime};
 
 use hj_base::{EventNo, Memory, Window};
 use std::alloc::Global;
@@ -27,7 +27,7 @@ pub(crate) struct Due {
 pub(crate) struct SideRows {
     window: Window,
     rows: VecDeque<HeldRow>,
-    /// No row's time is below that of a row before it.
+    /// It is known that no row's time is below that of a row before it.
     in_time: bool,
 }
 
@@ -54,6 +54,14 @@ impl SideRows {
             rows: VecDeque::new(alloc),
             in_time: true,
         }
+    }
+
+    /// Returns whether the window counts its rows, so that none is gone by its age.
+    #[inline(always)]
+    pub(crate) fn counts_rows(&self) -> bool
+        ensures { result ≡ counts_rows self.now.window }
+    {
+        matches!(self.window, Window::Rows(_))
     }
 
     /// Finds the first row from a place on that is gone by its age at this time.
@@ -114,6 +122,35 @@ impl SideRows {
         pop_overflow(&mut self.rows, self.window)
     }
 
+    /// Appends a row where the window counts its rows. If it then has one too many, removes the oldest, and returns its number.
+    /// If memory runs out, no row changes.
+    #[inline(always)]
+    pub(crate) fn enter_counted(&mut self, held: HeldRow) -> Result<Option<EventNo>, Memory>
+        requires { counts_rows self.old.window ≡ true }
+        ensures window { self.new.window ≡ self.old.window }
+        ensures gone { IfOk result (λ gone. gone ≡ (overflow self.old.window (self.old.rows ++ held ∷ [])).gone) }
+        ensures rows { OnOk result (self.new.rows ≡ (overflow self.old.window (self.old.rows ++ held ∷ [])).rows) }
+        ensures err { OnErr result (IsAsBefore self.old self.new) }
+    {
+        self.in_time = false;
+        if self.has_room() {
+            self.rows.push_back(held)?;
+            return Ok(None);
+        }
+        Ok(Some(replace_oldest(&mut self.rows, held).no))
+    }
+
+    /// Returns whether the window counts its rows, and holds one more.
+    #[inline(always)]
+    fn has_room(&self) -> bool
+        ensures { result ≡ has_room self.now.window self.now.rows }
+    {
+        match self.window {
+            Window::Rows(count) => self.rows.len() < count as usize,
+            Window::Time(_) => false,
+        }
+    }
+
     /// Returns whether it is known that the times never fall, also with this row after the others.
     #[inline(always)]
     fn stays_in_time(&self, held: HeldRow) -> bool
@@ -138,6 +175,20 @@ fn pop_aged(rows: &mut VecDeque<HeldRow>, window: Window, now: i64)
             return;
         }
         let _ = rows.pop_front();
+    }
+}
+
+/// Appends a row and removes the first one, which it returns: the same row where there was none before.
+#[inline(always)]
+fn replace_oldest(rows: &mut VecDeque<HeldRow>, held: HeldRow) -> HeldRow
+    ensures { rows.old.items ++ held ∷ [] ≡ result ∷ rows.new.items }
+{
+    match rows.pop_front() {
+        Some(oldest) => {
+            rows.push_back_reserved(held);
+            oldest
+        }
+        None => held,
     }
 }
 

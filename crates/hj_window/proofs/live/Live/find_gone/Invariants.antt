@@ -4,7 +4,7 @@ use Rattle.hj_window.specs.LiveRows.{is_gone}
 use Rattle.hj_window.specs.Numbers.{numbers_of}
 use Rattle.hj_window.specs.SideRows.{due_rows}
 use Rattle.hj_window.proofs.Finding.{still_due}
-use Rattle.hj_window.proofs.live.Live.gone_at.Given as goal
+use Rattle.hj_window.proofs.live.Live.find_gone.Given as goal
 
 abbrev pub invariant-rows : goal.invariant-rows
 invariant-rows l =
