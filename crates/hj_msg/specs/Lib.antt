@@ -6,6 +6,7 @@ pub mod Emission
 pub mod Event
 pub mod Examples
 pub mod Feed
+pub mod Found
 pub mod GoesOn
 pub mod Kang
 pub mod Meeting
