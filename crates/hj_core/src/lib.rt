@@ -8,7 +8,9 @@ mod flying;
 mod one_core;
 mod prepared;
 mod sends;
+mod way;
 
 pub use one_core::Core;
 pub use prepared::Prepared;
 pub use sends::Sends;
+pub use way::Way;

@@ -1,14 +1,15 @@
-ghost use Rattle.std.specs.Prelude.{◌≡◌, ◌+◌, ◌==◌, ◌<◌, nat_lt, ◌≤◌, [], not, ◌&&◌, IfOk, OnErr, MatchOption};
+ghost use Rattle.std.specs.Prelude.{◌≡◌, ◌+◌, ◌==◌, ◌<◌, nat_lt, ◌≤◌, [], not, ◌&&◌, None, IfOk, IfSome, IfNone, OnErr, MatchOption};
 ghost use Rattle.std.specs.Option.{ForSome};
 ghost use Rattle.hj_msg.specs.Core.{empty_state, after, sends, report, is_home, is_last};
 ghost use Rattle.hj_msg.specs.Store.{with_element};
 ghost use Rattle.hj_msg.specs.declared.message.Msg.TheVariants.{R as LeftRow, S as RightRow, EndR, EndS, ExpR, ExpS, CloseL, CloseR};
 ghost use Rattle.hj_core.specs.Ready.{IsReady};
+ghost use Rattle.hj_core.specs.Sent.{passed_on};
 
 use crate::at_home::{keep_at_home, remove_at_home, rest_at_home, settle_at_home, share_at_home};
 use crate::flight::Flight;
 use crate::sends::when;
-use crate::{Prepared, Sends};
+use crate::{Prepared, Sends, Way};
 use hj_base::{CoreNo, EventNo, Memory, Share, Side};
 use hj_msg::{Join, Msg, Report, Store};
 use std::alloc::Global;
@@ -181,6 +182,41 @@ impl<P: Share + Drop, J: Join<P> + Drop, L: Store<P, J> + Drop, R: Store<P, J> +
             Msg::CloseR => return Ok(self.close_right()),
         }
         Ok(None)
+    }
+
+    /// Handles a message of which nothing is reported, whatever the core holds: it takes no memory. Returns the way that the message
+    /// goes on; None for any other message, which isn't handled.
+    #[inline(always)]
+    pub fn pass(&mut self, msg: &Msg<P>) -> Option<Way>
+        ensures state { IfSome result (λ way. state_of L.entries R.entries self.new ≡ after self.old.place self.old.cores (state_of L.entries R.entries self.old) msg.now) }
+        ensures sends { IfSome result (λ way. sends self.old.place self.old.cores msg.now ≡ passed_on way msg.now) }
+        ensures report { IfSome result (λ way. report (J.predicate self.old.join) (state_of L.entries R.entries self.old) msg.now ≡ None) }
+        ensures others { IfNone result (self.new ≡ self.old) }
+        ensures kept { KeepsPlace self.old self.new }
+    {
+        match msg {
+            Msg::EndR(no) => {
+                self.settle_left(*no);
+                Some(Way::Left)
+            }
+            Msg::EndS(no) => {
+                self.settle_right(*no);
+                Some(Way::Right)
+            }
+            Msg::ExpR(no) => {
+                self.remove_left(*no);
+                Some(Way::Left)
+            }
+            Msg::ExpS(no) => {
+                self.remove_right(*no);
+                Some(Way::Right)
+            }
+            Msg::AckS(no) => {
+                self.flight.acknowledge(*no);
+                Some(Way::Nowhere)
+            }
+            _ => None,
+        }
     }
 
     /// Returns whether both closes were handled.
