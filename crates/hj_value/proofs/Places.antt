@@ -1,13 +1,13 @@
 -- A text that is put behind the others stands where its slot says, and the others stay where they are.
-use Rattle.std.proofs.Common.{◌≡◌, ℕ, ◌+◌, ◌-◌, ◌≤◌, List, [], ◌∷◌, ◌++◌, length, take, drop, refl, sym, ap, ap₂, ◌∙◌, arith}
+use Rattle.std.proofs.Common.{◌≡◌, ℕ, ℤ, ◌+◌, ◌-◌, ◌<◌, ◌≤◌, List, [], ◌∷◌, ◌++◌, length, map, take, drop, get_or, refl, sym, ap, ap₂, ◌∙◌, arith}
 use Rattle.std.proofs.Math.Seq.{drop-append_seam, take-length}
-use Rattle.std.proofs.lemmas.List.{take-append-le, drop-append-le, map-append, length-drop}
+use Rattle.std.proofs.lemmas.List.{take-append-le, drop-append-le, map-append, length-drop, take_more}
 use Rattle.std.proofs.lemmas.List.Elements.{All-head, All-tail}
 use Rattle.std.specs.Prelude.{All}
 use Rattle.hj_value.specs.declared.field.Field.{Field}
 use Rattle.hj_value.specs.declared.field.Field.TheVariants as field
-use Rattle.hj_value.specs.declared.row.Slot.{Slot}
-use Rattle.hj_value.specs.declared.row.Slot.TheVariants as slot
+use Rattle.hj_value.specs.declared.slots.Slot.{Slot}
+use Rattle.hj_value.specs.declared.slots.Slot.TheVariants as slot
 use Rattle.hj_value.specs.Slots.{between, field_of, fields_of, IsPlace}
 
 between-append : (texts text : List ℕ) (from to : ℕ) → from ≤ to → to ≤ length texts → between (texts ++ text) from to ≡ between texts from to
@@ -36,3 +36,10 @@ fields_of-push texts after text slots longer one new row put pushed placed is se
     ∙ map-append (field_of (texts ++ text)) slots (slot.Text (length texts) (length texts + length text) ∷ [])
     ∙ ap₂ (λ others last. others ++ field.Text last ∷ []) (fields_of-append texts text slots places ∙ seen) (between-last texts text)
     ∙ ap (λ last. row ++ last ∷ []) (sym is)
+
+-- one number more of a list
+pub numbers-more : (numbers : List ℤ) (at : ℕ) (d : ℤ) (before after : List Field) → at < length numbers → before ≡ map field.Int (take at numbers) → after ≡ before ++ field.Int (get_or numbers at d) ∷ [] → after ≡ map field.Int (take (at + 1) numbers)
+numbers-more numbers at d before after within is grown =
+    grown ∙ ap (λ fields. fields ++ field.Int (get_or numbers at d) ∷ []) is
+    ∙ sym (map-append field.Int (take at numbers) (get_or numbers at d ∷ []))
+    ∙ ap (λ ns. map field.Int ns) (sym (take_more numbers at d within))

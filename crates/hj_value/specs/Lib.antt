@@ -1,4 +1,5 @@
 pub mod Field
+pub mod Held
 pub mod Magnitude
 pub mod Number
 pub mod Row

@@ -3,8 +3,8 @@ use Rattle.std.specs.Prelude.{ℕ, ◌-◌, ◌≤◌, List, take, drop, map, le
 use Rattle.std.specs.Str.{IsUtf8}
 use Rattle.hj_value.specs.declared.field.Field.{Field}
 use Rattle.hj_value.specs.declared.field.Field.TheVariants as field
-use Rattle.hj_value.specs.declared.row.Slot.{Slot}
-use Rattle.hj_value.specs.declared.row.Slot.TheVariants as slot
+use Rattle.hj_value.specs.declared.slots.Slot.{Slot}
+use Rattle.hj_value.specs.declared.slots.Slot.TheVariants as slot
 
 -- the bytes between two places
 abbrev pub between : List ℕ → ℕ → ℕ → List ℕ

@@ -9,6 +9,7 @@ mod number;
 mod row;
 mod schema;
 mod shared_row;
+mod slots;
 
 pub use borrowed::Text;
 pub use column::{Column, ColumnType};

@@ -1,57 +1,67 @@
-ghost use Rattle.std.specs.Prelude.{◌≡◌, ◌+◌, ◌++◌, ◌<◌, ◌^◌, [], ◌∷◌, List, length, slice_get, OnOk, OnErr, IfOk};
+ghost use Rattle.std.specs.Prelude.{◌≡◌, ◌++◌, ◌≤◌, [], ◌∷◌, false, length, map, slice_get, OnOk, OnErr, IfOk, IfSome};
+ghost use Rattle.std.specs.Bool.{OnTrue};
+ghost use Rattle.hj_value.specs.declared.field.Field.TheVariants as field;
 ghost use Rattle.hj_value.specs.Row.{time_of};
-ghost use Rattle.hj_value.specs.declared.row.Slot.TheVariants as slots;
 
-use crate::{Field, Text};
+use crate::Field;
+use crate::slots::Slots;
+use arrayvec::ArrayVec;
 use hj_base::Memory;
 use std::alloc::Global;
 use std::marker::Model;
 
-/// The value of one column, or where its bytes stand among the texts of the row: at `from..to`.
-#[derive(Clone, Copy)]
-enum Slot {
-    Int(i64),
-    Text { from: u32, to: u32 },
+/// How many numbers a row holds in itself.
+const MOST_NUMBERS: usize = 4;
+
+/// The fields of a row.
+#[derive(Drop)]
+enum Fields {
+    /// A few numbers, which take no block of memory.
+    Numbers(ArrayVec<i64, 4>),
+    /// Any others.
+    Slots(Slots),
 }
 
 /// A row, seen as the list of its fields, in the order of the columns.
 #[derive(Drop)]
 pub struct Row {
-    slots: Vec<Slot>,
-    /// The bytes of all texts, one text after another, so that they take one block of memory.
-    texts: Vec<u8>,
+    alloc: Global,
+    fields: Fields,
 }
 
 impl Model for Row {
-    ghost use Rattle.std.specs.Prelude.{List, All};
+    ghost use Rattle.std.specs.Prelude.{List};
     ghost use Rattle.hj_value.specs.declared.field.Field.{Field};
-    ghost use Rattle.hj_value.specs.Slots.{fields_of, IsPlace};
+    ghost use Rattle.hj_value.specs.Held.{fields_in};
 
     ghost Value = { List Field };
 
-    ghost view = { λ r. fields_of r.texts.items r.slots.items };
-
-    ghost invariant = { λ r. All (IsPlace r.texts.items) r.slots.items };
+    ghost view = { λ r. fields_in r.fields };
 }
 
 impl Row {
     /// Makes a row with no fields.
+    #[inline(always)]
     pub fn new(alloc: Global) -> Self
         ensures { result ≡ [] }
     {
         Row {
-            slots: Vec::new(alloc),
-            texts: Vec::new(alloc),
+            alloc,
+            fields: Fields::Numbers(ArrayVec::new()),
         }
     }
 
     /// Makes a row with no fields, and room for `fields` of them, whose texts have `text_bytes` bytes together.
+    #[inline(always)]
     pub fn with_capacity(alloc: Global, fields: usize, text_bytes: usize) -> Result<Self, Memory>
         ensures { IfOk result (λ row. row ≡ []) }
     {
+        if fields <= MOST_NUMBERS && text_bytes == 0 {
+            return Ok(Row::new(alloc));
+        }
         Ok(Row {
-            slots: Vec::with_capacity(alloc, fields)?,
-            texts: Vec::with_capacity(alloc, text_bytes)?,
+            alloc,
+            fields: Fields::Slots(Slots::with_capacity(alloc, fields, text_bytes)?),
         })
     }
 
@@ -60,7 +70,10 @@ impl Row {
     pub fn len(&self) -> usize
         ensures { result ≡ length self.now }
     {
-        self.slots.len()
+        match &self.fields {
+            Fields::Numbers(numbers) => numbers.len(),
+            Fields::Slots(slots) => slots.len(),
+        }
     }
 
     /// Returns the field at a place, counted from 0; None exactly at or past the length.
@@ -68,31 +81,66 @@ impl Row {
     pub fn get(&self, at: usize) -> Option<Field<'_>>
         ensures { result ≡ slice_get self.now at }
     {
-        match self.slots.get(at) {
-            Some(Slot::Int(value)) => Some(Field::Int(*value)),
-            Some(Slot::Text { from, to }) => {
-                let bytes = &self.texts[*from as usize..*to as usize];
-                Some(Field::Text(Text::new(bytes)))
-            }
-            None => None,
+        match &self.fields {
+            Fields::Numbers(numbers) => match numbers.as_slice().get(at) {
+                Some(number) => Some(Field::Int(*number)),
+                None => None,
+            },
+            Fields::Slots(slots) => slots.get(at),
+        }
+    }
+
+    /// Returns its fields, if they are a few numbers. None says nothing of them.
+    #[inline(always)]
+    pub fn numbers(&self) -> Option<&[i64]>
+        ensures fields { IfSome result (λ numbers. self.now ≡ map field.Int numbers.now) }
+        ensures few { IfSome result (λ numbers. length numbers.now ≤ 4) }
+    {
+        match &self.fields {
+            Fields::Numbers(numbers) => Some(numbers.as_slice()),
+            Fields::Slots(_) => None,
         }
     }
 
     /// Appends a field. A row's texts have less than 2^32 bytes together; beyond that it fails as if memory ran out. An
     /// error changes nothing.
+    #[inline(always)]
     pub fn push(&mut self, field: Field<'_>) -> Result<(), Memory>
         ensures ok { OnOk result (self.new ≡ self.old ++ field.entry ∷ []) }
         ensures err { OnErr result (self.new ≡ self.old) }
     {
         match field {
-            Field::Int(value) => self.slots.push(Slot::Int(value))?,
-            Field::Text(text) => {
-                self.slots.reserve(1)?;
-                let slot = add_text(&mut self.texts, text.bytes())?;
-                self.slots.push_reserved(slot);
+            Field::Int(number) if self.push_number(number) => Ok(()),
+            field => self.push_slot(field),
+        }
+    }
+
+    /// Appends a number, if only a few numbers are there so far; false changes nothing.
+    #[inline(always)]
+    fn push_number(&mut self, number: i64) -> bool
+        ensures yes { OnTrue result (self.new ≡ self.old ++ field.Int number ∷ []) }
+        ensures no { result ≡ false → self.new ≡ self.old }
+    {
+        match &mut self.fields {
+            Fields::Numbers(numbers) => numbers.try_push(number).is_ok(),
+            Fields::Slots(_) => false,
+        }
+    }
+
+    /// Appends a field to the slots, in which the numbers that are there are put first.
+    fn push_slot(&mut self, field: Field<'_>) -> Result<(), Memory>
+        ensures ok { OnOk result (self.new ≡ self.old ++ field.entry ∷ []) }
+        ensures err { OnErr result (self.new ≡ self.old) }
+    {
+        match &mut self.fields {
+            Fields::Slots(slots) => slots.push(field),
+            Fields::Numbers(numbers) => {
+                let mut slots = slots_of(self.alloc, numbers.as_slice())?;
+                slots.push(field)?;
+                self.fields = Fields::Slots(slots);
+                Ok(())
             }
         }
-        Ok(())
     }
 
     /// Returns the row's time, in the stream's own units: its first field; 0 if that is no number.
@@ -100,22 +148,24 @@ impl Row {
     pub fn time(&self) -> i64
         ensures { result ≡ time_of self.now }
     {
-        match self.slots.first() {
-            Some(Slot::Int(time)) => *time,
-            Some(Slot::Text { .. }) | None => 0,
+        match &self.fields {
+            Fields::Numbers(numbers) => match numbers.as_slice().first() {
+                Some(time) => *time,
+                None => 0,
+            },
+            Fields::Slots(slots) => slots.time(),
         }
     }
 }
 
-/// Appends a text to the others, and returns where it stands.
-fn add_text(texts: &mut Vec<u8>, text: &[u8]) -> Result<Slot, Memory>
-    ensures texts { OnOk result (texts.new.items ≡ texts.old.items ++ text.now) }
-    ensures place { IfOk result (λ slot. slot
-        ≡ slots.Text (length texts.old.items) (length texts.old.items + length text.now)) }
-    ensures err { OnErr result (texts.new.items ≡ texts.old.items) }
+/// Makes slots of a few numbers, with room for as many fields again.
+fn slots_of(alloc: Global, numbers: &[i64]) -> Result<Slots, Memory>
+    requires { length numbers.now ≤ 4 }
+    ensures { IfOk result (λ slots. slots ≡ map field.Int numbers.now) }
 {
-    let from = u32::try_from(texts.len()).map_err(|_| Memory)?;
-    let to = u32::try_from(texts.len() + text.len()).map_err(|_| Memory)?;
-    texts.extend_from_slice(text)?;
-    Ok(Slot::Text { from, to })
+    let mut slots = Slots::with_capacity(alloc, 2 * MOST_NUMBERS, 0)?;
+    for number in numbers {
+        slots.push(Field::Int(*number))?;
+    }
+    Ok(slots)
 }

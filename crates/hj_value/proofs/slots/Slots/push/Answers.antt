@@ -1,7 +1,7 @@
 use Rattle.std.proofs.Common.{◌∙◌, sym, ap, ◌++◌, ◌∷◌, []}
 use Rattle.hj_value.specs.declared.field.Field.TheVariants as field
 use Rattle.hj_value.proofs.Places.{fields_of-push}
-use Rattle.hj_value.proofs.row.Row.push.Goals as goal
+use Rattle.hj_value.proofs.slots.Slots.push.Goals as goal
 
 pub returns-in_ok-slot-in-Text-clause-ok : goal.returns-in_ok-slot-in-Text-clause-ok
 returns-in_ok-slot-in-Text-clause-ok c =
