@@ -3,10 +3,9 @@ use Rattle.std.proofs.Common.{◌≡◌, ◌≢◌, ℕ, suc, ◌+◌, ◌-◌, 
 use Rattle.std.proofs.Math.Seq.{take-length}
 use Rattle.std.proofs.lemmas.Bool.Decides.{nat_tests}
 use Rattle.std.proofs.lemmas.List.{take-append-le}
-use Rattle.std.proofs.lemmas.List.Concat.{flat_map-append}
 use Rattle.csv.specs.Writing.{default_writer, field_text, fields_text, is_blank, row_body, row_text}
 use Rattle.hj_value.specs.declared.field.Field.{Field}
-use Rattle.hj_emit.specs.Cells.{cell, cells}
+use Rattle.hj_emit.specs.Cells.{cells}
 use Rattle.hj_emit.specs.Line.{field_bytes}
 
 fields_cells : (rest : List Field) → fields_text default_writer (map field_bytes rest) ++ 44 ∷ [] ≡ 44 ∷ cells rest
@@ -87,8 +86,3 @@ full_line front fields old new n e long some grown =
   where
     not_none : (k : ℕ) → 0 < k → eqb k 0 ≡ false
     not_none k h = grind (arith, nat_tests)
-
--- the cells of two rows
-pub both_cells : (old left_filled both : List ℕ) (left right : List Field) → left_filled ≡ old ++ cells left → both ≡ left_filled ++ cells right → both ≡ old ++ cells (left ++ right)
-both_cells old left_filled both left right first second =
-    second ∙ ap (λ l. l ++ cells right) first ∙ append_assoc old (cells left) (cells right) ∙ ap (λ l. old ++ l) (sym (flat_map-append (λ (field : Field). cell (field_bytes field)) left right))

@@ -1,3 +1,4 @@
+mod Backwards
 mod Cells
 mod Plain
 mod Steps

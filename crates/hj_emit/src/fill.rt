@@ -5,6 +5,7 @@ ghost use Rattle.hj_emit.specs.Cells.{cells};
 ghost use Rattle.hj_value.specs.declared.field.Field.{Field};
 ghost use Rattle.hj_emit.specs.Line.{field_bytes, line_of};
 
+use crate::numbers::push_numbers;
 use hj_base::Memory;
 use hj_value::{Field, Row};
 use itoa::Buffer;
@@ -25,9 +26,20 @@ pub fn push_line(text: &mut Vec<u8>, left: &Row, right: &Row) -> Result<(), Memo
     ensures { OnOk result (text.new.items ≡ text.old.items ++ line_of left.now right.now) }
 {
     let start = text.len();
-    push_row(text, left)?;
-    push_row(text, right)?;
+    push_fields(text, left, right)?;
     end_line(text, start)
+}
+
+/// Appends the fields of two rows, with a comma after each.
+#[inline(always)]
+fn push_fields(text: &mut Vec<u8>, left: &Row, right: &Row) -> Result<(), Memory>
+    ensures { OnOk result (text.new.items ≡ text.old.items ++ cells (left.now ++ right.now)) }
+{
+    if let (Some(left), Some(right)) = (left.numbers(), right.numbers()) {
+        return push_numbers(text, left, right);
+    }
+    push_row(text, left)?;
+    push_row(text, right)
 }
 
 /// Appends a row's fields, with a comma after each.

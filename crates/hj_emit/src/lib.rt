@@ -2,6 +2,7 @@
 #![tactic(auto)]
 
 mod fill;
+mod numbers;
 mod writer;
 
 pub use fill::{fill_line, push_line};
