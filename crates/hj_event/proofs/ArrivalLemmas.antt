@@ -1,5 +1,5 @@
 -- The arrivals of two sides, by what their heads are.
-use Rattle.std.proofs.Common.{◌≡◌, ℕ, Bool, false, List, [], Ok, Err, None, Some, sym, refl, ap, subst, ◌∙◌, cond}
+use Rattle.std.proofs.Common.{◌≡◌, ℕ, Bool, true, false, List, [], Ok, Err, None, Some, sym, refl, ap, subst, ◌∙◌, cond, is_some}
 use Rattle.std.specs.Prelude.{int_le}
 use Rattle.std.specs.declared.option.Option.{Option}
 use Rattle.std.specs.declared.result.Result.{Result}
@@ -14,12 +14,14 @@ use Rattle.hj_record.specs.Pieces.{Stream}
 use Rattle.hj_event.specs.declared.fault.RecordFault.{RecordFault}
 use Rattle.hj_event.specs.declared.stop.Stop.{Stop}
 use Rattle.hj_event.specs.declared.stop.Stop.TheVariants as stop
-use Rattle.hj_event.specs.Rows.{Rows, no_row, then_rows, bad, unread}
-use Rattle.hj_event.specs.Arrivals.{Arrivals, arrivals_of, then_arrivals, no_arrival, bad as merge_bad, unread as merge_unread}
-use Rattle.hj_event.specs.Arriving.{last_of, ArrivalLeads, TakesArrival, EndsBoth, fails}
-use Rattle.hj_event.specs.Sides.{Reading, SideState, Sides, with_head, rows_ahead, in_front, Follows, side_ahead, arrivals_ahead}
+use Rattle.hj_event.specs.declared.stop.Last.{Last}
+use Rattle.hj_event.specs.declared.stop.Last.TheVariants as last
+use Rattle.hj_event.specs.Rows.{Rows, no_row, then_rows, clean as rows_clean, bad, unread}
+use Rattle.hj_event.specs.Arrivals.{Arrivals, arrivals_of, then_arrivals, no_arrival, clean, bad as merge_bad, unread as merge_unread}
+use Rattle.hj_event.specs.Arriving.{last_of, first_side, head_on, without_head, ArrivalLeads, TakesArrival, TakesHead, EndsBoth, fails}
+use Rattle.hj_event.specs.Sides.{Reading, SideState, Sides, with_head, in_front, Follows, side_ahead, arrivals_ahead}
 use Rattle.hj_event.specs.Roles.{IsReadOn, IsInStep}
-use Rattle.hj_event.specs.Taking.{IsReadAsNeeded, RowLeads, TakesRow, has_failed}
+use Rattle.hj_event.specs.Taking.{EndsSide, IsReadAsNeeded, RowLeads, TakesRow, has_failed, unseen}
 use Rattle.hj_event.proofs.RoleLemmas.{not_read, not_needed}
 
 -- ---- the merge
@@ -147,12 +149,18 @@ stops_right head why old new before between now both = record {
   right_needed = right_needs head (Err why) old new before between now both;
 }
 
--- A side whose head was put back.
-abbrev pub put_back : List Field → SideState → SideState
-put_back row side = record side { head = Some row }
+-- ---- the heads
 
-put_back_ahead : (row : List Field) (side : SideState) (stream : Stream) → side.head ≡ None → side_ahead (put_back row side) stream ≡ then_rows row (side_ahead side stream)
-put_back_ahead row side stream none = ap (λ (h : Option (List Field)). then_rows row (with_head h (rows_ahead side stream))) (sym none)
+known_head : (row : List Field) (side : SideState) (role : RoleState) → IsInStep side.reading.ended role → TakesRow (Ok (Some row)) (record side { head = Some row }) (unseen side) role role
+known_head row side role step = record { bytes = []; reads = not_read side.reading.ended role step; leads = λ stream follows. refl; ended = tt; needed = (refl, refl) }
+
+-- A head that is known already is seen without a read.
+pub sees_known : (side : SideState) (role : RoleState) → is_some side.head ≡ true → IsInStep side.reading.ended role → TakesRow (Ok side.head) side (unseen side) role role
+sees_known side role some step = by side.head refl some
+  where
+    by : (head : Option (List Field)) → head ≡ side.head → is_some head ≡ true → TakesRow (Ok side.head) side (unseen side) role role
+    by None is has = cc
+    by (Some row) is has = subst (λ (h : Option (List Field)). TakesRow (Ok h) (record side { head = h }) (unseen side) role role) is (known_head row side role step)
 
 -- An arrival, where the sides behind it have these rows.
 module _ (head : Option (List Field)) (answer : Option (List Field)) (old mid new : Sides) (before between now : Roles) (both : BothTaken head (Ok answer) old mid before between now) (left_same : new.left.reading ≡ mid.left.reading) (right_same : new.right.reading ≡ mid.right.reading) where
@@ -180,9 +188,96 @@ module _ (head : Option (List Field)) (answer : Option (List Field)) (old mid ne
     right_needed = right_needs head (Ok answer) old mid before between now both;
   }
 
-module _ (old mid : Sides) (before between now : Roles) where
-  pub takes_right_first : (one other : List Field) → int_le (time_of one) (time_of other) ≡ false → mid.left.head ≡ None → BothTaken (Some one) (Ok (Some other)) old mid before between now
-      → TakesArrival (Ok (Right, other)) old (record { left = put_back one mid.left; right = mid.right }) before now
-  takes_right_first one other lt none both = arrives (Some one) (Some other) old mid (record { left = put_back one mid.left; right = mid.right }) before between now both refl refl Right other
-      (λ l r is are. right_first (side_ahead old.left (in_front both.left.bytes l)) (side_ahead mid.left l) (side_ahead old.right (in_front both.right.bytes r)) (side_ahead mid.right r) one other lt is are
-      ∙ ap (λ (rows : Rows). then_arrivals Right other (arrivals_of rows (side_ahead mid.right r))) (sym (put_back_ahead one mid.left l none)))
+-- The first of two heads, by the rows that they lead.
+head_left : (one other : Option (List Field)) (left left_behind right right_behind : Rows) (row : List Field) → RowLeads (Ok one) left left_behind → RowLeads (Ok other) right right_behind → first_side one other ≡ Left → one ≡ Some row
+    → arrivals_of left right ≡ then_arrivals Left row (arrivals_of left_behind (with_head other right_behind))
+head_left None other left left_behind right right_behind row is are side has = cc
+head_left (Some one) None left left_behind right right_behind row is are side has =
+    let same : one ≡ row = cc in
+    ap (λ (l : Rows). arrivals_of l right) is ∙ ap (arrivals_of (then_rows one left_behind)) are.0 ∙ ap (λ (r : Rows). then_arrivals Left one (arrivals_of left_behind r)) (sym are.1)
+    ∙ ap (λ (r : List Field). then_arrivals Left r (arrivals_of left_behind right_behind)) same
+head_left (Some one) (Some other) left left_behind right right_behind row is are side has =
+    let same : one ≡ row = cc in
+    let first = then_arrivals Left one (arrivals_of left_behind (then_rows other right_behind)) in
+    let second = then_arrivals Right other (arrivals_of (then_rows one left_behind) right_behind) in
+    both_have left left_behind right right_behind one other is are
+    ∙ elim (int_le (time_of one) (time_of other)) as (λ b. cond b Left Right ≡ Left → cond b first second ≡ first) [ true ↦ λ e. refl | false ↦ λ e. cc ] side
+    ∙ ap (λ (r : List Field). then_arrivals Left r (arrivals_of left_behind (then_rows other right_behind))) same
+
+head_right : (one other : Option (List Field)) (left left_behind right right_behind : Rows) (row : List Field) → RowLeads (Ok one) left left_behind → RowLeads (Ok other) right right_behind → first_side one other ≡ Right → other ≡ Some row
+    → arrivals_of left right ≡ then_arrivals Right row (arrivals_of (with_head one left_behind) right_behind)
+head_right None None left left_behind right right_behind row is are side has = cc
+head_right (Some one) None left left_behind right right_behind row is are side has = cc
+head_right None (Some other) left left_behind right right_behind row is are side has =
+    let same : other ≡ row = cc in
+    ap (λ (l : Rows). arrivals_of l right) is.0 ∙ ap (arrivals_of (no_row rows_clean)) are ∙ ap (λ (l : Rows). then_arrivals Right other (arrivals_of l right_behind)) (sym is.1)
+    ∙ ap (λ (r : List Field). then_arrivals Right r (arrivals_of left_behind right_behind)) same
+head_right (Some one) (Some other) left left_behind right right_behind row is are side has =
+    let same : other ≡ row = cc in
+    let first = then_arrivals Left one (arrivals_of left_behind (then_rows other right_behind)) in
+    let second = then_arrivals Right other (arrivals_of (then_rows one left_behind) right_behind) in
+    both_have left left_behind right right_behind one other is are
+    ∙ elim (int_le (time_of one) (time_of other)) as (λ b. cond b Left Right ≡ Right → cond b first second ≡ second) [ true ↦ λ e. cc | false ↦ λ e. refl ] side
+    ∙ ap (λ (r : List Field). then_arrivals Right r (arrivals_of (then_rows one left_behind) right_behind)) same
+
+-- Two sides whose heads were looked at.
+abbrev pub seen : Sides → Sides
+seen sides = record { left = unseen sides.left; right = unseen sides.right }
+
+module _ (old mid : Sides) (before between now : Roles) (both : BothTaken mid.left.head (Ok mid.right.head) old (seen mid) before between now) where
+  by_side : (side : Side) (row : List Field) → first_side mid.left.head mid.right.head ≡ side → head_on side mid ≡ Some row → TakesArrival (Ok (side, row)) old (without_head side mid) before now
+  by_side Left row first is = arrives mid.left.head mid.right.head old (seen mid) (without_head Left mid) before between now both refl refl Left row
+      (λ l r one other. head_left mid.left.head mid.right.head (side_ahead old.left (in_front both.left.bytes l)) (side_ahead (unseen mid.left) l) (side_ahead old.right (in_front both.right.bytes r)) (side_ahead (unseen mid.right) r) row one other first is)
+  by_side Right row first is = arrives mid.left.head mid.right.head old (seen mid) (without_head Right mid) before between now both refl refl Right row
+      (λ l r one other. head_right mid.left.head mid.right.head (side_ahead old.left (in_front both.left.bytes l)) (side_ahead (unseen mid.left) l) (side_ahead old.right (in_front both.right.bytes r)) (side_ahead (unseen mid.right) r) row one other first is)
+
+  -- The head that arrives first is taken.
+  pub takes_head : (arrival : Side × List Field) (new : Sides) → TakesHead (Some arrival) mid new → TakesArrival (Ok arrival) old new before now
+  takes_head arrival new takes = subst (λ (sides : Sides). TakesArrival (Ok arrival) old sides before now) (sym takes.2) (by_side arrival.0 arrival.1 takes.0 takes.1)
+
+  none_ahead : mid.left.head ≡ None → mid.right.head ≡ None → (l r : Stream) → RowLeads (Ok mid.left.head) (side_ahead old.left (in_front both.left.bytes l)) (side_ahead (unseen mid.left) l) → RowLeads (Ok mid.right.head) (side_ahead old.right (in_front both.right.bytes r)) (side_ahead (unseen mid.right) r)
+      → arrivals_ahead old (in_front both.left.bytes l) (in_front both.right.bytes r) ≡ no_arrival clean
+  none_ahead left right l r is are =
+      let lefts = subst (λ (h : Option (List Field)). RowLeads (Ok h) (side_ahead old.left (in_front both.left.bytes l)) (side_ahead (unseen mid.left) l)) left is in
+      let rights = subst (λ (h : Option (List Field)). RowLeads (Ok h) (side_ahead old.right (in_front both.right.bytes r)) (side_ahead (unseen mid.right) r)) right are in
+      ap (λ (rows : Rows). arrivals_of rows (side_ahead old.right (in_front both.right.bytes r))) lefts.0 ∙ ap (arrivals_of (no_row rows_clean)) rights.0
+
+  ends_both : mid.left.head ≡ None → mid.right.head ≡ None → TakesArrival (Err last.Done) old mid before now
+  ends_both left right = record {
+    left_bytes = both.left.bytes;
+    right_bytes = both.right.bytes;
+    left = left_read mid.left.head (Ok mid.right.head) old (seen mid) before between now both;
+    right = right_read mid.left.head (Ok mid.right.head) old (seen mid) before between now both;
+    others = others_stay mid.left.head (Ok mid.right.head) old (seen mid) before between now both;
+    leads = λ l r l_follows r_follows. none_ahead left right l r (both.left.leads l l_follows) (both.right.leads r r_follows);
+    ended = (subst (λ (h : Option (List Field)). EndsSide (Ok h) mid.left.reading.ended) left both.left.ended, subst (λ (h : Option (List Field)). EndsSide (Ok h) mid.right.reading.ended) right both.right.ended);
+    left_needed = left_needs mid.left.head (Ok mid.right.head) old (seen mid) before between now both;
+    right_needed = right_needs mid.left.head (Ok mid.right.head) old (seen mid) before between now both;
+  }
+
+  -- No head is there.
+  pub takes_none : (new : Sides) → TakesHead None mid new → TakesArrival (Err last.Done) old new before now
+  takes_none new takes = subst (λ (sides : Sides). TakesArrival (Err last.Done) old sides before now) (sym takes.2) (ends_both takes.0 takes.1)
+
+any_behind : (why : Last) (ahead one other : Arrivals) → ArrivalLeads (Err why) ahead one → ArrivalLeads (Err why) ahead other
+any_behind last.Done ahead one other is = is
+any_behind (last.Bad side at why) ahead one other is = is
+any_behind (last.Failed side) ahead one other is = is
+any_behind last.TooMany ahead one other is = is
+any_behind last.Memory ahead one other is = is
+
+-- The right side stops, where the left one was looked at.
+pub stops_behind : (why : Stop) (old mid : Sides) (before between now : Roles) → BothTaken mid.left.head (Err why) old (record mid { left = unseen mid.left }) before between now → TakesArrival (Err (last_of Right why)) old mid before now
+stops_behind why old mid before between now both =
+    let takes = stops_right mid.left.head why old (record mid { left = unseen mid.left }) before between now both in
+    record {
+      left_bytes = takes.left_bytes;
+      right_bytes = takes.right_bytes;
+      left = takes.left;
+      right = takes.right;
+      others = takes.others;
+      leads = λ l r l_follows r_follows. any_behind (last_of Right why) (arrivals_ahead old (in_front takes.left_bytes l) (in_front takes.right_bytes r)) (arrivals_ahead (record mid { left = unseen mid.left }) l r) (arrivals_ahead mid l r) (takes.leads l r l_follows r_follows);
+      ended = takes.ended;
+      left_needed = takes.left_needed;
+      right_needed = takes.right_needed;
+    }

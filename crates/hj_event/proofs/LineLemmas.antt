@@ -85,6 +85,28 @@ module _ (columns : List Column) (slack : ℕ) (cutting : Cutting) (portion : Li
       (ends_behind (quotes cutting.piece % 2 == 1) cutting.piece rest (may_take cutting rest) has.0 (omega arith) (sym (inside_by_quotes cutting.piece)) has.1) (omega arith)
       (ap is_blank (first_of cutting.piece rest first is) ∙ written)
 
+  -- Where no quote stands before the end of the lines, a line that isn't empty and begins in the portion ends in it.
+  ends_in : (first : ℕ) → cutting.piece ≡ [] → is_blank (get_or (slice_range portion taken filled) first 0) ≡ false → (lines_end : ℕ) → lines_end ≤ filled → taken + first < lines_end → get_or portion (lines_end - 1) 0 ≡ 10
+      → ((at : ℕ) → taken ≤ at → at < lines_end → get_or portion at 0 ≢ 34) → TellsRow side
+  ends_in first none written lines_end ends lt line_feed unquoted =
+      let rest = slice_range portion taken filled in
+      let at = lines_end - 1 - taken in
+      let place : taken + at ≡ lines_end - 1 = omega arith in
+      let within = within_by_feed portion (lines_end - 1) line_feed in
+      tells_rest side at first none (
+        below-range portion taken filled at (omega arith) (omega (arith, within)),
+        get_or-range portion taken filled at (omega arith) ∙ ap (λ n. get_or portion n 0) place ∙ line_feed,
+        outside_through rest at (λ k early quote. unquoted (taken + k) (omega arith) (omega arith) (sym (get_or-range portion taken filled k (omega arith)) ∙ quote)),
+      ) (omega arith) written
+
+  -- So does one that begins with what is left.
+  pub here_tells : cutting.piece ≡ [] → is_blank (get_or portion taken 0) ≡ false → (lines_end : ℕ) → lines_end ≤ filled → taken < lines_end → get_or portion (lines_end - 1) 0 ≡ 10
+      → ((at : ℕ) → taken ≤ at → at < lines_end → get_or portion at 0 ≢ 34) → TellsRow side
+  here_tells none written lines_end ends lt line_feed unquoted =
+      let place : taken + 0 ≡ taken = omega arith in
+      let first : get_or (slice_range portion taken filled) 0 0 ≡ get_or portion taken 0 = get_or-range portion taken filled 0 (omega arith) ∙ ap (λ n. get_or portion n 0) place in
+      ends_in 0 none (ap is_blank first ∙ written) lines_end ends (omega arith) line_feed unquoted
+
   module _ (first : ℕ) (none : cutting.piece ≡ []) (is : position (λ byte. not (is_blank byte)) (slice_range portion taken filled) ≡ Some first) where
     found : (first < length (slice_range portion taken filled)) × (not (is_blank (get_or (slice_range portion taken filled) first 0)) ≡ true) × ((k : ℕ) → k < first → not (is_blank (get_or (slice_range portion taken filled) k 0)) ≡ false)
     found = position-Some (λ byte. not (is_blank byte)) (slice_range portion taken filled) first 0 is
@@ -94,16 +116,7 @@ module _ (columns : List Column) (slack : ℕ) (cutting : Cutting) (portion : Li
 
     -- A line that begins in the portion ends in it, and no quote stands there.
     pub line_tells : (lines_end : ℕ) → lines_end ≤ filled → taken + first < lines_end → get_or portion (lines_end - 1) 0 ≡ 10 → ((at : ℕ) → taken ≤ at → at < lines_end → get_or portion at 0 ≢ 34) → TellsRow side
-    line_tells lines_end ends lt line_feed unquoted =
-        let rest = slice_range portion taken filled in
-        let at = lines_end - 1 - taken in
-        let place : taken + at ≡ lines_end - 1 = omega arith in
-        let within = within_by_feed portion (lines_end - 1) line_feed in
-        tells_rest side at first none (
-          below-range portion taken filled at (omega arith) (omega (arith, within)),
-          get_or-range portion taken filled at (omega arith) ∙ ap (λ n. get_or portion n 0) place ∙ line_feed,
-          outside_through rest at (λ k early quote. unquoted (taken + k) (omega arith) (omega arith) (sym (get_or-range portion taken filled k (omega arith)) ∙ quote)),
-        ) (omega arith) written
+    line_tells = ends_in first none written
 
     -- The line that begins behind the empty ones ends in what was read.
     pub end_tells : HasEnd (slice_range (slice_range portion taken filled) first (length (slice_range portion taken filled))) cutting → TellsRow side

@@ -4,6 +4,7 @@ use Rattle.std.specs.List.{filter}
 use Rattle.std.specs.declared.option.Option.{Option}
 use Rattle.std.specs.declared.result.Result.{Result}
 use Rattle.hj_value.specs.declared.field.Field.{Field}
+use Rattle.hj_base.specs.declared.numbers.Memory.{Memory}
 use Rattle.hj_base.specs.Outside.{RoleState}
 use Rattle.hj_record.specs.Pieces.{Stream}
 use Rattle.hj_event.specs.declared.fault.RecordFault.{RecordFault}
@@ -17,7 +18,7 @@ use Rattle.hj_event.specs.Rows.{Rows, no_row, then_rows, put_in, is_sure, in_ord
 use Rattle.hj_event.specs.Sides.{Reading, SideState, in_front, at_its_end, cut_off, MayFollow, pieces_ahead, read_ahead, rows_ahead}
 use Rattle.hj_event.specs.Reads.{Fills}
 use Rattle.hj_event.specs.Roles.{IsReadOn, IsInStep}
-use Rattle.hj_event.specs.Taking.{IsNeeded, IsReadAsNeeded, FoundLeads, Wants, Advances, GoesOn, TakesRow, TellsRow, TellsNext, IsTold, IsOver, IsKnown, IsNext, IsKept, refused_in, found_by, unseen, has_failed}
+use Rattle.hj_event.specs.Taking.{IsNeeded, IsReadAsNeeded, FoundLeads, Wants, Advances, TakesLine, GoesOn, TakesRow, TakesStraight, TellsRow, TellsNext, IsTold, IsOver, IsKnown, IsNext, IsKept, refused_in, found_by, unseen, has_failed}
 use Rattle.hj_event.specs.Waiting.{AreInOrder, TakesSure, has_sure}
 use Rattle.hj_event.proofs.OrderLemmas.{as_read, sure_ahead}
 use Rattle.hj_event.proofs.WaitingLemmas.{none_first}
@@ -68,6 +69,11 @@ module _ (old now new : SideState) (before after : RoleState) (so_far : SoFar ol
   takes_stop (stop.Bad at why) goes = record { bytes = so_far.bytes; reads = reads_on (Err (stop.Bad at why)) goes; leads = from_first (Err (stop.Bad at why)) goes; ended = tt; needed = so_far.needed }
   takes_stop stop.Failed goes = let some = some_follows new.reading.ended in absurd (goes.leads some.0 some.1)
   takes_stop stop.Memory goes = record { bytes = so_far.bytes; reads = reads_on (Err stop.Memory) goes; leads = λ stream follows. tt; ended = tt; needed = so_far.needed }
+
+-- Nothing is read of a side that stops.
+pub stops_unread : (why : Stop) (old new : SideState) (head : Option (List Field)) (role : RoleState) → is_some head ≡ false → IsInStep old.reading.ended role → GoesOn (Err why) old new → TakesRow (Err why) (record old { head = head }) (record new { head = head }) role role
+stops_unread why old new None role none step goes = takes_stop old old new role role (so_far-none old role step) why goes
+stops_unread why old new (Some row) role none step goes = absurd (true≢false none)
 
 -- ---- a read
 
@@ -170,6 +176,13 @@ goes_on_without answer old new next waiting known kept none advances =
     let all = option_to_list next ++ waiting in
     subst (λ (before : SideState). GoesOn answer before (source new all (refused_in known))) (sym (as_source old all known (kept.without none)))
     (subst (λ (after : SideState). GoesOn answer (source old [] None) after) (sym (as_source new all known (kept.without none))) (goes_on_as_read answer old new none advances))
+
+-- A line that is read straight, where there is no slack.
+pub straight_without : (answer : Result (Option (List Field)) Memory) (old new : Reading) (next : Option (List Field)) (waiting : List (List Field)) (known : Ahead) → IsKept old next waiting known → old.slack ≡ 0 → TakesLine answer old new
+    → TakesStraight answer (source old (option_to_list next ++ waiting) (refused_in known)) (source new (option_to_list next ++ waiting) (refused_in known))
+straight_without (Ok (Some row)) old new next waiting known kept none takes = goes_on_without (Ok (found.Row row)) old new next waiting known kept none takes
+straight_without (Ok None) old new next waiting known kept none takes = ap (λ (r : Reading). source r (option_to_list next ++ waiting) (refused_in known)) takes
+straight_without (Err why) old new next waiting known kept none takes = record { ended = ap (λ (r : Reading). r.ended) takes; leads = λ stream follows. tt; wants = tt }
 
 -- Where no row waits, none is known to be the next one.
 no_next : (next : Option (List Field)) (waiting : List (List Field)) (side : Reading) (known : Ahead) → option_to_list next ++ waiting ≡ [] → IsNext next side known

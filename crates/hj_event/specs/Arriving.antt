@@ -1,7 +1,9 @@
 -- What taking the next arrival of two sides says of the arrivals to come, and of their roles.
-use Rattle.std.specs.Prelude.{◌≡◌, ℕ, Bool, true, false, List, Ok, Err}
+use Rattle.std.specs.Prelude.{◌≡◌, ℕ, Bool, true, false, List, Ok, Err, None, Some, int_le, if◌then◌else◌}
+use Rattle.std.specs.declared.option.Option.{Option}
 use Rattle.std.specs.declared.result.Result.{Result}
 use Rattle.hj_value.specs.declared.field.Field.{Field}
+use Rattle.hj_value.specs.Row.{time_of}
 use Rattle.hj_base.specs.declared.numbers.Side.{Side}
 use Rattle.hj_base.specs.declared.numbers.Side.TheVariants.{Left, Right}
 use Rattle.hj_base.specs.declared.outside.Role.{Role}
@@ -16,7 +18,7 @@ use Rattle.hj_event.specs.declared.stop.Last.TheVariants as last
 use Rattle.hj_event.specs.Arrivals.{Arrivals, then_arrivals, no_arrival, clean, bad, unread}
 use Rattle.hj_event.specs.Sides.{Sides, in_front, Follows, arrivals_ahead}
 use Rattle.hj_event.specs.Roles.{IsReadOn}
-use Rattle.hj_event.specs.Taking.{IsReadAsNeeded}
+use Rattle.hj_event.specs.Taking.{IsReadAsNeeded, unseen}
 
 -- how the merge ends where a side stops
 abbrev pub last_of : Side → Stop → Last
@@ -48,6 +50,27 @@ fails (Err why) side = fails_last why side
 abbrev pub EndsBoth : Result (Side × List Field) Last → Bool → Bool → Type 0
 EndsBoth (Err last.Done) left right = (left ≡ true) × (right ≡ true)
 EndsBoth answer left right = Unit {0}
+
+-- Of two heads the one that arrives first: the one with the lesser time, on a tie the left one.
+abbrev pub first_side : Option (List Field) → Option (List Field) → Side
+first_side None None = Left
+first_side (Some left) None = Left
+first_side None (Some right) = Right
+first_side (Some left) (Some right) = if int_le (time_of left) (time_of right) then Left else Right
+
+abbrev pub head_on : Side → Sides → Option (List Field)
+head_on Left sides = sides.left.head
+head_on Right sides = sides.right.head
+
+abbrev pub without_head : Side → Sides → Sides
+without_head Left sides = record sides { left = unseen sides.left }
+without_head Right sides = record sides { right = unseen sides.right }
+
+-- Of the heads of two sides the one that arrives first is taken; none where there are none.
+abbrev pub TakesHead : Option (Side × List Field) → Sides → Sides → Type 0
+TakesHead None old new = (old.left.head ≡ None) × (old.right.head ≡ None) × (new ≡ old)
+TakesHead (Some arrival) old new =
+    (first_side old.left.head old.right.head ≡ arrival.0) × (head_on arrival.0 old ≡ Some arrival.1) × (new ≡ without_head arrival.0 old)
 
 pub record TakesArrival (answer : Result (Side × List Field) Last) (old new : Sides) (before now : Role → RoleState) : Type 0 where
   pub left_bytes : List ℕ

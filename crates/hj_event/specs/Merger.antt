@@ -15,8 +15,8 @@ use Rattle.hj_event.specs.declared.merger.Next.{Next}
 use Rattle.hj_event.specs.declared.merger.Next.TheVariants as next
 use Rattle.hj_event.specs.declared.stop.Last.{Last}
 use Rattle.hj_event.specs.declared.stop.Last.TheVariants as last
-use Rattle.hj_event.specs.Arrivals.{clean, bad, unread, too_many}
-use Rattle.hj_event.specs.Arriving.{fails_last}
+use Rattle.hj_event.specs.Arrivals.{Arrivals, then_arrivals, clean, bad, unread, too_many}
+use Rattle.hj_event.specs.Arriving.{TakesArrival, fails_last}
 use Rattle.hj_event.specs.Events.{Numbered, events_of}
 use Rattle.hj_event.specs.Numbering.{NumberingState, numbered_ahead, has_due, no_event, then_event}
 use Rattle.hj_event.specs.Roles.{IsReadOn, IsUnread}
@@ -93,6 +93,19 @@ next_of (Err last) = answer_of last
 -- A step of a merger is a call of it but for the answer that stays.
 abbrev pub Steps : Result (Event (List Field)) Last → Merging → Merging → (Role → RoleState) → (Role → RoleState) → Type 0
 Steps step old new before now = TakesNext (next_of step) old (record new { over = stays_by (next_of step) }) before now × (new.over ≡ old.over)
+
+-- The next arrival is taken, whose events are due then.
+pub record IsDue (old new : Merging) (before now : Role → RoleState) : Type 0 where
+  pub arrival : Side × List Field
+  pub takes : TakesArrival (Ok arrival) old.sides new.sides before now
+  pub numbers : (arrivals : Arrivals) → numbered_ahead old.numbering (then_arrivals arrival.0 arrival.1 arrivals) ≡ numbered_ahead new.numbering arrivals
+  pub due : has_due new.numbering.due ≡ true
+  pub over : new.over ≡ old.over
+
+-- The same, or the arrivals end.
+abbrev pub Arrives : {T : Type 0} → Result T Last → Merging → Merging → (Role → RoleState) → (Role → RoleState) → Type 0
+Arrives (Ok done) old new before now = IsDue old new before now
+Arrives (Err why) old new before now = Steps (Err why) old new before now
 
 -- A last answer is given again, and nothing is read.
 abbrev pub Repeats : Last → Next → Merging → Merging → (Role → RoleState) → (Role → RoleState) → Type 0

@@ -188,6 +188,17 @@ pub record TakesRow (answer : Result (Option (List Field)) Stop) (old new : Side
   pub ended : EndsSide answer new.reading.ended
   pub needed : IsReadAsNeeded old.head old bytes before now
 
+-- The first row of a side is looked at: it is the head then. Without a head the side has no more rows.
+abbrev pub LooksAt : {T : Type 0} → Result T Stop → SideState → SideState → RoleState → RoleState → Type 0
+LooksAt (Ok done) old new before now = TakesRow (Ok new.head) old (record new { head = None }) before now
+LooksAt (Err why) old new before now = TakesRow (Err why) old new before now
+
+-- The next row is taken, where it is known, or its line is read straight. Else nothing changes.
+abbrev pub TakesStraight : Result (Option (List Field)) Memory → SideState → SideState → Type 0
+TakesStraight (Ok (Some row)) old new = GoesOn (Ok (found.Row row)) old new
+TakesStraight (Ok None) old new = new ≡ old
+TakesStraight (Err why) old new = GoesOn (Err stop.Memory) old new
+
 -- a side whose next row wasn't looked at
 abbrev pub unseen : SideState → SideState
 unseen side = record side { head = None }

@@ -1,10 +1,10 @@
-ghost use Rattle.std.specs.Prelude.{◌≡◌, IsTrue, List, ℕ, None, Some};
+ghost use Rattle.std.specs.Prelude.{◌≡◌, IsTrue, List, ℕ, None};
 ghost use Rattle.hj_base.specs.declared.outside.Role.TheVariants as role;
 ghost use Rattle.hj_base.specs.Outside.{role_of, ChangesOnly};
-ghost use Rattle.hj_event.specs.Arriving.{last_of, TakesArrival};
+ghost use Rattle.hj_event.specs.Arriving.{first_side, last_of, TakesArrival, TakesHead};
 ghost use Rattle.hj_event.specs.Roles.{IsInStep};
 ghost use Rattle.hj_event.specs.Sides.{new_side, new_sides};
-ghost use Rattle.hj_event.specs.Taking.{TakesRow, IsTold};
+ghost use Rattle.hj_event.specs.Taking.{LooksAt, IsTold};
 
 use crate::source::Source;
 use crate::stop::{Last, Stop};
@@ -39,27 +39,37 @@ impl Rows {
         }
     }
 
-    /// Takes the first row; None at the end of the stream.
+    /// Looks at the first row, which is the head then; there is none at the end of the stream.
     #[inline(always)]
-    fn take<O: Outside>(&mut self, side: Side, outside: &mut O) -> Result<Option<SharedRow>, Stop>
+    fn look<O: Outside>(&mut self, side: Side, outside: &mut O) -> Result<(), Stop>
         requires { IsInStep self.old.reading.ended (O.state outside.old (role_of side)) }
-        ensures head { self.new.head ≡ None }
-        ensures takes { TakesRow result self.old self.new (O.state outside.old (role_of side)) (O.state outside.new (role_of side)) }
+        ensures looks { LooksAt result self.old self.new (O.state outside.old (role_of side)) (O.state outside.new (role_of side)) }
         ensures others { ChangesOnly (role_of side) (O.state outside.old) (O.state outside.new) }
         ensures names { (name : List ℕ) → O.under outside.new name ≡ O.under outside.old name }
     {
-        match self.head.take() {
-            Some(row) => Ok(Some(row)),
-            None => self.source.next_row(side, outside),
+        if self.head.is_some() {
+            return Ok(());
+        }
+        match self.source.take_straight()? {
+            Some(row) => {
+                self.head = Some(row);
+                Ok(())
+            }
+            None => self.read(side, outside),
         }
     }
 
-    /// Puts back the row that was taken last.
-    #[inline(always)]
-    fn put_back(&mut self, row: SharedRow)
-        ensures { self.new ≡ record self.old { head = Some row } }
+    /// Reads the first row where none is known, in whatever form it is.
+    #[inline(never)]
+    fn read<O: Outside>(&mut self, side: Side, outside: &mut O) -> Result<(), Stop>
+        requires in_step { IsInStep self.old.reading.ended (O.state outside.old (role_of side)) }
+        requires unknown { self.old.head ≡ None }
+        ensures looks { LooksAt result self.old self.new (O.state outside.old (role_of side)) (O.state outside.new (role_of side)) }
+        ensures others { ChangesOnly (role_of side) (O.state outside.old) (O.state outside.new) }
+        ensures names { (name : List ℕ) → O.under outside.new name ≡ O.under outside.old name }
     {
-        self.head = Some(row);
+        self.head = self.source.next_row(side, outside)?;
+        Ok(())
     }
 
     /// Returns whether the first row, or the end, can be told without a read.
@@ -109,28 +119,31 @@ impl Arrivals {
         ensures takes { TakesArrival result self.old self.new (O.state outside.old) (O.state outside.new) }
         ensures names { (name : List ℕ) → O.under outside.new name ≡ O.under outside.old name }
     {
-        let left = match self.left.take(Side::Left, outside) {
-            Ok(row) => row,
+        match self.left.look(Side::Left, outside) {
+            Ok(()) => (),
             Err(stop) => return Err(last(Side::Left, stop)),
-        };
-        let right = match self.right.take(Side::Right, outside) {
-            Ok(row) => row,
-            Err(stop) => return Err(last(Side::Right, stop)),
-        };
-        match (left, right) {
-            (None, None) => Err(Last::Done),
-            (Some(left), None) => Ok((Side::Left, left)),
-            (None, Some(right)) => Ok((Side::Right, right)),
-            (Some(left), Some(right)) => {
-                if left.row().time() <= right.row().time() {
-                    self.right.put_back(right);
-                    Ok((Side::Left, left))
-                } else {
-                    self.left.put_back(left);
-                    Ok((Side::Right, right))
-                }
-            }
         }
+        match self.right.look(Side::Right, outside) {
+            Ok(()) => (),
+            Err(stop) => return Err(last(Side::Right, stop)),
+        }
+        match self.take_head() {
+            Some(arrival) => Ok(arrival),
+            None => Err(Last::Done),
+        }
+    }
+
+    /// Takes the head that arrives first; None where there is none.
+    #[inline(always)]
+    fn take_head(&mut self) -> Option<(Side, SharedRow)>
+        ensures { TakesHead result self.old self.new }
+    {
+        let side = first_side(&self.left.head, &self.right.head);
+        let row = match side {
+            Side::Left => self.left.head.take()?,
+            Side::Right => self.right.head.take()?,
+        };
+        Some((side, row))
     }
 
     /// Returns whether the next arrival can be told without a read.
@@ -139,6 +152,18 @@ impl Arrivals {
         ensures { IsTrue result → IsTold self.now.left × IsTold self.now.right }
     {
         self.left.is_ready() && self.right.is_ready()
+    }
+}
+
+/// Returns the side of the head that arrives first: the one with the lesser time, on a tie the left one.
+#[inline(always)]
+fn first_side(left: &Option<SharedRow>, right: &Option<SharedRow>) -> Side
+    ensures { result ≡ first_side left.now right.now }
+{
+    match (left, right) {
+        (Some(left), Some(right)) if left.row().time() <= right.row().time() => Side::Left,
+        (_, Some(_)) => Side::Right,
+        (_, None) => Side::Left,
     }
 }
 

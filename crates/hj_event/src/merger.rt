@@ -1,6 +1,7 @@
-ghost use Rattle.std.specs.Prelude.{◌≡◌, IfOk, IsTrue, List, ℕ};
+ghost use Rattle.std.specs.Prelude.{◌≡◌, IfOk, IsTrue, List, ℕ, false};
 ghost use Rattle.hj_base.specs.declared.outside.Role.TheVariants as role;
-ghost use Rattle.hj_event.specs.Merger.{answer_of, Answers, Steps, IsNew, ReadsNothingNext};
+ghost use Rattle.hj_event.specs.Merger.{answer_of, Answers, Arrives, Steps, IsNew, ReadsNothingNext};
+ghost use Rattle.hj_event.specs.Numbering.{has_due};
 ghost use Rattle.hj_event.specs.Roles.{IsInStep};
 
 use crate::RecordFault;
@@ -109,9 +110,22 @@ impl Merger {
         if self.numbering.has_due() {
             return self.numbering.give();
         }
+        self.arrive(outside)?;
+        self.numbering.give()
+    }
+
+    /// Takes the next arrival, whose events are due then.
+    #[inline(never)]
+    fn arrive<O: Outside>(&mut self, outside: &mut O) -> Result<(), Last>
+        requires left { IsInStep self.old.sides.left.reading.ended (O.state outside.old role.Left) }
+        requires right { IsInStep self.old.sides.right.reading.ended (O.state outside.old role.Right) }
+        requires none { has_due self.old.numbering.due ≡ false }
+        ensures arrives { Arrives result self.old self.new (O.state outside.old) (O.state outside.new) }
+        ensures names { (name : List ℕ) → O.under outside.new name ≡ O.under outside.old name }
+    {
         let (side, row) = self.arrivals.next_arrival(outside)?;
         self.numbering.arrive(side, row)?;
-        self.numbering.give()
+        Ok(())
     }
 }
 

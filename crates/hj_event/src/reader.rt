@@ -121,6 +121,9 @@ impl Reader {
     pub(crate) fn has_line(&self) -> bool
         ensures { IsTrue result → TellsRow self.now }
     {
+        if self.stands_at_line() {
+            return true;
+        }
         let unread = &self.portion[self.taken..self.filled];
         match self.cutter.piece().first() {
             Some(&first) => !is_blank(first) && self.cutter.has_end(unread),
@@ -130,6 +133,20 @@ impl Reader {
                 }
                 None => false,
             },
+        }
+    }
+
+    /// Returns whether a line begins with what is left, has its end there and is known not to be empty.
+    #[inline(always)]
+    fn stands_at_line(&self) -> bool
+        ensures { IsTrue result → TellsRow self.now }
+    {
+        if self.lines_end <= self.taken {
+            return false;
+        }
+        match self.cutter.piece().first() {
+            Some(_) => false,
+            None => !is_blank(self.portion[self.taken]),
         }
     }
 
@@ -172,7 +189,7 @@ impl Reader {
     /// Takes the row of the next line, if that is one of numbers in the form in which most are, and not too late: while its end is
     /// looked for, its numbers are read. None changes nothing that is seen.
     #[inline(always)]
-    fn take_line(&mut self) -> Result<Option<SharedRow>, Memory>
+    pub(crate) fn take_line(&mut self) -> Result<Option<SharedRow>, Memory>
         ensures { TakesLine result self.old self.new }
     {
         if !self.is_straight() {

@@ -6,7 +6,7 @@ ghost use Rattle.hj_event.specs.Roles.{IsInStep};
 ghost use Rattle.hj_event.specs.Reads.{Fills};
 ghost use Rattle.hj_event.specs.Sides.{new_side, rows_ahead, MayFollow};
 ghost use Rattle.hj_event.specs.Waiting.{AreInOrder, TakesSure};
-ghost use Rattle.hj_event.specs.Taking.{found_by, unseen, GoesOn, TakesRow, IsTold};
+ghost use Rattle.hj_event.specs.Taking.{found_by, unseen, GoesOn, TakesRow, TakesStraight, IsTold};
 
 use crate::RecordFault;
 use crate::reader::Reader;
@@ -86,6 +86,21 @@ impl Source {
             }
         }
         Err(Stop::Memory)
+    }
+
+    /// Takes the next row, where it is known, or its line is read straight. None changes nothing that is seen.
+    #[inline(always)]
+    pub(crate) fn take_straight(&mut self) -> Result<Option<SharedRow>, Memory>
+        ensures { TakesStraight result self.old self.new }
+    {
+        if self.reader.slack() == 0 {
+            return self.reader.take_line();
+        }
+        if let Some(row) = self.next.take() {
+            self.read_on()?;
+            return Ok(Some(row));
+        }
+        Ok(None)
     }
 
     /// Reads the next bytes, once all that were read are looked at.

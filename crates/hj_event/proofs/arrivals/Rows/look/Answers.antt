@@ -1,0 +1,20 @@
+use Rattle.std.proofs.Common.{◌≡◌, true, false, is_some, rules}
+use Rattle.std.proofs.lemmas.Result.{err_from_is_err_and}
+use Rattle.hj_base.specs.Outside.{role_of}
+use Rattle.hj_event.specs.declared.stop.Stop.TheVariants as stop
+use Rattle.hj_event.proofs.ArrivalLemmas.{sees_known}
+use Rattle.hj_event.proofs.SourceLemmas.{stops_unread}
+use Rattle.hj_event.proofs.arrivals.Rows.look.Goals as goal
+
+pub returns-then-is_some-clause-looks : goal.returns-then-is_some-clause-looks
+returns-then-is_some-clause-looks g c =
+    let some : is_some c.self.inside.head ≡ true = search rules in
+    sees_known c.args.self.now (g.O.Outside.state c.args.outside.now (role_of c.args.side)) (rw (← c.self.view_is) some) c.requires
+
+pub returns-in_err-row-clause-looks : goal.returns-in_err-row-clause-looks
+returns-in_err-row-clause-looks g c =
+    let p = err_from_is_err_and c.from_residual.result c.from_residual.ensures.1 in
+    let none : is_some c.self.inside.head ≡ false = search rules in
+    let step = rw (← c.self.view_is) at c.requires in
+    rw (p.1, p.2, ← c.self.view_is)
+    (stops_unread stop.Memory c.self.inside.source c.take_straight.new.self c.self.inside.head (g.O.Outside.state c.args.outside.now (role_of c.args.side)) none step c.in_err-row.ensures)
