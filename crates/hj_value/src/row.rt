@@ -109,6 +109,9 @@ impl Row {
         ensures ok { OnOk result (self.new ≡ self.old ++ field.entry ∷ []) }
         ensures err { OnErr result (self.new ≡ self.old) }
     {
+        if let Fields::Slots(slots) = &mut self.fields {
+            return slots.push(field);
+        }
         match field {
             Field::Int(number) if self.push_number(number) => Ok(()),
             field => self.push_slot(field),
@@ -128,6 +131,7 @@ impl Row {
     }
 
     /// Appends a field to the slots, in which the numbers that are there are put first.
+    #[cold]
     fn push_slot(&mut self, field: Field<'_>) -> Result<(), Memory>
         ensures ok { OnOk result (self.new ≡ self.old ++ field.entry ∷ []) }
         ensures err { OnErr result (self.new ≡ self.old) }
