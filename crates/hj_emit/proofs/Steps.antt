@@ -3,7 +3,7 @@ use Rattle.std.proofs.Common.{◌≡◌, ℕ, ◌+◌, ◌<◌, Bool, true, fals
 use Rattle.std.proofs.lemmas.List.{flat_map_more, map-append, take_more}
 use Rattle.std.proofs.lemmas.Option.{slice_get_within, get_or_from_slice_get}
 use Rattle.std.specs.List.{slice_get}
-use Rattle.csv.specs.Writing.{default_writer, escaped, field_text}
+use Rattle.csv.specs.Writing.{default_writer, escaped}
 use Rattle.hj_value.specs.declared.field.Field.{Field}
 use Rattle.hj_emit.specs.Cells.{cell, cells}
 use Rattle.hj_emit.specs.Line.{field_bytes}
@@ -12,12 +12,11 @@ one_more : {A : Type 0} (xs : List A) (at : ℕ) (x : A) → Some x ≡ slice_ge
 one_more xs at x found =
     take_more xs at x (slice_get_within xs at x (sym found)) ∙ ap (λ y. take at xs ++ y ∷ []) (get_or_from_slice_get xs at x x (sym found))
 
-pub cells_step : (row : List Field) (at : ℕ) (field : Field) (start before named after : List ℕ) → Some field ≡ slice_get row at
-    → before ≡ start ++ cells (take at row) → named ≡ before ++ field_text default_writer (field_bytes field) → after ≡ named ++ 44 ∷ []
+pub cells_step : (row : List Field) (at : ℕ) (field : Field) (start before after : List ℕ) → Some field ≡ slice_get row at
+    → before ≡ start ++ cells (take at row) → after ≡ before ++ cell (field_bytes field)
     → after ≡ start ++ cells (take (at + 1) row)
-cells_step row at field start before named after found so_far grown ended =
-    ended ∙ ap (λ l. l ++ 44 ∷ []) (grown ∙ ap (λ l. l ++ field_text default_writer (field_bytes field)) so_far)
-    ∙ append_assoc (start ++ cells (take at row)) (field_text default_writer (field_bytes field)) (44 ∷ [])
+cells_step row at field start before after found so_far grown =
+    grown ∙ ap (λ l. l ++ cell (field_bytes field)) so_far
     ∙ flat_map_more (λ (field : Field). cell (field_bytes field)) start (take at row) field
     ∙ ap (λ (l : List Field). start ++ cells l) (sym (one_more row at field found))
 

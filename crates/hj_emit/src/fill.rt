@@ -1,14 +1,12 @@
 ghost use Rattle.std.specs.Prelude.{◌≡◌, ◌++◌, [], ◌∷◌, ℕ, List, length, map, OnOk};
-ghost use Rattle.std.specs.Fmt.{signed_decimal};
 ghost use Rattle.csv.specs.Writing.{default_writer, escaped, field_text, needs_byte, needs_quotes, quoted, row_body, row_text};
-ghost use Rattle.hj_emit.specs.Cells.{cells};
+ghost use Rattle.hj_emit.specs.Cells.{cell, cells};
 ghost use Rattle.hj_value.specs.declared.field.Field.{Field};
 ghost use Rattle.hj_emit.specs.Line.{field_bytes, line_of};
 
-use crate::numbers::push_numbers;
+use crate::numbers::{push_number, push_numbers};
 use hj_base::Memory;
 use hj_value::{Field, Row};
-use itoa::Buffer;
 
 /// Fills `line` with the line of two joined rows, as the function `line` makes it, in place of what it held. Takes
 /// memory only to grow; after an error it holds a part of the line.
@@ -51,28 +49,22 @@ fn push_row(text: &mut Vec<u8>, row: &Row) -> Result<(), Memory>
             unreachable!();
         };
         push_field(text, &field)?;
-        text.push(b',')?;
     }
     Ok(())
 }
 
-/// Appends a field.
+/// Appends a field and a comma.
 fn push_field(text: &mut Vec<u8>, field: &Field<'_>) -> Result<(), Memory>
-    ensures { OnOk result (text.new.items ≡ text.old.items ++ field_text default_writer (field_bytes field.now)) }
+    ensures { OnOk result (text.new.items ≡ text.old.items ++ cell (field_bytes field.now)) }
 {
     match field {
         Field::Int(number) => push_number(text, *number),
-        Field::Text(bytes) => push_text(text, bytes.bytes()),
+        Field::Text(bytes) => {
+            push_text(text, bytes.bytes())?;
+            text.push(b',')?;
+            Ok(())
+        }
     }
-}
-
-/// Appends a number in decimal, which needs no quotes.
-fn push_number(text: &mut Vec<u8>, number: i64) -> Result<(), Memory>
-    ensures { OnOk result (text.new.items ≡ text.old.items ++ field_text default_writer (signed_decimal number)) }
-{
-    let mut digits = Buffer::new();
-    text.extend_from_slice(digits.format(number).as_bytes())?;
-    Ok(())
 }
 
 /// Appends a text, in quotes if it needs them.

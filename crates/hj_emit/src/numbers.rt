@@ -6,6 +6,9 @@ ghost use Rattle.hj_value.specs.declared.field.Field.TheVariants as field;
 use hj_base::Memory;
 use itoa::write_digits;
 
+/// The most bytes that a number and a comma take.
+const MOST_IN_CELL: usize = 21;
+
 /// The most bytes that two rows of four numbers take, with a comma after each number.
 const MOST_BYTES: usize = 168;
 
@@ -18,6 +21,16 @@ pub(crate) fn push_numbers(text: &mut Vec<u8>, left: &[i64], right: &[i64]) -> R
     let mut bytes = [0; MOST_BYTES];
     let middle = write_numbers(right, &mut bytes, MOST_BYTES);
     let start = write_numbers(left, &mut bytes, middle);
+    text.extend_from_slice(&bytes[start..])?;
+    Ok(())
+}
+
+/// Appends a number and a comma.
+pub(crate) fn push_number(text: &mut Vec<u8>, number: i64) -> Result<(), Memory>
+    ensures { OnOk result (text.new.items ≡ text.old.items ++ cell (signed_decimal number)) }
+{
+    let mut bytes = [0; MOST_IN_CELL];
+    let start = write_number(number, &mut bytes, MOST_IN_CELL);
     text.extend_from_slice(&bytes[start..])?;
     Ok(())
 }
