@@ -124,7 +124,7 @@ impl SideRows {
 
     /// Appends a row where the window counts its rows. If it then has one too many, removes the oldest, and returns its number.
     /// If memory runs out, no row changes.
-    #[inline(always)]
+    #[inline(never)]
     pub(crate) fn enter_counted(&mut self, held: HeldRow) -> Result<Option<EventNo>, Memory>
         requires { counts_rows self.old.window ≡ true }
         ensures window { self.new.window ≡ self.old.window }
