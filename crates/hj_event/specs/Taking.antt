@@ -42,9 +42,13 @@ abbrev pub is_late : ℕ → Option ℤ → ℤ → Bool
 is_late slack None time = false
 is_late slack (Some greatest) time = int_lt time (greatest -ℤ pos slack)
 
--- The next bytes of those that the next piece may have, so many, are a line, and this is the row of its record.
+-- how many of the bytes that were read the next piece may have
+abbrev pub most_in_line : Reading → ℕ
+most_in_line side = min (most_from side.fault side.part side.room) (length side.rest)
+
+-- The next bytes of those, so many, are a line, and this is the row of its record.
 abbrev pub IsNextLine : List Field → ℕ → Reading → Type 0
-IsNextLine row used side = IsLineOf side.columns row used (take (min (most_from side.fault side.part side.room) (length side.rest)) side.rest)
+IsNextLine row used side = IsLineOf side.columns row used (take (most_in_line side) side.rest)
 
 -- why the stream stops at the record of this number
 abbrev pub stop_of : ℕ → RecordFault → Stop

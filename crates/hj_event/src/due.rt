@@ -68,9 +68,9 @@ impl Due {
     pub(crate) fn is_some(&self) -> bool
         ensures { result ≡ has_due self.now }
     {
-        self.given < self.before.len()
+        self.after.is_some()
+            || self.given < self.before.len()
             || self.arrival.is_some()
-            || self.after.is_some()
             || self.quiet.is_some()
     }
 

@@ -7,7 +7,7 @@ ghost use Rattle.hj_event.specs.Roles.{IsInStep};
 ghost use Rattle.hj_event.specs.Reads.{Fills};
 ghost use Rattle.hj_event.specs.Rows.{with_time};
 ghost use Rattle.hj_event.specs.Sides.{new_reading};
-ghost use Rattle.hj_event.specs.Taking.{stop_of, ReadsPiece, Holds, Advances, IsNextLine, TakesLine, TellsRow};
+ghost use Rattle.hj_event.specs.Taking.{stop_of, ReadsPiece, Holds, Advances, IsNextLine, TakesLine, TellsRow, most_in_line};
 
 use crate::record::{is_late, read_record};
 use crate::stop::{Found, Stop};
@@ -192,11 +192,12 @@ impl Reader {
     pub(crate) fn take_line(&mut self) -> Result<Option<SharedRow>, Memory>
         ensures { TakesLine result self.old self.new }
     {
-        if !self.is_straight() {
+        let most = self.most_in_line();
+        if most == 0 {
             return Ok(None);
         }
         let mut row = Row::with_capacity(self.alloc, self.schema.columns.len(), 0)?;
-        let used = self.read_line(&mut row)?;
+        let used = self.read_line(most, &mut row)?;
         if used == 0 {
             self.straight = false;
             return Ok(None);
@@ -215,20 +216,27 @@ impl Reader {
         Ok(Some(shared))
     }
 
-    /// Returns whether a try is worth it: a whole line stands in front of what is left, and no other form was met in this portion.
+    /// Returns how many bytes the next line may have; 0 where a try isn't worth it: no whole line stands in front of what is left, or
+    /// another form was met in this portion.
     #[inline(always)]
-    fn is_straight(&self) -> bool {
-        self.straight && self.taken < self.lines_end && self.cutter.most_in_next() > 0
+    fn most_in_line(&self) -> usize
+        ensures { 0 < result → result ≡ most_in_line self.now }
+    {
+        if !self.straight || self.lines_end <= self.taken {
+            return 0;
+        }
+        let unread = &self.portion[self.taken..self.filled];
+        self.cutter.most_in_next().min(unread.len())
     }
 
     /// Reads the row of the next line, if that is one of numbers; `row` is empty before. Returns how many bytes the line takes, or 0.
     #[inline(always)]
-    fn read_line(&self, row: &mut Row) -> Result<usize, Memory>
-        requires { row.old ≡ [] }
+    fn read_line(&self, most: usize, row: &mut Row) -> Result<usize, Memory>
+        requires most { most ≡ most_in_line self.now }
+        requires empty { row.old ≡ [] }
         ensures { IfOk result (λ used. 0 < used → IsNextLine row.new used self.now) }
     {
         let unread = &self.portion[self.taken..self.filled];
-        let most = self.cutter.most_in_next().min(unread.len());
         read_numbers(&self.schema, &unread[..most], row)
     }
 
