@@ -242,7 +242,7 @@ impl Reader {
 
     /// Goes on to the end of the next piece in the bytes that were read, in whatever form it is.
     #[inline(never)]
-    fn cut(&mut self) -> Result<Found, Stop>
+    pub(crate) fn cut(&mut self) -> Result<Found, Stop>
         ensures { Advances result self.old self.new }
     {
         let portion: &[u8] = &self.portion;

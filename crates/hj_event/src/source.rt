@@ -138,13 +138,13 @@ impl Source {
         is_known(&self.next, &self.ahead)
     }
 
-    /// Goes on by a piece of what was read, or by a row that waits.
+    /// Goes on by a piece of what was read, in whatever form it is, or by a row that waits.
     #[inline(always)]
     fn go_on(&mut self) -> Result<Found, Stop>
         ensures { GoesOn result self.old self.new }
     {
         if self.reader.slack() == 0 {
-            return self.reader.advance();
+            return self.reader.cut();
         }
         if let Some(row) = self.next.take() {
             self.read_on()?;
