@@ -54,6 +54,8 @@ pub mod Starting
 pub mod Stepping
 pub mod Stuck
 pub mod Sweeping
+pub mod Swept
+pub mod Trying
 pub mod Totals
 pub mod Turning
 pub mod UnderWay

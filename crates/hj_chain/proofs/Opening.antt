@@ -103,6 +103,18 @@ module _ {P J : Type 0} (predicate : J → P → P → Bool) (opened now : Conte
   pub still_in_links : (count : ℕ) (links : List (Queues (Msg P))) → count ≡ n → links ≡ put_in Left count CloseL chain.links → count < length links
   still_in_links count links all made = omega (arith, known.links, all, ap length made, length-put_in Left count (let m : Msg P = CloseL in m) chain.links)
 
+  -- a core's place, and room for its report
+  pub in_cores : (at place : ℕ) → at ≡ place → place < length now.state.cores → at < n
+  in_cores at place same low = omega (arith, same, low, ap (λ (c : Contents P J). length c.state.cores) is)
+
+  pub has_room : (at place most : ℕ) → at ≡ place → most ≡ capacity chain.driver.flight → (length (queue_at now.state.reports place) == capacity now.state.driver.flight) ≡ false → (length (queue_at chain.reports at) == most) ≡ false
+  has_room at place most same most_is room =
+      ap₂ (λ (p m : ℕ). length (queue_at chain.reports p) == m) same most_is ∙ subst (λ (c : Contents P J). (length (queue_at c.state.reports place) == capacity c.state.driver.flight) ≡ false) (sym is) room
+
+  -- where the cores are as before, the chain is
+  pub same_cores : (cores : List (core.State P)) → cores ≡ chain.cores → record opened { state = record chain { cores = cores } } ≡ now
+  same_cores cores same = ap (λ (cs : List (core.State P)). record opened { state = record chain { cores = cs } }) same ∙ is
+
   -- a message that comes out
   pub receiving-waits : (answer : FeedAnswer P) (port : Side) (count : ℕ) (links : List (Queues (Msg P))) → count ≡ n → first (at_port port count chain.links) ≡ None → links ≡ take_out port count chain.links
       → StepsTo (predicate now.join) (actor_at port) answer now.state (NotEnabled Empty) (record chain { links = links })

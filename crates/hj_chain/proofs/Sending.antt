@@ -5,6 +5,9 @@ use Rattle.hj_base.specs.declared.numbers.EventNo.{EventNo}
 use Rattle.hj_msg.specs.declared.message.Msg.{Msg}
 use Rattle.hj_msg.specs.declared.message.Msg.TheVariants.{AckS, EndR, EndS, ExpR, ExpS, QuietL, QuietR, CloseL, CloseR}
 use Rattle.hj_msg.specs.Core.{Sends, sends}
+use Rattle.hj_core.specs.declared.way.Way.{Way}
+use Rattle.hj_core.specs.declared.way.Way.TheVariants as way
+use Rattle.hj_core.specs.Sent.{passed_on}
 use Rattle.hj_queue.specs.Queues.{Queues}
 use Rattle.hj_chain.specs.Links.{changed_at, link_at, put_rightwards, put_leftwards, send_out}
 use Rattle.hj_chain.proofs.Places.{length-changed_at, changed_at-twice}
@@ -109,3 +112,17 @@ module _ {P : Type 0} (place n : ℕ) (message : Msg P) where
   pub passed_nowhere : (links : List (Queues (Msg P))) (of : EventNo) → message ≡ AckS of → links ≡ send_out place (sends place n message).left (sends place n message).right links
   passed_nowhere links of is =
       sent_out links links (sends place n message) (record { left = []; right = [] }) (ap (λ (m : Msg P). sends place n m) is) (nothing_left links place ∙ nothing_right (changed_at place (put_leftwards []) links) (place + 1))
+
+-- a message on its way
+module _ {P : Type 0} (place : ℕ) (message : Msg P) (links new : List (Queues (Msg P))) (goes : Way) where
+  pub on_left : goes ≡ way.Left → new ≡ changed_at place (put_leftwards (message ∷ [])) links → new ≡ send_out place (passed_on goes message).left (passed_on goes message).right links
+  on_left is put =
+      put ∙ nothing_right (changed_at place (put_leftwards (message ∷ [])) links) (place + 1) ∙ ap (λ (w : Way). send_out place (passed_on w message).left (passed_on w message).right links) (sym is)
+
+  pub on_right : goes ≡ way.Right → new ≡ changed_at (place + 1) (put_rightwards (message ∷ [])) links → new ≡ send_out place (passed_on goes message).left (passed_on goes message).right links
+  on_right is put =
+      put ∙ ap (λ (ls : List (Queues (Msg P))). changed_at (place + 1) (put_rightwards (message ∷ [])) ls) (nothing_left links place) ∙ ap (λ (w : Way). send_out place (passed_on w message).left (passed_on w message).right links) (sym is)
+
+  pub on_no_side : goes ≡ way.Nowhere → new ≡ links → new ≡ send_out place (passed_on goes message).left (passed_on goes message).right links
+  on_no_side is same =
+      same ∙ nothing_left links place ∙ nothing_right (changed_at place (put_leftwards []) links) (place + 1) ∙ ap (λ (w : Way). send_out place (passed_on w message).left (passed_on w message).right links) (sym is)

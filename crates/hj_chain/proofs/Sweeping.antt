@@ -1,9 +1,8 @@
 -- A sweep over the actors: the ones that are passed over change nothing of what the rule names.
-use Rattle.std.proofs.Common.{◌≡◌, ◌≢◌, ℕ, zero, suc, ◌+◌, ◌-◌, ◌*◌, ◌%◌, ◌<◌, ◌≤◌, Bool, true, false, cond, List, [], ◌∷◌, ◌++◌, length, take, drop, filter, Some, None, Option, refl, ap, sym, ◌∙◌, subst, arith, append-nil, append_assoc, true≢false}
+use Rattle.std.proofs.Common.{◌≡◌, ◌≢◌, ℕ, zero, suc, ◌+◌, ◌-◌, ◌*◌, ◌%◌, ◌<◌, ◌≤◌, Bool, true, false, cond, List, [], ◌∷◌, ◌++◌, length, take, drop, filter, Some, None, Option, refl, ap, sym, ◌∙◌, subst, arith, append-nil, append_assoc}
 use Rattle.std.specs.List.{slice_get}
 use Rattle.std.specs.Option.{IfSome, is_none}
 use Rattle.std.proofs.lemmas.List.Elements.{filter-append}
-use Rattle.std.proofs.Math.Nat.{mul-add, mul-le-mul_left}
 use Rattle.hj_msg.specs.declared.drain.Drained.{Drained}
 use Rattle.hj_msg.specs.declared.event.Pair.{Pair}
 use Rattle.hj_msg.specs.declared.feed.Given.{Given}
@@ -18,13 +17,12 @@ use Rattle.hj_chain.specs.declared.actor.NotNow.{NotNow}
 use Rattle.hj_chain.specs.declared.actor.Stepped.{Stepped}
 use Rattle.hj_chain.specs.declared.actor.Stepped.TheVariants.{Did, NotEnabled, Memory}
 use Rattle.hj_chain.specs.declared.serial.Chooser.TheVariants as chooser
-use Rattle.hj_chain.specs.Chain.{Action, FeedAnswer, asks, drives, handles, collects, ChainState, Contents, action_of, after_action, cause}
+use Rattle.hj_chain.specs.Chain.{Action, FeedAnswer, asks, drives, handles, collects, ChainState, Contents, action_of, after_action}
 use Rattle.hj_base.specs.Lcg as lcg
 use Rattle.hj_chain.specs.Serial.{MayBeTried, RunsSerially, actors, by_draw, chosen, drawn_from, from_place, from_there_on, in_turn, is_enabled, others, place_behind, would_wait}
 use Rattle.hj_chain.specs.Reached.{StandsFor}
 use Rattle.hj_chain.specs.Steps.{Gathers, GoesWith, Steps, was_asked}
-use Rattle.hj_chain.proofs.ChosenActors.{chosen-enabled, none-is, placed, within-all}
-use Rattle.hj_chain.proofs.Looking.{passes-one, take-at, take-whole}
+use Rattle.hj_chain.proofs.Looking.{take-at, take-whole}
 use Rattle.hj_chain.proofs.FewSteps.{to_come}
 use Rattle.hj_chain.proofs.SerialRuns.{Running, Settled, cores-stay, running-over, running-step, step-fewer, step-settled}
 
@@ -113,27 +111,6 @@ module _ {P : Type 0} (chain : ChainState P) where
   -- where the driver's put would wait, the left port comes first
   pub port-first : (ready : Bool) → would_wait ready chain ≡ true → chosen (from_place 0) ready chain ≡ chosen (from_place 1) ready chain
   port-first ready waits = subst (λ (b : Bool). named b 0 ≡ named b 1) (sym waits) refl
-
-  -- the place of the actor that the rule names may be tried
-  pub named-may-be-tried : (ready : Bool) (place at : ℕ) (actor : Actor) → chosen (from_place place) ready chain ≡ Some actor → at ≡ place_behind n actor - 1 → MayBeTried place ready chain at
-  named-may-be-tried ready place at actor is behind =
-      let found = placed chain actor (chosen-enabled chain (from_place place) ready actor is) in
-      let here : found.place ≡ at = omega (arith, found.behind, behind) in
-      let stands : slice_get (actors n) at ≡ Some actor = subst (λ (p : ℕ). slice_get (actors n) p ≡ Some actor) here found.stands in
-      let enabled : test actor ≡ true = passes-one test (in_turn n (would_wait ready chain) place) 0 actor is in
-      record {
-        within = omega (arith, within-all chain (would_wait ready chain) place actor is, behind, found.behind);
-        named = λ other is_other can. is ∙ ap Some (sym (same-actor at actor other stands is_other));
-        passed = λ other is_other not. absurd (true≢false (sym enabled ∙ ap test (sym (same-actor at actor other stands is_other)) ∙ not));
-      }
-
-  pub named-enabled : (waits : Bool) (place at : ℕ) (actor : Actor) → named waits place ≡ Some actor → at ≡ place_behind n actor - 1 → (other : Actor) → slice_get (actors n) at ≡ Some other → test other ≡ true
-  named-enabled waits place at actor is behind other is_other =
-      let enabled : test actor ≡ true = passes-one test (in_turn n waits place) 0 actor is in
-      let found = placed chain actor (none-is (cause chain actor) enabled) in
-      let here : found.place ≡ at = omega (arith, found.behind, behind) in
-      let stands : slice_get (actors n) at ≡ Some actor = subst (λ (p : ℕ). slice_get (actors n) p ≡ Some actor) here found.stands in
-      ap test (same-actor at actor other stands is_other) ∙ enabled
 
 -- ---- a drawn actor
 
@@ -242,8 +219,3 @@ pub did-over : {P F : Type 0} (gives : F → Given P → F → Type 0) (is_ready
 did-over {P} gives is_ready matches actor old from Did new to step is = ap (λ (s : ChainState P). s.over) step.chain.1 ∙ after-over matches old (action_of old actor) step.answer
 did-over gives is_ready matches actor old from (NotEnabled why) new to step is = absurd (cc)
 did-over gives is_ready matches actor old from Memory new to step is = absurd (cc)
-
--- ---- the sweep ends
-
-pub fewer-then : (a b c i : ℕ) → a < b → i < c → c * a + c < c * b + (c - i)
-fewer-then a b c i less low = omega (arith, low, mul-add c 1 a, mul-le-mul_left c (let e : 1 + a ≤ b = omega (arith, less) in e))

@@ -8,3 +8,4 @@ pub mod Reached
 pub mod Reports
 pub mod Serial
 pub mod Steps
+pub mod Sweep

@@ -1,4 +1,4 @@
-ghost use Rattle.std.specs.Prelude.{◌≡◌, ◌≢◌, ◌↔◌, true, ◌+◌, ◌<◌, ◌≤◌, ◌++◌, [], ◌∷◌, ℕ, false, List, length, map, replicate, option_to_list, Some, All, IfOk, IfSome, IfNone, IsPermutation, OnErr};
+ghost use Rattle.std.specs.Prelude.{◌≡◌, ◌≢◌, ◌↔◌, true, ◌+◌, ◌==◌, ◌<◌, ◌≤◌, ◌++◌, [], ◌∷◌, ℕ, false, List, length, map, replicate, option_to_list, Some, All, IfOk, IfSome, IfNone, IsPermutation, OnErr};
 ghost use Rattle.hj_base.specs.declared.numbers.Side.{Side as Sides};
 ghost use Rattle.hj_base.specs.declared.numbers.Side.TheVariants.{Left, Right};
 ghost use Rattle.hj_msg.specs.declared.event.Event.{Event};
@@ -8,7 +8,8 @@ ghost use Rattle.hj_msg.specs.Feed.{IsFresh, Answers, FeedState, GoesOver};
 ghost use Rattle.hj_msg.specs.GoesOn.{GoesOnWith};
 ghost use Rattle.hj_core.specs.Contents.{state_of};
 ghost use Rattle.hj_chain.specs.Placed.{ArePlaced};
-ghost use Rattle.hj_chain.specs.Chain.{FeedAnswer, empty_chain, if_there};
+ghost use Rattle.hj_chain.specs.Chain.{FeedAnswer, capacity, empty_chain, if_there};
+ghost use Rattle.hj_chain.specs.Reports.{queue_at};
 ghost use Rattle.hj_collect.specs.Collector.{nothing_taken};
 ghost use Rattle.hj_chain.specs.Reached.{StandsFor, next_pair};
 ghost use Rattle.hj_chain.specs.Progress.{IsDone};
@@ -29,6 +30,7 @@ use std::mem;
 
 mod looks;
 mod serial;
+mod sweep;
 
 /// A chain of cores, with the driver at its ends. Its actors make their steps one at a time, in whatever order they are asked
 /// to, so that any interleaving of a run can be played.
@@ -335,6 +337,29 @@ impl<P: Share + Drop, J: Join<P> + Drop, L: Store<P, J> + Drop, R: Store<P, J> +
             return Stepped::NotEnabled(NotNow::ReportsFull);
         }
         gate.pass(core, made);
+        let Some(way) = self.cores[place].pass(msg) else {
+            return self.handle(core, end);
+        };
+        let Some(msg) = self.links.take_in(place, end) else {
+            unreachable!()
+        };
+        self.links.pass_on(place, way, msg);
+        Stepped::Did
+    }
+
+    /// Lets a core handle the first message that comes in at one of its ends, whatever it is; its reports aren't full.
+    #[inline(always)]
+    fn handle(&mut self, core: CoreNo, end: Side) -> Stepped
+        requires going { IsGoing J.predicate self.old }
+        requires within { core.0 < length self.old.state.cores }
+        requires room { (length (queue_at self.old.state.reports core.0) == capacity self.old.state.driver.flight) ≡ false }
+        ensures step { (answer : FeedAnswer P) → StepsTo (J.predicate self.old.join) (Actor.Core core end) answer self.old.state result self.new.state }
+        ensures others { self.new ≡ record self.old { state = self.new.state } }
+    {
+        let place = usize::from(core.0);
+        let Some(msg) = self.links.incoming(place, end) else {
+            return Stepped::NotEnabled(NotNow::Empty);
+        };
         let core = &mut self.cores[place];
         let Ok(entry) = core.handle(msg) else {
             self.over = true;

@@ -3,11 +3,13 @@ ghost use Rattle.std.specs.Option.{option_copied};
 ghost use Rattle.hj_base.specs.declared.numbers.Side.TheVariants.{Left, Right};
 ghost use Rattle.hj_msg.specs.Core.{only_if, sends};
 ghost use Rattle.hj_msg.specs.declared.message.Msg.TheVariants.{R as LeftRow, S as RightRow};
+ghost use Rattle.hj_core.specs.Sent.{passed_on};
 ghost use Rattle.hj_queue.specs.Queues.{no_messages};
 ghost use Rattle.hj_chain.specs.Chain.{first};
 ghost use Rattle.hj_chain.specs.Links.{link_at, changed_at, put_leftwards, put_rightwards, at_port, HasRoomAt, incoming as incoming_of, put_in, send_out, take_out, take_in};
 
 use hj_base::{EventNo, Memory, Side};
+use hj_core::Way;
 use hj_msg::Msg;
 use hj_queue::{Full, PlainLink};
 use std::alloc::Global;
@@ -128,6 +130,22 @@ impl<P: Drop> Links<P> {
                 self.put_right(place + 1, Some(msg));
             }
             Msg::AckS(_) => {}
+        }
+    }
+
+    /// Puts a message that a core of this place passes on on the link on its way.
+    #[inline(always)]
+    pub fn pass_on(&mut self, place: usize, way: Way, msg: Msg<P>)
+        requires small { place < 2 ^ 16 }
+        requires in_range { place + 1 < length self.old }
+        requires room_left { length (link_at self.old place).leftwards + 1 ≤ (link_at self.old place).capacity }
+        requires room_right { length (link_at self.old (place + 1)).rightwards + length (passed_on way msg).right ≤ (link_at self.old (place + 1)).capacity }
+        ensures { self.new ≡ send_out place (passed_on way msg).left (passed_on way msg).right self.old }
+    {
+        match way {
+            Way::Left => self.put_left(place, Some(msg)),
+            Way::Right => self.put_right(place + 1, Some(msg)),
+            Way::Nowhere => {}
         }
     }
 

@@ -6,9 +6,10 @@ ghost use Rattle.hj_chain.specs.declared.actor.Actor.{Actor as Actors};
 ghost use Rattle.hj_chain.specs.Chain.{admit_cause};
 ghost use Rattle.hj_chain.specs.Progress.{IsDone};
 ghost use Rattle.hj_chain.specs.Reached.{StandsFor};
-ghost use Rattle.hj_chain.specs.Serial.{MayBeTried, Releases, RunsSerially, actors, chosen, drawn_from, enabled, from_place, in_turn, is_enabled, would_wait};
+ghost use Rattle.hj_chain.specs.Serial.{Releases, RunsSerially, actors, drawn_from, enabled, in_turn, is_enabled, would_wait};
 ghost use Rattle.hj_chain.specs.Steps.{GoesWith};
 
+use super::sweep::Sweep;
 use crate::{Actor, Chain, Chooser, Stepped};
 use hj_base::{Gate, Lcg, Share, Side};
 use hj_driver::Closing;
@@ -95,30 +96,24 @@ impl<P: Share + Drop, J: Join<P> + Drop, L: Store<P, J> + Drop, R: Store<P, J> +
         ensures join { self.new.join ≡ self.old.join }
         ensures goes { GoesWith J.predicate self.new (F.state feed.new) }
     {
-        let count = Actor::count(self.cores.len());
-        let (mut place, mut idle) = (0, 0);
-        let mut made: u64 = 0;
         if self.release(drain) == Drained::Refused {
             return Fin::Refused;
         }
         if self.over {
             return Fin::Memory;
         }
-        while let Some(at) = self.place_to_try(place, idle, count, feed) {
-            place = at + 1;
-            let actor = Actor::at(at, self.cores.len());
-            match self.step_past(actor, feed, gate, made) {
-                Stepped::NotEnabled(_) => idle += 1,
-                Stepped::Memory => return Fin::Memory,
-                Stepped::Did => {
-                    idle = 0;
-                    made = made.saturating_add(1);
-                    if let Actor::Collect(_) = actor {
-                        if self.release(drain) == Drained::Refused {
-                            return Fin::Refused;
-                        }
-                    }
-                }
+        let mut sweep = Sweep {
+            made: 0,
+            moved: true,
+        };
+        while self.try_put(feed, &mut sweep) {
+            self.try_port(Side::Left, &mut sweep);
+            self.try_port(Side::Right, &mut sweep);
+            if !self.try_ends(gate, &mut sweep) {
+                return Fin::Memory;
+            }
+            if let Some(fin) = self.try_reports(drain, &mut sweep) {
+                return fin;
             }
         }
         Fin::Done
@@ -157,61 +152,9 @@ impl<P: Share + Drop, J: Join<P> + Drop, L: Store<P, J> + Drop, R: Store<P, J> +
         if self.over { Fin::Memory } else { Fin::Done }
     }
 
-    /// Returns the place to be tried next, among those of `count` actors, where the sweep has come to `place` and passed over
-    /// `idle` actors since the last step. Once it passed over as many as there are, that of the enabled one that is left, as the
-    /// driver's put that would wait; None where none is.
-    #[inline(always)]
-    fn place_to_try<F: Feed<P>>(
-        &self,
-        place: usize,
-        idle: usize,
-        count: usize,
-        feed: &F,
-    ) -> Option<usize>
-        requires all { count ≡ length (actors (length self.now.state.cores)) }
-        requires within { place ≤ count }
-        requires few { idle ≤ count }
-        ensures tried { IfSome result (MayBeTried place (F.ready feed.now) self.now.state) }
-        ensures passed { IfSome result (λ at. (actor : Actors) → slice_get (actors (length self.now.state.cores)) at ≡ Some actor → is_enabled self.now.state actor ≡ false → idle < count) }
-        ensures none { IfNone result (chosen (from_place place) (F.ready feed.now) self.now.state ≡ None) }
-    {
-        if idle == count {
-            return self.place_left(place, self.would_wait(feed));
-        }
-        Some(self.place_or_next(place, count, feed))
-    }
-
-    /// Returns this place, all the way round; not that of the driver's put where it would wait, but the next one.
-    #[inline(always)]
-    fn place_or_next<F: Feed<P>>(&self, place: usize, count: usize, feed: &F) -> usize
-        requires all { count ≡ length (actors (length self.now.state.cores)) }
-        requires within { place ≤ count }
-        ensures { MayBeTried place (F.ready feed.now) self.now.state result }
-    {
-        let at = if place == count { 0 } else { place };
-        if at == 0 && self.would_wait(feed) {
-            1
-        } else {
-            at
-        }
-    }
-
-    /// Returns the place of the first enabled actor from this place on, all the way round; the driver's put comes last where it
-    /// would wait.
-    #[cold]
-    fn place_left(&self, place: usize, waits: bool) -> Option<usize>
-        requires { place ≤ length (actors (length self.now.state.cores)) }
-        ensures tried { (ready : Bool) → waits ≡ would_wait ready self.now.state → IfSome result (MayBeTried place ready self.now.state) }
-        ensures enabled { IfSome result (λ at. (actor : Actors) → slice_get (actors (length self.now.state.cores)) at ≡ Some actor → is_enabled self.now.state actor ≡ true) }
-        ensures none { (ready : Bool) → waits ≡ would_wait ready self.now.state → IfNone result (chosen (from_place place) ready self.now.state ≡ None) }
-    {
-        let actor = self.first_from(place, waits)?;
-        Some(actor.place_behind(self.cores.len()) - 1)
-    }
-
     /// Gives the pairs that are due to the drain, one after the other, up to the first one that it refuses.
     #[inline(always)]
-    fn release<D: Drain<P>>(&mut self, drain: &mut D) -> Drained
+    pub(super) fn release<D: Drain<P>>(&mut self, drain: &mut D) -> Drained
         requires { (feed : FeedState) × GoesWith J.predicate self.old feed }
         ensures releases { (schedule : List Actors) (events : List (Event P)) (given : ℕ) (stood : StandsFor J.predicate self.old schedule events given) → Releases D.takes stood drain.old result self.new drain.new }
         ensures others { self.new ≡ record self.old { kept = self.new.kept } }
