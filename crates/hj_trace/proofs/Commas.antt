@@ -99,7 +99,7 @@ none_by_text text later p other actor rest numbered e =
 -- A text with a comma behind was used.
 pub by_text : (answer : ActorFound) (text : List ℕ) (old new : StreamState) (before now : RoleState) → IsActorOf answer text → NoComma text → Uses false (text ++ 44 ∷ []) old before new now
     → ReadsActor answer old before new now
-by_text (found.Actor actor) text old new before now is p uses = record { bytes = text ++ 44 ∷ []; uses = uses; finds = ap (λ l. l ++ 44 ∷ []) is }
+by_text (found.Actor actor) text old new before now is p uses = record { bytes = text ++ 44 ∷ []; uses = uses; finds = (is.0, ap (λ l. l ++ 44 ∷ []) is.1) }
 by_text found.Other text old new before now other p uses = record { bytes = text ++ 44 ∷ []; uses = uses; finds = λ later follows. none_by_text text (new.unused ++ later) p other }
 by_text found.Failed text old new before now is p uses = absurd is
 

@@ -7,7 +7,7 @@ use Rattle.hj_msg.specs.declared.event.Event as event
 use Rattle.hj_msg.specs.declared.feed.Given.{Given}
 use Rattle.hj_msg.specs.declared.feed.Given.TheVariants.{Event, Stop}
 use Rattle.hj_msg.specs.declared.message.Msg.{Msg}
-use Rattle.hj_msg.specs.Feed.{Answers, FeedState, event_in}
+use Rattle.hj_msg.specs.Feed.{Answers, FeedState, GoesOverAnswers, event_in, events_in}
 use Rattle.hj_chain.specs.declared.actor.Actor.{Actor}
 use Rattle.hj_chain.specs.declared.actor.Actor.TheVariants.{Admit, PortLeft, PortRight, Core, Collect}
 use Rattle.hj_chain.specs.declared.actor.Stepped.TheVariants as stepped
@@ -206,3 +206,20 @@ module _ {P F : Type 0} (gives : F → Given P → F → Type 0) (is_ready : F �
             ∙ (behind-snoc matches schedule actor first start
             ∙ (ap (λ (p : Playing P). choosing_after (length p.chain.cores) actor (choosing_behind matches schedule first start)) (plays.played_is (given ++ more) one.before)
             ∙ ap (λ (c : Choosing). choosing_after (length chain.cores) actor c) (stands (given ++ more) one.before)))
+
+-- ---- what a step asks of the feed
+
+-- its answers
+abbrev pub answers_in : {P : Type 0} → Bool → Given P → List (Given P)
+answers_in true given = given ∷ []
+answers_in false given = []
+
+pub over_step : {P F : Type 0} (gives : F → Given P → F → Type 0) (b : Bool) (given : Given P) (from to : F) → MatchBool b (gives from given to) (to ≡ from) → GoesOverAnswers gives from (answers_in b given) to
+over_step gives true given from to gave = (to, gave, refl)
+over_step gives false given from to same = same
+
+-- and the events among them
+pub answers_are : {P : Type 0} (b : Bool) (actor : Actor) (next : Option (Given P)) (answer : FeedAnswer P) → asks actor next true ≡ b → answer.ready ≡ true → events_in (answers_in b answer.given) ≡ asked actor next answer
+answers_are true actor next answer wanted ready =
+    append-nil (event_in (Some answer.given)) ∙ (sym (asked_one actor next answer.given wanted) ∙ ap (λ (r : Bool). asked actor next (record { ready = r; given = answer.given })) (sym ready))
+answers_are false actor next answer unasked ready = sym (asked_none actor next answer unasked)

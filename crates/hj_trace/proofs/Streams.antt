@@ -1,7 +1,7 @@
 -- Uses of a stream, one behind the other.
-use Rattle.std.proofs.Common.{◌≡◌, ◌≢◌, ℕ, ◌+◌, ◌<◌, ◌≤◌, Bool, true, false, List, [], ◌∷◌, ◌++◌, length, take, drop, get_or, None, Some, refl, sym, ap, ◌∙◌, append-nil, append_assoc, arith, subst, length-take, length-drop, take-append-drop, drop-cons}
+use Rattle.std.proofs.Common.{◌≡◌, ◌≢◌, ℕ, ◌+◌, ◌-◌, ◌<◌, ◌≤◌, Bool, true, false, List, [], ◌∷◌, ◌++◌, length, take, drop, get_or, None, Some, refl, sym, ap, ◌∙◌, append-nil, append_assoc, arith, subst, length-take, length-drop, take-append-drop, drop-cons, true≢false}
 use Rattle.std.proofs.KnownBytes.{Consumes-nil, Consumes-trans}
-use Rattle.std.proofs.lemmas.List.{get_or-drop, get_or-take, take_more}
+use Rattle.std.proofs.lemmas.List.{drop-take, get_or-drop, get_or-take, take_more}
 use Rattle.std.proofs.lemmas.Option.{slice_get-get_or}
 use Rattle.std.specs.Io.KnownBytes.{IsAtEnd}
 use Rattle.std.specs.List.{slice_get}
@@ -18,7 +18,7 @@ stands_next portion used filled within room =
     ∙ ap Some (get_or-drop used (take filled portion) 0 0 ∙ ap (λ k. get_or (take filled portion) k 0) (omega arith) ∙ get_or-take filled portion used 0 within)
 
 pub nothing_used : (stream : StreamState) (role : RoleState) → (stream.ended ≡ true → IsAtEnd role.left) → Uses false [] stream role stream role
-nothing_used stream role end = record { role = refl; came = []; read = Consumes-nil role.left; used = append-nil stream.unused; name = λ name e. e; nothing_left = end; faults = refl }
+nothing_used stream role end = record { role = refl; came = []; read = Consumes-nil role.left; used = append-nil stream.unused; name = λ name e. e; nothing_left = end; faults = refl; unended = λ e. absurd (true≢false (sym e)) }
 
 counts_behind : (failed : Bool) (a b c : ℕ) → b ≡ a → CountsFaults failed b c → CountsFaults failed a c
 counts_behind failed a b c e counts = subst (λ (n : ℕ). CountsFaults failed n c) e counts
@@ -32,6 +32,7 @@ uses_both failed xs ys a b c s t u first second = record {
   name = λ name e. second.name name (first.name name e);
   nothing_left = second.nothing_left;
   faults = counts_behind failed s.faults t.faults u.faults first.faults second.faults;
+  unended = second.unended;
 }
 
 front_of : (xs : List ℕ) (x : ℕ) → slice_get xs 0 ≡ Some x → xs ≡ x ∷ drop 1 xs
@@ -49,6 +50,7 @@ next_used stream role byte end next = record {
   name = λ name e. e;
   nothing_left = end;
   faults = refl;
+  unended = λ e. absurd (true≢false (sym e));
 }
 
 -- the same with the roles of an outside, before, between and behind
@@ -128,3 +130,32 @@ pub goes_on : (bytes : List ℕ) (a b : StreamState) (before now : Role → Role
 goes_on bytes a b before now goes uses =
     let still : GoesWith b (now a.role) = record { name = goes.name; phase = uses.name goes.name goes.phase; nothing_left = uses.nothing_left } in
     subst (λ (role : Role). GoesWith b (now role)) (sym uses.role) still
+
+-- what is unused of a portion, as one part of it
+pub unused_part : (portion : List ℕ) (used filled : ℕ) → used ≤ filled → take (filled - used) (drop used portion) ≡ drop used (take filled portion)
+unused_part portion used filled within = sym (drop-take used (filled - used) portion) ∙ ap (λ n. drop used (take n portion)) (omega (arith, within))
+
+-- bytes that wait are used
+pub waiting_used : (expected : List ℕ) (old new : StreamState) (role : RoleState) → (old.ended ≡ true → IsAtEnd role.left) → old.unused ≡ expected ++ drop (length expected) old.unused
+    → new ≡ record old { unused = drop (length expected) old.unused } → Uses false expected old role new role
+waiting_used expected old new role end waits used =
+    subst (λ (stream : StreamState). Uses false expected old role stream role) (sym used) (record {
+      role = refl;
+      came = [];
+      read = Consumes-nil role.left;
+      used = append-nil old.unused ∙ waits;
+      name = λ name e. e;
+      nothing_left = end;
+      faults = refl;
+      unended = λ e. absurd (true≢false (sym e));
+    })
+
+pub compare_same : (expected : List ℕ) (old new : StreamState) (role : RoleState) → (old.ended ≡ true → IsAtEnd role.left) → old.unused ≡ expected ++ drop (length expected) old.unused
+    → new ≡ record old { unused = drop (length expected) old.unused } → Compares compared.Same expected old role new role
+compare_same expected old new role end waits used = record {
+  same = expected;
+  missing = [];
+  expects = sym (append-nil expected);
+  uses = waiting_used expected old new role end waits used;
+  ends = refl;
+}

@@ -39,6 +39,8 @@ pub record Uses (failed : Bool) (bytes : List ℕ) (old : StreamState) (before :
   pub name : (name : List ℕ) → before.phase ≡ opened name old.ended → now.phase ≡ opened name new.ended
   pub nothing_left : new.ended ≡ true → IsAtEnd now.left
   pub faults : CountsFaults failed before.faults now.faults
+  -- where a read failed, the end wasn't answered
+  pub unended : failed ≡ true → new.ended ≡ false
 
 -- Nothing is left: no byte waits, and the end was answered.
 pub record IsUsedUp (stream : StreamState) : Type 0 where
@@ -92,7 +94,7 @@ actor_failed found.Failed = true
 -- The bytes that were used are an actor's text and a comma; or they begin with none, whatever follows those that wait: behind the
 -- end nothing does.
 abbrev pub FindsActor : ActorFound → List ℕ → StreamState → Type 0
-FindsActor (found.Actor actor) used stream = used ≡ actor_text actor ++ 44 ∷ []
+FindsActor (found.Actor actor) used stream = IsNumbered actor × (used ≡ actor_text actor ++ 44 ∷ [])
 FindsActor found.Other used stream = (later : List ℕ) → (stream.ended ≡ true → later ≡ []) → BeginsWithNoActor (used ++ (stream.unused ++ later))
 FindsActor found.Failed used stream = Unit {0}
 
@@ -104,6 +106,6 @@ pub record ReadsActor (answer : ActorFound) (old : StreamState) (before : RoleSt
 
 -- a text is that of an actor, or of none
 abbrev pub IsActorOf : ActorFound → List ℕ → Type 0
-IsActorOf (found.Actor actor) text = text ≡ actor_text actor
+IsActorOf (found.Actor actor) text = IsNumbered actor × (text ≡ actor_text actor)
 IsActorOf found.Other text = (actor : Actor) → IsNumbered actor → text ≢ actor_text actor
 IsActorOf found.Failed text = ⊥

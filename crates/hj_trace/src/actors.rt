@@ -42,6 +42,7 @@ fn name_of_end(end: Side) -> &'static str
 /// Reads the text of an actor; None exactly where it is none.
 pub fn read_actor(text: &[u8]) -> Option<Actor>
     ensures spells { IfSome result (λ actor. text.now ≡ actor_text actor) }
+    ensures numbered { IfSome result (λ actor. IsNumbered actor) }
     ensures none { result ≡ None → (actor : Actors) → IsNumbered actor → text.now ≢ actor_text actor }
 {
     let [kind, rest @ ..] = text else {
@@ -75,6 +76,7 @@ fn read_end(text: &[u8]) -> Option<Side>
 /// Reads what follows the letter of a core that takes a message: its number, and the letter of an end.
 fn read_core_end(text: &[u8]) -> Option<Actor>
     ensures spells { IfSome result (λ actor. 67 ∷ text.now ≡ actor_text actor) }
+    ensures numbered { IfSome result (λ actor. IsNumbered actor) }
     ensures none { result ≡ None → (n : ℕ) (end : Ends) → n < 2 ^ 16 → text.now ≢ decimal n ++ end_text end }
 {
     let digits = text.len().checked_sub(1)?;
@@ -85,6 +87,7 @@ fn read_core_end(text: &[u8]) -> Option<Actor>
 /// Reads the number of a core; None exactly where it isn't the decimal text of one.
 fn read_core(digits: &[u8]) -> Option<CoreNo>
     ensures spells { IfSome result (λ core. digits.now ≡ decimal core.0) }
+    ensures fits { IfSome result (λ core. core.0 < 2 ^ 16) }
     ensures none { result ≡ None → (n : ℕ) → n < 2 ^ 16 → digits.now ≢ decimal n }
 {
     let text = match str::from_utf8(digits) {

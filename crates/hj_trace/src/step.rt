@@ -8,7 +8,7 @@ ghost use Rattle.hj_chain.specs.declared.actor.Stepped.{Stepped as Step};
 ghost use Rattle.hj_chain.specs.Chain.{cause};
 ghost use Rattle.hj_chain.specs.Reached.{StandsFor};
 ghost use Rattle.hj_chain.specs.Reports.{queue_at};
-ghost use Rattle.hj_chain.specs.Steps.{GoesWith, StandsFurther, was_asked};
+ghost use Rattle.hj_chain.specs.Steps.{Gathers, GoesWith, StandsFurther, was_asked};
 ghost use Rattle.hj_trace.specs.Steps.{Plays, added_at, waiting_at};
 
 use crate::line::{push_front, push_reported};
@@ -42,6 +42,7 @@ pub fn play<
     ensures asked { (answers : List (Answer P)) × GoesOverAnswers F.gives feed.old answers feed.new }
     ensures answers { result ≡ Played.Did → was_asked actor chain.old.state.next (F.ready feed.old) Step.Did ≡ true → IfSome chain.new.state.next (λ given. Answers given (F.state feed.old) (F.state feed.new)) }
     ensures join { chain.new.join ≡ chain.old.join }
+    ensures gathers { result ≡ Played.Did → Gathers actor chain.old Step.Did chain.new }
     ensures goes { GoesWith J.predicate chain.new (F.state feed.new) }
     ensures stands { (schedule : List Actors) (events : List (Events P)) (given : ℕ) → StandsFor J.predicate chain.old schedule events given → result ≡ Played.Did
         → StandsFurther F.gives J.predicate (schedule ++ actor ∷ []) events given feed.old chain.new feed.new }

@@ -1,4 +1,4 @@
-ghost use Rattle.std.specs.Prelude.{◌≡◌, ◌<◌, List, ℕ, [], false, length, drop};
+ghost use Rattle.std.specs.Prelude.{◌≡◌, ◌<◌, ◌++◌, List, ℕ, [], true, false, length, drop};
 ghost use Rattle.hj_base.specs.Outside.{ChangesOnly};
 ghost use Rattle.hj_trace.specs.Stream.{Compares, GoesWith, IsActorOf, ReadsActor, StandsNext, Uses, look_failed};
 
@@ -136,6 +136,33 @@ impl TextStream {
 
     /// Compares bytes with those that stand next, up to the first that differs, and uses those that are the same.
     pub fn compare<O: Outside>(&mut self, expected: &[u8], outside: &mut O) -> Compared
+        requires { GoesWith self.old (O.state outside.old self.old.role) }
+        ensures compares { Compares result expected.now self.old (O.state outside.old self.old.role) self.new (O.state outside.new self.old.role) }
+        ensures others { ChangesOnly self.old.role (O.state outside.old) (O.state outside.new) }
+        ensures names { (name : List ℕ) → O.under outside.new name ≡ O.under outside.old name }
+    {
+        // Mostly all of them wait.
+        if self.use_waiting(expected) {
+            return Compared::Same;
+        }
+        self.compare_each(expected, outside)
+    }
+
+    /// Uses bytes where all of them wait, and tells whether they do.
+    fn use_waiting(&mut self, expected: &[u8]) -> bool
+        ensures waits { result ≡ true → self.old.unused ≡ expected.now ++ drop (length expected.now) self.old.unused }
+        ensures used { result ≡ true → self.new ≡ record self.old { unused = drop (length expected.now) self.old.unused } }
+        ensures kept { result ≡ false → self.new ≡ self.old }
+    {
+        if self.portion[self.used..self.filled].starts_with(expected) {
+            self.used += expected.len();
+            return true;
+        }
+        false
+    }
+
+    /// Does what `compare` does, byte by byte.
+    fn compare_each<O: Outside>(&mut self, expected: &[u8], outside: &mut O) -> Compared
         requires { GoesWith self.old (O.state outside.old self.old.role) }
         ensures compares { Compares result expected.now self.old (O.state outside.old self.old.role) self.new (O.state outside.new self.old.role) }
         ensures others { ChangesOnly self.old.role (O.state outside.old) (O.state outside.new) }

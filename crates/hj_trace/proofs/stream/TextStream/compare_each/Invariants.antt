@@ -1,7 +1,7 @@
 use Rattle.std.proofs.Common.{◌≡◌, ℕ, false, List, take}
 use Rattle.hj_base.specs.Outside.{ChangesOnly}
 use Rattle.hj_trace.specs.Stream.{Uses}
-use Rattle.hj_trace.proofs.stream.TextStream.compare.Given as goal
+use Rattle.hj_trace.proofs.stream.TextStream.compare_each.Given as goal
 
 abbrev pub invariant-loop-at : goal.invariant-loop-at
 invariant-loop-at g l =
