@@ -1,0 +1,4 @@
+pub mod Feeding
+pub mod Taken
+pub mod Traced
+pub mod Underway
