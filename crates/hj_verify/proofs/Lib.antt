@@ -1,0 +1,17 @@
+mod Advancing
+mod Beginning
+mod Comparing
+mod Due
+mod Ending
+mod Ends
+mod FeedBeside
+mod Kept
+mod LineSteps
+mod Lists
+mod Made
+mod Open
+mod ReadLines
+mod Stopping
+mod Using
+mod Verified
+mod Whole

@@ -1,0 +1,9 @@
+pub mod Beside
+pub mod Checked
+pub mod Due
+pub mod Judged
+pub mod Lines
+pub mod Making
+pub mod Output
+pub mod Reading
+pub mod Verifying
