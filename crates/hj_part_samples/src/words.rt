@@ -72,6 +72,16 @@ raw --schedule 1 q a b
 raw --schedule 1 --threads 0 q a b
 raw q a
 raw q a b c
+trace --threads 0 q a b
+trace --cores 0 q a b
+trace --schedule x q a b
+trace q a b c
+verify q a b t
+verify q a b - o
+verify q a b t .
+verify q a b t o p
+verify --schedule 1 q a b t o
+verify --threads 0 q a b t o
 twice q a b r
 twice q a b . c
 twice q a b r -
@@ -87,6 +97,8 @@ fn command(order: &Order) -> &'static str {
         Order::Check { .. } => "check",
         Order::Gen { .. } => "gen",
         Order::Raw { .. } => "raw",
+        Order::Trace { .. } => "trace",
+        Order::Verify { .. } => "verify",
         Order::Twice { .. } => "twice",
     }
 }
@@ -116,6 +128,22 @@ fn numbers(alloc: Global, order: &Order) -> Result<String, AllocError> {
             let setup = told_setup(alloc, setup)?;
             format!(in alloc; " {setup} {limit}")
         }
+        Order::Trace {
+            cores,
+            flight,
+            limit,
+            schedule,
+            ..
+        } => {
+            let seed = schedule.unwrap_or(0);
+            format!(in alloc; " {cores} {flight} {limit} {seed}")
+        }
+        Order::Verify {
+            cores,
+            flight,
+            limit,
+            ..
+        } => format!(in alloc; " {cores} {flight} {limit}"),
     }
 }
 
@@ -139,9 +167,23 @@ fn names(alloc: Global, order: &Order) -> Result<String, AllocError> {
             left,
             right,
             ..
+        }
+        | Order::Trace {
+            query,
+            left,
+            right,
+            ..
         } => listed(alloc, &[query, left, right]),
         Order::Check { query } => listed(alloc, &[query]),
         Order::Gen { .. } => Ok(String::new(alloc)),
+        Order::Verify {
+            query,
+            left,
+            right,
+            trace,
+            output,
+            ..
+        } => listed(alloc, &[query, left, right, trace, output]),
         Order::Twice {
             query,
             left,
@@ -206,6 +248,11 @@ check q- | check q-
 gen 0 1000000000 18446744073709551615 1 | gen 0 1000000000 18446744073709551615 1
 raw q a b | raw 4 4 32 4294967295 q a b
 raw --cores=64 q --threads 1 a --max-events 7 --flight=1 b | raw 64 1 1 7 q a b
+trace q a b | trace 4 32 4294967295 0 q a b
+trace --schedule 5 --cores 2 q a b --flight 1 --max-events 9 | trace 2 1 9 5 q a b
+verify q a b t o | verify 4 32 4294967295 q a b t o
+verify q a b -- -t o | verify 4 32 4294967295 q a b -t o
+verify --max-events 9 --flight=256 q a b t o --cores 1 | verify 1 256 9 q a b t o
 twice q a b r c | twice 4 4 32 4294967295 0 q a b r c
 twice --schedule 3 q --threads=0 a b --cores 1 r --flight 2 c --max-events 1 | twice 1 0 2 1 3 q a b r c";
 

@@ -9,7 +9,7 @@ use Rattle.clap.specs.Takes.{is_given}
 use Rattle.clap.specs.Walk.{Row, Rule, arg_by_id, arg_by_long, arg_by_short, is_empty}
 use Rattle.hj_words.specs.Arguments.{command_app}
 use Rattle.hj_words.specs.Orders.{check_names, equi_names, gen_names, join_names, join_options, no_options}
-use Rattle.hj_words.specs.Orders.{raw_options, twice_names}
+use Rattle.hj_words.specs.Orders.{raw_options, trace_options, twice_names, verify_names, verify_options}
 use Rattle.hj_words.specs.Values.{Text, is_among}
 use Rattle.hj_words.proofs.Given.{IsRead}
 use Rattle.hj_words.proofs.Commands.{Finds, Places, option_arg, positional_arg, top_of}
@@ -140,6 +140,19 @@ raw_app = command_app (codes "raw") raw_options join_names
 
 pub raw_read : IsRead raw_app raw_options join_names
 raw_read = plain_read (codes "raw") raw_options join_names (refl, refl, (refl, refl, (refl, refl, refl))) refl refl refl refl
+
+abbrev pub trace_app : App
+trace_app = command_app (codes "trace") trace_options join_names
+
+pub trace_read : IsRead trace_app trace_options join_names
+trace_read = plain_read (codes "trace") trace_options join_names (refl, refl, (refl, refl, (refl, refl, refl))) refl refl refl refl
+
+abbrev pub verify_app : App
+verify_app = command_app (codes "verify") verify_options verify_names
+
+pub verify_read : IsRead verify_app verify_options verify_names
+verify_read = plain_read (codes "verify") verify_options verify_names
+    (refl, refl, (refl, refl, (refl, refl, (refl, refl, (refl, refl, refl))))) refl refl refl refl
 
 abbrev pub twice_app : App
 twice_app = command_app (codes "twice") join_options twice_names

@@ -6,7 +6,7 @@ use Rattle.hj_words.specs.Values.{Text, Value, given, text_of}
 use Rattle.hj_words.specs.declared.order.Order.{Order}
 use Rattle.hj_words.specs.declared.names.JoinNames.{JoinNames}
 use Rattle.hj_words.specs.declared.numbers.JoinNumbers.{JoinNumbers}
-use Rattle.hj_words.specs.declared.order.Order.TheVariants.{Equi, Join, Check, Gen, Raw, Twice}
+use Rattle.hj_words.specs.declared.order.Order.TheVariants.{Equi, Join, Check, Gen, Raw, Trace, Verify, Twice}
 
 -- 1 to 20 decimal digits
 abbrev pub is_number : Text → Bool
@@ -138,6 +138,30 @@ raw_of values =
     (text_of (codes "flight") values) (text_of (codes "max-events") values) None)
     (names_among values)
 
+-- `trace [--cores N] [--flight N] [--max-events N] [--schedule SEED] QUERY LEFT RIGHT`, whose numbers are those of `join` on no
+-- threads
+abbrev pub trace_of : List Value → Option Order
+trace_of values =
+    order_with (λ numbers names.
+    Trace numbers.setup.cores numbers.setup.flight numbers.limit numbers.schedule names.query names.left names.right)
+    (join_numbers 0 (text_of (codes "cores") values) (Some (codes "0"))
+    (text_of (codes "flight") values) (text_of (codes "max-events") values)
+    (text_of (codes "schedule") values))
+    (names_among values)
+
+-- `verify [--cores N] [--flight N] [--max-events N] QUERY LEFT RIGHT TRACE OUTPUT`, whose numbers are those of `join` on no threads
+abbrev pub verify_of : List Value → Option Order
+verify_of values =
+    option_and_then (λ trace.
+    option_and_then (λ output.
+    order_with (λ numbers names.
+    Verify numbers.setup.cores numbers.setup.flight numbers.limit names.query names.left names.right trace output)
+    (join_numbers 0 (text_of (codes "cores") values) (Some (codes "0"))
+    (text_of (codes "flight") values) (text_of (codes "max-events") values) None)
+    (names_among values))
+    (name_in (text_of (codes "output") values)))
+    (name_in (text_of (codes "trace") values))
+
 -- `twice [--cores N] [--threads N] [--flight N] [--max-events N] [--schedule SEED] QUERY LEFT RIGHT QUERY THIRD`, whose options are
 -- those of `join`
 abbrev pub twice_of : List Value → Option Order
@@ -172,6 +196,15 @@ gen_names = codes "n" ∷ codes "keys" ∷ codes "seed" ∷ codes "w" ∷ []
 abbrev pub raw_options : List Text
 raw_options = codes "cores" ∷ codes "threads" ∷ codes "flight" ∷ codes "max-events" ∷ []
 
+abbrev pub trace_options : List Text
+trace_options = codes "cores" ∷ codes "flight" ∷ codes "max-events" ∷ codes "schedule" ∷ []
+
+abbrev pub verify_options : List Text
+verify_options = codes "cores" ∷ codes "flight" ∷ codes "max-events" ∷ []
+
+abbrev pub verify_names : List Text
+verify_names = codes "query" ∷ codes "left" ∷ codes "right" ∷ codes "trace" ∷ codes "output" ∷ []
+
 abbrev pub twice_names : List Text
 twice_names = codes "query" ∷ codes "left" ∷ codes "right" ∷ codes "second" ∷ codes "third" ∷ []
 
@@ -191,6 +224,12 @@ gen_spelled words = option_and_then gen_of (given no_options gen_names words)
 abbrev pub raw_spelled : List Text → Option Order
 raw_spelled words = option_and_then raw_of (given raw_options join_names words)
 
+abbrev pub trace_spelled : List Text → Option Order
+trace_spelled words = option_and_then trace_of (given trace_options join_names words)
+
+abbrev pub verify_spelled : List Text → Option Order
+verify_spelled words = option_and_then verify_of (given verify_options verify_names words)
+
 abbrev pub twice_spelled : List Text → Option Order
 twice_spelled words = option_and_then twice_of (given join_options twice_names words)
 
@@ -203,5 +242,7 @@ order_of (command ∷ words) =
     else if bytes_eq command (codes "check") then check_spelled words
     else if bytes_eq command (codes "gen") then gen_spelled words
     else if bytes_eq command (codes "raw") then raw_spelled words
+    else if bytes_eq command (codes "trace") then trace_spelled words
+    else if bytes_eq command (codes "verify") then verify_spelled words
     else if bytes_eq command (codes "twice") then twice_spelled words
     else None

@@ -5,7 +5,7 @@ ghost use Rattle.clap.specs.Simple.{with_rule};
 ghost use Rattle.clap.specs.Words.{app_of, rule_of};
 ghost use Rattle.hj_words.specs.Arguments.{Accepts, Carries, Refuses, bare_app, command_app, option_rule, positional_rule};
 ghost use Rattle.hj_words.specs.Orders.{no_options, equi_names, join_options, join_names, check_names, gen_names};
-ghost use Rattle.hj_words.specs.Orders.{raw_options, twice_names};
+ghost use Rattle.hj_words.specs.Orders.{raw_options, trace_options, verify_options, verify_names, twice_names};
 ghost use Rattle.hj_words.specs.Values.{given};
 
 use crate::order::Usage;
@@ -15,6 +15,10 @@ use std::alloc::{AllocError, Global};
 const JOIN_OPTIONS: [&str; 5] = ["cores", "threads", "flight", "max-events", "schedule"];
 
 const RAW_OPTIONS: [&str; 4] = ["cores", "threads", "flight", "max-events"];
+
+const TRACE_OPTIONS: [&str; 4] = ["cores", "flight", "max-events", "schedule"];
+
+const VERIFY_OPTIONS: [&str; 3] = ["cores", "flight", "max-events"];
 
 const JOIN_NAMES: [&str; 3] = ["query", "left", "right"];
 
@@ -61,6 +65,25 @@ pub fn raw_matches<'a>(alloc: Global, words: &'a [String]) -> Result<ArgMatches<
         → given raw_options join_names (map string_bytes words.entry.now) ≡ None) }
 {
     matches(alloc, "raw", &RAW_OPTIONS, &JOIN_NAMES, words)
+}
+
+/// Reads the values of the words after `trace`.
+pub fn trace_matches<'a>(alloc: Global, words: &'a [String]) -> Result<ArgMatches<'a>, Usage>
+    ensures ok { IfOk result (Carries trace_options join_names (map string_bytes words.entry.now)) }
+    ensures err { IfErr result (λ fault. fault ≡ Usage.Words
+        → given trace_options join_names (map string_bytes words.entry.now) ≡ None) }
+{
+    matches(alloc, "trace", &TRACE_OPTIONS, &JOIN_NAMES, words)
+}
+
+/// Reads the values of the words after `verify`.
+pub fn verify_matches<'a>(alloc: Global, words: &'a [String]) -> Result<ArgMatches<'a>, Usage>
+    ensures ok { IfOk result (Carries verify_options verify_names (map string_bytes words.entry.now)) }
+    ensures err { IfErr result (λ fault. fault ≡ Usage.Words
+        → given verify_options verify_names (map string_bytes words.entry.now) ≡ None) }
+{
+    let names = ["query", "left", "right", "trace", "output"];
+    matches(alloc, "verify", &VERIFY_OPTIONS, &names, words)
 }
 
 /// Reads the values of the words after `twice`.

@@ -58,6 +58,42 @@ pub enum Order {
         /// The name of the right stream.
         right: Name,
     },
+    /// `trace QUERY LEFT RIGHT`: each step of the join of two streams without threads.
+    Trace {
+        /// How many cores the chain has, from 1 to 64.
+        cores: u16,
+        /// How many events are outstanding at most, from 1 to 256.
+        flight: u16,
+        /// How many events are taken at most, from 1 to 4,294,967,295.
+        limit: u64,
+        /// The seed by which the steps are interleaved; None where the actors take turns.
+        schedule: Option<u64>,
+        /// The name of the query.
+        query: Name,
+        /// The name of the left stream.
+        left: Name,
+        /// The name of the right stream.
+        right: Name,
+    },
+    /// `verify QUERY LEFT RIGHT TRACE OUTPUT`: whether a trace is one of the join of two streams, and an output is its text.
+    Verify {
+        /// How many cores the chain has, from 1 to 64.
+        cores: u16,
+        /// How many events are outstanding at most, from 1 to 256.
+        flight: u16,
+        /// How many events are taken at most, from 1 to 4,294,967,295.
+        limit: u64,
+        /// The name of the query.
+        query: Name,
+        /// The name of the left stream.
+        left: Name,
+        /// The name of the right stream.
+        right: Name,
+        /// The name of the trace.
+        trace: Name,
+        /// The name of the output.
+        output: Name,
+    },
     /// `twice QUERY LEFT RIGHT QUERY THIRD`: the join of the pairs of the join of two streams with a third stream.
     Twice {
         /// How both joins are spread out.

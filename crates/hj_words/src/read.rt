@@ -1,10 +1,11 @@
 ghost use Rattle.std.specs.Prelude.{◌≡◌, IfOk, IfErr, IfSome, Some, None, map, option_map, string_bytes};
 ghost use Rattle.hj_words.specs.Orders.{order_of, equi_spelled, join_spelled, check_spelled, gen_spelled, gen_order};
-ghost use Rattle.hj_words.specs.Orders.{raw_spelled, twice_spelled};
+ghost use Rattle.hj_words.specs.Orders.{raw_spelled, trace_spelled, verify_spelled, twice_spelled};
 ghost use Rattle.hj_words.specs.Ranges.{IsInRange};
 
 use crate::arguments::{
-    check_matches, equi_matches, gen_matches, join_matches, raw_matches, twice_matches,
+    check_matches, equi_matches, gen_matches, join_matches, raw_matches, trace_matches,
+    twice_matches, verify_matches,
 };
 use crate::names::{named, names_among};
 use crate::numbers::{join_numbers, numbers_among};
@@ -29,6 +30,8 @@ pub fn read_words(alloc: Global, words: &[String]) -> Result<Order, Usage>
         "check" => read_check(alloc, rest),
         "gen" => read_gen(alloc, rest),
         "raw" => read_raw(alloc, rest),
+        "trace" => read_trace(alloc, rest),
+        "verify" => read_verify(alloc, rest),
         "twice" => read_twice(alloc, rest),
         _ => Err(Usage::Words),
     }
@@ -144,6 +147,65 @@ fn read_raw(alloc: Global, words: &[String]) -> Result<Order, Usage>
         query: names.query,
         left: names.left,
         right: names.right,
+    })
+}
+
+/// Reads the order of the words after `trace`.
+fn read_trace(alloc: Global, words: &[String]) -> Result<Order, Usage>
+    ensures ok { IfOk result (λ order. trace_spelled (map string_bytes words.now) ≡ Some order) }
+    ensures ranges { IfOk result IsInRange }
+    ensures err { IfErr result (λ fault. fault ≡ Usage.Words → trace_spelled (map string_bytes words.now) ≡ None) }
+{
+    let matches = trace_matches(alloc, words)?;
+    let numbers = join_numbers(
+        0,
+        matches.get_str("cores"),
+        Some("0"),
+        matches.get_str("flight"),
+        matches.get_str("max-events"),
+        matches.get_str("schedule"),
+    )
+    .ok_or(Usage::Words)?;
+    let names = names_among(alloc, &matches)?;
+    Ok(Order::Trace {
+        cores: numbers.setup.cores,
+        flight: numbers.setup.flight,
+        limit: numbers.limit,
+        schedule: numbers.schedule,
+        query: names.query,
+        left: names.left,
+        right: names.right,
+    })
+}
+
+/// Reads the order of the words after `verify`.
+fn read_verify(alloc: Global, words: &[String]) -> Result<Order, Usage>
+    ensures ok { IfOk result (λ order. verify_spelled (map string_bytes words.now) ≡ Some order) }
+    ensures ranges { IfOk result IsInRange }
+    ensures err { IfErr result (λ fault. fault ≡ Usage.Words → verify_spelled (map string_bytes words.now) ≡ None) }
+{
+    let matches = verify_matches(alloc, words)?;
+    let trace = named(alloc, matches.get_str("trace"))?;
+    let output = named(alloc, matches.get_str("output"))?;
+    let numbers = join_numbers(
+        0,
+        matches.get_str("cores"),
+        Some("0"),
+        matches.get_str("flight"),
+        matches.get_str("max-events"),
+        None,
+    )
+    .ok_or(Usage::Words)?;
+    let names = names_among(alloc, &matches)?;
+    Ok(Order::Verify {
+        cores: numbers.setup.cores,
+        flight: numbers.setup.flight,
+        limit: numbers.limit,
+        query: names.query,
+        left: names.left,
+        right: names.right,
+        trace,
+        output,
     })
 }
 
