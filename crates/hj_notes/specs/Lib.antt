@@ -3,3 +3,4 @@ pub mod NoteWritten
 pub mod Notes
 pub mod Parts
 pub mod TwiceText
+pub mod VerifyText

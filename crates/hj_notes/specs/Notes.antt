@@ -25,6 +25,8 @@ usage_note = codes "usage: equi W LEFT RIGHT"
     ++ codes " | check QUERY"
     ++ codes " | gen N KEYS SEED W"
     ++ codes " | raw [--cores N] [--threads N] [--flight N] [--max-events N] QUERY LEFT RIGHT"
+    ++ codes " | trace [--cores N] [--flight N] [--max-events N] [--schedule SEED] QUERY LEFT RIGHT"
+    ++ codes " | verify [--cores N] [--flight N] [--max-events N] QUERY LEFT RIGHT TRACE OUTPUT"
     ++ codes " | twice [--cores N] [--threads N] [--flight N] [--max-events N] [--schedule SEED] QUERY LEFT RIGHT QUERY THIRD"
     ++ codes "\n"
 

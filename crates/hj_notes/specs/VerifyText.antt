@@ -1,0 +1,38 @@
+-- The text of each note of `verify`, and the exit status that goes with it.
+use Rattle.std.specs.Prelude.{ℕ, List, [], ◌++◌, codes, Ok, Err}
+use Rattle.std.specs.Fmt.{decimal}
+use Rattle.std.specs.declared.result.Result.{Result}
+use Rattle.hj_notes.specs.declared.verify_note.Refusal.{Refusal}
+use Rattle.hj_notes.specs.declared.verify_note.Refusal.TheVariants as refusal
+use Rattle.hj_notes.specs.declared.verify_note.VerifyNote.{VerifyNote}
+use Rattle.hj_notes.specs.declared.verify_note.VerifyNote.TheVariants as verify
+use Rattle.hj_notes.specs.NoteText.{note_text, status_of}
+
+-- A line of the trace, by its number from 1, breaks a rule.
+abbrev pub line_note : ℕ → List ℕ → List ℕ
+line_note line rule = codes "trace line " ++ decimal line ++ codes ": " ++ rule ++ codes "\n"
+
+abbrev pub refusal_note : Refusal → List ℕ
+refusal_note (refusal.Form line) = line_note line (codes "Form")
+refusal_note (refusal.NotEnabled line) = line_note line (codes "NotEnabled")
+refusal_note (refusal.Text line) = line_note line (codes "Text")
+refusal_note (refusal.Early line) = line_note line (codes "Early")
+refusal_note (refusal.Late line) = line_note line (codes "Late")
+refusal_note (refusal.Output at) = codes "output byte " ++ decimal at ++ codes "\n"
+
+abbrev pub verify_text : VerifyNote → List ℕ
+verify_text (verify.Common why) = note_text why
+verify_text (verify.Refused found) = refusal_note found
+
+abbrev pub verify_status : VerifyNote → ℕ
+verify_status (verify.Common why) = status_of why
+verify_status (verify.Refused found) = 8
+
+-- A run that ended well has no note.
+abbrev pub text_of_verify : Result (Unit {0}) VerifyNote → List ℕ
+text_of_verify (Ok done) = []
+text_of_verify (Err why) = verify_text why
+
+abbrev pub status_of_verify : Result (Unit {0}) VerifyNote → ℕ
+status_of_verify (Ok done) = 0
+status_of_verify (Err why) = verify_status why

@@ -1,0 +1,131 @@
+//! Why `verify` didn't end well, as a text, and as an exit status.
+ghost use Rattle.std.specs.Prelude.{◌≡◌};
+ghost use Rattle.hj_notes.specs.NoteWritten.{NoteWritten};
+ghost use Rattle.hj_notes.specs.VerifyText.{line_note, refusal_note, status_of_verify, text_of_verify, verify_status, verify_text};
+
+use crate::note::Note;
+use crate::parts::{Part, put_parts};
+use crate::writing::write_note;
+use hj_base::{Memory, Sink};
+
+/// Why a trace or an output is refused. Lines of a trace are counted from 1, and bytes of an output from 0.
+#[derive(Clone, Copy, Debug, PartialEq, Eq)]
+pub enum Refusal {
+    /// The line doesn't begin with an actor's text and a comma.
+    Form(u64),
+    /// The actor of the line isn't enabled there.
+    NotEnabled(u64),
+    /// The line isn't that of the actor's step.
+    Text(u64),
+    /// The trace ends before this line, and the run isn't done.
+    Early(u64),
+    /// This line follows though the run is done.
+    Late(u64),
+    /// The first byte in which the output and the join's text differ, or where one of them has ended.
+    Output(u64),
+}
+
+/// Why `verify` didn't end well.
+#[derive(Clone, Copy, Debug)]
+pub enum VerifyNote {
+    /// A cause that other commands have too.
+    Common(Note),
+    /// The trace or the output is refused.
+    Refused(Refusal),
+}
+
+impl From<Note> for VerifyNote {
+    ghost use Rattle.std.specs.Prelude.{◌≡◌};
+    ghost use Rattle.hj_notes.specs.declared.verify_note.VerifyNote.TheVariants as verify;
+
+    ghost from_gives = { λ note e. e ≡ verify.Common note };
+
+    fn from(note: Note) -> Self {
+        VerifyNote::Common(note)
+    }
+}
+
+impl From<Memory> for VerifyNote {
+    ghost use Rattle.std.specs.Prelude.{◌≡◌};
+    ghost use Rattle.hj_notes.specs.declared.note.Note.TheVariants as note;
+    ghost use Rattle.hj_notes.specs.declared.verify_note.VerifyNote.TheVariants as verify;
+
+    ghost from_gives = { λ _ e. e ≡ verify.Common note.Memory };
+
+    fn from(_: Memory) -> Self {
+        VerifyNote::Common(Note::Memory)
+    }
+}
+
+impl VerifyNote {
+    /// Gives the exit status that goes with the note, from 1 to 8.
+    pub fn status(&self) -> u8
+        ensures { result ≡ verify_status self.now }
+    {
+        match self {
+            VerifyNote::Common(note) => note.status(),
+            VerifyNote::Refused(_) => 8,
+        }
+    }
+}
+
+/// Writes the note of an ending of `verify`, and answers its status.
+pub fn report_verify<N: Sink>(notes: &mut N, ended: Result<(), VerifyNote>) -> u8
+    ensures status { result ≡ status_of_verify ended }
+    ensures note { NoteWritten (text_of_verify ended) (N.told notes.old) (N.told notes.new) (N.refusals notes.old) (N.refusals notes.new) }
+{
+    match ended {
+        Ok(()) => 0,
+        Err(note) => {
+            write_verify_note(notes, &note);
+            note.status()
+        }
+    }
+}
+
+/// Writes a note of `verify`. It takes no memory, and stops at the first refusal.
+pub fn write_verify_note<N: Sink>(notes: &mut N, note: &VerifyNote)
+    ensures { NoteWritten (verify_text note.now) (N.told notes.old) (N.told notes.new) (N.refusals notes.old) (N.refusals notes.new) }
+{
+    match *note {
+        VerifyNote::Common(note) => write_note(notes, &note),
+        VerifyNote::Refused(refusal) => put_refusal(notes, refusal),
+    }
+}
+
+/// Writes the note of a trace or an output that is refused.
+fn put_refusal<N: Sink>(notes: &mut N, refusal: Refusal)
+    ensures { NoteWritten (refusal_note refusal) (N.told notes.old) (N.told notes.new) (N.refusals notes.old) (N.refusals notes.new) }
+{
+    match refusal {
+        Refusal::Form(line) => put_line(notes, line, "Form"),
+        Refusal::NotEnabled(line) => put_line(notes, line, "NotEnabled"),
+        Refusal::Text(line) => put_line(notes, line, "Text"),
+        Refusal::Early(line) => put_line(notes, line, "Early"),
+        Refusal::Late(line) => put_line(notes, line, "Late"),
+        Refusal::Output(at) => put_parts(
+            notes,
+            &[
+                Part::Words("output byte "),
+                Part::Number(at),
+                Part::Words("\n"),
+            ],
+        ),
+    }
+}
+
+/// Writes the note of a line of a trace that breaks a rule: its number, and the rule.
+fn put_line<N: Sink>(notes: &mut N, line: u64, rule: &'static str)
+    ensures { NoteWritten (line_note line rule.now) (N.told notes.old) (N.told notes.new) (N.refusals notes.old) (N.refusals notes.new) }
+{
+    put_parts(
+        notes,
+        &[
+            Part::Words("trace line "),
+            Part::Number(line),
+            Part::Words(": "),
+            Part::Words(rule),
+            Part::Words("\n"),
+        ],
+    )
+}
