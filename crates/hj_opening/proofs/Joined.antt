@@ -31,7 +31,7 @@ use Rattle.hj_opening.specs.Run.{RunsOrder, end_of}
 use Rattle.hj_opening.specs.Serve.{Accepts, AreOpen, BeginsSource, IsJoinRole}
 use Rattle.hj_opening.specs.Streams.{AreStreams, Fails, IsStream, NoneFails, StandsFor, has_ended}
 use Rattle.hj_opening.specs.Texts.{IsTextFront, IsWholeText, WritesKind}
-use Rattle.hj_opening.specs.Words.{Names, Source, TextKind, join_streams, pair_lines, raw_items}
+use Rattle.hj_opening.specs.Words.{Names, Source, TextKind, join_streams, pair_lines, raw_items, step_lines}
 use Rattle.hj_opening.proofs.Endings.{CountsSink, JoinCause, join_runs}
 use Rattle.hj_opening.proofs.Prefixes.{begins_all, begins_itself}
 use Rattle.hj_opening.proofs.Phases.{Roles, begun-opened, open-opened}
@@ -173,6 +173,11 @@ whole_begins raw_items query left right limit text whole = record {
   items = whole.items;
   tells = whole.tells;
   begins = begins_all text (raw_text whole.items) (sym whole.is);
+}
+whole_begins (step_lines chain rule) query left right limit text whole = record {
+  schedule = whole.schedule;
+  chosen = whole.chosen;
+  begins = begins_all text _ (sym whole.is);
 }
 
 writes_lines : (ended : Outcome) (query : Parts) (left right : Stream) (limit : ℕ) (grown : List ℕ) → WritesText ended grown (join_result query left right limit) → WritesKind pair_lines ended query left right limit grown

@@ -12,3 +12,4 @@ pub mod TwiceEndings
 pub mod TwiceJoined
 pub mod TwiceReading
 pub mod TwiceReadying
+pub mod Verified

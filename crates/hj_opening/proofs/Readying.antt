@@ -1,5 +1,5 @@
 -- Getting ready for a join: its query and its two open streams, or an early end of the order.
-use Rattle.std.proofs.Common.{◌≡◌, ◌≢◌, ℕ, List, [], Ok, Err, false, sym, ◌∙◌, ap, subst, inl, inr, refl}
+use Rattle.std.proofs.Common.{◌≡◌, ◌≢◌, ℕ, List, [], Ok, Err, false, sym, ◌∙◌, ap, subst, inl, inr, refl, arith}
 use Rattle.std.proofs.KnownBytes.{Appends-nil}
 use Rattle.std.specs.declared.option.Option.{Option}
 use Rattle.hj_base.specs.declared.numbers.Side.{Side}
@@ -13,7 +13,7 @@ use Rattle.hj_notes.specs.declared.note.Note.{Note}
 use Rattle.hj_notes.specs.declared.note.Note.TheVariants as why
 use Rattle.hj_opening.specs.Calls.{call}
 use Rattle.hj_opening.specs.Opening.{GetsQuery, IsOpened, Opens}
-use Rattle.hj_opening.specs.Queries.{IsQueryOf}
+use Rattle.hj_opening.specs.Queries.{IsQueryOf, IsQueryRead}
 use Rattle.hj_opening.specs.Ready.{EndsEarly, IsReady}
 use Rattle.hj_opening.specs.Run.{RunsOrder}
 use Rattle.hj_opening.specs.Serve.{AreOpen, BeginsInOrder, BeginsSource, IsJoinRole}
@@ -27,6 +27,25 @@ use Rattle.hj_opening.proofs.RunningOrders.{join_refused}
 pub reads_side : (source : Source) (of : Role) (side : Side) → of ≡ role_of side → IsJoinRole source of
 reads_side source of side.Left e = subst (λ (r : Role). IsJoinRole source r) (sym e) tt
 reads_side source of side.Right e = subst (λ (r : Role). IsJoinRole source r) (sym e) tt
+
+-- ---- no role failed
+
+read_unfailed : (text name : List ℕ) (told : Option (List ℕ)) (before now : RoleState) → IsQueryRead text name told before now → now.faults ≡ before.faults
+read_unfailed text name told before now read = elim read [ inl all ↦ all.faults | inr far ↦ far.faults ]
+
+unfailed_by : (before now : Roles) → ((of : Role) → of ≢ role.Query → of ≢ role.Left → of ≢ role.Right → now of ≡ before of) → (now role.Query).faults ≡ (before role.Query).faults
+    → (now role.Left).faults ≡ (before role.Left).faults → (now role.Right).faults ≡ (before role.Right).faults → (of : Role) → (now of).faults ≡ (before of).faults
+unfailed_by before now same query left right role.Query = query
+unfailed_by before now same query left right role.Left = left
+unfailed_by before now same query left right role.Right = right
+unfailed_by before now same query left right role.SecondQuery = ap (λ (s : RoleState). s.faults) (same role.SecondQuery (λ e. cc) (λ e. cc) (λ e. cc))
+unfailed_by before now same query left right role.Third = ap (λ (s : RoleState). s.faults) (same role.Third (λ e. cc) (λ e. cc) (λ e. cc))
+unfailed_by before now same query left right role.Trace = ap (λ (s : RoleState). s.faults) (same role.Trace (λ e. cc) (λ e. cc) (λ e. cc))
+unfailed_by before now same query left right role.Output = ap (λ (s : RoleState). s.faults) (same role.Output (λ e. cc) (λ e. cc) (λ e. cc))
+
+alone_unfailed : (before now : Roles) → ChangesOnly role.Query before now → (now role.Query).faults ≡ (before role.Query).faults → (of : Role) → (now of).faults ≡ (before of).faults
+alone_unfailed before now others query =
+    unfailed_by before now (λ of no_query no_left no_right. others of no_query) query (ap (λ (s : RoleState). s.faults) (others role.Left (λ e. cc))) (ap (λ (s : RoleState). s.faults) (others role.Right (λ e. cc)))
 
 module _ (kind : TextKind) (source : Source) (names : Names) (limit : ℕ) (under : List ℕ → Option (List ℕ)) (before : Roles) (unbegun_before : (of : Role) → (before of).phase ≡ unbegun) where
   abbrev this_join : Order
@@ -45,14 +64,17 @@ module _ (kind : TextKind) (source : Source) (names : Names) (limit : ℕ) (unde
     query_refused (why.BadQuery found) gets = record {
       runs = λ told faults. join_refused under before now told faults unbegun_before kind source names limit (why.BadQuery found) gets;
       early = inl refl;
+      unfailed = λ two. alone_unfailed before now gets.others (read_unfailed gets.cause.2.text gets.cause.0 (under gets.cause.0) (before role.Query) (now role.Query) gets.cause.2.read);
     }
     query_refused (why.Source failed) gets = record {
       runs = λ told faults. join_refused under before now told faults unbegun_before kind source names limit (why.Source failed) gets;
       early = inr (inr (refl, λ are. not_open-unbegun (now role.Left).phase (left_stays gets.others) are.0));
+      unfailed = λ two. absurd (omega (arith, two));
     }
     query_refused why.Memory gets = record {
       runs = λ told faults. join_refused under before now told faults unbegun_before kind source names limit why.Memory gets;
       early = inr (inl refl);
+      unfailed = λ two. absurd (omega (arith, two));
     }
     query_refused why.Usage gets = absurd gets.cause
     query_refused (why.BadRecord of at found) gets = absurd gets.cause
@@ -90,10 +112,11 @@ module _ (kind : TextKind) (source : Source) (names : Names) (limit : ℕ) (unde
           runs = λ told faults. ends_so (why.Source failed) told faults
               (record { has = reads_side source failed of is; fails = fails; unopened = λ no. Appends-nil told; opened = λ are. absurd (closed are) }) refl;
           early = inr (inr (refl, closed));
+          unfailed = λ two. absurd (omega (arith, two));
         }
 
         start_wants_memory : EndsThis why.Memory now
-        start_wants_memory = record { runs = λ told faults. ends_so why.Memory told faults tt refl; early = inr (inl refl) }
+        start_wants_memory = record { runs = λ told faults. ends_so why.Memory told faults tt refl; early = inr (inl refl); unfailed = λ two. absurd (omega (arith, two)) }
 
     none_left : (now : Roles) → ChangesOnly role.Left asked now → NoOther now
     none_left now others = λ of no_query no_left no_right. ap (λ (s : RoleState). s.phase) (others of no_left ∙ gets.others of no_query) ∙ unbegun_before of
@@ -122,8 +145,11 @@ module _ (kind : TextKind) (source : Source) (names : Names) (limit : ℕ) (unde
       query_stays : now role.Query ≡ asked role.Query
       query_stays = opening_right role.Query (λ e. cc) ∙ opening role.Query (λ e. cc)
 
+      others_stay : (of : Role) → of ≢ role.Query → of ≢ role.Left → of ≢ role.Right → now of ≡ before of
+      others_stay of no_query no_left no_right = opening_right of no_right ∙ opening of no_left ∙ gets.others of no_query
+
       none_right : NoOther now
-      none_right = λ of no_query no_left no_right. ap (λ (s : RoleState). s.phase) (opening_right of no_right ∙ opening of no_left ∙ gets.others of no_query) ∙ unbegun_before of
+      none_right = λ of no_query no_left no_right. ap (λ (s : RoleState). s.phase) (others_stay of no_query no_left no_right) ∙ unbegun_before of
 
       right_mid : mid role.Right ≡ before role.Right
       right_mid = opening role.Right (λ e. cc) ∙ right_asked
@@ -142,18 +168,24 @@ module _ (kind : TextKind) (source : Source) (names : Names) (limit : ℕ) (unde
       right_unopened why.Sink told opens = absurd opens
       right_unopened (why.TooManyEvents most) told opens = absurd opens
 
+      left_unfailed : (now role.Left).faults ≡ (before role.Left).faults
+      left_unfailed = ap (λ (s : RoleState). s.faults) (opening_right role.Left (λ e. cc)) ∙ ready.faults ∙ ap (λ (s : RoleState). s.faults) left_asked
+
+      query_unfailed : (now role.Query).faults ≡ (before role.Query).faults
+      query_unfailed = ap (λ (s : RoleState). s.faults) query_stays ∙ gets.cause.1
+
       -- and the right one too
       pub both_opened : (told : Option (List ℕ)) → left_told ≡ under names.left → told ≡ under names.right → IsOpened names.right told (mid role.Right) (now role.Right) → IsReady query source names under before now
       both_opened told same_left same right = record {
         accepted = accepted now query_stays;
-        faults = ap (λ (s : RoleState). s.faults) query_stays ∙ gets.cause.1;
+        unfailed = unfailed_by before now others_stay query_unfailed left_unfailed (right.faults ∙ ap (λ (s : RoleState). s.faults) right_mid);
         begun = begun now query_stays;
         others = join_others source now (begun now query_stays) none_right;
         opened = record {
           of_left = record {
             phase = left_open;
             left = ap (λ (s : RoleState). s.left) (opening_right role.Left (λ e. cc)) ∙ ready.left ∙ same_left;
-            faults = ap (λ (s : RoleState). s.faults) (opening_right role.Left (λ e. cc)) ∙ ready.faults ∙ ap (λ (s : RoleState). s.faults) left_asked;
+            faults = left_unfailed;
           };
           of_right = record {
             phase = right.phase;

@@ -7,6 +7,7 @@ pub mod Opening
 pub mod Orders
 pub mod Queries
 pub mod Ready
+pub mod ReadyToCheck
 pub mod ReadyTwice
 pub mod Run
 pub mod RunTwice
@@ -14,4 +15,5 @@ pub mod Serve
 pub mod Streams
 pub mod Texts
 pub mod TwoJoins
+pub mod Verifying
 pub mod Words

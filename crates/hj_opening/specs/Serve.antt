@@ -24,7 +24,8 @@ use Rattle.hj_opening.specs.Keeping.{Keeps, NothingFails, RefusesQuery, status_o
 use Rattle.hj_opening.specs.Queries.{IsQueryOf}
 use Rattle.hj_opening.specs.Streams.{AreStreams, Fails, IsBegunUnder}
 use Rattle.hj_opening.specs.TwoJoins.{ServesTwice}
-use Rattle.hj_opening.specs.Words.{Names, Order, Recipe, Source, TextKind, check_query, join_streams, join_twice, keyed, most_events, named, sum_up}
+use Rattle.hj_opening.specs.Verifying.{ServesVerify}
+use Rattle.hj_opening.specs.Words.{Names, Order, Recipe, Source, TextKind, check_query, check_trace, join_streams, join_twice, keyed, most_events, named, sum_up}
 
 -- ---- Words that spell no order.
 
@@ -164,6 +165,7 @@ pub record ServesGen (recipe : Recipe) (status : ℕ) (note : List ℕ) (call : 
 abbrev pub ServesOrder : Option Order → ℕ → List ℕ → Call → Type 0
 ServesOrder None status note call = ServesNone status note call
 ServesOrder (Some (join_streams kind source names limit)) status note call = ServesJoin kind source names limit status note call
+ServesOrder (Some (check_trace chain name names limit)) status note call = ServesVerify chain name names limit status note call
 ServesOrder (Some (check_query name)) status note call = ServesCheck name status note call
 ServesOrder (Some (sum_up recipe)) status note call = ServesGen recipe status note call
 ServesOrder (Some (join_twice names limit)) status note call = ServesTwice names limit status note call
@@ -175,4 +177,4 @@ pub record Serves (status : ℕ) (order : Option Order) (call : Call) (notes_bef
   pub note : List ℕ
   pub serves : ServesOrder order status note call
   pub noted : NoteWritten note notes_before notes_now refused_before refused_now
-  pub statuses : status ≤ 7
+  pub statuses : status ≤ 8

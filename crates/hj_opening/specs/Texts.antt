@@ -16,7 +16,8 @@ use Rattle.hj_stream.specs.JoinText.{join_result}
 use Rattle.hj_raw.specs.Items.{Item}
 use Rattle.hj_raw.specs.Telling.{TellsAll, TellsMatches}
 use Rattle.hj_raw.specs.Text.{raw_text}
-use Rattle.hj_opening.specs.Words.{TextKind, pair_lines, raw_items}
+use Rattle.hj_trace.specs.Play.{BeginsTrace, IsTrace}
+use Rattle.hj_opening.specs.Words.{TextKind, pair_lines, raw_items, step_lines}
 
 -- The raw text of a join of these events: each matching pair once, before a mark all within it and behind it none, and the mark of
 -- all at its end.
@@ -38,11 +39,15 @@ pub record BeginsRawText (query : Parts) (events : List (Event (List Field))) (f
 abbrev pub IsWholeText : TextKind → Parts → Stream → Stream → ℕ → List ℕ → Type 0
 IsWholeText pair_lines query left right limit text = text ≡ (join_result query left right limit).text
 IsWholeText raw_items query left right limit text = IsRawText query (events_of query left right limit).events text
+IsWholeText (step_lines chain rule) query left right limit text =
+    IsTrace (holds query) rule chain.cores chain.flight (events_of query left right limit).events text
 
 -- a front of one
 abbrev pub IsTextFront : TextKind → Parts → Stream → Stream → ℕ → List ℕ → Type 0
 IsTextFront pair_lines query left right limit front = IsPrefix front (join_result query left right limit).text
 IsTextFront raw_items query left right limit front = BeginsRawText query (events_of query left right limit).events front
+IsTextFront (step_lines chain rule) query left right limit front =
+    BeginsTrace (holds query) rule chain.cores chain.flight (events_of query left right limit).events front
 
 -- What was written, by the outcome: a whole text of events that end so; a front of one where the sink failed or memory ran out.
 abbrev pub WritesKind : TextKind → Outcome → Parts → Stream → Stream → ℕ → List ℕ → Type 0

@@ -1,6 +1,8 @@
 -- What the words order, apart from how a join is run.
-use Rattle.std.specs.Prelude.{ℕ, List, option_map}
+use Rattle.std.specs.Prelude.{ℕ, List, None, Some, option_map}
 use Rattle.std.specs.declared.option.Option.{Option}
+use Rattle.hj_chain.specs.declared.serial.Chooser.{Chooser}
+use Rattle.hj_chain.specs.declared.serial.Chooser.TheVariants as chooser
 use Rattle.hj_words.specs.declared.order.Order as spelled
 use Rattle.hj_words.specs.declared.order.Order.TheVariants as spells
 use Rattle.hj_words.specs.Orders as words
@@ -19,6 +21,22 @@ pub record Names : Type 0 where
   pub left : List ℕ
   pub right : List ℕ
 
+-- A chain: how many cores it has, and how many events are under way in it at most.
+pub record Chain : Type 0 where
+  pub cores : ℕ
+  pub flight : ℕ
+
+-- A seed draws the order of the steps; where none is given, the actors take turns.
+abbrev pub chooser_of : Option ℕ → Chooser
+chooser_of None = chooser.InTurn
+chooser_of (Some seed) = chooser.Seeded seed
+
+-- the names of the streams of a join, of a trace of it and of its output
+pub record CheckedNames : Type 0 where
+  pub streams : Names
+  pub trace : List ℕ
+  pub output : List ℕ
+
 -- the names of the two queries and of the three streams of two joins in a row
 pub record TwiceNames : Type 0 where
   -- the first query
@@ -36,6 +54,8 @@ pub data TextKind : Type 0 where
   pair_lines : TextKind
   -- the pairs as the cores meet them, and marks between them that tell up to which number all have come
   raw_items : TextKind
+  -- the line of each step of such a chain, in the order of this rule
+  step_lines : Chain → Chooser → TextKind
 
 -- the two streams that `gen N KEYS SEED W` makes and joins: so many rows each, with so many keys, by the draws of a seed,
 -- over windows of so many rows
@@ -45,24 +65,32 @@ pub record Recipe : Type 0 where
   pub seed : ℕ
   pub window : ℕ
 
--- `equi W LEFT RIGHT`, `join QUERY LEFT RIGHT` and `raw QUERY LEFT RIGHT` join two streams under a query, with so many events at
--- most, and each writes a text of its own of that join. `check QUERY` writes the canonical text of the query under this name, and
--- `gen N KEYS SEED W` sums up the join of two streams that it makes. `twice QUERY LEFT RIGHT QUERY THIRD` joins the pairs of a first
--- join with a third stream, with so many events at most in each of both joins.
+-- `equi W LEFT RIGHT`, `join QUERY LEFT RIGHT`, `raw QUERY LEFT RIGHT` and `trace QUERY LEFT RIGHT` join two streams under a query,
+-- with so many events at most, and each writes a text of its own of that join. `verify QUERY LEFT RIGHT TRACE OUTPUT` checks a trace
+-- of such a join, along such a chain, and its output. `check QUERY` writes the canonical text of the query under this name, and
+-- `gen N KEYS SEED W` sums up the join of two streams that it makes. `twice QUERY LEFT RIGHT
+-- QUERY THIRD` joins the pairs of a first join with a third stream, with so many events at most in each of both joins.
 pub data Order : Type 0 where
   join_streams : TextKind → Source → Names → (limit : ℕ) → Order
+  check_trace : Chain → (name : List ℕ) → CheckedNames → (limit : ℕ) → Order
   check_query : (name : List ℕ) → Order
   sum_up : Recipe → Order
   join_twice : TwiceNames → (limit : ℕ) → Order
 
--- How many cores and threads a join has, how many events are under way, and in which order its steps come, is left out:
--- no status, text or note depends on it.
+-- How many cores and threads a join has, how many events are under way, and in which order its steps come, is left out where no
+-- status, text or note depends on it: everywhere but for a trace and its check.
 abbrev pub asked_by : spelled.Order → Order
 asked_by (spells.Equi w left right) = join_streams pair_lines (keyed w) (record { left = left; right = right }) most_events
 asked_by (spells.Join setup limit schedule query left right) =
     join_streams pair_lines (named query) (record { left = left; right = right }) limit
 asked_by (spells.Raw setup limit query left right) =
     join_streams raw_items (named query) (record { left = left; right = right }) limit
+asked_by (spells.Trace cores flight limit schedule query left right) =
+    join_streams (step_lines (record { cores = cores; flight = flight }) (chooser_of schedule)) (named query)
+    (record { left = left; right = right }) limit
+asked_by (spells.Verify cores flight limit query left right trace output) =
+    check_trace (record { cores = cores; flight = flight }) query
+    (record { streams = record { left = left; right = right }; trace = trace; output = output }) limit
 asked_by (spells.Check query) = check_query query
 asked_by (spells.Twice setup limit schedule query left right second third) =
     join_twice (record { query = query; streams = record { left = left; right = right }; second = second; third = third }) limit

@@ -1,4 +1,4 @@
-ghost use Rattle.std.specs.Prelude.{◌≡◌};
+ghost use Rattle.std.specs.Prelude.{◌≡◌, List, ℕ};
 ghost use Rattle.hj_base.specs.declared.outside.Role.{Role};
 ghost use Rattle.hj_base.specs.Outside.{unbegun};
 ghost use Rattle.hj_opening.specs.Orders.{join_seen};
@@ -20,7 +20,8 @@ pub fn make_ready<O: Outside>(
     outside: &mut O,
 ) -> Result<Query, Note>
     requires { (of : Role) → (O.state outside.old of).phase ≡ unbegun }
-    ensures { (kind : TextKind) → MakesReady result (join_seen kind join.entry) (O.under outside.old) (O.state outside.old) (O.state outside.new) }
+    ensures ready { (kind : TextKind) → MakesReady result (join_seen kind join.entry) (O.under outside.old) (O.state outside.old) (O.state outside.new) }
+    ensures names { (name : List ℕ) → O.under outside.new name ≡ O.under outside.old name }
 {
     let query = query_of(alloc, join.source, outside)?;
     open(outside, Role::Left, join.left)?;
