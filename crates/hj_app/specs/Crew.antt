@@ -25,7 +25,7 @@ use Rattle.hj_opening.specs.Opening.{AreOpened}
 use Rattle.hj_opening.specs.Run.{end_of}
 use Rattle.hj_opening.specs.Serve.{Accepts, AreOpen}
 use Rattle.hj_opening.specs.Words.{Names, Order, Recipe, Source, asked_by, most_events}
-use Rattle.hj_opening.specs.Words.{check_query, join_streams, join_twice, pair_lines, raw_items, sum_up}
+use Rattle.hj_opening.specs.Words.{check_query, check_trace, join_streams, join_twice, pair_lines, raw_items, step_lines, sum_up}
 
 -- A chain that threads turn: how many cores it has, and how many events are under way in it at most.
 pub record Crew : Type 0 where
@@ -41,11 +41,13 @@ abbrev pub crew_with : Setup → Option Crew
 crew_with setup = if setup.threads == 0 then None else Some (record { cores = setup.cores; flight = setup.flight })
 
 -- The chain that threads turn for an order, of which the run is handed back. A join with no threads has none, and neither has a
--- check, nor have two joins in a row, of which no run is handed back.
+-- trace or a check, nor have two joins in a row, of which no run is handed back.
 abbrev pub crew_of : spelled.Order → Option Crew
 crew_of (spells.Equi w left right) = Some usual_crew
 crew_of (spells.Join setup limit schedule query left right) = crew_with setup
 crew_of (spells.Raw setup limit query left right) = Some (record { cores = setup.cores; flight = setup.flight })
+crew_of (spells.Trace cores flight limit schedule query left right) = None
+crew_of (spells.Verify cores flight limit query left right trace output) = None
 crew_of (spells.Check query) = None
 crew_of (spells.Gen n keys seed w) = Some usual_crew
 crew_of (spells.Twice setup limit schedule query left right second third) = None
@@ -55,6 +57,8 @@ abbrev pub threads_of : spelled.Order → ℕ
 threads_of (spells.Equi w left right) = 4
 threads_of (spells.Join setup limit schedule query left right) = setup.threads
 threads_of (spells.Raw setup limit query left right) = setup.threads
+threads_of (spells.Trace cores flight limit schedule query left right) = 0
+threads_of (spells.Verify cores flight limit query left right trace output) = 0
 threads_of (spells.Check query) = 0
 threads_of (spells.Gen n keys seed w) = 4
 threads_of (spells.Twice setup limit schedule query left right second third) = 0
@@ -119,6 +123,8 @@ pub record ShowsMade (crew : Crew) (recipe : Recipe) (limit : ℕ) (ran : RanSee
 abbrev pub ShowsOrder : Crew → Order → ℕ → Call → RanSeen (List Field) → Type 0
 ShowsOrder crew (join_streams pair_lines source names limit) status call ran = ShowsStreams crew source names limit status call ran
 ShowsOrder crew (join_streams raw_items source names limit) status call ran = ShowsRawStreams crew source names limit status call ran
+ShowsOrder crew (join_streams (step_lines chain rule) source names limit) status call ran = ⊥
+ShowsOrder crew (check_trace chain name names limit) status call ran = ⊥
 ShowsOrder crew (check_query name) status call ran = ⊥
 ShowsOrder crew (sum_up recipe) status call ran = ShowsMade crew recipe most_events ran
 ShowsOrder crew (join_twice names limit) status call ran = ⊥

@@ -4,3 +4,4 @@ pub mod OnCrew
 pub mod Orders
 pub mod Serial
 pub mod Turning
+pub mod Verdicts

@@ -5,7 +5,7 @@ use Rattle.hj_base.specs.declared.numbers.Setup.{Setup}
 use Rattle.hj_chain.specs.declared.serial.Chooser.{Chooser}
 use Rattle.hj_words.specs.declared.order.Order as spelled
 use Rattle.hj_words.specs.declared.order.Order.TheVariants as spells
-use Rattle.hj_app.specs.Orders.{chooser_of}
+use Rattle.hj_opening.specs.Words.{chooser_of}
 
 -- How many cores such a chain has, how many events are under way in it at most, and the order of its steps.
 pub record Serial : Type 0 where
@@ -23,6 +23,8 @@ abbrev pub serial_of : spelled.Order → Option Serial
 serial_of (spells.Equi w left right) = None
 serial_of (spells.Join setup limit schedule query left right) = serial_with setup schedule
 serial_of (spells.Raw setup limit query left right) = None
+serial_of (spells.Trace cores flight limit schedule query left right) = None
+serial_of (spells.Verify cores flight limit query left right trace output) = None
 serial_of (spells.Check query) = None
 serial_of (spells.Gen n keys seed w) = None
 serial_of (spells.Twice setup limit schedule query left right second third) = None

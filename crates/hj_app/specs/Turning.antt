@@ -2,9 +2,9 @@
 use Rattle.std.specs.Prelude.{ℕ, None, Some}
 use Rattle.std.specs.declared.option.Option.{Option}
 use Rattle.hj_crew.specs.declared.plan.CrewSize.{CrewSize}
-use Rattle.hj_opening.specs.Orders.{join_seen}
+use Rattle.hj_opening.specs.Orders.{chain_seen, check_seen, join_seen}
 use Rattle.hj_opening.specs.RunTwice.{twice_names}
-use Rattle.hj_opening.specs.Words.{Order, check_query, join_twice, pair_lines, raw_items, sum_up}
+use Rattle.hj_opening.specs.Words.{Order, check_query, join_twice, pair_lines, raw_items, step_lines, sum_up}
 use Rattle.hj_app.specs.declared.plan.AloneOrder.{AloneOrder}
 use Rattle.hj_app.specs.declared.plan.AloneOrder.TheVariants as alone
 use Rattle.hj_app.specs.declared.plan.ThreadsOrder.{ThreadsOrder}
@@ -29,6 +29,8 @@ asked_threads (threads.Gen recipe) = sum_up (recipe_seen recipe)
 abbrev pub asked_turning : Turning → Order
 asked_turning (turning.Alone order) = asked_alone order
 asked_turning (turning.Threads order size) = asked_threads order
+asked_turning (turning.Trace join plan) = join_seen (step_lines (chain_seen plan.size) plan.chooser) join
+asked_turning (turning.Verify check) = check_seen check
 asked_turning (turning.Twice joins made) = join_twice (twice_names joins) joins.limit
 
 abbrev pub crew_seen : CrewSize → Crew
@@ -38,11 +40,15 @@ crew_seen size = record { cores = size.chain.cores; flight = size.chain.flight }
 abbrev pub crew_turning : Turning → Option Crew
 crew_turning (turning.Alone order) = None
 crew_turning (turning.Threads order size) = Some (crew_seen size)
+crew_turning (turning.Trace join plan) = None
+crew_turning (turning.Verify check) = None
 crew_turning (turning.Twice joins made) = None
 
 abbrev pub threads_turning : Turning → ℕ
 threads_turning (turning.Alone order) = 0
 threads_turning (turning.Threads order size) = size.threads
+threads_turning (turning.Trace join plan) = 0
+threads_turning (turning.Verify check) = 0
 threads_turning (turning.Twice joins made) = 0
 
 abbrev pub serial_alone : AloneOrder → Option Serial
@@ -52,6 +58,8 @@ serial_alone (alone.Join join size chooser) = Some (record { cores = size.cores;
 abbrev pub serial_turning : Turning → Option Serial
 serial_turning (turning.Alone order) = serial_alone order
 serial_turning (turning.Threads order size) = None
+serial_turning (turning.Trace join plan) = None
+serial_turning (turning.Verify check) = None
 serial_turning (turning.Twice joins made) = None
 
 -- the chain that threads turn for each of two joins in a row

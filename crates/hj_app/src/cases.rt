@@ -1,8 +1,8 @@
 //! Cases of whole runs through `serve`, over streams and sinks in memory. A line of a table is a case: what fails, what stands under
-//! `query`, `left` and `right`, what is written, the notes, and the status, with `;` between them; a case of two joins in a row has
-//! besides what stands under `second` and `third`. `/` stands for a line feed
-//! and `~` for a carriage return, and a stream that is `?` isn't there. A query that begins with `on` is one of rows of two
-//! numbers over windows of ten rows.
+//! `query`, `left` and `right`, what is written, the notes, and the status, with `;` between them; a case of two joins in a row, or
+//! of the check of a trace, has besides what stands under `second` and `third`. `/` stands for a line feed and `~` for a carriage
+//! return, and a stream that is `?` isn't there. A query that begins with `on` is one of rows of two numbers over windows of ten
+//! rows.
 ghost use Rattle.std.specs.Prelude.{◌≡◌, ◌≤◌};
 ghost use Rattle.hj_base.specs.declared.outside.Role.{Role};
 ghost use Rattle.hj_base.specs.MemOutside.{role_at};
@@ -107,7 +107,9 @@ fn role_of(name: &str) -> Role {
         "left" => Role::Left,
         "right" => Role::Right,
         "second" => Role::SecondQuery,
-        _ => Role::Third,
+        "third" => Role::Third,
+        "trace" => Role::Trace,
+        _ => Role::Output,
     }
 }
 

@@ -1,5 +1,6 @@
-//! Joins two streams of rows under a query, and writes each pair once, in one order; writes the canonical text of a query; and
-//! sums up the join of two streams that a seed determines.
+//! Joins two streams of rows under a query, and writes each pair once, in one order; joins these pairs with a third stream; writes the
+//! steps of a join, and checks such steps and an output; writes the canonical text of a query; and sums up the join of two streams
+//! that a seed determines.
 #![tactic(auto)]
 
 #[cfg(test)]
@@ -21,6 +22,9 @@ mod plan;
 mod recipe;
 mod serial;
 mod serve;
+mod trace;
+#[cfg(test)]
+mod trace_tests;
 #[cfg(test)]
 mod turn_tests;
 mod twice;

@@ -2,31 +2,35 @@ ghost use Rattle.std.specs.Prelude.{◌≡◌, ◌≤◌, None, Some};
 ghost use Rattle.hj_words.specs.Orders.{most_rows};
 ghost use Rattle.hj_words.specs.Ranges.{AreNumbers, IsFrom, IsInRange};
 ghost use Rattle.hj_app.specs.Crew.{crew_of, crew_with, threads_of, usual_crew};
-ghost use Rattle.hj_app.specs.Orders.{chooser_of};
 ghost use Rattle.hj_app.specs.Serial.{serial_of, serial_with};
 ghost use Rattle.hj_app.specs.Turning.{asked_turning, crew_seen, crew_turning, serial_turning, threads_turning};
 ghost use Rattle.hj_app.specs.Turning.{crew_twice, serial_twice, threads_twice};
-ghost use Rattle.hj_opening.specs.Orders.{join_seen, source_seen};
+ghost use Rattle.hj_opening.specs.Orders.{chain_seen, join_seen, source_seen};
 ghost use Rattle.hj_opening.specs.RunTwice.{twice_names};
-ghost use Rattle.hj_opening.specs.Words.{TextKind, join_streams, join_twice, keyed, most_events, named, pair_lines, raw_items, sum_up};
+ghost use Rattle.hj_opening.specs.Words.{TextKind, chooser_of, join_streams, join_twice, keyed, most_events, named, pair_lines, raw_items, sum_up};
 
 use crate::recipe::Recipe;
 use hj_base::{ChainSize, Name, Setup};
 use hj_chain::Chooser;
 use hj_crew::CrewSize;
-use hj_opening::{JoinOrder, Keyed, Source, TwiceOrder};
+use hj_opening::{CheckOrder, JoinOrder, Keyed, Source, TwiceOrder};
+use hj_replay::TracePlan;
 use hj_words::Order;
 
 /// How many events a join numbers at most, where no option says otherwise.
 pub const MOST_EVENTS: u64 = 4_294_967_295;
 
 /// Who does what an order says, with the parts of it that they take.
-#[derive(Clone, Copy, Debug)]
+#[derive(Clone, Copy)]
 pub enum Turning<'a> {
     /// The calling thread alone.
     Alone(AloneOrder<'a>),
     /// Threads turn the cores of a chain of this size, while the calling thread reads and writes.
     Threads(ThreadsOrder<'a>, CrewSize),
+    /// The calling thread alone, which writes each step of a join.
+    Trace(JoinOrder<'a>, TracePlan),
+    /// The calling thread alone, which checks a trace and an output of a join.
+    Verify(CheckOrder<'a>),
     /// Two joins in a row, each by this plan.
     Twice(TwiceOrder<'a>, TwicePlan),
 }
@@ -72,8 +76,8 @@ pub enum TwicePlan {
 impl<'a> Turning<'a> {
     ghost use Rattle.hj_opening.specs.Words.{asked_by};
 
-    /// Gives the one who does what an order says: the calling thread for `join --threads 0` and for `check`, threads for every
-    /// other order but `twice`, whose plan says who makes its joins.
+    /// Gives the one who does what an order says: threads for `equi`, `gen`, `raw` and a `join` with threads, and the calling thread
+    /// for every other order but `twice`, whose plan says who makes its joins.
     pub fn of(order: &'a Order) -> Turning<'a>
         requires { IsInRange order.now }
         ensures asked { asked_turning result ≡ asked_by order.now }
@@ -98,6 +102,36 @@ impl<'a> Turning<'a> {
                 left,
                 right,
             } => raw_turning(named_join(query, left, right, *limit), setup),
+            Order::Trace {
+                cores,
+                flight,
+                limit,
+                schedule,
+                query,
+                left,
+                right,
+            } => Turning::Trace(
+                named_join(query, left, right, *limit),
+                trace_plan(*cores, *flight, *schedule),
+            ),
+            Order::Verify {
+                cores,
+                flight,
+                limit,
+                query,
+                left,
+                right,
+                trace,
+                output,
+            } => Turning::Verify(CheckOrder {
+                size: chain_size(*cores, *flight),
+                query: query.text(),
+                left: left.text(),
+                right: right.text(),
+                trace: trace.text(),
+                output: output.text(),
+                limit: *limit,
+            }),
             Order::Check { query } => Turning::Alone(AloneOrder::Check(query.text())),
             Order::Gen { n, keys, seed, w } => gen_turning(*n, *keys, *seed, *w),
             Order::Twice {
@@ -172,7 +206,7 @@ fn twice_plan(setup: &Setup, schedule: Option<u64>) -> TwicePlan
         return TwicePlan::Threads(crew_size(setup));
     }
     TwicePlan::Alone {
-        size: chain_size(setup),
+        size: chain_size(setup.cores, setup.flight),
         chooser: chooser(schedule),
     }
 }
@@ -191,7 +225,7 @@ fn join_turning<'a>(join: JoinOrder<'a>, setup: &Setup, schedule: Option<u64>) -
     }
     Turning::Alone(AloneOrder::Join {
         join,
-        size: chain_size(setup),
+        size: chain_size(setup.cores, setup.flight),
         chooser: chooser(schedule),
     })
 }
@@ -205,22 +239,32 @@ fn crew_size(setup: &Setup) -> CrewSize
     ensures threads { result.threads ≡ setup.now.threads }
 {
     CrewSize {
-        chain: chain_size(setup),
+        chain: chain_size(setup.cores, setup.flight),
         threads: setup.threads,
     }
 }
 
-/// Gives the size of the chain that these numbers name.
-fn chain_size(setup: &Setup) -> ChainSize
-    requires cores { IsFrom 1 64 setup.now.cores }
-    requires flight { IsFrom 1 256 setup.now.flight }
-    ensures cores { result.cores ≡ setup.now.cores }
-    ensures flight { result.flight ≡ setup.now.flight }
+/// Gives the chain of a trace, and the order of its steps.
+fn trace_plan(cores: u16, flight: u16, schedule: Option<u64>) -> TracePlan
+    requires cores { IsFrom 1 64 cores }
+    requires flight { IsFrom 1 256 flight }
+    ensures chain { chain_seen result.size ≡ record { cores = cores; flight = flight } }
+    ensures chooser { result.chooser ≡ chooser_of schedule }
 {
-    ChainSize {
-        cores: setup.cores,
-        flight: setup.flight,
+    TracePlan {
+        size: chain_size(cores, flight),
+        chooser: chooser(schedule),
     }
+}
+
+/// Gives the size of the chain that these numbers name.
+fn chain_size(cores: u16, flight: u16) -> ChainSize
+    requires cores { IsFrom 1 64 cores }
+    requires flight { IsFrom 1 256 flight }
+    ensures cores { result.cores ≡ cores }
+    ensures flight { result.flight ≡ flight }
+{
+    ChainSize { cores, flight }
 }
 
 /// Gives the join of the streams under two names, by the query under a name, with this many events at most.

@@ -69,6 +69,8 @@ const REFUSED: &str = "\
 ;12ab;1,7/;1,7/;;usage: equi W LEFT RIGHT | join [--cores N] [--threads N] [--flight N] [--max-events N] \
 [--schedule SEED] QUERY LEFT RIGHT | check QUERY | gen N KEYS SEED W \
 | raw [--cores N] [--threads N] [--flight N] [--max-events N] QUERY LEFT RIGHT \
+| trace [--cores N] [--flight N] [--max-events N] [--schedule SEED] QUERY LEFT RIGHT \
+| verify [--cores N] [--flight N] [--max-events N] QUERY LEFT RIGHT TRACE OUTPUT \
 | twice [--cores N] [--threads N] [--flight N] [--max-events N] [--schedule SEED] QUERY LEFT RIGHT QUERY THIRD/;1";
 
 #[test]

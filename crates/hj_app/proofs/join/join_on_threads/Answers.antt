@@ -20,13 +20,13 @@ returns-in-Err g c =
     let before = g.O.Outside.state c.args.outside.now in
     let now = g.O.Outside.state c.make_ready.new.outside in
     subst (λ (ended : Ended). RunsOnCrew crew ended order (call under before now out out faults faults)) (sym c.early.ensures)
-    (runs_early crew c.in-Err.note order under before now out faults (c.in-Err.ensures pair_lines))
+    (runs_early crew c.in-Err.note order under before now out faults (c.in-Err.ensures.ready pair_lines))
 
 pub join_threads-outcome-requires-clause-left : goal.join_threads-outcome-requires-clause-left
-join_threads-outcome-requires-clause-left g c κs within = in_step _ _ _ _ (c.in-Ok.ensures pair_lines).opened.of_left
+join_threads-outcome-requires-clause-left g c κs within = in_step _ _ _ _ (c.in-Ok.ensures.ready pair_lines).opened.of_left
 
 pub join_threads-outcome-requires-clause-right : goal.join_threads-outcome-requires-clause-right
-join_threads-outcome-requires-clause-right g c κs within = in_step _ _ _ _ (c.in-Ok.ensures pair_lines).opened.of_right
+join_threads-outcome-requires-clause-right g c κs within = in_step _ _ _ _ (c.in-Ok.ensures.ready pair_lines).opened.of_right
 
 pub returns : goal.returns
 returns g c =
@@ -46,7 +46,7 @@ returns g c =
     let ran = c.join_threads-outcome.result.1 in
     let made = c.join_threads-outcome.ensures in
     let joins = joins_lines made.joins.0 in
-    let is_ready = c.in-Ok.ensures pair_lines in
+    let is_ready = c.in-Ok.ensures.ready pair_lines in
     runs_joined crew pair_lines source names limit under before ready now old new c.in-Ok.query is_ready ended joins faults faults' c.end_of.result ran c.end_of.ensures
     (joins_so pair_lines c.in-Ok.query limit names under before ready now old new faults faults' source is_ready c.end_of.result ended c.end_of.ensures joins made.faults)
     (shows_lines crew source names limit under before ready now old new c.in-Ok.query is_ready ended faults faults' made.joins.0 ran made.joins.1) made.no_run

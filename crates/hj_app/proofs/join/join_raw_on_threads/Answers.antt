@@ -21,13 +21,13 @@ returns-in-Err g c =
     let before = g.O.Outside.state c.args.outside.now in
     let now = g.O.Outside.state c.make_ready.new.outside in
     subst (λ (ended : Ended). RunsOnCrew crew ended order (call under before now out out faults faults)) (sym c.early.ensures)
-    (runs_early crew c.in-Err.note order under before now out faults (c.in-Err.ensures raw_items))
+    (runs_early crew c.in-Err.note order under before now out faults (c.in-Err.ensures.ready raw_items))
 
 pub join_raw-outcome-requires-clause-left : goal.join_raw-outcome-requires-clause-left
-join_raw-outcome-requires-clause-left g c κs within = in_step _ _ _ _ (c.in-Ok.ensures raw_items).opened.of_left
+join_raw-outcome-requires-clause-left g c κs within = in_step _ _ _ _ (c.in-Ok.ensures.ready raw_items).opened.of_left
 
 pub join_raw-outcome-requires-clause-right : goal.join_raw-outcome-requires-clause-right
-join_raw-outcome-requires-clause-right g c κs within = in_step _ _ _ _ (c.in-Ok.ensures raw_items).opened.of_right
+join_raw-outcome-requires-clause-right g c κs within = in_step _ _ _ _ (c.in-Ok.ensures.ready raw_items).opened.of_right
 
 pub returns : goal.returns
 returns g c =
@@ -47,7 +47,7 @@ returns g c =
     let ran = c.join_raw-outcome.result.1 in
     let made = c.join_raw-outcome.ensures in
     let joins = joins_items made.joins.0 crew.cores crew.flight ran made.joins.1 made.no_run (untouched_out _ _ ran made.untouched) in
-    let is_ready = c.in-Ok.ensures raw_items in
+    let is_ready = c.in-Ok.ensures.ready raw_items in
     runs_joined crew raw_items source names limit under before ready now old new c.in-Ok.query is_ready ended joins faults faults' c.end_of.result ran c.end_of.ensures
     (joins_so raw_items c.in-Ok.query limit names under before ready now old new faults faults' source is_ready c.end_of.result ended c.end_of.ensures joins made.faults)
     (shows_items crew source names limit under before ready now old new c.in-Ok.query is_ready ended faults faults' made.joins.0 ran joins made.joins.1) made.no_run
