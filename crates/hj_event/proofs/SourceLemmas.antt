@@ -75,6 +75,19 @@ pub stops_unread : (why : Stop) (old new : SideState) (head : Option (List Field
 stops_unread why old new None role none step goes = takes_stop old old new role role (so_far-none old role step) why goes
 stops_unread why old new (Some row) role none step goes = absurd (true≢false none)
 
+-- Nothing is read of a side whose next row is known, or whose line is read straight.
+pub takes_unread : (row : List Field) (old new : SideState) (head : Option (List Field)) (role : RoleState) → is_some head ≡ false → IsInStep old.reading.ended role → GoesOn (Ok (found.Row row)) old new → TakesRow (Ok (Some row)) (record old { head = head }) (record new { head = None }) role role
+takes_unread row old new None role none step goes =
+    let so_far = so_far-none old role step in
+    record {
+      bytes = so_far.bytes;
+      reads = reads_on old old new role role so_far (Ok (found.Row row)) goes;
+      leads = from_first old old new role role so_far (Ok (found.Row row)) goes;
+      ended = tt;
+      needed = so_far.needed;
+    }
+takes_unread row old new (Some other) role none step goes = absurd (true≢false none)
+
 -- ---- a read
 
 module _ (old now new : SideState) (before between after : RoleState) (so_far : SoFar old now before between) (going : now.reading.ended ≡ false) (none : now.reading.rest ≡ []) (same : new ≡ record now { reading = new.reading }) where
