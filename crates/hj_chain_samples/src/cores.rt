@@ -51,24 +51,26 @@ fn run(rt: &impl Abort, alloc: Global, place: u16, steps: &str) -> RowCore
 /// The left row is the first. At the right core the right row is in flight; then it is acknowledged, and rests there unsettled.
 const LEFT_FIRST_AT_1: &str = "\
 S 1 8: Some(S { no: EventNo(1), row: Row(8) }) / None None / \
-Some(Handled { no: EventNo(1), side: Right, row: Row(8), partners: Partners { found: [] } })
+Some(Handled { no: EventNo(1), side: Right, row: Row(8), partners: Partners { alloc: Global, found: Nothing } })
 R 0 7: Some(EndR(EventNo(0))) / Some(R { no: EventNo(0), row: Row(7) }) None / \
-Some(Handled { no: EventNo(0), side: Left, row: Row(7), partners: Partners { found: [Partner { no: EventNo(1), row: Row(8) }] } })
+Some(Handled { no: EventNo(0), side: Left, row: Row(7), partners: \
+Partners { alloc: Global, found: One(Partner { no: EventNo(1), row: Row(8) }) } })
 AckS 1: None / None None / None
 QuietR 2: Some(QuietR(EventNo(2))) / None None / Some(Quiet { no: EventNo(2), side: Right })
 R 3 7: Some(EndR(EventNo(3))) / Some(R { no: EventNo(3), row: Row(7) }) None / \
-Some(Handled { no: EventNo(3), side: Left, row: Row(7), partners: Partners { found: [] } })";
+Some(Handled { no: EventNo(3), side: Left, row: Row(7), partners: Partners { alloc: Global, found: Nothing } })";
 
 /// At the left core the left row isn't settled before its end.
 const LEFT_FIRST_AT_0: &str = "\
 R 0 7: None / Some(R { no: EventNo(0), row: Row(7) }) None / \
-Some(Handled { no: EventNo(0), side: Left, row: Row(7), partners: Partners { found: [] } })
+Some(Handled { no: EventNo(0), side: Left, row: Row(7), partners: Partners { alloc: Global, found: Nothing } })
 S 1 8: Some(S { no: EventNo(1), row: Row(8) }) / Some(AckS(EventNo(1))) Some(EndS(EventNo(1))) / \
-Some(Handled { no: EventNo(1), side: Right, row: Row(8), partners: Partners { found: [] } })
+Some(Handled { no: EventNo(1), side: Right, row: Row(8), partners: Partners { alloc: Global, found: Nothing } })
 EndR 0: Some(EndR(EventNo(0))) / None None / None
 QuietL 2: None / Some(QuietL(EventNo(2))) None / Some(Quiet { no: EventNo(2), side: Left })
 S 3 8: Some(S { no: EventNo(3), row: Row(8) }) / Some(AckS(EventNo(3))) Some(EndS(EventNo(3))) / \
-Some(Handled { no: EventNo(3), side: Right, row: Row(8), partners: Partners { found: [Partner { no: EventNo(0), row: Row(7) }] } })";
+Some(Handled { no: EventNo(3), side: Right, row: Row(8), partners: \
+Partners { alloc: Global, found: One(Partner { no: EventNo(0), row: Row(7) }) } })";
 
 #[test]
 fn left_row_comes_first(rt: HostRuntime) {
@@ -79,16 +81,17 @@ fn left_row_comes_first(rt: HostRuntime) {
 /// The right row is the first. At the right core the left row rests, settled.
 const RIGHT_FIRST_AT_1: &str = "\
 R 1 7: Some(EndR(EventNo(1))) / Some(R { no: EventNo(1), row: Row(7) }) None / \
-Some(Handled { no: EventNo(1), side: Left, row: Row(7), partners: Partners { found: [] } })
+Some(Handled { no: EventNo(1), side: Left, row: Row(7), partners: Partners { alloc: Global, found: Nothing } })
 S 0 8: Some(S { no: EventNo(0), row: Row(8) }) / None None / \
-Some(Handled { no: EventNo(0), side: Right, row: Row(8), partners: Partners { found: [Partner { no: EventNo(1), row: Row(7) }] } })";
+Some(Handled { no: EventNo(0), side: Right, row: Row(8), partners: \
+Partners { alloc: Global, found: One(Partner { no: EventNo(1), row: Row(7) }) } })";
 
 /// At the left core the right row meets no left row, which rests at the other core.
 const RIGHT_FIRST_AT_0: &str = "\
 R 1 7: None / Some(R { no: EventNo(1), row: Row(7) }) None / \
-Some(Handled { no: EventNo(1), side: Left, row: Row(7), partners: Partners { found: [] } })
+Some(Handled { no: EventNo(1), side: Left, row: Row(7), partners: Partners { alloc: Global, found: Nothing } })
 S 0 8: Some(S { no: EventNo(0), row: Row(8) }) / Some(AckS(EventNo(0))) Some(EndS(EventNo(0))) / \
-Some(Handled { no: EventNo(0), side: Right, row: Row(8), partners: Partners { found: [] } })
+Some(Handled { no: EventNo(0), side: Right, row: Row(8), partners: Partners { alloc: Global, found: Nothing } })
 CloseL: None / Some(CloseL) None / None
 CloseR: Some(CloseR) / None None / Some(Ended)";
 

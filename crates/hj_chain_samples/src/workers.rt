@@ -92,7 +92,7 @@ from left: R 1 7
 turn: Did
 from left: R 3 8
 turn: Blocked(Reports)
-reports: Some(Handled { no: EventNo(1), side: Left, row: Row(7), partners: Partners { found: [] } })
+reports: Some(Handled { no: EventNo(1), side: Left, row: Row(7), partners: Partners { alloc: Global, found: Nothing } })
 turn: Did
 turn: Blocked(Link(Left))
 to left: Some(EndR(EventNo(1)))
@@ -101,7 +101,7 @@ to right: Some(R { no: EventNo(1), row: Row(7) })
 turn: Did
 to left: Some(EndR(EventNo(3)))
 to right: Some(R { no: EventNo(3), row: Row(8) })
-reports: Some(Handled { no: EventNo(3), side: Left, row: Row(8), partners: Partners { found: [] } })
+reports: Some(Handled { no: EventNo(3), side: Left, row: Row(8), partners: Partners { alloc: Global, found: Nothing } })
 turn: Idle";
 
 #[test]
@@ -119,9 +119,9 @@ turn: Did
 to left: Some(S { no: EventNo(1), row: Row(8) })
 to left: Some(EndR(EventNo(0)))
 to right: Some(R { no: EventNo(0), row: Row(7) })
-reports: Some(Handled { no: EventNo(1), side: Right, row: Row(8), partners: Partners { found: [] } })
+reports: Some(Handled { no: EventNo(1), side: Right, row: Row(8), partners: Partners { alloc: Global, found: Nothing } })
 reports: Some(Handled { no: EventNo(0), side: Left, row: Row(7), \
-partners: Partners { found: [Partner { no: EventNo(1), row: Row(8) }] } })";
+partners: Partners { alloc: Global, found: One(Partner { no: EventNo(1), row: Row(8) }) } })";
 
 #[test]
 fn rows_meet_in_flight(rt: HostRuntime) {
