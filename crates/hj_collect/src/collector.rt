@@ -121,7 +121,7 @@ impl Collector {
     pub fn punctuation(&self) -> Option<Mark>
         ensures { meaning_of result ≡ least_mark self.now }
     {
-        self.left.least().min(self.right.least())
+        self.left.least().min(self.right.least()).mark()
     }
 
     /// Returns whether every core reported its end.

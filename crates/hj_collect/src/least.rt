@@ -1,15 +1,15 @@
 ghost use Rattle.std.specs.Prelude.{◌≡◌, ◌+◌, ◌^◌, ◌<◌, ◌∷◌, List, map, IfSome};
 ghost use Rattle.std.specs.declared.option.Option.{Option};
 ghost use Rattle.hj_msg.specs.Punctuation.{Mark as Meaning};
-ghost use Rattle.hj_collect.specs.Marks.{compared, is_same, meaning_of};
+ghost use Rattle.hj_collect.specs.Reach.{reached};
 
-use crate::Mark;
+use crate::reach::Reach;
 use std::cmp::Ordering;
 
 /// The least of some marks, and how many of them it is.
 #[derive(Clone, Copy, Debug)]
 pub struct Least {
-    pub(crate) mark: Option<Mark>,
+    pub(crate) mark: Reach,
     pub(crate) holders: usize,
 }
 
@@ -17,11 +17,13 @@ impl Least {
     ghost use Rattle.hj_collect.specs.Least.{IsLeast};
 
     /// Returns the least of these marks; past every number if there is none.
-    pub(crate) fn of(marks: &[Option<Mark>]) -> Self
-        ensures { IsLeast result (map meaning_of marks.now) }
+    // Called, so that what takes note of a report stays small enough to be compiled into the sweep over the actors.
+    #[inline(never)]
+    pub(crate) fn of(marks: &[Reach]) -> Self
+        ensures { IsLeast result (map reached marks.now) }
     {
         let mut least = Least {
-            mark: Some(Mark::All),
+            mark: Reach::All,
             holders: 0,
         };
         for mark in marks {
@@ -32,11 +34,11 @@ impl Least {
 
     /// Returns the least of the marks and of one more.
     #[inline(always)]
-    pub(crate) fn with(self, mark: Option<Mark>) -> Self
+    pub(crate) fn with(self, mark: Reach) -> Self
         requires { self.holders + 1 < 2 ^ 64 }
-        ensures { (marks : List (Option Meaning)) → IsLeast self marks → IsLeast result (meaning_of mark ∷ marks) }
+        ensures { (marks : List (Option Meaning)) → IsLeast self marks → IsLeast result (reached mark ∷ marks) }
     {
-        match compare(mark, self.mark) {
+        match mark.compare(self.mark) {
             Ordering::Less => Least { mark, holders: 1 },
             Ordering::Equal => Least {
                 mark,
@@ -48,10 +50,11 @@ impl Least {
 
     /// Returns the least of the marks except one of them; None if no other of them is the least.
     #[inline(always)]
-    pub(crate) fn without(self, mark: Option<Mark>) -> Option<Self>
-        ensures { (marks : List (Option Meaning)) → IsLeast self (meaning_of mark ∷ marks) → IfSome result (λ least. IsLeast least marks) }
+    pub(crate) fn without(self, mark: Reach) -> Option<Self>
+        ensures least { (marks : List (Option Meaning)) → IsLeast self (reached mark ∷ marks) → IfSome result (λ least. IsLeast least marks) }
+        ensures same { IfSome result (λ least. least.mark ≡ self.mark) }
     {
-        if !are_same(mark, self.mark) {
+        if !mark.is_same(self.mark) {
             return Some(self);
         }
         let holders = self.holders.saturating_sub(1);
@@ -62,31 +65,5 @@ impl Least {
             mark: self.mark,
             holders,
         })
-    }
-}
-
-/// Returns how a mark stands to another one: by their numbers, where no mark is below every mark, and one past every number above.
-#[inline(always)]
-fn compare(mark: Option<Mark>, other: Option<Mark>) -> Ordering
-    ensures { result ≡ compared (meaning_of mark) (meaning_of other) }
-{
-    match (mark, other) {
-        (Some(Mark::UpTo(no)), Some(Mark::UpTo(last))) => no.0.cmp(&last.0),
-        (None, None) | (Some(Mark::All), Some(Mark::All)) => Ordering::Equal,
-        (None, Some(_)) | (Some(Mark::UpTo(_)), Some(Mark::All)) => Ordering::Less,
-        (Some(_), None) | (Some(Mark::All), Some(Mark::UpTo(_))) => Ordering::Greater,
-    }
-}
-
-/// Returns whether two marks are the same.
-#[inline(always)]
-fn are_same(mark: Option<Mark>, other: Option<Mark>) -> bool
-    ensures { result ≡ is_same (meaning_of mark) (meaning_of other) }
-{
-    match (mark, other) {
-        (Some(Mark::UpTo(no)), Some(Mark::UpTo(last))) => no.0 == last.0,
-        (None, None) | (Some(Mark::All), Some(Mark::All)) => true,
-        (None, Some(_)) | (Some(_), None) => false,
-        (Some(Mark::UpTo(_)), Some(Mark::All)) | (Some(Mark::All), Some(Mark::UpTo(_))) => false,
     }
 }

@@ -7,6 +7,7 @@ mod least;
 mod mark;
 mod marks;
 mod pairs;
+mod reach;
 
 pub use collector::Collector;
 pub use laws::collectors_follow_their_reports;

@@ -1,10 +1,9 @@
-ghost use Rattle.std.specs.Prelude.{◌≡◌, ◌<◌, true, length, replicate, slice_set, IfOk, None, Some};
-ghost use Rattle.std.specs.declared.cmp.Ordering.TheVariants.{Less};
-ghost use Rattle.hj_msg.specs.Punctuation.{up_to};
-ghost use Rattle.hj_collect.specs.Marks.{compared, meaning_of, least_of, raised_to, with_raised, with_end};
+ghost use Rattle.std.specs.Prelude.{◌≡◌, ◌<◌, length, replicate, slice_set, IfOk, None};
+ghost use Rattle.hj_collect.specs.Marks.{least_of, with_raised, with_end};
+ghost use Rattle.hj_collect.specs.Reach.{reached};
 
-use crate::Mark;
 use crate::least::Least;
+use crate::reach::Reach;
 use hj_base::{EventNo, Memory};
 use std::alloc::Global;
 use std::marker::Model;
@@ -13,7 +12,7 @@ use std::mem;
 /// The marks of all cores for one side, with the least of them. A core that reported nothing has none.
 #[derive(Debug, Drop)]
 pub(crate) struct Marks {
-    of_cores: Vec<Option<Mark>>,
+    of_cores: Vec<Reach>,
     least: Least,
 }
 
@@ -21,14 +20,14 @@ impl Model for Marks {
     ghost use Rattle.std.specs.Prelude.{List, map};
     ghost use Rattle.std.specs.declared.option.Option.{Option};
     ghost use Rattle.hj_msg.specs.Punctuation.{Mark as Meaning};
-    ghost use Rattle.hj_collect.specs.Marks.{meaning_of};
+    ghost use Rattle.hj_collect.specs.Reach.{reached};
     ghost use Rattle.hj_collect.specs.Least.{IsLeast};
 
     ghost Value = { List (Option Meaning) };
 
-    ghost view = { λ marks. map meaning_of marks.of_cores.items };
+    ghost view = { λ marks. map reached marks.of_cores.items };
 
-    ghost invariant = { λ marks. IsLeast marks.least (map meaning_of marks.of_cores.items) };
+    ghost invariant = { λ marks. IsLeast marks.least (map reached marks.of_cores.items) };
 }
 
 impl Marks {
@@ -36,15 +35,15 @@ impl Marks {
     pub(crate) fn new(alloc: Global, cores: u16) -> Result<Self, Memory>
         ensures { IfOk result (λ marks. marks ≡ replicate cores None) }
     {
-        let of_cores = vec![in alloc; None; usize::from(cores)]?;
+        let of_cores = vec![in alloc; Reach::Nowhere; usize::from(cores)]?;
         let least = Least::of(&of_cores);
         Ok(Marks { of_cores, least })
     }
 
-    /// Returns the least mark; None if a core has none.
+    /// Returns the least mark.
     #[inline(always)]
-    pub(crate) fn least(&self) -> Option<Mark>
-        ensures { meaning_of result ≡ least_of self.now }
+    pub(crate) fn least(&self) -> Reach
+        ensures { reached result ≡ least_of self.now }
     {
         self.least.mark
     }
@@ -56,13 +55,27 @@ impl Marks {
         ensures { self.new ≡ with_raised core no.0 self.old }
     {
         let before = self.of_cores[core];
-        if stays_least(self.least.mark, before, no) {
-            self.of_cores[core] = Some(Mark::UpTo(no));
+        if !before.rises(self.least.mark, no) {
+            self.raise_other(core, no);
             return;
         }
-        match before {
-            None | Some(Mark::UpTo(_)) => self.set(core, Mark::UpTo(no)),
-            Some(Mark::All) => {}
+        self.of_cores[core] = Reach::UpTo(no);
+        // the least one is below the new one: it stays, unless this core alone had it
+        self.least = match self.least.without(before) {
+            Some(least) => least,
+            None => Least::of(&self.of_cores),
+        };
+    }
+
+    /// Takes note of the same, whatever the marks are.
+    #[inline(never)]
+    fn raise_other(&mut self, core: usize, no: EventNo)
+        requires { core < length self.old }
+        ensures { self.new ≡ with_raised core no.0 self.old }
+    {
+        match self.of_cores[core] {
+            Reach::Nowhere | Reach::UpTo(_) => self.set(core, Reach::UpTo(no)),
+            Reach::All => {}
         }
     }
 
@@ -71,35 +84,18 @@ impl Marks {
         requires { core < length self.old }
         ensures { self.new ≡ with_end core self.old }
     {
-        self.set(core, Mark::All);
+        self.set(core, Reach::All);
     }
 
     /// Gives a core another mark. If its last one was the only least one, the least is looked for anew.
-    // Called, so that what takes note of a report stays small enough to be compiled into the sweep over the actors.
-    #[inline(never)]
-    fn set(&mut self, core: usize, mark: Mark)
+    fn set(&mut self, core: usize, mark: Reach)
         requires { core < length self.old }
-        ensures { self.new ≡ slice_set self.old core (meaning_of (Some mark)) }
+        ensures { self.new ≡ slice_set self.old core (reached mark) }
     {
-        let before = mem::replace(&mut self.of_cores[core], Some(mark));
+        let before = mem::replace(&mut self.of_cores[core], mark);
         self.least = match self.least.without(before) {
-            Some(least) => least.with(Some(mark)),
+            Some(least) => least.with(mark),
             None => Least::of(&self.of_cores),
         };
-    }
-}
-
-/// Returns whether a mark is below one of a core, and below the number that comes in its place.
-#[inline(always)]
-fn stays_least(least: Option<Mark>, before: Option<Mark>, no: EventNo) -> bool
-    ensures before { result ≡ true → Less ≡ compared (meaning_of least) (meaning_of before) }
-    ensures after { result ≡ true → Less ≡ compared (meaning_of least) (Some (up_to no.0)) }
-    ensures raised { result ≡ true → raised_to no.0 (meaning_of before) ≡ Some (up_to no.0) }
-{
-    match (least, before) {
-        (Some(Mark::UpTo(least)), Some(Mark::UpTo(before))) => {
-            least.0 < before.0 && least.0 < no.0
-        }
-        _ => false,
     }
 }
