@@ -134,7 +134,30 @@ impl Lane {
     pub fn take(&mut self, no: EventNo, part: Part)
         ensures { self.new ≡ record self.old { arrivals = filter_map (after_part no.0 part) self.old.arrivals } }
     {
-        let Ok(at) = self.search(no) else { return };
+        match self.arrivals.front() {
+            Some(first) if no.0 == first.no.0 => self.take_at(0, no, part),
+            Some(first) if no.0 < first.no.0 => {}
+            _ => self.take_behind(no, part),
+        }
+    }
+
+    /// Takes note of the same, where the arrival isn't the first.
+    // Called, so that what is mostly done stays short.
+    #[inline(never)]
+    fn take_behind(&mut self, no: EventNo, part: Part)
+        ensures { self.new ≡ record self.old { arrivals = filter_map (after_part no.0 part) self.old.arrivals } }
+    {
+        if let Ok(at) = self.search_all(no) {
+            self.take_at(at, no, part);
+        }
+    }
+
+    /// Takes note that a message of the arrival at a place was taken.
+    #[inline(always)]
+    fn take_at(&mut self, at: usize, no: EventNo, part: Part)
+        requires { IsAt self.old.arrivals no.0 at }
+        ensures { self.new ≡ record self.old { arrivals = filter_map (after_part no.0 part) self.old.arrivals } }
+    {
         match self.arrivals[at].after(part) {
             Some(arrival) => self.arrivals[at] = arrival,
             None => {
@@ -178,6 +201,18 @@ impl Lane {
     /// Finds the place of an expiry: in a chain its message comes out as the first of its side.
     #[inline(always)]
     fn find(&self, of: EventNo) -> Option<usize>
+        ensures { result ≡ position (λ other. of.0 == other.0) self.now.expiries }
+    {
+        match self.expiries.front() {
+            Some(first) if of.0 == first.0 => Some(0),
+            _ => self.find_behind(of),
+        }
+    }
+
+    /// Finds the place of an expiry, wherever it is.
+    // Called, so that what is mostly done stays short.
+    #[inline(never)]
+    fn find_behind(&self, of: EventNo) -> Option<usize>
         ensures { result ≡ position (λ other. of.0 == other.0) self.now.expiries }
     {
         self.expiries.iter().position(|other| of.0 == other.0)

@@ -1,40 +1,20 @@
-use Rattle.std.proofs.Common.{refl, sym, subst, arith, ◌∙◌}
+use Rattle.std.proofs.Common.{◌≡◌, ℕ, ◌<◌, List, [], ◌∷◌, get_or, refl, ap, subst, arith}
 use Rattle.std.specs.List.{filter_map}
-use Rattle.hj_driver.specs.Lane.{LaneState, IsRising, IsAt, after_part}
-use Rattle.hj_driver.proofs.Arrivals.{none_changes, marked, removed, rising_after, lane_with}
+use Rattle.std.proofs.lemmas.List.Elements.{All-cons, All-nil}
+use Rattle.hj_driver.specs.declared.lane.Arrival.{Arrival}
+use Rattle.hj_driver.specs.Lane.{LaneState, IsAbsent, IsRising, after_part}
+use Rattle.hj_driver.proofs.Arrivals.{none_changes, lane_with}
 use Rattle.hj_driver.proofs.lane.Lane.take.Goals as goal
 
-pub returns-in_default : goal.returns-in_default
-returns-in_default c =
+-- a number below the first one is none of theirs
+absent_below : (l : List Arrival) → IsRising l → (number : ℕ) (x : Arrival) → x ≡ get_or l 0 x → number < x.no.0 → IsAbsent l number
+absent_below [] rising number x e less = All-nil (λ (a : Arrival). ¬ (a.no.0 ≡ number))
+absent_below (y ∷ ys) rising number x e less =
+    let first : x.no.0 ≡ y.no.0 = ap (λ (a : Arrival). a.no.0) e in
+    All-cons (λ (a : Arrival). ¬ (a.no.0 ≡ number)) y ys (λ same. omega (arith, first, less, same)) (λ k d lt same. let above = rising.0 k d lt in omega (arith, first, less, above, same))
+
+pub returns-in-Some-2 : goal.returns-in-Some-2
+returns-in-Some-2 c =
     let s = c.args.self.now in
-    lane_with s s.arrivals s.arrivals s.expiries s.room (filter_map (after_part c.args.no.0 c.args.part)) refl (none_changes s.arrivals c.args.no.0 c.args.part c.in_default.ensures.absent)
-
-pub invariant_of-self : goal.invariant_of-self
-invariant_of-self c =
-    let l = c.self.inside.arrivals.items in
-    let is : IsAt l c.args.no.0 c.in-Ok.at = subst (λ (s : LaneState). IsAt s.arrivals c.args.no.0 c.in-Ok.at) (sym c.self.view_is) c.in-Ok.ensures.found in
-    let rising = subst IsRising (sym (marked l c.self.invariant.rising c.args.no.0 c.in-Ok.at is c.args.part c.index.result.now c.in-Some.arrival c.index.ensures (sym c.in-Some.ensures))) (rising_after c.args.no.0 c.args.part l c.self.invariant.rising) in
-    record { rising = rising; distinct = c.self.invariant.distinct; for_arrivals = c.self.invariant.for_arrivals; for_expiries = c.self.invariant.for_expiries }
-
-pub invariant_of-self-in-None : goal.invariant_of-self-in-None
-invariant_of-self-in-None c =
-    let l = c.self.inside.arrivals.items in
-    let is : IsAt l c.args.no.0 c.in-Ok.at = subst (λ (s : LaneState). IsAt s.arrivals c.args.no.0 c.in-Ok.at) (sym c.self.view_is) c.in-Ok.ensures.found in
-    let items = c.take_out.ensures.items in
-    let after = items ∙ removed l c.self.invariant.rising c.args.no.0 c.in-Ok.at is c.args.part c.index.result.now c.index.ensures (sym c.in-None.ensures) in
-    record { rising = subst IsRising (sym after) (rising_after c.args.no.0 c.args.part l c.self.invariant.rising); distinct = c.self.invariant.distinct; for_arrivals = omega (arith, c.take_out.ensures.capacity, c.self.invariant.for_arrivals); for_expiries = c.self.invariant.for_expiries }
-
-pub returns-in-Some : goal.returns-in-Some
-returns-in-Some c =
-    let l = c.self.inside.arrivals.items in
-    let is : IsAt l c.args.no.0 c.in-Ok.at = subst (λ (s : LaneState). IsAt s.arrivals c.args.no.0 c.in-Ok.at) (sym c.self.view_is) c.in-Ok.ensures.found in
-    lane_with c.args.self.now l _ c.self.inside.expiries.items c.self.inside.room (filter_map (after_part c.args.no.0 c.args.part)) c.self.view_is
-    (marked l c.self.invariant.rising c.args.no.0 c.in-Ok.at is c.args.part c.index.result.now c.in-Some.arrival c.index.ensures (sym c.in-Some.ensures))
-
-pub returns-in-None : goal.returns-in-None
-returns-in-None c =
-    let l = c.self.inside.arrivals.items in
-    let is : IsAt l c.args.no.0 c.in-Ok.at = subst (λ (s : LaneState). IsAt s.arrivals c.args.no.0 c.in-Ok.at) (sym c.self.view_is) c.in-Ok.ensures.found in
-    let items = c.take_out.ensures.items in
-    lane_with c.args.self.now l _ c.self.inside.expiries.items c.self.inside.room (filter_map (after_part c.args.no.0 c.args.part)) c.self.view_is
-    (items ∙ removed l c.self.invariant.rising c.args.no.0 c.in-Ok.at is c.args.part c.index.result.now c.index.ensures (sym c.in-None.ensures))
+    let absent = absent_below c.self.inside.arrivals.items c.self.invariant.rising c.args.no.0 c.in-Some.first.now c.in-Some.ensures.lookup c.if-no-first-2.true in
+    lane_with s s.arrivals s.arrivals s.expiries s.room (filter_map (after_part c.args.no.0 c.args.part)) refl (none_changes s.arrivals c.args.no.0 c.args.part (subst (λ (t : LaneState). IsAbsent t.arrivals c.args.no.0) c.self.view_is absent))
