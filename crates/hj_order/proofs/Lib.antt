@@ -3,3 +3,4 @@ mod DueOrder
 mod InOrder
 pub mod Emissions
 pub mod Shuffles
+mod Soonest

@@ -1,5 +1,5 @@
 -- Which of two pairs is due first.
-use Rattle.std.specs.Prelude.{◌≡◌, false, List, [], ◌∷◌, All, map}
+use Rattle.std.specs.Prelude.{◌≡◌, ◌≤◌, ℕ, false, List, [], ◌∷◌, All, map}
 use Rattle.std.specs.declared.cmp.Ordering.{Ordering}
 use Rattle.std.specs.Ordering.{nat_cmp, on, flip_args, then_cmp}
 use Rattle.hj_msg.specs.declared.event.Pair.{Pair}
@@ -18,6 +18,10 @@ pairs_in kept = map (λ one. one.pair) kept
 -- none of these comes before that pair
 abbrev pub NoneBefore : {P : Type 0} → Pair P → List (Kept P) → Type 0
 NoneBefore pair kept = All (λ one. comes_before one.pair pair ≡ false) kept
+
+-- the later number of none of these is below a number
+abbrev pub NoneSooner : {P : Type 0} → ℕ → List (Kept P) → Type 0
+NoneSooner number kept = All (λ one. number ≤ later one.pair) kept
 
 -- each of them is due no sooner than those ahead of it
 abbrev pub AreInOrder : {P : Type 0} → List (Kept P) → Type 0

@@ -5,7 +5,7 @@ ghost use Rattle.hj_msg.specs.Emission.{comes_before, is_within};
 ghost use Rattle.hj_msg.specs.Met.{pairs_of};
 ghost use Rattle.hj_msg.specs.Valid.{later};
 ghost use Rattle.hj_collect.specs.Marks.{meaning};
-ghost use Rattle.hj_order.specs.Due.{due_cmp, pairs_in, AreInOrder, NoneBefore};
+ghost use Rattle.hj_order.specs.Due.{due_cmp, pairs_in, AreInOrder, NoneBefore, NoneSooner};
 
 use crate::kept::Kept;
 use hj_base::{Memory, Share};
@@ -22,13 +22,15 @@ pub struct Ordered<P> {
     late: BinaryHeap<Kept<P>>,
     /// All others, each due no sooner than those ahead of it.
     in_order: VecDeque<Kept<P>>,
+    /// No later number of them all is below this one, so that a mark that is below it lets none out.
+    soonest: u64,
 }
 
 impl<P> Model for Ordered<P> {
     ghost use Rattle.std.specs.Prelude.{List, ◌++◌};
     ghost use Rattle.std.specs.BinaryHeap.{heap_items, IsHeap};
     ghost use Rattle.hj_msg.specs.declared.event.Pair.{Pair};
-    ghost use Rattle.hj_order.specs.Due.{due_cmp, pairs_in, AreInOrder};
+    ghost use Rattle.hj_order.specs.Due.{due_cmp, pairs_in, AreInOrder, NoneSooner};
 
     ghost Value = { List (Pair P) };
 
@@ -37,6 +39,7 @@ impl<P> Model for Ordered<P> {
     ghost invariant = { λ ordered. record {
       late : IsHeap due_cmp (heap_items ordered.late);
       in_order : AreInOrder ordered.in_order.items;
+      soonest : NoneSooner ordered.soonest (heap_items ordered.late ++ ordered.in_order.items);
     } };
 }
 
@@ -48,6 +51,7 @@ impl<P> Ordered<P> {
         Ordered {
             late: BinaryHeap::new(alloc),
             in_order: VecDeque::new(alloc),
+            soonest: u64::MAX,
         }
     }
 }
@@ -62,6 +66,7 @@ impl<P: Drop> Ordered<P> {
         self.late.reserve(pairs.len())?;
         self.in_order.reserve(pairs.len())?;
         put_all(&mut self.late, &mut self.in_order, pairs);
+        self.soonest = soonest_of(&self.late, &self.in_order);
         Ok(())
     }
 
@@ -69,6 +74,23 @@ impl<P: Drop> Ordered<P> {
     /// pair comes by its later number and then by its earlier one. None if no later number is within the mark.
     #[inline(always)]
     pub fn release(&mut self, up_to: Mark) -> Option<Pair<P>>
+        ensures kept { IfSome result (λ pair. IsPermutation self.old (pair ∷ self.new)) }
+        ensures first { IfSome result (λ pair. All (λ other. comes_before other pair ≡ false) self.old) }
+        ensures within { IfSome result (λ pair. is_within (Some (meaning up_to)) (later pair) ≡ true) }
+        ensures none { IsNone result ↔ All (λ pair. is_within (Some (meaning up_to)) (later pair) ≡ false) self.old }
+        ensures unchanged { IfNone result (self.new ≡ self.old) }
+    {
+        if !is_within(self.soonest, up_to) {
+            return None;
+        }
+        let pair = self.release_first(up_to)?;
+        self.soonest = soonest_of(&self.late, &self.in_order);
+        Some(pair)
+    }
+
+    /// Removes and returns the first pair, if it is due.
+    #[inline(always)]
+    fn release_first(&mut self, up_to: Mark) -> Option<Pair<P>>
         ensures kept { IfSome result (λ pair. IsPermutation self.old (pair ∷ self.new)) }
         ensures first { IfSome result (λ pair. All (λ other. comes_before other pair ≡ false) self.old) }
         ensures within { IfSome result (λ pair. is_within (Some (meaning up_to)) (later pair) ≡ true) }
@@ -122,6 +144,7 @@ impl<P: Share + Drop> Ordered<P> {
         self.late.reserve(1)?;
         self.in_order.reserve(1)?;
         put(&mut self.late, &mut self.in_order, Kept { pair });
+        self.soonest = soonest_of(&self.late, &self.in_order);
         Ok(())
     }
 }
@@ -200,6 +223,41 @@ fn is_late_first<P>(late: &BinaryHeap<Kept<P>>, in_order: &VecDeque<Kept<P>>) ->
     match in_order.front() {
         Some(first) => one.is_due_before(first),
         None => true,
+    }
+}
+
+/// Returns a number below which is no later number of the pairs that are kept.
+#[inline(always)]
+fn soonest_of<P>(late: &BinaryHeap<Kept<P>>, in_order: &VecDeque<Kept<P>>) -> u64
+    requires late { IsHeap due_cmp (heap_items late.now) }
+    requires order { AreInOrder in_order.now.items }
+    ensures { NoneSooner result (heap_items late.now ++ in_order.now.items) }
+{
+    let (late, in_order) = (soonest_late(late), soonest_in_order(in_order));
+    late.min(in_order)
+}
+
+/// Returns a number below which is no later number of the pairs that came late.
+#[inline(always)]
+fn soonest_late<P>(late: &BinaryHeap<Kept<P>>) -> u64
+    requires { IsHeap due_cmp (heap_items late.now) }
+    ensures { NoneSooner result (heap_items late.now) }
+{
+    match late.peek() {
+        Some(one) => one.later(),
+        None => u64::MAX,
+    }
+}
+
+/// Returns a number below which is no later number of the pairs that are in order.
+#[inline(always)]
+fn soonest_in_order<P>(in_order: &VecDeque<Kept<P>>) -> u64
+    requires { AreInOrder in_order.now.items }
+    ensures { NoneSooner result in_order.now.items }
+{
+    match in_order.front() {
+        Some(one) => one.later(),
+        None => u64::MAX,
     }
 }
 
