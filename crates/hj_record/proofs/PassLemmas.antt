@@ -1,4 +1,4 @@
--- A piece of one line at the start of a portion: what going past it says.
+-- A piece at the start of a portion: what going past it says.
 use Rattle.std.proofs.Common.{◌≡◌, ℕ, ◌+◌, ◌-◌, ◌<◌, ◌≤◌, ◌==◌, ◌||◌, ◌%◌, min, Bool, true, false, List, [], ◌∷◌, ◌++◌, length, get_or, take, drop, All, None, Some, refl, sym, ap, subst, ◌∙◌, arith, eq-eqb, true≢false}
 use Rattle.std.proofs.lemmas.Bool.{or_parts}
 use Rattle.std.proofs.lemmas.List.{take-take, take_all, length-append, length-take-le, get_or-take, get_or_append_left, take-append-le}
@@ -7,13 +7,14 @@ use Rattle.std.specs.declared.option.Option.{Option}
 use Rattle.hj_record.specs.declared.fault.PieceFault.{PieceFault}
 use Rattle.hj_record.specs.declared.cutter.Cut.TheVariants as cut
 use Rattle.hj_record.specs.declared.cutter.LineEnd.TheVariants as line_end
-use Rattle.hj_record.specs.Line.{IsInLine, IsLine, most_in_next}
+use Rattle.hj_record.specs.Line.{most_in_next}
 use Rattle.hj_record.specs.LineEnd.{Finds, EndsWithin, inside_after, may_take}
-use Rattle.hj_record.specs.Pieces.{quotes, most_in_piece}
+use Rattle.hj_record.specs.Pieces.{quotes, most_in_piece, EndsAt, IsPiece}
 use Rattle.hj_record.specs.Cutter.{Cutting}
 use Rattle.hj_record.specs.CutterFields.{IsSound}
 use Rattle.hj_record.specs.Cuts.{Cuts, LeadsBy, Lends}
 use Rattle.hj_record.proofs.Takes.{lends_piece, sound_by_quotes}
+use Rattle.hj_record.proofs.Splits.{ends_before, EndsAt-within, EndsWithin-at}
 use Rattle.hj_record.proofs.CutLemmas.{cuts_from_next, leads_by}
 
 -- no byte came before, and the stream isn't refused
@@ -25,44 +26,30 @@ none_before old some = by old.fault old.piece refl refl some
     by None (b ∷ piece) is are some = let none : most_in_next old ≡ 0 = rw (is, are) refl in absurd (omega arith)
     by (Some found) piece is are some = let none : most_in_next old ≡ 0 = rw is refl in absurd (omega arith)
 
-stays_outside : (text : List ℕ) → All IsInLine text → inside_after false text ≡ false
-stays_outside [] all = refl
-stays_outside (b ∷ text) all =
-    let no_quote = (or_parts (b == 34) (b == 10) (All-head IsInLine b text all)).0 in
-    rw no_quote (stays_outside text (All-tail IsInLine b text all))
+-- An end among the first bytes of a portion is one among fewer of them.
+in_front : (inside : Bool) (bytes : List ℕ) (n at : ℕ) → at < n → n ≤ length bytes → EndsWithin inside bytes at → EndsWithin inside (take n bytes) at
+in_front inside bytes n at lt le ends = (
+  omega (arith, length-take-le n bytes le),
+  get_or-take n bytes at 0 lt ∙ ends.1,
+  ap (inside_after inside) (take-take at n bytes (omega arith)) ∙ ends.2,
+)
 
-at_end : (text : List ℕ) → get_or (text ++ 10 ∷ []) (length text) 0 ≡ 10
-at_end [] = refl
-at_end (b ∷ text) = at_end text
-
-in_text : (text : List ℕ) (at : ℕ) → All IsInLine text → at < length text → get_or (text ++ 10 ∷ []) at 0 ≡ 10 → ⊥
-in_text text at all lt is =
-    let here : get_or text at 0 ≡ 10 = sym (get_or_append_left text (10 ∷ []) 0 at lt) ∙ is in
-    let ends : (get_or text at 0 == 10) ≡ true = eq-eqb (get_or text at 0) 10 here in
-    true≢false (sym ends ∙ (or_parts (get_or text at 0 == 34) (get_or text at 0 == 10) (all at 0 lt)).1)
-
--- the line's end is the first one of the portion
-finds_line : (n used : ℕ) (bytes : List ℕ) → used ≤ n → n ≤ length bytes → 0 < used → IsLine (take used bytes) → Finds (line_end.At (used - 1)) false (take n bytes)
-finds_line n used bytes fits within some line =
-    let text = line.0 in
-    let size : length text + 1 ≡ used = omega (arith, length-take-le used bytes (omega arith), ap length line.1, length-append text (10 ∷ [])) in
+-- the piece's end is the first one of the portion
+finds_end : (n used : ℕ) (bytes : List ℕ) → used ≤ n → n ≤ length bytes → 0 < used → IsPiece (take used bytes) → Finds (line_end.At (used - 1)) false (take n bytes)
+finds_end n used bytes fits within some piece =
+    let size = length-take-le used bytes (omega arith) in
     let long = length-take-le n bytes within in
-    let front : (at : ℕ) → at < used → get_or (take n bytes) at 0 ≡ get_or (text ++ 10 ∷ []) at 0 = λ at lt.
-    get_or-take n bytes at 0 (omega (arith, lt)) ∙ (sym (get_or-take used bytes at 0 lt) ∙ ap (λ (xs : List ℕ). get_or xs at 0) line.1) in
-    let last : used - 1 ≡ length text = omega (arith, size) in
-    let before : take (used - 1) (take n bytes) ≡ text =
-    take-take (used - 1) n bytes (omega (arith, long))
-    ∙ (sym (take-take (used - 1) used bytes (omega (arith, length-take-le used bytes (omega arith))))
-    ∙ (ap (take (used - 1)) line.1 ∙ (ap (λ (k : ℕ). take k (text ++ 10 ∷ [])) last ∙ (take-append-le (length text) text (10 ∷ []) (omega arith) ∙ take_all (length text) text (omega arith))))) in (
-      (
-        omega (arith, long),
-        front (used - 1) (omega arith) ∙ (ap (λ (k : ℕ). get_or (text ++ 10 ∷ []) k 0) last ∙ at_end text),
-        ap (inside_after false) before ∙ stays_outside text line.2,
-      ),
-      λ at lt ends. in_text text at line.2 (omega (arith, size, lt)) (sym (front at (omega (arith, lt))) ∙ ends.1),
+    let last : length (take used bytes) - 1 ≡ used - 1 = omega (arith, size) in
+    let ends : EndsWithin false (take used bytes) (used - 1) = EndsWithin-at (take used bytes) (used - 1) (subst (EndsAt (take used bytes)) last piece.0) in
+    let front : take used (take n bytes) ≡ take used bytes = take-take used n bytes fits in (
+      in_front false bytes n (used - 1) (omega arith) within (ends_before false bytes used (used - 1) (omega arith) (omega arith) ends),
+      λ at lt early.
+          let within_piece = subst (λ (b : List ℕ). EndsWithin false b at) front (in_front false (take n bytes) used at (omega arith) (omega (arith, long)) early) in
+          let is_last = piece.1 at (EndsAt-within (take used bytes) at within_piece) in
+          omega (arith, size),
     )
 
-pub passes : (old new : Cutting) (used : ℕ) (inside : Bool) (bytes : List ℕ) → IsSound old.room old.piece inside old.whole → old.whole ≡ false → 0 < used → used ≤ most_in_next old → new ≡ record old { room = old.room - used } → used ≤ length bytes → IsLine (take used bytes) → Lends used bytes old new
+pub passes : (old new : Cutting) (used : ℕ) (inside : Bool) (bytes : List ℕ) → IsSound old.room old.piece inside old.whole → old.whole ≡ false → 0 < used → used ≤ most_in_next old → new ≡ record old { room = old.room - used } → used ≤ length bytes → IsPiece (take used bytes) → Lends used bytes old new
 passes old new used inside bytes sound going some within is enough line =
     let none = none_before old (omega (arith, within, some)) in
     let n = may_take old bytes in
@@ -70,7 +57,7 @@ passes old new used inside bytes sound going some within is enough line =
     let outside : false ≡ (quotes old.piece % 2 == 1) = sym (ap (λ (piece : List ℕ). quotes piece % 2 == 1) none.1) in
     let one : used - 1 + 1 ≡ used = omega arith in
     let found : Finds (line_end.At (used - 1)) (quotes old.piece % 2 == 1) (take n bytes) =
-    subst (λ (side : Bool). Finds (line_end.At (used - 1)) side (take n bytes)) outside (finds_line n used bytes (omega (arith, within, none.2, zero)) (omega arith) some line) in
+    subst (λ (side : Bool). Finds (line_end.At (used - 1)) side (take n bytes)) outside (finds_end n used bytes (omega (arith, within, none.2, zero)) (omega arith) some line) in
     subst (λ (k : ℕ). Lends k bytes old new) one
     (lends_piece old (quotes old.piece % 2 == 1) bytes n (sound_by_quotes old.room old.piece inside old.whole sound) going refl (used - 1) new found none.1 (is ∙ ap (λ (k : ℕ). record old { room = old.room - k }) (sym one)))
 

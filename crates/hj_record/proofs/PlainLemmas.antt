@@ -13,10 +13,10 @@ use Rattle.hj_record.specs.declared.plain.Taken.TheVariants as taken
 use Rattle.hj_record.specs.Records.{only_record, record_in}
 use Rattle.hj_record.specs.Plain.{reads, BeginsWithField, IsBare, IsNoQuote, IsNextQuote, IsLineEnd, StandsBehind, TakesField}
 
-all_tail : (P : ℕ → Type 0) (b : ℕ) (bs : List ℕ) → All P (b ∷ bs) → All P bs
+pub all_tail : (P : ℕ → Type 0) (b : ℕ) (bs : List ℕ) → All P (b ∷ bs) → All P bs
 all_tail P b bs h = λ k d lt. h (suc k) d (omega (arith, lt))
 
-all_head : (P : ℕ → Type 0) (b : ℕ) (bs : List ℕ) → All P (b ∷ bs) → P b
+pub all_head : (P : ℕ → Type 0) (b : ℕ) (bs : List ℕ) → All P (b ∷ bs) → P b
 all_head P b bs h = h 0 0 (omega arith)
 
 -- ---- bytes that join the field at hand
@@ -28,7 +28,7 @@ step_bare b bare =
     let not_comma = or_parts (b == 44) (b == 34) not_cr.0 in
     rw (not_comma.0, not_cr.1, not_lf.1) refl
 
-bare_no_quote : (b : ℕ) → IsBare b → IsNoQuote b
+pub bare_no_quote : (b : ℕ) → IsBare b → IsNoQuote b
 bare_no_quote b bare =
     let not_lf = or_parts ((b == 44) || (b == 34) || (b == 13)) (b == 10) bare in
     let not_cr = or_parts ((b == 44) || (b == 34)) (b == 13) not_lf.0 in
@@ -45,7 +45,7 @@ reads_bare fields field (b ∷ bare) text all =
     (reads_bare fields (field ++ b ∷ []) bare text (all_tail IsBare b bare all)
     ∙ ap (λ f. reads st.InField fields f text) (append_assoc field (b ∷ []) bare))
 
-reads_quoted : (fields : List (List ℕ)) (field bytes text : List ℕ) → All IsNoQuote bytes → reads st.InQuoted fields field (bytes ++ text) ≡ reads st.InQuoted fields (field ++ bytes) text
+pub reads_quoted : (fields : List (List ℕ)) (field bytes text : List ℕ) → All IsNoQuote bytes → reads st.InQuoted fields field (bytes ++ text) ≡ reads st.InQuoted fields (field ++ bytes) text
 unfolding next_record
 reads_quoted fields field [] text all = ap (λ f. reads st.InQuoted fields f text) (sym (append-nil field))
 reads_quoted fields field (b ∷ bytes) text all =
@@ -56,7 +56,7 @@ reads_quoted fields field (b ∷ bytes) text all =
 -- ---- where a field begins and ends
 
 -- no quote stands in front
-abbrev BeginsBare : List ℕ → Type 0
+abbrev pub BeginsBare : List ℕ → Type 0
 BeginsBare [] = Unit {0}
 BeginsBare (b ∷ bs) = IsNoQuote b
 
@@ -69,7 +69,7 @@ pub begins_bare : (bare text : List ℕ) → All IsBare bare → BeginsBare text
 begins_bare [] text all begins = begins
 begins_bare (b ∷ bare) text all begins = bare_no_quote b (all_head IsBare b bare all)
 
-reads_open : (fields : List (List ℕ)) (text : List ℕ) → reads st.StartField fields [] (34 ∷ text) ≡ reads st.InQuoted fields [] text
+pub reads_open : (fields : List (List ℕ)) (text : List ℕ) → reads st.StartField fields [] (34 ∷ text) ≡ reads st.InQuoted fields [] text
 unfolding next_record
 reads_open fields text = refl
 
@@ -77,12 +77,12 @@ reads_doubled : (fields : List (List ℕ)) (field text : List ℕ) → reads st.
 unfolding next_record
 reads_doubled fields field text = refl
 
-reads_close : (fields : List (List ℕ)) (field text : List ℕ) → reads st.InQuoted fields field (34 ∷ text) ≡ reads st.AfterQuote fields field text
+pub reads_close : (fields : List (List ℕ)) (field text : List ℕ) → reads st.InQuoted fields field (34 ∷ text) ≡ reads st.AfterQuote fields field text
 unfolding next_record
 reads_close fields field text = refl
 
 -- what ends a bare field ends a quoted one
-reads_behind : (fields : List (List ℕ)) (field text : List ℕ) → BeginsBare text → reads st.AfterQuote fields field text ≡ reads st.InField fields field text
+pub reads_behind : (fields : List (List ℕ)) (field text : List ℕ) → BeginsBare text → reads st.AfterQuote fields field text ≡ reads st.InField fields field text
 unfolding next_record
 reads_behind fields field [] begins = refl
 reads_behind fields field (b ∷ bs) begins = rw begins refl

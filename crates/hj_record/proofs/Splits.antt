@@ -87,10 +87,10 @@ places_from_Unended inside (b ∷ bs) u zero e =
 places_from_Unended inside (b ∷ bs) u (suc at) e =
     places_from_Unended (inside_next inside b) bs u.1 at (omega (arith, e.0), e.1, e.2)
 
-EndsAt-within : (bytes : List ℕ) (at : ℕ) → EndsWithin false bytes at → EndsAt bytes at
+pub EndsAt-within : (bytes : List ℕ) (at : ℕ) → EndsWithin false bytes at → EndsAt bytes at
 EndsAt-within bytes at e = (e.0, e.1, even_from_outside (take at bytes) e.2)
 
-EndsWithin-at : (bytes : List ℕ) (at : ℕ) → EndsAt bytes at → EndsWithin false bytes at
+pub EndsWithin-at : (bytes : List ℕ) (at : ℕ) → EndsAt bytes at → EndsWithin false bytes at
 EndsWithin-at bytes at e = (e.0, e.1, outside_from_even (take at bytes) e.2)
 
 pub Unended-from_IsUnended : (bytes : List ℕ) → IsUnended bytes → Unended false bytes
@@ -100,7 +100,7 @@ pub IsUnended-from_Unended : (bytes : List ℕ) → Unended false bytes → IsUn
 IsUnended-from_Unended bytes u at e = places_from_Unended false bytes u at (EndsWithin-at bytes at e)
 
 -- A place in a front ends a piece there too.
-ends_before : (inside : Bool) (bytes : List ℕ) (n at : ℕ) → at < n → n ≤ length bytes → EndsWithin inside (take n bytes) at → EndsWithin inside bytes at
+pub ends_before : (inside : Bool) (bytes : List ℕ) (n at : ℕ) → at < n → n ≤ length bytes → EndsWithin inside (take n bytes) at → EndsWithin inside bytes at
 ends_before inside bytes n at lt le ends =
     (omega arith, sym (get_or-take n bytes at 0 lt) ∙ ends.1, ap (inside_after inside) (sym (take-take at n bytes (omega arith))) ∙ ends.2)
 
@@ -146,7 +146,7 @@ ends_in_front front bytes at lt ends = (
   ap (λ x. quotes x % 2) (sym (take-append-le at front bytes (omega arith))) ∙ ends.2,
 )
 
-piece_from_line : (front : List ℕ) → Unended false front → inside_after false front ≡ false → IsPiece (front ++ 10 ∷ [])
+pub piece_from_line : (front : List ℕ) → Unended false front → inside_after false front ≡ false → IsPiece (front ++ 10 ∷ [])
 piece_from_line front u outside =
     let size = length_push front 10 in (
       ends_at_last front (length (front ++ 10 ∷ []) - 1) (omega (arith, size)) outside,
@@ -185,7 +185,7 @@ split-piece piece bytes is =
 
 -- ---- bytes behind others
 
-Unended-append : (inside : Bool) (front bytes : List ℕ) → Unended inside front → Unended (inside_after inside front) bytes → Unended inside (front ++ bytes)
+pub Unended-append : (inside : Bool) (front bytes : List ℕ) → Unended inside front → Unended (inside_after inside front) bytes → Unended inside (front ++ bytes)
 Unended-append inside [] bytes u v = v
 Unended-append inside (b ∷ front) bytes u v = (u.0, Unended-append (inside_next inside b) front bytes u.1 v)
 
@@ -224,3 +224,18 @@ parity_behind inside piece bytes is =
 pub outside_behind_end : (inside : Bool) (bytes : List ℕ) (at : ℕ) → EndsWithin inside bytes at → inside_after inside (take (at + 1) bytes) ≡ false
 outside_behind_end inside bytes at ends =
     fold_more inside_next inside bytes at 0 ends.0 ∙ ap (λ i. inside_next i (get_or bytes at 0)) ends.2 ∙ ap (inside_next false) ends.1
+
+-- So no quote is open behind a piece,
+outside_behind_piece : (bytes : List ℕ) → IsPiece bytes → inside_after false bytes ≡ false
+outside_behind_piece bytes piece =
+    let line = line_from_IsPiece bytes piece in
+    ap (inside_after false) line.is ∙ fold-append inside_next false line.front (10 ∷ []) ∙ ap (λ i. inside_after i (10 ∷ [])) line.outside
+
+-- whose last bytes come behind others.
+pub outside_behind : (piece bytes : List ℕ) → IsPiece (piece ++ bytes) → inside_after (quotes piece % 2 == 1) bytes ≡ false
+outside_behind piece bytes whole =
+    ap (λ i. inside_after i bytes) (sym (inside_by_quotes piece)) ∙ sym (fold-append inside_next false piece bytes) ∙ outside_behind_piece (piece ++ bytes) whole
+
+-- Bytes behind others begin as those end.
+pub inside_behind_both : (inside : Bool) (front bytes : List ℕ) → inside_after inside (front ++ bytes) ≡ inside_after (inside_after inside front) bytes
+inside_behind_both inside front bytes = fold-append inside_next inside front bytes

@@ -1,5 +1,5 @@
 -- Cutting a text in the plain form of RFC 4180: what each step says of what `csv`'s machine reads.
-use Rattle.std.specs.Prelude.{◌≡◌, ◌⊎◌, ℕ, ◌+◌, ◌<◌, ◌≤◌, ◌==◌, ◌||◌, Bool, true, false, List, [], ◌∷◌, drop, length, slice_index, slice_range, All, None, Some, Ok, Err}
+use Rattle.std.specs.Prelude.{◌≡◌, ◌⊎◌, ℕ, ◌+◌, ◌<◌, ◌≤◌, ◌==◌, ◌||◌, Bool, true, false, List, [], ◌∷◌, ◌++◌, drop, length, slice_index, slice_range, All, None, Some, Ok, Err}
 use Rattle.std.specs.declared.option.Option.{Option}
 use Rattle.std.specs.declared.result.Result.{Result}
 use Rattle.csv.specs.Machine.{Read, next_record}
@@ -27,6 +27,10 @@ IsBare b = is_special b ≡ false
 
 abbrev pub IsNoQuote : ℕ → Type 0
 IsNoQuote b = (b == 34) ≡ false
+
+-- Bytes that are a field as it stands in a line: bare, or in quotes with no quote inside.
+abbrev pub IsPlainly : List ℕ → List ℕ → Type 0
+IsPlainly field bytes = ((bytes ≡ field) × All IsBare field) ⊎ ((bytes ≡ 34 ∷ (field ++ 34 ∷ [])) × All IsNoQuote field)
 
 -- The first quote from a place on.
 abbrev pub IsNextQuote : ℕ → ℕ → List ℕ → Type 0

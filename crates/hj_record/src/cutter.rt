@@ -2,9 +2,9 @@ ghost use Rattle.std.specs.Prelude.{◌≡◌, ◌<◌, ◌≤◌, ◌-◌, ◌%
 ghost use Rattle.hj_record.specs.Cutter.{fresh, cleared, Feeds, Ends, Leads, LeadsAtEnd, Takes, Fits};
 ghost use Rattle.hj_record.specs.Cuts.{Cuts, LeadsBy};
 ghost use Rattle.hj_record.specs.declared.cutter.Cut.TheVariants as cuts;
-ghost use Rattle.hj_record.specs.Line.{IsLine, most_in_next};
+ghost use Rattle.hj_record.specs.Line.{most_in_next};
 ghost use Rattle.hj_record.specs.LineEnd.{Finds, FindsFor, HasEnd};
-ghost use Rattle.hj_record.specs.Pieces.{IsUnended, quotes, most_in_piece};
+ghost use Rattle.hj_record.specs.Pieces.{IsPiece, IsUnended, quotes, most_in_piece};
 
 use crate::{LINE_FEED, PieceFault, QUOTE};
 use std::alloc::{AllocError, Global};
@@ -154,18 +154,26 @@ impl Cutter {
         }
     }
 
-    /// Goes past a piece of this many bytes at the start of a portion, of which it is known that it is one line. The cutter is
-    /// ready for the next one, as after an answer `Lent`.
+    /// Goes past a piece at the start of a portion, of which it is known that it has this many bytes. The cutter is ready for the
+    /// next one, as after an answer `Lent`.
     #[inline(always)]
     pub fn pass(&mut self, used: usize)
         requires going { self.old.whole ≡ false }
         requires some { 0 < used }
         requires within { used ≤ most_in_next self.old }
         ensures room { self.new ≡ record self.old { room = self.old.room - used } }
-        ensures takes { (bytes : List ℕ) → used ≤ length bytes → IsLine (take used bytes) → Cuts (cuts.Lent used) bytes self.old self.new }
-        ensures leads { (bytes : List ℕ) → used ≤ length bytes → IsLine (take used bytes) → LeadsBy (cuts.Lent used) bytes self.old self.new }
+        ensures takes { (bytes : List ℕ) → used ≤ length bytes → IsPiece (take used bytes) → Cuts (cuts.Lent used) bytes self.old self.new }
+        ensures leads { (bytes : List ℕ) → used ≤ length bytes → IsPiece (take used bytes) → LeadsBy (cuts.Lent used) bytes self.old self.new }
     {
         self.room -= used as u64;
+    }
+
+    /// Returns whether the bytes of the current piece so far end inside quotes.
+    #[inline(always)]
+    pub fn is_inside(&self) -> bool
+        ensures { result ≡ (quotes self.now.piece % 2 == 1) }
+    {
+        self.inside
     }
 
     /// Returns whether the piece has its end in these bytes, if they come next.

@@ -15,3 +15,4 @@ pub use fault::PieceFault;
 pub use fields::Fields;
 pub use laws::{cuts_at_line_ends, only_blanks_are_no_record};
 pub use piece::{read_piece, read_piece_into};
+pub use plain::{bare_size, quote_from};

@@ -92,8 +92,8 @@ fn take_quoted(text: &[u8], fields: &mut Fields) -> Result<Taken, Memory>
     Ok(behind(text, quote + 1))
 }
 
-/// Returns how many bytes a field without quotes has.
-fn bare_size(text: &[u8]) -> usize
+/// Returns how many bytes a field without quotes has: those in front of the first one that can't stand in such a field.
+pub fn bare_size(text: &[u8]) -> usize
     ensures within { result ≤ length text.now }
     ensures bare { All IsBare (take result text.now) }
 {
@@ -113,7 +113,7 @@ fn is_special(byte: u8) -> bool
 }
 
 /// Finds the first quote from a place on.
-fn quote_from(text: &[u8], from: usize) -> Option<usize>
+pub fn quote_from(text: &[u8], from: usize) -> Option<usize>
     requires { from ≤ length text.now }
     ensures { IfSome result (λ quote. IsNextQuote quote from text.now) }
 {
