@@ -1,3 +1,3 @@
 pub mod Leading
 pub mod ReadRows
-pub mod NumberLines
+pub mod PlainLines

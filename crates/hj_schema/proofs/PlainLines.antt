@@ -1,30 +1,21 @@
--- A line of numbers, read column by column.
-use Rattle.std.proofs.Common.{◌≡◌, ℕ, suc, zero, ◌+◌, ◌-◌, ◌<◌, ◌≤◌, ◌==◌, ◌||◌, Bool, true, false, ℤ, List, [], ◌∷◌, ◌++◌, length, take, drop, get_or, slice_get, All, Ok, Err, Result, Some, refl, sym, ap, ap₂, subst, ◌∙◌, arith, append_assoc}
+-- A line, read column by column.
+use Rattle.std.proofs.Common.{◌≡◌, ℕ, suc, zero, ◌+◌, ◌<◌, ◌≤◌, ◌==◌, ◌||◌, false, ℤ, List, [], ◌∷◌, ◌++◌, length, take, drop, get_or, slice_get, All, Ok, Err, Result, Some, refl, sym, ap, subst, ◌∙◌, arith}
 use Rattle.std.proofs.Math.Seq.{take-add}
 use Rattle.std.proofs.lemmas.Bool.Decides.{nat_tests}
 use Rattle.std.proofs.lemmas.List.{length-append, length-drop, length-take-le, take_all, take_more}
-use Rattle.std.proofs.lemmas.List.Elements.{All-append, All-nil, All-push, All-weaker}
 use Rattle.std.proofs.lemmas.Option.{get_or_from_slice_get}
-use Rattle.std.specs.Char.{is_ascii_digit}
 use Rattle.hj_value.specs.declared.column.Column.{Column}
 use Rattle.hj_value.specs.declared.column.ColumnType.TheVariants as kind
 use Rattle.hj_value.specs.declared.field.Field.{Field}
 use Rattle.hj_value.specs.declared.field.Field.TheVariants as field
 use Rattle.hj_value.specs.Number.{int_of}
-use Rattle.hj_record.specs.Line.{IsInLine, IsLine}
-use Rattle.hj_record.specs.Plain.{IsBare}
+use Rattle.hj_record.specs.Pieces.{IsPiece}
 use Rattle.hj_record.specs.Records.{record_of}
-use Rattle.hj_record.proofs.Bare.{BeginsPlainly, ReadsAs, line_reads, none_yet, one_more}
+use Rattle.hj_record.proofs.Bare.{BeginsPlainly, IsWithinLine, ReadsAs, field_within, line_is_piece, line_reads, none_within, none_yet, one_more}
 use Rattle.hj_schema.specs.declared.fault.RowFault.{RowFault}
-use Rattle.hj_schema.specs.Rows.{int_field, put_value, row_of, value_of, values_from}
-use Rattle.hj_schema.specs.Lines.{IsDigit, IsLineOf, TakesInt}
-use Rattle.hj_schema.proofs.ReadRows.{row_of-counted}
-
-digit_bare : (b : ℕ) → IsDigit b → IsBare b
-digit_bare b h = grind (arith, nat_tests)
-
-digit_in_line : (b : ℕ) → IsDigit b → IsInLine b
-digit_in_line b h = grind (arith, nat_tests)
+use Rattle.hj_schema.specs.Rows.{put_value, value_of, values_from}
+use Rattle.hj_schema.specs.Lines.{IsDigit, IsLineOf, TakesField, TakesInt, TakesText}
+use Rattle.hj_schema.proofs.ReadRows.{row_of-counted, value_of-text}
 
 digit_begins : (b : ℕ) → IsDigit b → (((b == 13) || (b == 10)) ≡ false) × ((b == 0xEF) ≡ false)
 digit_begins b h = (grind (arith, nat_tests), grind (arith, nat_tests))
@@ -53,15 +44,12 @@ values_from-last k (c ∷ columns) (f ∷ fields) row column bytes last same is 
     put_last (value_of k c.kind f) (values_from (k + 1) columns fields) (values_from (k + 1) (columns ++ column ∷ []) (fields ++ bytes ∷ [])) row last is
     (λ rest are. values_from-last (k + 1) columns fields rest column bytes last (omega (arith, same)) are one)
 
-int_value : (column : Column) (digits : List ℕ) (value : ℤ) → column.kind ≡ kind.Int → int_of digits ≡ Ok value → (n : ℕ) → value_of n column.kind digits ≡ Ok (field.Int value)
-int_value column digits value is number n = ap (λ kind. value_of n kind digits) is ∙ ap (int_field n) number
-
 -- ---- a line up to a column
 
--- The first bytes, so many, are read: each column's number up to this one with its comma.
+-- The first bytes, so many, are read: each column's field up to this one with its comma.
 pub record ReadsUpTo (columns : List Column) (column : ℕ) (row : List Field) (at : ℕ) (bytes : List ℕ) : Type 0 where
   pub within : at ≤ length bytes
-  pub in_line : All IsInLine (take at bytes)
+  pub in_line : IsWithinLine (take at bytes)
   pub fields : List (List ℕ)
   pub counted : length fields ≡ column
   pub reads : ReadsAs fields (take at bytes)
@@ -70,15 +58,15 @@ pub record ReadsUpTo (columns : List Column) (column : ℕ) (row : List Field) (
 pub none_read : (columns : List Column) (row : List Field) (bytes : List ℕ) → row ≡ [] → ReadsUpTo columns 0 row 0 bytes
 none_read columns row bytes is = record {
   within = omega arith;
-  in_line = All-nil IsInLine;
+  in_line = none_within;
   fields = [];
   counted = refl;
   reads = none_yet;
   values = ap (λ (r : List Field). Ok r) (sym is);
 }
 
-module _ (columns : List Column) (column : ℕ) (row longer : List Field) (at : ℕ) (bytes : List ℕ) (value : ℤ) (size behind : ℕ) (so_far : ReadsUpTo columns column row at bytes) (takes : TakesInt columns column value size behind (drop at bytes)) (pushed : longer ≡ row ++ field.Int value ∷ []) where
-  front : take (at + size) bytes ≡ take at bytes ++ (takes.digits ++ behind ∷ [])
+module _ (columns : List Column) (column : ℕ) (row longer : List Field) (at : ℕ) (bytes : List ℕ) (value : Field) (size behind : ℕ) (so_far : ReadsUpTo columns column row at bytes) (takes : TakesField columns column value size behind (drop at bytes)) (pushed : longer ≡ row ++ value ∷ []) where
+  front : take (at + size) bytes ≡ take at bytes ++ (takes.standing ++ behind ∷ [])
   front = take-add at size bytes ∙ ap (λ (xs : List ℕ). take at bytes ++ xs) takes.are
 
   enough : at + size ≤ length bytes
@@ -95,53 +83,58 @@ module _ (columns : List Column) (column : ℕ) (row longer : List Field) (at : 
   columns_more : take (column + 1) columns ≡ take column columns ++ takes.column ∷ []
   columns_more = take_more columns column takes.column there ∙ ap (λ (c : Column). take column columns ++ c ∷ []) (get_or_from_slice_get columns column takes.column takes.column takes.there)
 
-  values_more : values_from 1 (take (column + 1) columns) (so_far.fields ++ takes.digits ∷ []) ≡ Ok longer
+  values_more : values_from 1 (take (column + 1) columns) (so_far.fields ++ takes.field ∷ []) ≡ Ok longer
   values_more =
-      ap (λ (cs : List Column). values_from 1 cs (so_far.fields ++ takes.digits ∷ [])) columns_more
-      ∙ values_from-last 1 (take column columns) so_far.fields row takes.column takes.digits (field.Int value) (so_far.counted ∙ sym (length-take-le column columns (omega (arith, there)))) so_far.values (int_value takes.column takes.digits value takes.int takes.number)
+      ap (λ (cs : List Column). values_from 1 cs (so_far.fields ++ takes.field ∷ [])) columns_more
+      ∙ values_from-last 1 (take column columns) so_far.fields row takes.column takes.field value (so_far.counted ∙ sym (length-take-le column columns (omega (arith, there)))) so_far.values takes.reads
       ∙ ap (λ (r : List Field). Ok r) (sym pushed)
-
-  bare : All IsBare takes.digits
-  bare = All-weaker IsDigit IsBare digit_bare takes.digits takes.all
-
-  digits_in_line : All IsInLine (take at bytes ++ takes.digits)
-  digits_in_line = All-append IsInLine (take at bytes) takes.digits so_far.in_line (All-weaker IsDigit IsInLine digit_in_line takes.digits takes.all)
 
   pub one_column_more : behind ≡ 44 → ReadsUpTo columns (column + 1) longer (at + size) bytes
   one_column_more comma =
-      let whole : take (at + size) bytes ≡ take at bytes ++ (takes.digits ++ 44 ∷ []) = front ∙ ap (λ (b : ℕ). take at bytes ++ (takes.digits ++ b ∷ [])) comma in
+      let whole : take (at + size) bytes ≡ take at bytes ++ (takes.standing ++ 44 ∷ []) = front ∙ ap (λ (b : ℕ). take at bytes ++ (takes.standing ++ b ∷ [])) comma in
       record {
         within = enough;
-        in_line = subst (All IsInLine) (append_assoc (take at bytes) takes.digits (44 ∷ []) ∙ sym whole) (All-push IsInLine (take at bytes ++ takes.digits) 44 digits_in_line refl);
-        fields = so_far.fields ++ takes.digits ∷ [];
-        counted = omega (arith, length-append so_far.fields (takes.digits ∷ []), so_far.counted);
-        reads = subst (ReadsAs (so_far.fields ++ takes.digits ∷ [])) (sym whole) (one_more so_far.fields (take at bytes) takes.digits so_far.reads bare);
+        in_line = subst IsWithinLine (sym whole) (field_within (take at bytes) takes.field takes.standing so_far.in_line takes.plainly);
+        fields = so_far.fields ++ takes.field ∷ [];
+        counted = omega (arith, length-append so_far.fields (takes.field ∷ []), so_far.counted);
+        reads = subst (ReadsAs (so_far.fields ++ takes.field ∷ [])) (sym whole) (one_more so_far.fields (take at bytes) takes.field takes.standing so_far.reads takes.plainly);
         values = values_more;
       }
 
   pub whole_line : behind ≡ 10 → column + 1 ≡ length columns → 0 < length bytes → IsDigit (get_or bytes 0 0) → 0 < at + size → IsLineOf columns longer (at + size) bytes
   whole_line line_feed all some digit used =
-      let whole : take (at + size) bytes ≡ take at bytes ++ (takes.digits ++ 10 ∷ []) = front ∙ ap (λ (b : ℕ). take at bytes ++ (takes.digits ++ b ∷ [])) line_feed in
-      let fields = so_far.fields ++ takes.digits ∷ [] in
+      let whole : take (at + size) bytes ≡ take at bytes ++ (takes.standing ++ 10 ∷ []) = front ∙ ap (λ (b : ℕ). take at bytes ++ (takes.standing ++ b ∷ [])) line_feed in
+      let fields = so_far.fields ++ takes.field ∷ [] in
       record {
         within = enough;
-        line = (take at bytes ++ takes.digits, whole ∙ sym (append_assoc (take at bytes) takes.digits (10 ∷ [])), digits_in_line);
+        piece = subst IsPiece (sym whole) (line_is_piece (take at bytes) takes.field takes.standing so_far.in_line takes.plainly);
         fields = fields;
-        reads = ap record_of whole ∙ line_reads so_far.fields (take at bytes) takes.digits so_far.reads bare (subst BeginsPlainly whole (begins bytes (at + size) used some digit));
+        reads = ap record_of whole ∙ line_reads so_far.fields (take at bytes) takes.field takes.standing so_far.reads takes.plainly (subst BeginsPlainly whole (begins bytes (at + size) used some digit));
         row_is =
-            row_of-counted columns fields (omega (arith, length-append so_far.fields (takes.digits ∷ []), so_far.counted, all))
+            row_of-counted columns fields (omega (arith, length-append so_far.fields (takes.field ∷ []), so_far.counted, all))
             ∙ ap (λ (cs : List Column). values_from 1 cs fields) (sym (take_all (column + 1) columns (omega (arith, all))))
             ∙ values_more;
       }
 
-pub takes_int : (columns : List Column) (at : ℕ) (column : Column) (value : ℤ) (size behind : ℕ) (bytes : List ℕ) → slice_get columns at ≡ Some column → column.kind ≡ kind.Int → size < length bytes → All IsDigit (take size bytes) → int_of (take size bytes) ≡ Ok value → get_or bytes size 0 ≡ behind → TakesInt columns at value (size + 1) behind bytes
-takes_int columns at column value size behind bytes is int within all number there = record {
-  column = column;
-  there = is;
-  int = int;
+-- ---- one field
+
+pub takes_int : (value : ℤ) (size behind : ℕ) (bytes : List ℕ) → size < length bytes → All IsDigit (take size bytes) → int_of (take size bytes) ≡ Ok value → get_or bytes size 0 ≡ behind → TakesInt value (size + 1) behind bytes
+takes_int value size behind bytes within all number there = record {
   within = omega arith;
   digits = take size bytes;
   are = take_more bytes size 0 within ∙ ap (λ (b : ℕ). take size bytes ++ b ∷ []) there;
   all = all;
   number = number;
+}
+
+pub text_taken : (columns : List Column) (at : ℕ) (column : Column) (text : List ℕ) (size behind : ℕ) (bytes : List ℕ) → slice_get columns at ≡ Some column → column.kind ≡ kind.Text → TakesText text size behind bytes → TakesField columns at (field.Text text) size behind bytes
+text_taken columns at column text size behind bytes there is takes = record {
+  column = column;
+  there = there;
+  within = takes.within;
+  field = text;
+  standing = takes.standing;
+  are = takes.are;
+  plainly = takes.plainly;
+  reads = λ number. ap (λ kind. value_of number kind text) is ∙ sym (value_of-text number text text takes.utf8 refl);
 }

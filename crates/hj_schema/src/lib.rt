@@ -2,9 +2,11 @@
 #![tactic(auto)]
 
 mod fault;
+mod line;
 mod numbers;
 mod read;
+mod texts;
 
 pub use fault::RowFault;
-pub use numbers::read_numbers;
+pub use line::read_line;
 pub use read::read_row;

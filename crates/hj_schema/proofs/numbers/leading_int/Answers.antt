@@ -1,4 +1,4 @@
-use Rattle.std.proofs.Common.{◌≡◌, ◌+◌, ◌-◌, ◌<◌, ◌≤◌, ◌^◌, arith, get_or, length, sym, ap, subst, take, pos, Ok, w64, ◌∙◌, rules}
+use Rattle.std.proofs.Common.{◌≡◌, ◌-◌, arith, get_or, sym, ap, subst, take, Ok, w64, ◌∙◌, rules}
 use Rattle.std.proofs.lemmas.Int.{to_z_pos}
 use Rattle.std.proofs.lemmas.List.{get_or-take, length-take-le}
 use Rattle.std.proofs.lemmas.List.Elements.{All-more}

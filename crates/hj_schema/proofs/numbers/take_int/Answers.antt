@@ -1,12 +1,12 @@
 use Rattle.std.proofs.Common.{◌+◌, ℤ, FitsSigned, subst, sym, w64, rules}
 use Rattle.std.proofs.lemmas.Int.{to_z-of_z}
 use Rattle.hj_schema.specs.Lines.{TakesInt}
-use Rattle.hj_schema.proofs.NumberLines.{takes_int}
+use Rattle.hj_schema.proofs.PlainLines.{takes_int}
 use Rattle.hj_schema.proofs.numbers.take_int.Goals as goal
 
 pub returns-then-bytes-digits : goal.returns-then-bytes-digits
 returns-then-bytes-digits c =
     let fits : FitsSigned w64 c.in_ok-value.value = search rules in
     let leads = c.in_ok-value.ensures in
-    subst (λ (z : ℤ). TakesInt c.args.schema.now.columns c.args.column z (c.in_ok-value.digits + 1) c.args.behind c.args.bytes.now) (sym (to_z-of_z w64 c.in_ok-value.value fits))
-    (takes_int c.args.schema.now.columns c.args.column c.in_ok-column.column.now c.in_ok-value.value c.in_ok-value.digits c.args.behind c.args.bytes.now (sym c.in_ok-column.ensures) c.in-Int.is leads.1 leads.2 leads.3 c.if-bytes-digits.true)
+    subst (λ (z : ℤ). TakesInt z (c.in_ok-value.digits + 1) c.args.behind c.args.bytes.now) (sym (to_z-of_z w64 c.in_ok-value.value fits))
+    (takes_int c.in_ok-value.value c.in_ok-value.digits c.args.behind c.args.bytes.now leads.1 leads.2 leads.3 c.if-bytes-digits.true)
