@@ -1,5 +1,5 @@
 -- The arguments of each command, and what is found among them.
-use Rattle.std.proofs.Common.{◌≡◌, ◌&&◌, ℕ, suc, Bool, true, false, not, List, [], ◌∷◌, ◌++◌, map, Some, None, refl, sym, ap, true≢false, codes}
+use Rattle.std.proofs.Common.{◌≡◌, ◌&&◌, ℕ, suc, Bool, true, false, not, List, [], ◌∷◌, ◌++◌, map, Some, None, refl, sym, ap, true≢false}
 use Rattle.std.specs.List.{list_all, list_any}
 use Rattle.std.specs.Str.{bytes_eq}
 use Rattle.std.proofs.lemmas.Slice.Eq.{bytes_eq-Decides}
@@ -8,9 +8,10 @@ use Rattle.clap.specs.Simple.{App, built, is_simple}
 use Rattle.clap.specs.Takes.{is_given}
 use Rattle.clap.specs.Walk.{Row, Rule, arg_by_id, arg_by_long, arg_by_short, is_empty}
 use Rattle.hj_words.specs.Arguments.{command_app}
-use Rattle.hj_words.specs.Orders.{check_names, equi_names, gen_names, join_names, join_options, no_options}
-use Rattle.hj_words.specs.Orders.{raw_options, trace_options, twice_names, verify_names, verify_options}
 use Rattle.hj_words.specs.Values.{Text, is_among}
+use Rattle.hj_words.specs.Verbs.{names_of, options_of, title_of}
+use Rattle.hj_words.specs.declared.verb.Verb.{Verb}
+use Rattle.hj_words.specs.declared.verb.Verb.TheVariants as verb
 use Rattle.hj_words.proofs.Given.{IsRead}
 use Rattle.hj_words.proofs.Commands.{Finds, Places, option_arg, positional_arg, top_of}
 
@@ -111,52 +112,15 @@ plain_read title options names places is_built all_words simple free = record {
 
 -- ---- the commands
 
-abbrev pub equi_app : App
-equi_app = command_app (codes "equi") no_options equi_names
+abbrev pub verb_app : Verb → App
+verb_app of = command_app (title_of of) (options_of of) (names_of of)
 
-pub equi_read : IsRead equi_app no_options equi_names
-equi_read = plain_read (codes "equi") no_options equi_names (refl, refl, (refl, refl, (refl, refl, refl))) refl refl refl refl
-
-abbrev pub check_app : App
-check_app = command_app (codes "check") no_options check_names
-
-pub check_read : IsRead check_app no_options check_names
-check_read = plain_read (codes "check") no_options check_names (refl, refl, refl) refl refl refl refl
-
-abbrev pub gen_app : App
-gen_app = command_app (codes "gen") no_options gen_names
-
-pub gen_read : IsRead gen_app no_options gen_names
-gen_read = plain_read (codes "gen") no_options gen_names (refl, refl, (refl, refl, (refl, refl, (refl, refl, refl)))) refl refl refl refl
-
-abbrev pub join_app : App
-join_app = command_app (codes "join") join_options join_names
-
-pub join_read : IsRead join_app join_options join_names
-join_read = plain_read (codes "join") join_options join_names (refl, refl, (refl, refl, (refl, refl, refl))) refl refl refl refl
-
-abbrev pub raw_app : App
-raw_app = command_app (codes "raw") raw_options join_names
-
-pub raw_read : IsRead raw_app raw_options join_names
-raw_read = plain_read (codes "raw") raw_options join_names (refl, refl, (refl, refl, (refl, refl, refl))) refl refl refl refl
-
-abbrev pub trace_app : App
-trace_app = command_app (codes "trace") trace_options join_names
-
-pub trace_read : IsRead trace_app trace_options join_names
-trace_read = plain_read (codes "trace") trace_options join_names (refl, refl, (refl, refl, (refl, refl, refl))) refl refl refl refl
-
-abbrev pub verify_app : App
-verify_app = command_app (codes "verify") verify_options verify_names
-
-pub verify_read : IsRead verify_app verify_options verify_names
-verify_read = plain_read (codes "verify") verify_options verify_names
-    (refl, refl, (refl, refl, (refl, refl, (refl, refl, (refl, refl, refl))))) refl refl refl refl
-
-abbrev pub twice_app : App
-twice_app = command_app (codes "twice") join_options twice_names
-
-pub twice_read : IsRead twice_app join_options twice_names
-twice_read = plain_read (codes "twice") join_options twice_names
-    (refl, refl, (refl, refl, (refl, refl, (refl, refl, (refl, refl, refl))))) refl refl refl refl
+pub verb_read : (of : Verb) → IsRead (verb_app of) (options_of of) (names_of of)
+verb_read verb.Equi = plain_read (title_of verb.Equi) (options_of verb.Equi) (names_of verb.Equi) (refl, refl, (refl, refl, (refl, refl, refl))) refl refl refl refl
+verb_read verb.Join = plain_read (title_of verb.Join) (options_of verb.Join) (names_of verb.Join) (refl, refl, (refl, refl, (refl, refl, refl))) refl refl refl refl
+verb_read verb.Check = plain_read (title_of verb.Check) (options_of verb.Check) (names_of verb.Check) (refl, refl, refl) refl refl refl refl
+verb_read verb.Gen = plain_read (title_of verb.Gen) (options_of verb.Gen) (names_of verb.Gen) (refl, refl, (refl, refl, (refl, refl, (refl, refl, refl)))) refl refl refl refl
+verb_read verb.Raw = plain_read (title_of verb.Raw) (options_of verb.Raw) (names_of verb.Raw) (refl, refl, (refl, refl, (refl, refl, refl))) refl refl refl refl
+verb_read verb.Trace = plain_read (title_of verb.Trace) (options_of verb.Trace) (names_of verb.Trace) (refl, refl, (refl, refl, (refl, refl, refl))) refl refl refl refl
+verb_read verb.Verify = plain_read (title_of verb.Verify) (options_of verb.Verify) (names_of verb.Verify) (refl, refl, (refl, refl, (refl, refl, (refl, refl, (refl, refl, refl))))) refl refl refl refl
+verb_read verb.Twice = plain_read (title_of verb.Twice) (options_of verb.Twice) (names_of verb.Twice) (refl, refl, (refl, refl, (refl, refl, (refl, refl, (refl, refl, refl))))) refl refl refl refl

@@ -7,6 +7,7 @@ mod numbers;
 mod order;
 mod read;
 mod values;
+mod verb;
 
 pub use order::{Order, Usage};
 pub use read::read_words;

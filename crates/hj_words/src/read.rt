@@ -3,14 +3,12 @@ ghost use Rattle.hj_words.specs.Orders.{order_of, equi_spelled, join_spelled, ch
 ghost use Rattle.hj_words.specs.Orders.{raw_spelled, trace_spelled, verify_spelled, twice_spelled};
 ghost use Rattle.hj_words.specs.Ranges.{IsInRange};
 
-use crate::arguments::{
-    check_matches, equi_matches, gen_matches, join_matches, raw_matches, trace_matches,
-    twice_matches, verify_matches,
-};
+use crate::arguments::values_after;
 use crate::names::{named, names_among};
 use crate::numbers::{join_numbers, numbers_among};
 use crate::order::{Order, Usage};
 use crate::values::number;
+use crate::verb::Verb;
 use std::alloc::Global;
 
 const MOST_ROWS: u64 = 1_000_000;
@@ -43,7 +41,7 @@ fn read_equi(alloc: Global, words: &[String]) -> Result<Order, Usage>
     ensures ranges { IfOk result IsInRange }
     ensures err { IfErr result (λ fault. fault ≡ Usage.Words → equi_spelled (map string_bytes words.now) ≡ None) }
 {
-    let matches = equi_matches(alloc, words)?;
+    let matches = values_after(alloc, Verb::Equi, words)?;
     let w = number(matches.get_str("w"), 1, MOST_ROWS).ok_or(Usage::Words)?;
     let left = named(alloc, matches.get_str("left"))?;
     let right = named(alloc, matches.get_str("right"))?;
@@ -60,7 +58,7 @@ fn read_join(alloc: Global, words: &[String]) -> Result<Order, Usage>
     ensures ranges { IfOk result IsInRange }
     ensures err { IfErr result (λ fault. fault ≡ Usage.Words → join_spelled (map string_bytes words.now) ≡ None) }
 {
-    let matches = join_matches(alloc, words)?;
+    let matches = values_after(alloc, Verb::Join, words)?;
     let numbers = numbers_among(&matches).ok_or(Usage::Words)?;
     let names = names_among(alloc, &matches)?;
     Ok(Order::Join {
@@ -79,7 +77,7 @@ fn read_check(alloc: Global, words: &[String]) -> Result<Order, Usage>
     ensures ranges { IfOk result IsInRange }
     ensures err { IfErr result (λ fault. fault ≡ Usage.Words → check_spelled (map string_bytes words.now) ≡ None) }
 {
-    let matches = check_matches(alloc, words)?;
+    let matches = values_after(alloc, Verb::Check, words)?;
     let query = named(alloc, matches.get_str("query"))?;
     Ok(Order::Check { query })
 }
@@ -90,7 +88,7 @@ fn read_gen(alloc: Global, words: &[String]) -> Result<Order, Usage>
     ensures ranges { IfOk result IsInRange }
     ensures err { IfErr result (λ fault. fault ≡ Usage.Words → gen_spelled (map string_bytes words.now) ≡ None) }
 {
-    let matches = gen_matches(alloc, words)?;
+    let matches = values_after(alloc, Verb::Gen, words)?;
     gen_order(
         matches.get_str("n"),
         matches.get_str("keys"),
@@ -130,7 +128,7 @@ fn read_raw(alloc: Global, words: &[String]) -> Result<Order, Usage>
     ensures ranges { IfOk result IsInRange }
     ensures err { IfErr result (λ fault. fault ≡ Usage.Words → raw_spelled (map string_bytes words.now) ≡ None) }
 {
-    let matches = raw_matches(alloc, words)?;
+    let matches = values_after(alloc, Verb::Raw, words)?;
     let numbers = join_numbers(
         1,
         matches.get_str("cores"),
@@ -156,7 +154,7 @@ fn read_trace(alloc: Global, words: &[String]) -> Result<Order, Usage>
     ensures ranges { IfOk result IsInRange }
     ensures err { IfErr result (λ fault. fault ≡ Usage.Words → trace_spelled (map string_bytes words.now) ≡ None) }
 {
-    let matches = trace_matches(alloc, words)?;
+    let matches = values_after(alloc, Verb::Trace, words)?;
     let numbers = join_numbers(
         0,
         matches.get_str("cores"),
@@ -184,7 +182,7 @@ fn read_verify(alloc: Global, words: &[String]) -> Result<Order, Usage>
     ensures ranges { IfOk result IsInRange }
     ensures err { IfErr result (λ fault. fault ≡ Usage.Words → verify_spelled (map string_bytes words.now) ≡ None) }
 {
-    let matches = verify_matches(alloc, words)?;
+    let matches = values_after(alloc, Verb::Verify, words)?;
     let trace = named(alloc, matches.get_str("trace"))?;
     let output = named(alloc, matches.get_str("output"))?;
     let numbers = join_numbers(
@@ -215,7 +213,7 @@ fn read_twice(alloc: Global, words: &[String]) -> Result<Order, Usage>
     ensures ranges { IfOk result IsInRange }
     ensures err { IfErr result (λ fault. fault ≡ Usage.Words → twice_spelled (map string_bytes words.now) ≡ None) }
 {
-    let matches = twice_matches(alloc, words)?;
+    let matches = values_after(alloc, Verb::Twice, words)?;
     let second = named(alloc, matches.get_str("second"))?;
     let third = named(alloc, matches.get_str("third"))?;
     let numbers = numbers_among(&matches).ok_or(Usage::Words)?;
