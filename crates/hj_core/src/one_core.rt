@@ -327,8 +327,7 @@ impl<P: Share + Drop, J: Join<P> + Drop, L: Store<P, J> + Drop, R: Store<P, J> +
     }
 
     /// Finds the partners of a left row, and keeps it if it rests here.
-    // Called, so that `handle` stays small enough to be compiled into the sweep over the actors.
-    #[inline(never)]
+    #[inline(always)]
     fn handle_left(&mut self, no: EventNo, row: &P) -> Result<Option<Report<P>>, Memory>
         ensures state { IfOk result (λ entry. state_of L.entries R.entries self.new ≡ after self.old.place self.old.cores (state_of L.entries R.entries self.old) (LeftRow no row.now)) }
         ensures report { IfOk result (λ entry. entry ≡ report (J.predicate self.old.join) (state_of L.entries R.entries self.old) (LeftRow no row.now)) }
@@ -350,8 +349,7 @@ impl<P: Share + Drop, J: Join<P> + Drop, L: Store<P, J> + Drop, R: Store<P, J> +
     }
 
     /// Finds the partners of a right row, and keeps it if it rests here, and until the left neighbour acknowledges it.
-    // Called, so that `handle` stays small enough to be compiled into the sweep over the actors.
-    #[inline(never)]
+    #[inline(always)]
     fn handle_right(&mut self, no: EventNo, row: &P) -> Result<Option<Report<P>>, Memory>
         ensures state { IfOk result (λ entry. state_of L.entries R.entries self.new ≡ after self.old.place self.old.cores (state_of L.entries R.entries self.old) (RightRow no row.now)) }
         ensures report { IfOk result (λ entry. entry ≡ report (J.predicate self.old.join) (state_of L.entries R.entries self.old) (RightRow no row.now)) }
