@@ -140,7 +140,7 @@ impl Chains {
         ensures own { self.new.own ≡ self.old.own }
         ensures chained { AreChained self.new }
     {
-        match self.find(no) {
+        match self.find_last(no) {
             Some(at) => {
                 self.settle_at(at, no);
                 true
@@ -158,7 +158,7 @@ impl Chains {
         ensures own { self.new.own ≡ self.old.own }
         ensures chained { AreChained self.new }
     {
-        match self.find(no) {
+        match self.find_first(no) {
             Some(at) => {
                 self.empty_at(at, no);
                 self.drop_first();

@@ -87,6 +87,7 @@ impl<J: Join<SharedRow>> Store<SharedRow, J> for HashStore {
         self.rows.take(no.0)
     }
 
+    #[inline(always)]
     fn probe(
         &self,
         side: Side,

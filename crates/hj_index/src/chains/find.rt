@@ -35,6 +35,40 @@ impl Chains {
         }
     }
 
+    /// Finds the place that holds the row of a number, which is mostly the first.
+    #[inline(always)]
+    pub(super) fn find_first(&self, no: u64) -> Option<usize>
+        requires { AreChained self.now }
+        ensures { FindsRow no self.now.places.items result }
+    {
+        match self.places.front() {
+            Some(first) if first.no == no && first.rest.is_some() => Some(0),
+            _ => self.find_behind(no),
+        }
+    }
+
+    /// Finds the place that holds the row of a number, wherever it is.
+    // Called, so that what is mostly done stays short.
+    #[inline(never)]
+    fn find_behind(&self, no: u64) -> Option<usize>
+        requires { AreChained self.now }
+        ensures { FindsRow no self.now.places.items result }
+    {
+        self.find(no)
+    }
+
+    /// Finds the place that holds the row of a number, which is mostly the last.
+    #[inline(always)]
+    pub(super) fn find_last(&self, no: u64) -> Option<usize>
+        requires { AreChained self.now }
+        ensures { FindsRow no self.now.places.items result }
+    {
+        match self.places.back() {
+            Some(last) if last.no == no && last.rest.is_some() => Some(self.places.len() - 1),
+            _ => self.find(no),
+        }
+    }
+
     /// Finds the place that holds the row of a number, where numbers stand in any order.
     #[cold]
     fn find_among(&self, no: u64) -> Option<usize>

@@ -1,8 +1,9 @@
-ghost use Rattle.std.specs.Prelude.{◌≡◌, Some, List, map, reverse, true, IfOk};
+ghost use Rattle.std.specs.Prelude.{◌≡◌, Some, List, map, nat_eq, reverse, true, IfOk};
+ghost use Rattle.std.specs.HashMap.{get};
 ghost use Rattle.hj_value.specs.declared.field.Field.{Field};
 ghost use Rattle.hj_msg.specs.Store.{joins, settled_matches};
 ghost use Rattle.hj_rows.specs.Places.{partner_of};
-ghost use Rattle.hj_index.specs.Chains.{rows_in, AreChained};
+ghost use Rattle.hj_index.specs.Chains.{known_place, rows_in, AreChained};
 ghost use Rattle.hj_index.specs.Keys.{key_at};
 
 use crate::chains::Chains;
@@ -29,19 +30,40 @@ impl Chains {
         ensures { IfOk result (λ partners. partners ≡ settled_matches (J.predicate join.now) side against.now (rows_in self.now)) }
     {
         if !self.is_ascending {
-            return partners_of(alloc, self.sorted_rows(alloc, side, against, join)?);
+            return self.probe_sorted(alloc, side, against, join);
         }
-        let mut partners = self.walk(alloc, key, side, against, join)?;
+        let last = self.last_of(key);
+        let Some(_place) = self.place(last) else {
+            return Ok(Partners::new(alloc));
+        };
+        let mut partners = self.walk(alloc, key, last, side, against, join)?;
         partners.reverse();
         Ok(partners)
     }
 
-    /// Finds the settled rows of a key that join with a row of the other stream, from the last one on.
-    #[inline(always)]
+    /// Finds the same, whatever the order in which the rows stand.
+    #[cold]
+    fn probe_sorted<J: Join<SharedRow>>(
+        &self,
+        alloc: Global,
+        side: Side,
+        against: &SharedRow,
+        join: &J,
+    ) -> Result<Partners<SharedRow>, Memory>
+        requires chained { AreChained self.now }
+        ensures { IfOk result (λ partners. partners ≡ settled_matches (J.predicate join.now) side against.now (rows_in self.now)) }
+    {
+        partners_of(alloc, self.sorted_rows(alloc, side, against, join)?)
+    }
+
+    /// Finds the settled rows of a key that join with a row of the other stream, from the last place on that is known of the key.
+    // Called, so that a probe of a key that has no row stays short.
+    #[inline(never)]
     fn walk<J: Join<SharedRow>>(
         &self,
         alloc: Global,
         key: u64,
+        last: u64,
         side: Side,
         against: &SharedRow,
         join: &J,
@@ -49,10 +71,11 @@ impl Chains {
         requires chained { AreChained self.now }
         requires ascending { self.now.is_ascending ≡ true }
         requires key { (row : List Field) → joins (J.predicate join.now) side row against.now ≡ true → key_at self.now.own row ≡ Some key }
+        requires last { last ≡ known_place (get nat_eq self.now.last key) }
         ensures { IfOk result (λ found. reverse found ≡ settled_matches (J.predicate join.now) side against.now (rows_in self.now)) }
     {
         let mut found = Partners::new(alloc);
-        let mut next = self.last_of(key);
+        let mut next = last;
         while let Some(place) = self.place(next) {
             next = place.before;
             if let Some(row) = joining_row(&place.rest, side, against, join) {

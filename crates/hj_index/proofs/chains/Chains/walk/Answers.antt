@@ -8,7 +8,7 @@ pub loop-place-init : goal.loop-place-init
 loop-place-init g c =
     let s = c.args.self.now in
     walk-starts (λ row. joins (g.J.Join.predicate c.args.join.now) c.args.side row c.args.against.now) s.own c.args.key s.base s.places.items (get nat_eq s.last) c.requires.key c.requires.chained.nearly.linked
-    c.new-found.result c.last_of-next.result c.new-found.ensures c.last_of-next.ensures
+    c.new-found.result c.args.last c.new-found.ensures c.requires.last
 
 pub loop-place-smaller-in_ok-push : goal.loop-place-smaller-in_ok-push
 loop-place-smaller-in_ok-push g c =
