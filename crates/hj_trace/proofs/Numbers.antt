@@ -1,6 +1,6 @@
 -- The decimal text of a core's number is read back.
-use Rattle.std.proofs.Common.{◌≡◌, ℕ, ◌<◌, ◌^◌, Bool, true, false, not, List, Ok, Err, Result, sym, ap, subst, ◌∙◌, arith, nat_eq}
-use Rattle.std.proofs.lemmas.Fmt.{IsAscii-decimal, parse-decimal}
+use Rattle.std.proofs.Common.{◌≡◌, ℕ, ◌-◌, ◌<◌, ◌≤◌, ◌^◌, Bool, true, false, not, List, [], ◌∷◌, length, get_or, Ok, Err, Result, sym, ap, subst, ◌∙◌, arith, nat_eq}
+use Rattle.std.proofs.lemmas.Fmt.{IsAscii-decimal, decimal_digit, parse-decimal}
 use Rattle.std.proofs.lemmas.Str.{IsUtf8-from_ascii}
 use Rattle.std.specs.Cmp.Lexicographic.{pointwise, bytes_decides}
 use Rattle.std.specs.Fmt.{decimal}
@@ -31,3 +31,9 @@ unequal e = cc
 -- two lists of bytes that compare as different are no equal ones
 pub apart : (xs ys : List ℕ) (differs : Bool) → differs ≡ not (pointwise nat_eq xs ys) → differs ≡ true → ys ≡ xs → ⊥
 apart xs ys differs is holds same = unequal (sym holds ∙ is ∙ ap not ((bytes_decides xs ys).1 (sym same)))
+
+-- the text of one digit
+pub one_digit : (digits : List ℕ) (n : ℕ) → length digits ≡ 1 → 48 ≤ get_or digits 0 0 → get_or digits 0 0 ≤ 57 → n ≡ get_or digits 0 0 - 48 → digits ≡ decimal n
+one_digit [] n one low high is = cc
+one_digit (digit ∷ []) n one low high is = ap (λ d. d ∷ []) (omega (arith, is, low)) ∙ sym (decimal_digit n (omega (arith, is, low, high)))
+one_digit (digit ∷ (next ∷ rest)) n one low high is = absurd (omega (arith, one))

@@ -90,6 +90,10 @@ fn read_core(digits: &[u8]) -> Option<CoreNo>
     ensures fits { IfSome result (λ core. core.0 < 2 ^ 16) }
     ensures none { result ≡ None → (n : ℕ) → n < 2 ^ 16 → digits.now ≢ decimal n }
 {
+    // Mostly there are few cores.
+    if digits.len() == 1 && digits[0].is_ascii_digit() {
+        return Some(CoreNo(u16::from(digits[0] - b'0')));
+    }
     let text = match str::from_utf8(digits) {
         Ok(text) => text,
         Err(_) => return None,

@@ -22,6 +22,7 @@ pub fn push_number(text: &mut Vec<u8>, number: u64) -> Result<(), Memory>
 }
 
 /// Appends words, and then a number in decimal.
+#[inline(always)]
 pub fn push_numbered(text: &mut Vec<u8>, words: &str, number: u64) -> Result<(), Memory>
     ensures { OnOk result (text.new.items ≡ text.old.items ++ (words.now ++ decimal number)) }
 {
