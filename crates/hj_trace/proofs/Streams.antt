@@ -1,14 +1,17 @@
 -- Uses of a stream, one behind the other.
-use Rattle.std.proofs.Common.{◌≡◌, ◌≢◌, ℕ, ◌+◌, ◌-◌, ◌<◌, ◌≤◌, Bool, true, false, List, [], ◌∷◌, ◌++◌, length, take, drop, get_or, None, Some, refl, sym, ap, ◌∙◌, append-nil, append_assoc, arith, subst, length-take, length-drop, take-append-drop, drop-cons, true≢false}
+use Rattle.std.proofs.Common.{◌≡◌, ◌≢◌, ℕ, suc, ◌+◌, ◌-◌, ◌<◌, ◌≤◌, Bool, true, false, List, [], ◌∷◌, ◌++◌, length, take, drop, get_or, None, Some, refl, sym, ap, ◌∙◌, append-nil, append_assoc, arith, subst, length-take, length-drop, take-append-drop, drop-cons, true≢false}
 use Rattle.std.proofs.KnownBytes.{Consumes-nil, Consumes-trans}
-use Rattle.std.proofs.lemmas.List.{drop-take, get_or-drop, get_or-take, take_more}
-use Rattle.std.proofs.lemmas.Option.{slice_get-get_or}
+use Rattle.std.proofs.lemmas.List.{drop-drop, drop-take, get_or-drop, get_or-take, take_more}
+use Rattle.std.proofs.lemmas.Option.{get_or_from_slice_get, slice_get-get_or, slice_get_within}
 use Rattle.std.specs.Io.KnownBytes.{IsAtEnd}
 use Rattle.std.specs.List.{slice_get}
 use Rattle.hj_base.specs.declared.outside.Role.{Role}
-use Rattle.hj_base.specs.Outside.{RoleState, ChangesOnly}
+use Rattle.hj_base.specs.Outside.{RoleState, ChangesOnly, opened}
+use Rattle.hj_chain.specs.declared.actor.Actor.{Actor}
+use Rattle.hj_trace.specs.declared.stream.ActorFound.TheVariants as found
+use Rattle.hj_trace.specs.Actors.{IsNumbered, actor_text}
 use Rattle.hj_trace.specs.declared.stream.Compared.TheVariants as compared
-use Rattle.hj_trace.specs.Stream.{StreamState, GoesWith, Uses, CountsFaults, PartsFrom, Compares}
+use Rattle.hj_trace.specs.Stream.{StreamState, GoesWith, Uses, CountsFaults, PartsFrom, Compares, ReadsActor}
 
 -- the byte at a place of a portion stands next in what is unused from there on
 pub stands_next : (portion : List ℕ) (used filled : ℕ) → used < filled → filled ≤ length portion → slice_get (drop used (take filled portion)) 0 ≡ Some (get_or portion used 0)
@@ -158,4 +161,38 @@ compare_same expected old new role end waits used = record {
   expects = sym (append-nil expected);
   uses = waiting_used expected old new role end waits used;
   ends = refl;
+}
+
+-- the bytes before one of them, it, and those behind
+parted_at : (bytes : List ℕ) (at byte : ℕ) → slice_get bytes at ≡ Some byte → take at bytes ++ byte ∷ drop (at + 1) bytes ≡ bytes
+parted_at bytes at byte is =
+    let next : suc at ≡ at + 1 = omega arith in
+    let stands : drop at bytes ≡ get_or bytes at 0 ∷ drop (at + 1) bytes = drop-cons bytes at 0 (slice_get_within bytes at byte is) ∙ ap (λ n. get_or bytes at 0 ∷ drop n bytes) next in
+    ap (λ rest. take at bytes ++ rest) (sym (stands ∙ ap (λ b. b ∷ drop (at + 1) bytes) (get_or_from_slice_get bytes at byte 0 is))) ∙ take-append-drop at bytes
+
+-- a text and a comma of a portion wait
+pub waiting_text : (portion : List ℕ) (used filled at : ℕ) (text unused : List ℕ) → used ≤ filled → drop used (take filled portion) ≡ unused → slice_get (take (filled - used) (drop used portion)) at ≡ Some 44
+    → take at (take (filled - used) (drop used portion)) ≡ text → unused ≡ text ++ 44 ∷ drop (used + (at + 1)) (take filled portion)
+waiting_text portion used filled at text unused within same comma is =
+    let waiting : List ℕ = take (filled - used) (drop used portion) in
+    let part : waiting ≡ drop used (take filled portion) = unused_part portion used filled within in
+    sym same ∙ sym part ∙ sym (parted_at waiting at 44 comma) ∙ ap (λ t. t ++ 44 ∷ drop (at + 1) waiting) is
+    ∙ ap (λ w. text ++ 44 ∷ drop (at + 1) w) part ∙ ap (λ d. text ++ 44 ∷ d) (drop-drop (at + 1) used (take filled portion))
+
+-- an actor's text and a comma that wait are used
+pub waiting_actor : (actor : Actor) (old new : StreamState) (role : RoleState) → (old.ended ≡ true → IsAtEnd role.left) → IsNumbered actor × (old.unused ≡ actor_text actor ++ 44 ∷ new.unused)
+    → new.role ≡ old.role → new.ended ≡ old.ended → ReadsActor (found.Actor actor) old role new role
+waiting_actor actor old new role end waits same_role same_end = record {
+  bytes = actor_text actor ++ 44 ∷ [];
+  uses = record {
+    role = same_role;
+    came = [];
+    read = Consumes-nil role.left;
+    used = append-nil old.unused ∙ waits.1 ∙ sym (append_assoc (actor_text actor) (44 ∷ []) new.unused);
+    name = λ name e. e ∙ ap (λ ended. opened name ended) (sym same_end);
+    nothing_left = λ e. end (sym same_end ∙ e);
+    faults = refl;
+    unended = λ e. absurd (true≢false (sym e));
+  };
+  finds = (waits.0, refl);
 }

@@ -1,4 +1,5 @@
-ghost use Rattle.std.specs.Prelude.{◌≡◌, ◌<◌, ◌++◌, List, ℕ, [], true, false, length, drop};
+ghost use Rattle.std.specs.Prelude.{◌≡◌, ◌<◌, ◌∷◌, ◌++◌, List, ℕ, [], true, false, None, Some, IfSome, length, drop, slice_get};
+ghost use Rattle.hj_trace.specs.Actors.{IsNumbered, actor_text};
 ghost use Rattle.hj_base.specs.Outside.{ChangesOnly};
 ghost use Rattle.hj_trace.specs.Stream.{Compares, GoesWith, IsActorOf, ReadsActor, StandsNext, Uses, look_failed};
 
@@ -190,6 +191,34 @@ impl TextStream {
         ensures others { ChangesOnly self.old.role (O.state outside.old) (O.state outside.new) }
         ensures names { (name : List ℕ) → O.under outside.new name ≡ O.under outside.old name }
     {
+        // Mostly all of it waits.
+        if let Some(actor) = self.use_waiting_actor() {
+            return ActorFound::Actor(actor);
+        }
+        self.actor_by_bytes(outside)
+    }
+
+    /// Uses the text of an actor and the comma behind it, where both wait.
+    fn use_waiting_actor(&mut self) -> Option<Actor>
+        ensures found { IfSome result (λ actor. IsNumbered actor × (self.old.unused ≡ actor_text actor ++ 44 ∷ self.new.unused)) }
+        ensures role { self.new.role ≡ self.old.role }
+        ensures ended { self.new.ended ≡ self.old.ended }
+        ensures kept { result ≡ None → self.new ≡ self.old }
+    {
+        let waiting = &self.portion[self.used..self.filled];
+        let length = first_comma(waiting)?;
+        let actor = read_actor(&waiting[..length])?;
+        self.used += length + 1;
+        Some(actor)
+    }
+
+    /// Does what `actor` does, byte by byte.
+    fn actor_by_bytes<O: Outside>(&mut self, outside: &mut O) -> ActorFound
+        requires { GoesWith self.old (O.state outside.old self.old.role) }
+        ensures reads { ReadsActor result self.old (O.state outside.old self.old.role) self.new (O.state outside.new self.old.role) }
+        ensures others { ChangesOnly self.old.role (O.state outside.old) (O.state outside.new) }
+        ensures names { (name : List ℕ) → O.under outside.new name ≡ O.under outside.old name }
+    {
         let mut text = [0; MOST_IN_ACTOR + 1];
         for length in 0..MOST_IN_ACTOR + 1 {
             let byte = match self.look(outside) {
@@ -215,4 +244,16 @@ fn actor_of(text: &[u8]) -> ActorFound
         Some(actor) => ActorFound::Actor(actor),
         None => ActorFound::Other,
     }
+}
+
+/// Returns where a comma stands first, if there is one.
+fn first_comma(bytes: &[u8]) -> Option<usize>
+    ensures { IfSome result (λ at. slice_get bytes.now at ≡ Some 44) }
+{
+    for (at, byte) in bytes.iter().enumerate() {
+        if *byte == b',' {
+            return Some(at);
+        }
+    }
+    None
 }

@@ -2,7 +2,7 @@ use Rattle.std.proofs.Common.{◌≡◌, ℕ, false, List, length, take}
 use Rattle.hj_base.specs.Outside.{ChangesOnly}
 use Rattle.hj_trace.specs.Stream.{Uses}
 use Rattle.hj_trace.proofs.Commas.{NoComma}
-use Rattle.hj_trace.proofs.stream.TextStream.actor.Given as goal
+use Rattle.hj_trace.proofs.stream.TextStream.actor_by_bytes.Given as goal
 
 abbrev pub invariant-loop-length : goal.invariant-loop-length
 invariant-loop-length g l =
