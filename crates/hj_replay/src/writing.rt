@@ -8,7 +8,7 @@ ghost use Rattle.hj_output.specs.declared.output.Sent.TheVariants as sending;
 ghost use Rattle.hj_output.specs.Output.{CountsFaults};
 ghost use Rattle.hj_stream.specs.Ends.{IsUnasked};
 ghost use Rattle.hj_stream.specs.Joining.{CountsSinkFault};
-ghost use Rattle.hj_engine.specs.Stores.{AreReady};
+ghost use Rattle.hj_stores.specs.Stores.{AreReady};
 ghost use Rattle.hj_replay.specs.Feeds.{roles_of, state_of};
 ghost use Rattle.hj_replay.specs.Tracing.{WritesTrace};
 ghost use Rattle.hj_replay.specs.Writing.{Makes, WritesRun};
@@ -17,13 +17,12 @@ use crate::lines::write_lines;
 use crate::{AlwaysReady, TracePlan};
 use hj_base::{Memory, Outside, Sink};
 use hj_chain::Chain;
-use hj_crew::Stores;
-use hj_engine::{PlannedStores, planned_stores};
 use hj_eval::{QueryJoin, ReadyQuery};
 use hj_event::Merger;
 use hj_msg::Store;
 use hj_output::Sent;
 use hj_query::Query;
+use hj_stores::{ChainStores, PlannedStores, planned_stores};
 use hj_stream::{EventFeed, Outcome};
 use hj_value::SharedRow;
 use std::alloc::Global;
@@ -144,7 +143,7 @@ fn trace_over<'r, 'q, S: Store<SharedRow, QueryJoin<'r>> + Drop, O: Outside, K: 
     alloc: Global,
     query: &'r ReadyQuery<'q>,
     plan: TracePlan,
-    stores: Stores<S, S>,
+    stores: ChainStores<S>,
     feed: &mut AlwaysReady<'_, O>,
     out: &mut K,
 ) -> Result<Sent, Memory>
