@@ -55,6 +55,7 @@ pub(crate) fn only_pair<P: Share + Drop>(report: &Report<P>) -> Result<Option<Pa
 }
 
 /// Makes the pair of a row of a side and of a partner.
+#[inline(always)]
 fn pair_of<P: Share + Drop>(
     no: EventNo,
     side: Side,
