@@ -110,12 +110,24 @@ impl Merger {
         if self.numbering.has_due() {
             return self.numbering.give();
         }
+        self.give_next(outside)
+    }
+
+    /// Takes the next arrival, and gives the first of its events.
+    #[inline(never)]
+    fn give_next<O: Outside>(&mut self, outside: &mut O) -> Result<Event<SharedRow>, Last>
+        requires left { IsInStep self.old.sides.left.reading.ended (O.state outside.old role.Left) }
+        requires right { IsInStep self.old.sides.right.reading.ended (O.state outside.old role.Right) }
+        requires none { has_due self.old.numbering.due ≡ false }
+        ensures steps { Steps result self.old self.new (O.state outside.old) (O.state outside.new) }
+        ensures names { (name : List ℕ) → O.under outside.new name ≡ O.under outside.old name }
+    {
         self.arrive(outside)?;
         self.numbering.give()
     }
 
     /// Takes the next arrival, whose events are due then.
-    #[inline(never)]
+    #[inline(always)]
     fn arrive<O: Outside>(&mut self, outside: &mut O) -> Result<(), Last>
         requires left { IsInStep self.old.sides.left.reading.ended (O.state outside.old role.Left) }
         requires right { IsInStep self.old.sides.right.reading.ended (O.state outside.old role.Right) }

@@ -1,7 +1,7 @@
-ghost use Rattle.std.specs.Prelude.{◌≡◌, ◌≢◌, ◌==◌, ◌-◌, ◌<◌, ◌≤◌, List, ℕ, [], true, false, not, length, slice_index, position, All, IfOk, IsTrue};
-ghost use Rattle.std.specs.List.{list_any};
+ghost use Rattle.std.specs.Prelude.{◌≡◌, ◌-◌, ◌<◌, ◌≤◌, List, ℕ, [], true, false, not, length, take, slice_index, position, IfOk, IsTrue};
 ghost use Rattle.hj_base.specs.Outside.{role_of, ChangesOnly};
 ghost use Rattle.hj_record.specs.Blank.{is_blank};
+ghost use Rattle.hj_record.specs.LineEnd.{inside_after};
 ghost use Rattle.hj_record.specs.Cutter.{cleared};
 ghost use Rattle.hj_event.specs.Roles.{IsInStep};
 ghost use Rattle.hj_event.specs.Reads.{Fills};
@@ -14,13 +14,16 @@ use crate::stop::{Found, Stop};
 use crate::{RecordFault, RowFault};
 use hj_base::{Got, Memory, Outside, Side};
 use hj_record::{CARRIAGE_RETURN, Cut, Cutter, Fed, Fields, LINE_FEED, PieceFault, QUOTE};
-use hj_schema::read_numbers;
+use hj_schema::read_line;
 use hj_value::{ColumnType, Row, Schema, SharedRow};
 use std::alloc::Global;
 use std::marker::Model;
 
 /// How many bytes one read asks for.
 const MOST_IN_READ: usize = 4_096;
+
+/// How many bytes a stream's first line is thought to have.
+const FIRST_LINE_BYTES: usize = 32;
 
 /// How many bytes a stream may have.
 const MOST_IN_STREAM: u64 = 1 << 62;
@@ -38,8 +41,12 @@ pub(crate) struct Reader {
     filled: usize,
     /// A record that begins in the portion before this place has its end there.
     lines_end: usize,
-    /// The next line may be one of numbers alone, in the form in which most lines are.
+    /// The next line may be in the form in which most lines are.
     straight: bool,
+    /// Some column is a text.
+    has_texts: bool,
+    /// How many bytes the line took that was read straight last; for about as many there is room among the texts of the next row.
+    line_bytes: usize,
     /// A read answered the end.
     ended: bool,
     cutter: Cutter,
@@ -67,6 +74,7 @@ impl Reader {
     pub(crate) fn new(alloc: Global, schema: Schema, slack: u64) -> Self
         ensures { result ≡ new_reading schema.columns slack }
     {
+        let has_texts = has_texts(&schema);
         Reader {
             alloc,
             schema,
@@ -76,6 +84,8 @@ impl Reader {
             filled: 0,
             lines_end: 0,
             straight: false,
+            has_texts,
+            line_bytes: FIRST_LINE_BYTES,
             ended: false,
             cutter: Cutter::new(alloc, MOST_IN_STREAM),
             fields: Fields::new(alloc),
@@ -163,8 +173,8 @@ impl Reader {
             Got::Bytes(count) => {
                 self.taken = 0;
                 self.filled = count;
-                self.lines_end = lines_end(&self.portion[..count]);
-                self.straight = has_only_ints(&self.schema);
+                self.lines_end = lines_end(&self.portion[..count], self.cutter.is_inside());
+                self.straight = true;
                 Ok(())
             }
             Got::End => {
@@ -186,8 +196,8 @@ impl Reader {
         }
     }
 
-    /// Takes the row of the next line, if that is one of numbers in the form in which most are, and not too late: while its end is
-    /// looked for, its numbers are read. None changes nothing that is seen.
+    /// Takes the row of the next line, if that is in the form in which most are, and not too late: while its end is looked for,
+    /// its fields are read. None changes nothing that is seen.
     #[inline(always)]
     pub(crate) fn take_line(&mut self) -> Result<Option<SharedRow>, Memory>
         ensures { TakesLine result self.old self.new }
@@ -196,7 +206,7 @@ impl Reader {
         if most == 0 {
             return Ok(None);
         }
-        let mut row = Row::with_capacity(self.alloc, self.schema.columns.len(), 0)?;
+        let mut row = Row::with_capacity(self.alloc, self.schema.columns.len(), self.text_room())?;
         let used = self.read_line(most, &mut row)?;
         if used == 0 {
             self.straight = false;
@@ -209,6 +219,7 @@ impl Reader {
         let next = self.record_no.checked_add(1).ok_or(Memory)?;
         let greatest = later(self.greatest, time);
         let shared = SharedRow::new(self.alloc, row)?;
+        self.line_bytes = used;
         self.cutter.pass(used);
         self.taken += used;
         self.record_no = next;
@@ -229,7 +240,14 @@ impl Reader {
         self.cutter.most_in_next().min(unread.len())
     }
 
-    /// Reads the row of the next line, if that is one of numbers; `row` is empty before. Returns how many bytes the line takes, or 0.
+    /// Returns for how many bytes of texts there is room in the next row.
+    #[inline(always)]
+    fn text_room(&self) -> usize {
+        if self.has_texts { self.line_bytes } else { 0 }
+    }
+
+    /// Reads the row of the next line, if that is in the form in which most are; `row` is empty before. Returns how many bytes the
+    /// line takes, or 0.
     #[inline(always)]
     fn read_line(&self, most: usize, row: &mut Row) -> Result<usize, Memory>
         requires most { most ≡ most_in_line self.now }
@@ -237,7 +255,7 @@ impl Reader {
         ensures { IfOk result (λ used. 0 < used → IsNextLine row.new used self.now) }
     {
         let unread = &self.portion[self.taken..self.filled];
-        read_numbers(&self.schema, &unread[..most], row)
+        read_line(&self.schema, &unread[..most], row)
     }
 
     /// Goes on to the end of the next piece in the bytes that were read, in whatever form it is.
@@ -341,45 +359,46 @@ fn first_written(bytes: &[u8]) -> Option<usize>
     bytes.iter().position(|&byte| !is_blank(byte))
 }
 
-/// Finds the place after the last line feed of some bytes; 0 where they have none, or a quote, so that a line feed may be a
-/// field's.
-fn lines_end(bytes: &[u8]) -> usize
+/// Finds the place after the last line feed outside quotes of bytes that begin inside quotes, or outside; 0 where none stands
+/// there.
+fn lines_end(bytes: &[u8], inside: bool) -> usize
     ensures within { result ≤ length bytes.now }
     ensures line_feed { 0 < result → slice_index bytes.now (result - 1) ≡ 10 }
-    ensures unquoted { 0 < result → All (λ byte. byte ≢ 34) bytes.now }
+    ensures outside { 0 < result → inside_after inside (take (result - 1) bytes.now) ≡ false }
 {
-    if has_quote(bytes) {
-        return 0;
-    }
+    let mut inside = ends_inside(bytes, inside);
     for at in (0..bytes.len()).rev() {
-        if bytes[at] == LINE_FEED {
+        let byte = bytes[at];
+        if byte == LINE_FEED && !inside {
             return at + 1;
+        }
+        if byte == QUOTE {
+            inside = !inside;
         }
     }
     0
 }
 
-/// Returns whether there is a quote among some bytes. It looks at all of them, several at a time.
-fn has_quote(bytes: &[u8]) -> bool
-    ensures { result ≡ list_any (λ byte. byte == 34) bytes.now }
+/// Returns whether bytes that begin inside quotes, or outside, end inside. It looks at several of them at a time.
+fn ends_inside(bytes: &[u8], mut inside: bool) -> bool
+    ensures { result ≡ inside_after inside bytes.now }
 {
-    let mut found = false;
     for &byte in bytes {
-        found |= byte == QUOTE;
+        inside ^= byte == QUOTE;
     }
-    found
+    inside
 }
 
-/// Returns whether all columns are numbers.
-fn has_only_ints(schema: &Schema) -> bool {
+/// Returns whether some column is a text.
+fn has_texts(schema: &Schema) -> bool {
     for at in 0..schema.columns.len() {
         if let Some(column) = schema.columns.get(at)
             && column.kind == ColumnType::Text
         {
-            return false;
+            return true;
         }
     }
-    true
+    false
 }
 
 /// Returns the greatest time, with one more.

@@ -1,6 +1,6 @@
-use Rattle.std.proofs.Common.{◌≡◌, ◌==◌, take}
-use Rattle.std.specs.List.{list_any}
-use Rattle.hj_event.proofs.reader.has_quote.Given as goal
+use Rattle.std.proofs.Common.{◌≡◌, take}
+use Rattle.hj_record.specs.LineEnd.{inside_after}
+use Rattle.hj_event.proofs.reader.ends_inside.Given as goal
 
 abbrev pub invariant-loop-byte : goal.invariant-loop-byte
-invariant-loop-byte l = l.found ≡ list_any (λ byte. byte == 34) (take l.byte-index l.bytes)
+invariant-loop-byte l = l.inside ≡ inside_after l.fn.inside (take l.byte-index l.bytes)

@@ -2,6 +2,7 @@ use Rattle.std.proofs.Common.{◌+◌, subst}
 use Rattle.hj_record.specs.Cutter.{Cutting}
 use Rattle.hj_event.specs.Reads.{reading}
 use Rattle.hj_event.specs.Taking.{Holds}
+use Rattle.hj_event.proofs.LineLemmas.{kept_lines, lent_lines}
 use Rattle.hj_event.proofs.ReaderLemmas.{lent_advances, piece_advances, more_advances, close_advances, bad_advances}
 use Rattle.hj_event.proofs.reader.Reader.cut.Goals as goal
 
@@ -27,3 +28,11 @@ returns-else-self c =
 pub returns-in-Bad : goal.returns-in-Bad
 returns-in-Bad c =
     rw (c.stop.ensures, ← c.self.view_is) (bad_advances c.self.inside.schema.columns c.self.inside.slack c.self.inside.record_no c.self.inside.greatest c.self.inside.ended c.self.inside.portion c.self.inside.taken c.self.inside.filled c.self.inside.cutter c.cut.new.self c.in-Bad.fault c.in-Bad.ensures.takes c.in-Bad.ensures.leads)
+
+pub invariant_of-self : goal.invariant_of-self
+invariant_of-self c =
+    lent_lines c.self.inside.cutter c.cut.new.self c.self.inside.portion c.self.inside.taken c.self.inside.filled c.in-Lent.used c.self.inside.lines_end c.self.invariant c.in-Lent.ensures.takes
+
+pub invariant_of-self-in-Piece : goal.invariant_of-self-in-Piece
+invariant_of-self-in-Piece c =
+    kept_lines c.self.inside.cutter c.cut.new.self c.read_kept-row.new.cutter c.self.inside.portion c.self.inside.taken c.self.inside.filled c.in-Piece.used c.self.inside.lines_end c.self.invariant c.in-Piece.ensures.takes c.read_kept-row.ensures.cleared

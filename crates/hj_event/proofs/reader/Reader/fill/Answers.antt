@@ -13,9 +13,9 @@ returns-in-Failed-clause-fills g c = fills_failed c.args.self.now _ _ _ c.read.n
     (still_same c.self.inside.schema.columns c.self.inside.slack c.self.inside.cutter c.self.inside.portion c.read.new.buf c.self.inside.taken c.self.inside.filled c.self.inside.ended c.self.inside.record_no c.self.inside.greatest c.args.self.now c.self.view_is c.requires.rest (search rules))
 
 pub invariant_of-self-in-End : goal.invariant_of-self-in-End
-invariant_of-self-in-End g c = none_left c.self.inside.cutter c.self.inside.portion c.read.new.buf c.self.inside.taken c.self.inside.filled c.self.inside.lines_end c.self.invariant (search rules)
+invariant_of-self-in-End g c = none_left c.self.inside.cutter c.self.inside.cutter c.self.inside.portion c.read.new.buf c.self.inside.taken c.self.inside.filled c.self.inside.lines_end c.self.invariant (search rules) (search rules)
     (ap (λ (r : Reading). r.rest) c.self.view_is ∙ c.requires.rest)
 
 pub invariant_of-self-in-Failed : goal.invariant_of-self-in-Failed
-invariant_of-self-in-Failed g c = none_left c.self.inside.cutter c.self.inside.portion c.read.new.buf c.self.inside.taken c.self.inside.filled c.self.inside.lines_end c.self.invariant (search rules)
+invariant_of-self-in-Failed g c = none_left c.self.inside.cutter c.self.inside.cutter c.self.inside.portion c.read.new.buf c.self.inside.taken c.self.inside.filled c.self.inside.lines_end c.self.invariant (search rules) (search rules)
     (ap (λ (r : Reading). r.rest) c.self.view_is ∙ c.requires.rest)

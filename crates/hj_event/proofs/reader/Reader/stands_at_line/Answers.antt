@@ -12,4 +12,4 @@ returns-in-None c =
     rw (← c.self.view_is)
     (λ has.
     let written : is_blank (get_or s.portion s.taken 0) ≡ false = search rules in
-    here_tells s.schema.columns s.slack s.cutter s.portion s.taken s.filled s.ended s.record_no s.greatest none written s.lines_end c.self.invariant.lines lt (c.self.invariant.line_feed lt) c.self.invariant.unquoted)
+    here_tells s.schema.columns s.slack s.cutter s.portion s.taken s.filled s.ended s.record_no s.greatest none written s.lines_end c.self.invariant.lines lt (c.self.invariant.line_feed lt) (c.self.invariant.outside lt))

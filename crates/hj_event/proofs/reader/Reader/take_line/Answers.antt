@@ -6,7 +6,7 @@ use Rattle.hj_event.specs.Reads.{reading}
 use Rattle.hj_event.specs.Rows.{with_time}
 use Rattle.hj_event.specs.Sides.{Reading}
 use Rattle.hj_event.specs.Taking.{Advances, IsNextLine, is_late}
-use Rattle.hj_event.proofs.StraightLines.{straight_advances}
+use Rattle.hj_event.proofs.StraightLines.{straight_advances, straight_lines}
 use Rattle.hj_event.proofs.reader.Reader.take_line.Goals as goal
 
 pub returns : goal.returns
@@ -25,3 +25,11 @@ returns c =
     (subst (λ (n : ℕ). Advances (Ok (found.Row c.in_ok-shared.shared)) c.args.self.now (reading s.schema.columns s.slack c.pass.new.self s.portion (s.taken + used) s.filled s.ended n (Some (with_time s.greatest (time_of row))))) (sym next)
     (subst (λ (r : List Field). Advances (Ok (found.Row r)) c.args.self.now (reading s.schema.columns s.slack c.pass.new.self s.portion (s.taken + used) s.filled s.ended (s.record_no + 1) (Some (with_time s.greatest (time_of row))))) (sym same)
     (subst (λ (side : Reading). Advances (Ok (found.Row row)) side (reading s.schema.columns s.slack c.pass.new.self s.portion (s.taken + used) s.filled s.ended (s.record_no + 1) (Some (with_time s.greatest (time_of row))))) c.self.view_is taken)))
+
+pub invariant_of-self-2 : goal.invariant_of-self-2
+invariant_of-self-2 c =
+    let s = c.self.inside in
+    let row = c.read_line.new.row in
+    let used = c.in_ok-used.used in
+    let line : IsNextLine row used (reading s.schema.columns s.slack s.cutter s.portion s.taken s.filled s.ended s.record_no s.greatest) = subst (IsNextLine row used) (sym c.self.view_is) (c.in_ok-used.ensures (omega (arith, c.if-used-eq0.false))) in
+    straight_lines s.schema.columns s.slack s.record_no s.greatest s.ended s.portion s.taken s.filled s.cutter c.pass.new.self row used s.lines_end line c.self.invariant c.pass.ensures.takes
