@@ -1,8 +1,9 @@
 -- One more field of a row, and one more byte of a text.
-use Rattle.std.proofs.Common.{◌≡◌, ℕ, ◌+◌, ◌<◌, Bool, true, false, cond, eqb, List, [], ◌∷◌, ◌++◌, length, map, take, get_or, Some, refl, sym, ap, ◌∙◌, append-nil, append_assoc}
+use Rattle.std.proofs.Common.{◌≡◌, ℕ, ◌+◌, ◌<◌, ◌==◌, Bool, true, false, cond, eqb, List, [], ◌∷◌, ◌++◌, length, map, take, get_or, Some, refl, sym, ap, ◌∙◌, append-nil, append_assoc}
 use Rattle.std.proofs.lemmas.List.{flat_map_more, map-append, take_more}
 use Rattle.std.proofs.lemmas.Option.{slice_get_within, get_or_from_slice_get}
-use Rattle.std.specs.List.{slice_get}
+use Rattle.std.proofs.lemmas.Bool.{or_parts}
+use Rattle.std.specs.List.{slice_get, list_any}
 use Rattle.csv.specs.Writing.{default_writer, escaped}
 use Rattle.hj_value.specs.declared.field.Field.{Field}
 use Rattle.hj_emit.specs.Cells.{cell, cells}
@@ -44,6 +45,14 @@ escaped-append (b ∷ front) back =
     escaped_next b (front ++ back) ∙ ap (λ l. escaped default_writer (b ∷ []) ++ l) (escaped-append front back)
     ∙ sym (append_assoc (escaped default_writer (b ∷ [])) (escaped default_writer front) (escaped default_writer back))
     ∙ ap (λ l. l ++ escaped default_writer back) (sym (escaped_next b front))
+
+-- where there is no quote there is nothing to double
+pub escaped_same : (bytes : List ℕ) → list_any (λ byte. byte == 34) bytes ≡ false → escaped default_writer bytes ≡ bytes
+unfolding escaped
+escaped_same [] none = refl
+escaped_same (b ∷ bytes) none =
+    let both = or_parts (b == 34) (list_any (λ byte. byte == 34) bytes) none in
+    rw both.0 (ap (λ l. b ∷ l) (escaped_same bytes both.1))
 
 pub escaped_none : (start : List ℕ) → start ≡ start ++ escaped default_writer []
 unfolding escaped

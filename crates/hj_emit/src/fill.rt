@@ -1,4 +1,5 @@
-ghost use Rattle.std.specs.Prelude.{◌≡◌, ◌++◌, [], ◌∷◌, ℕ, List, length, map, OnOk};
+ghost use Rattle.std.specs.Prelude.{◌≡◌, ◌==◌, ◌++◌, [], ◌∷◌, ℕ, List, length, map, OnOk};
+ghost use Rattle.std.specs.List.{list_any};
 ghost use Rattle.csv.specs.Writing.{default_writer, escaped, field_text, needs_byte, needs_quotes, quoted, row_body, row_text};
 ghost use Rattle.hj_emit.specs.Cells.{cell, cells};
 ghost use Rattle.hj_value.specs.declared.field.Field.{Field};
@@ -78,11 +79,15 @@ fn push_text(text: &mut Vec<u8>, bytes: &[u8]) -> Result<(), Memory>
     Ok(())
 }
 
-/// Returns whether a text needs quotes.
+/// Returns whether a text needs quotes. It looks at all bytes, several at a time.
 fn needs_quotes(bytes: &[u8]) -> bool
     ensures { result ≡ needs_quotes default_writer bytes.now }
 {
-    bytes.iter().any(|byte| is_special(*byte))
+    let mut found = false;
+    for &byte in bytes {
+        found |= is_special(byte);
+    }
+    found
 }
 
 /// Returns whether a text with this byte needs quotes.
@@ -98,11 +103,34 @@ fn push_quoted(text: &mut Vec<u8>, bytes: &[u8]) -> Result<(), Memory>
     ensures { OnOk result (text.new.items ≡ text.old.items ++ quoted default_writer bytes.now) }
 {
     text.push(b'"')?;
+    push_inside(text, bytes)?;
+    text.push(b'"')?;
+    Ok(())
+}
+
+/// Appends what stands between the quotes: the text, with each quote in it doubled.
+fn push_inside(text: &mut Vec<u8>, bytes: &[u8]) -> Result<(), Memory>
+    ensures { OnOk result (text.new.items ≡ text.old.items ++ escaped default_writer bytes.now) }
+{
+    if !has_quote(bytes) {
+        text.extend_from_slice(bytes)?;
+        return Ok(());
+    }
     for byte in bytes {
         push_escaped(text, *byte)?;
     }
-    text.push(b'"')?;
     Ok(())
+}
+
+/// Returns whether there is a quote among some bytes.
+fn has_quote(bytes: &[u8]) -> bool
+    ensures { result ≡ list_any (λ byte. byte == 34) bytes.now }
+{
+    let mut found = false;
+    for &byte in bytes {
+        found |= byte == b'"';
+    }
+    found
 }
 
 /// Appends a byte of a text in quotes: a quote twice.
