@@ -12,11 +12,11 @@ ghost use Rattle.hj_verify.specs.Verifying.{Verifies};
 use crate::Verdict;
 use crate::run::check_over;
 use hj_base::{ChainSize, Outside};
-use hj_engine::{PlannedStores, planned_stores};
 use hj_eval::ReadyQuery;
 use hj_event::Merger;
 use hj_query::Query;
 use hj_replay::AlwaysReady;
+use hj_stores::{PlannedStores, planned_stores};
 use hj_stream::{EventFeed, Outcome};
 use std::alloc::Global;
 

@@ -2,7 +2,7 @@ ghost use Rattle.std.specs.Prelude.{ℕ, false};
 ghost use Rattle.hj_base.specs.declared.outside.Role.TheVariants as role;
 ghost use Rattle.hj_event.specs.Roles.{IsInStep};
 ghost use Rattle.hj_stream.specs.Ends.{IsUnasked};
-ghost use Rattle.hj_engine.specs.Stores.{AreReady};
+ghost use Rattle.hj_stores.specs.Stores.{AreReady};
 ghost use Rattle.hj_replay.specs.Feeds.{SameOutside, roles_of};
 ghost use Rattle.hj_verify.specs.Checked.{ChecksRun, feeding};
 
@@ -12,10 +12,10 @@ use crate::lines::check_lines;
 use crate::output::OutputCheck;
 use hj_base::{ChainSize, Outside, Role};
 use hj_chain::Chain;
-use hj_crew::Stores;
 use hj_eval::{QueryJoin, ReadyQuery};
 use hj_msg::Store;
 use hj_replay::AlwaysReady;
+use hj_stores::ChainStores;
 use hj_stream::Outcome;
 use hj_trace::TextStream;
 use hj_value::SharedRow;
@@ -27,7 +27,7 @@ pub(crate) fn check_over<'r, 'q, S: Store<SharedRow, QueryJoin<'r>> + Drop, O: O
     alloc: Global,
     query: &'r ReadyQuery<'q>,
     size: ChainSize,
-    stores: Stores<S, S>,
+    stores: ChainStores<S>,
     feed: &mut AlwaysReady<'_, O>,
 ) -> Result<(), Verdict>
     requires unasked { (limit : ℕ) × IsUnasked query.now limit feed.old.feed }

@@ -1,7 +1,7 @@
 use Rattle.std.proofs.Common.{refl, sym, subst, subst₂}
 use Rattle.hj_query.specs.Parts.{Parts}
-use Rattle.hj_engine.specs.declared.stores.PlannedStores.{PlannedStores}
-use Rattle.hj_engine.specs.Stores.{AreReadyFor}
+use Rattle.hj_stores.specs.declared.stores.PlannedStores.{PlannedStores}
+use Rattle.hj_stores.specs.Stores.{AreReadyFor}
 use Rattle.hj_stream.specs.Ends.{IsUnasked}
 use Rattle.hj_verify.proofs.Beginning.{no_run}
 use Rattle.hj_verify.proofs.checker.check_planned.Goals as goal
