@@ -39,9 +39,14 @@ module _ (before now : Role → RoleState) where
     output_open = goes_still output (ap now are_open.output_role ∙ (also ∙ sym (ap before are_open.output_role))) are_open.output_open;
   }
 
-  -- a stream of the events stays in step while another role is read
-  pub in_step_beside : (ended : Bool) (of other : Role) → (IsStream other → ⊥) → IsStream of → ChangesOnly other before now → IsInStep ended (before of) → IsInStep ended (now of)
-  in_step_beside ended of other isnt is changes step = subst (λ (s : RoleState). IsInStep ended s) (sym (changes of (λ e. isnt (subst IsStream e is)))) step
+  -- another role was read
+  module _ (read of : Role) (changes : ChangesOnly read before now) (is : read ≡ of) where
+    pub others_stay : ChangesOnly of before now
+    others_stay = subst (λ (r : Role). ChangesOnly r before now) is changes
+
+    -- a stream of the events stays in step
+    pub in_step_beside : (ended : Bool) (stream : Role) → (IsStream of → ⊥) → IsStream stream → IsInStep ended (before stream) → IsInStep ended (now stream)
+    in_step_beside ended stream isnt stands step = subst (λ (s : RoleState). IsInStep ended s) (sym (others_stay stream (λ e. isnt (subst IsStream e stands)))) step
 
 pub trace_apart : (trace output : StreamState) (roles : Role → RoleState) → AreOpen roles trace output → IsStream trace.role → ⊥
 trace_apart trace output roles are_open is = subst IsStream are_open.trace_role is
