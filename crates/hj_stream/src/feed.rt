@@ -104,9 +104,9 @@ impl<O: Outside> Feed<SharedRow> for EventFeed<'_, O> {
         }
         let events = self.events;
         let answer = self.merger.next(self.outside);
-        self.ready = self.merger.is_ready();
         let ended = match answer {
             Next::Event(event) => {
+                self.ready = self.merger.is_ready();
                 self.events += 1;
                 self.given = self.given.and(&event);
                 return Given::Event(event);
@@ -117,6 +117,7 @@ impl<O: Outside> Feed<SharedRow> for EventFeed<'_, O> {
             Next::TooMany => Outcome::TooMany,
             Next::Memory => Outcome::Memory,
         };
+        self.ready = true;
         self.ended = Some(ended);
         Given::Stop
     }
