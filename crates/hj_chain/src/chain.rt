@@ -326,14 +326,25 @@ impl<P: Share + Drop, J: Join<P> + Drop, L: Store<P, J> + Drop, R: Store<P, J> +
         ensures step { (answer : FeedAnswer P) → StepsTo (J.predicate self.old.join) (Actor.Core core end) answer self.old.state result self.new.state }
         ensures others { self.new ≡ record self.old { state = self.new.state } }
     {
-        let place = usize::from(core.0);
-        if place >= self.cores.len() {
+        if usize::from(core.0) >= self.cores.len() {
             return Stepped::NotEnabled(NotNow::NoSuchCore);
         }
+        self.turn_there(core, end, gate, made)
+    }
+
+    /// Lets a core that is there handle the first message that comes in at one of its ends, as `turn` does.
+    #[inline(always)]
+    fn turn_there<G: Gate>(&mut self, core: CoreNo, end: Side, gate: &G, made: u64) -> Stepped
+        requires going { IsGoing J.predicate self.old }
+        requires within { core.0 < length self.old.state.cores }
+        ensures step { (answer : FeedAnswer P) → StepsTo (J.predicate self.old.join) (Actor.Core core end) answer self.old.state result self.new.state }
+        ensures others { self.new ≡ record self.old { state = self.new.state } }
+    {
+        let place = usize::from(core.0);
         let Some(msg) = self.links.incoming(place, end) else {
             return Stepped::NotEnabled(NotNow::Empty);
         };
-        if self.reports.is_full(place) {
+        if self.reports.is_queue_full(place) {
             return Stepped::NotEnabled(NotNow::ReportsFull);
         }
         gate.pass(core, made);
@@ -348,7 +359,8 @@ impl<P: Share + Drop, J: Join<P> + Drop, L: Store<P, J> + Drop, R: Store<P, J> +
     }
 
     /// Lets a core handle the first message that comes in at one of its ends, whatever it is; its reports aren't full.
-    #[inline(always)]
+    // Called, so that the sweep over the actors stays small.
+    #[inline(never)]
     fn handle(&mut self, core: CoreNo, end: Side) -> Stepped
         requires going { IsGoing J.predicate self.old }
         requires within { core.0 < length self.old.state.cores }
@@ -381,11 +393,23 @@ impl<P: Share + Drop, J: Join<P> + Drop, L: Store<P, J> + Drop, R: Store<P, J> +
         ensures join { self.new.join ≡ self.old.join }
         ensures gathers { Gathers (Actor.Collect core) self.old result self.new }
     {
-        let place = usize::from(core.0);
-        if place >= self.cores.len() {
+        if usize::from(core.0) >= self.cores.len() {
             return Stepped::NotEnabled(NotNow::NoSuchCore);
         }
-        let Some(report) = self.reports.first(place) else {
+        self.collect_there(core)
+    }
+
+    /// Takes the first report of a core that is there, as `collect` does.
+    #[inline(always)]
+    fn collect_there(&mut self, core: CoreNo) -> Stepped
+        requires going { IsGoing J.predicate self.old }
+        requires within { core.0 < length self.old.state.cores }
+        ensures step { (answer : FeedAnswer P) → StepsTo (J.predicate self.old.join) (Actor.Collect core) answer self.old.state result self.new.state }
+        ensures join { self.new.join ≡ self.old.join }
+        ensures gathers { Gathers (Actor.Collect core) self.old result self.new }
+    {
+        let place = usize::from(core.0);
+        let Some(report) = self.reports.first_of(place) else {
             return Stepped::NotEnabled(NotNow::Empty);
         };
         if self.kept.keep(&self.collector, report).is_err() {

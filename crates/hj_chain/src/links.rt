@@ -45,10 +45,21 @@ impl<P: Drop> Links<P> {
         Ok(Links { links })
     }
 
-    /// Returns the first message that comes in at an end of a core; None exactly where there is none, as past the
-    /// last link.
+    /// Returns the first message that comes in at an end of a core that is there; None exactly where there is none.
     #[inline(always)]
     pub fn incoming(&self, core: usize, end: Side) -> Option<&Msg<P>>
+        requires { core + 1 < length self.now }
+        ensures { option_copied result ≡ first (incoming_of end core self.now) }
+    {
+        match end {
+            Side::Left => self.links[core].look_right(),
+            Side::Right => self.links[core + 1].look_left(),
+        }
+    }
+
+    /// Returns the same of any core; None where it isn't there, as past the last link.
+    #[inline(always)]
+    pub fn incoming_if_there(&self, core: usize, end: Side) -> Option<&Msg<P>>
         requires { core < 2 ^ 16 }
         ensures { option_copied result ≡ first (incoming_of end core self.now) }
     {
@@ -150,7 +161,7 @@ impl<P: Drop> Links<P> {
     }
 
     /// Puts what a core of this place among `cores` sends for a left row: the row to the right, and at the last core its end to the left.
-    #[inline(never)]
+    #[inline(always)]
     fn send_left_row(&mut self, place: usize, cores: usize, no: EventNo, row: P)
         requires small { place < 2 ^ 16 }
         requires in_range { place + 1 < length self.old }
@@ -164,7 +175,7 @@ impl<P: Drop> Links<P> {
 
     /// Puts what a core of this place among `cores` sends for a right row: the row to the left; to the right an acknowledgement, if there
     /// is a neighbour, and at the first core its end.
-    #[inline(never)]
+    #[inline(always)]
     fn send_right_row(&mut self, place: usize, cores: usize, no: EventNo, row: P)
         requires small { place < 2 ^ 16 }
         requires in_range { place + 1 < length self.old }

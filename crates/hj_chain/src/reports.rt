@@ -49,6 +49,15 @@ impl<P: Drop> Reports<P> {
         self.queues.get(core)?.front()
     }
 
+    /// Returns the first report of a core that is there; None exactly where it has none.
+    #[inline(always)]
+    pub fn first_of(&self, core: usize) -> Option<&Report<P>>
+        requires { core < length self.now.queues }
+        ensures { option_copied result ≡ first (queue_at self.now.queues core) }
+    {
+        self.queues[core].front()
+    }
+
     /// Returns a core's last report; None exactly where it has none, as where there is no such core.
     pub fn last(&self, core: usize) -> Option<&Report<P>>
         ensures { option_copied result ≡ last (queue_at self.now.queues core) }
@@ -75,6 +84,15 @@ impl<P: Drop> Reports<P> {
             Some(queue) => queue.is_full(),
             None => self.capacity == 0,
         }
+    }
+
+    /// Returns whether a core that is there has as many reports as a queue holds.
+    #[inline(always)]
+    pub fn is_queue_full(&self, core: usize) -> bool
+        requires { core < length self.now.queues }
+        ensures { result ≡ (length (queue_at self.now.queues core) == self.now.capacity) }
+    {
+        self.queues[core].is_full()
     }
 
     /// Puts a core's report after its others, if there is one.

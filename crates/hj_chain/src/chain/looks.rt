@@ -38,7 +38,7 @@ impl<P: Share + Drop, J: Join<P> + Drop, L: Store<P, J> + Drop, R: Store<P, J> +
             Actor::Admit | Actor::Collect(_) => None,
             Actor::PortLeft => self.links.outgoing(Side::Left, self.cores.len()),
             Actor::PortRight => self.links.outgoing(Side::Right, self.cores.len()),
-            Actor::Core(core, end) => self.links.incoming(usize::from(core.0), end),
+            Actor::Core(core, end) => self.links.incoming_if_there(usize::from(core.0), end),
         }
     }
 

@@ -184,7 +184,7 @@ impl<P: Share + Drop, J: Join<P> + Drop, L: Store<P, J> + Drop, R: Store<P, J> +
             Actor::Core(core, end) => {
                 let place = usize::from(core.0);
                 place < cores
-                    && self.links.incoming(place, end).is_some()
+                    && self.links.incoming_if_there(place, end).is_some()
                     && !self.reports.is_full(place)
             }
             Actor::Collect(core) => {

@@ -1,4 +1,4 @@
-ghost use Rattle.std.specs.Prelude.{◌≡◌, ◌⊎◌, ◌+◌, ◌*◌, ◌≤◌, true, false, ℕ, Bool, length, IfSome, IfNone};
+ghost use Rattle.std.specs.Prelude.{◌≡◌, ◌⊎◌, ◌+◌, ◌*◌, ◌<◌, ◌≤◌, true, false, ℕ, Bool, length, IfSome, IfNone};
 ghost use Rattle.hj_chain.specs.Chain.{Contents};
 ghost use Rattle.hj_chain.specs.declared.actor.Actor.TheVariants.{Core as AtCore, Collect as AtReports};
 ghost use Rattle.hj_chain.specs.Serial.{would_wait};
@@ -106,10 +106,11 @@ impl<P: Share + Drop, J: Join<P> + Drop, L: Store<P, J> + Drop, R: Store<P, J> +
         true
     }
 
-    /// Tries an end of a core. Returns whether there was memory for its step.
+    /// Tries an end of a core that is there. Returns whether there was memory for its step.
     #[inline(always)]
     fn try_end<G: Gate>(&mut self, core: CoreNo, end: Side, gate: &G, sweep: &mut Sweep) -> bool
-        requires { IsGoing J.predicate self.old }
+        requires going { IsGoing J.predicate self.old }
+        requires within { core.0 < length self.old.state.cores }
         ensures going { result ≡ true → IsGoing J.predicate self.new }
         ensures cores { result ≡ true → length self.new.state.cores ≡ length self.old.state.cores }
         ensures sweeps { result ≡ true → (first at : ℕ) (before : Bool) (begun : Contents P J) → StandsThere self.old at (AtCore core end) → Sweeps J.predicate first before begun at sweep.old.moved self.old
@@ -117,7 +118,7 @@ impl<P: Share + Drop, J: Join<P> + Drop, L: Store<P, J> + Drop, R: Store<P, J> +
         ensures runs_out { result ≡ false → (first at : ℕ) (before : Bool) (begun : Contents P J) → StandsThere self.old at (AtCore core end) → Sweeps J.predicate first before begun at sweep.old.moved self.old
             → RunsOut J.predicate first before begun self.new }
     {
-        match self.turn(core, end, gate, sweep.made) {
+        match self.turn_there(core, end, gate, sweep.made) {
             Stepped::Memory => false,
             Stepped::NotEnabled(_) => true,
             Stepped::Did => {
@@ -149,8 +150,8 @@ impl<P: Share + Drop, J: Join<P> + Drop, L: Store<P, J> + Drop, R: Store<P, J> +
         None
     }
 
-    /// Tries the collection of a core's first report; the pairs that are due behind it go to the drain. Returns how the run ends, if it
-    /// ends here.
+    /// Tries the collection of the first report of a core that is there; the pairs that are due behind it go to the drain. Returns how
+    /// the run ends, if it ends here.
     #[inline(always)]
     fn try_report<D: Drain<P>>(
         &mut self,
@@ -158,7 +159,8 @@ impl<P: Share + Drop, J: Join<P> + Drop, L: Store<P, J> + Drop, R: Store<P, J> +
         drain: &mut D,
         sweep: &mut Sweep,
     ) -> Option<Fin>
-        requires { IsGoing J.predicate self.old }
+        requires going { IsGoing J.predicate self.old }
+        requires within { core.0 < length self.old.state.cores }
         ensures going { IfNone result (IsGoing J.predicate self.new) }
         ensures cores { IfNone result (length self.new.state.cores ≡ length self.old.state.cores) }
         ensures collects { IfNone result ((first at : ℕ) (before : Bool) (begun : Contents P J) (unfilled : D) → StandsThere self.old at (AtReports core)
@@ -166,7 +168,7 @@ impl<P: Share + Drop, J: Join<P> + Drop, L: Store<P, J> + Drop, R: Store<P, J> +
         ensures ends { IfSome result (λ fin. (first at : ℕ) (before : Bool) (begun : Contents P J) (unfilled : D) → StandsThere self.old at (AtReports core)
             → Collects D.takes J.predicate first before begun unfilled at sweep.old.moved self.old drain.old → EndsCollecting D.takes J.predicate first before begun unfilled fin self.new drain.new) }
     {
-        match self.collect(core) {
+        match self.collect_there(core) {
             Stepped::Memory => Some(Fin::Memory),
             Stepped::NotEnabled(_) => None,
             Stepped::Did => {

@@ -31,6 +31,11 @@ returns-in_default-handle-clause-step g c = λ answer.
     (prepared-states g.J.Join.predicate (state_of g.L.Store.entries g.R.Store.entries) c.self.inside.join c.self.inside.cores.items c.from-place.result c.index_mut-core.result.now c.handle.new.self c.self.invariant.placed
     (omega (arith, in_cores g.J.Join.predicate _ _ c.self.view_is c.requires.going c.from-place.result c.args.core.0 c.from-place.ensures c.requires.within, length-map c.self.inside.cores.items (state_of g.L.Store.entries g.R.Store.entries))) c.index_mut-core.ensures.value c.in_default-handle.ensures.unchanged c.handle.ensures.kept)
 
+pub incoming-requires : goal.incoming-requires
+incoming-requires g c =
+    in_links_next g.J.Join.predicate _ _ c.self.view_is c.requires.going c.from-place.result
+    (in_cores g.J.Join.predicate _ _ c.self.view_is c.requires.going c.from-place.result c.args.core.0 c.from-place.ensures c.requires.within)
+
 pub take_in-requires : goal.take_in-requires
 take_in-requires g c =
     in_links_next g.J.Join.predicate _ _ c.self.view_is c.requires.going c.from-place.result

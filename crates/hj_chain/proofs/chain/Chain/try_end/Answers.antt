@@ -15,37 +15,37 @@ returns-in-Memory-clause-runs_out g c = λ none first at before begun there more
   actor = Core c.args.core c.args.end;
   there = there;
   inner = refl;
-  tried = tried-is g.J.Join.predicate c.args.self.now c.turn.new.self (Core c.args.core c.args.end) c.turn.result Memory c.in-Memory.is (tried-end g.J.Join.predicate c.args.self.now c.turn.new.self c.args.core c.args.end c.turn.result c.turn.ensures.step c.turn.ensures.others);
+  tried = tried-is g.J.Join.predicate c.args.self.now c.turn_there.new.self (Core c.args.core c.args.end) c.turn_there.result Memory c.in-Memory.is (tried-end g.J.Join.predicate c.args.self.now c.turn_there.new.self c.args.core c.args.end c.turn_there.result c.turn_there.ensures.step c.turn_there.ensures.others);
 }
 
 pub returns-in-NotEnabled-clause-going : goal.returns-in-NotEnabled-clause-going
 returns-in-NotEnabled-clause-going g c =
-    let off = off-why g.J.Join.predicate c.args.self.now c.turn.new.self (Core c.args.core c.args.end) c.turn.result c.in-NotEnabled.field-0 c.in-NotEnabled.is (inner-asks (Core c.args.core c.args.end) refl c.args.self.now.state.next) (tried-end g.J.Join.predicate c.args.self.now c.turn.new.self c.args.core c.args.end c.turn.result c.turn.ensures.step c.turn.ensures.others) in
-    λ yes. subst (IsGoing g.J.Join.predicate) (sym off.1) c.requires
+    let off = off-why g.J.Join.predicate c.args.self.now c.turn_there.new.self (Core c.args.core c.args.end) c.turn_there.result c.in-NotEnabled.field-0 c.in-NotEnabled.is (inner-asks (Core c.args.core c.args.end) refl c.args.self.now.state.next) (tried-end g.J.Join.predicate c.args.self.now c.turn_there.new.self c.args.core c.args.end c.turn_there.result c.turn_there.ensures.step c.turn_there.ensures.others) in
+    λ yes. subst (IsGoing g.J.Join.predicate) (sym off.1) c.requires.going
 
 pub returns-in-NotEnabled-clause-cores : goal.returns-in-NotEnabled-clause-cores
 returns-in-NotEnabled-clause-cores g c =
-    let off = off-why g.J.Join.predicate c.args.self.now c.turn.new.self (Core c.args.core c.args.end) c.turn.result c.in-NotEnabled.field-0 c.in-NotEnabled.is (inner-asks (Core c.args.core c.args.end) refl c.args.self.now.state.next) (tried-end g.J.Join.predicate c.args.self.now c.turn.new.self c.args.core c.args.end c.turn.result c.turn.ensures.step c.turn.ensures.others) in
+    let off = off-why g.J.Join.predicate c.args.self.now c.turn_there.new.self (Core c.args.core c.args.end) c.turn_there.result c.in-NotEnabled.field-0 c.in-NotEnabled.is (inner-asks (Core c.args.core c.args.end) refl c.args.self.now.state.next) (tried-end g.J.Join.predicate c.args.self.now c.turn_there.new.self c.args.core c.args.end c.turn_there.result c.turn_there.ensures.step c.turn_there.ensures.others) in
     λ yes. ap (λ (k : Contents g.row.P.Denot g.row.J.Denot). length k.state.cores) off.1
 
 pub returns-in-NotEnabled-clause-sweeps : goal.returns-in-NotEnabled-clause-sweeps
 returns-in-NotEnabled-clause-sweeps g c =
     λ yes first at before begun there more.
-    sweep-past g.J.Join.predicate first at before c.args.sweep.now.moved begun c.args.self.now c.turn.new.self (Core c.args.core c.args.end) more there
-    (off-why g.J.Join.predicate c.args.self.now c.turn.new.self (Core c.args.core c.args.end) c.turn.result c.in-NotEnabled.field-0 c.in-NotEnabled.is (inner-asks (Core c.args.core c.args.end) refl c.args.self.now.state.next) (tried-end g.J.Join.predicate c.args.self.now c.turn.new.self c.args.core c.args.end c.turn.result c.turn.ensures.step c.turn.ensures.others))
+    sweep-past g.J.Join.predicate first at before c.args.sweep.now.moved begun c.args.self.now c.turn_there.new.self (Core c.args.core c.args.end) more there
+    (off-why g.J.Join.predicate c.args.self.now c.turn_there.new.self (Core c.args.core c.args.end) c.turn_there.result c.in-NotEnabled.field-0 c.in-NotEnabled.is (inner-asks (Core c.args.core c.args.end) refl c.args.self.now.state.next) (tried-end g.J.Join.predicate c.args.self.now c.turn_there.new.self c.args.core c.args.end c.turn_there.result c.turn_there.ensures.step c.turn_there.ensures.others))
 
 pub returns-in-Did-clause-going : goal.returns-in-Did-clause-going
 returns-in-Did-clause-going g c =
-    λ yes. going-did g.J.Join.predicate c.args.self.now c.turn.new.self (Core c.args.core c.args.end) (inner-asks (Core c.args.core c.args.end) refl c.args.self.now.state.next) c.requires c.turn.result
-    (tried-end g.J.Join.predicate c.args.self.now c.turn.new.self c.args.core c.args.end c.turn.result c.turn.ensures.step c.turn.ensures.others) c.in-Did.is
+    λ yes. going-did g.J.Join.predicate c.args.self.now c.turn_there.new.self (Core c.args.core c.args.end) (inner-asks (Core c.args.core c.args.end) refl c.args.self.now.state.next) c.requires.going c.turn_there.result
+    (tried-end g.J.Join.predicate c.args.self.now c.turn_there.new.self c.args.core c.args.end c.turn_there.result c.turn_there.ensures.step c.turn_there.ensures.others) c.in-Did.is
 
 pub returns-in-Did-clause-cores : goal.returns-in-Did-clause-cores
 returns-in-Did-clause-cores g c =
-    λ yes. cores-did g.J.Join.predicate c.args.self.now c.turn.new.self (Core c.args.core c.args.end) (inner-asks (Core c.args.core c.args.end) refl c.args.self.now.state.next) c.requires c.turn.result
-    (tried-end g.J.Join.predicate c.args.self.now c.turn.new.self c.args.core c.args.end c.turn.result c.turn.ensures.step c.turn.ensures.others) c.in-Did.is
+    λ yes. cores-did g.J.Join.predicate c.args.self.now c.turn_there.new.self (Core c.args.core c.args.end) (inner-asks (Core c.args.core c.args.end) refl c.args.self.now.state.next) c.requires.going c.turn_there.result
+    (tried-end g.J.Join.predicate c.args.self.now c.turn_there.new.self c.args.core c.args.end c.turn_there.result c.turn_there.ensures.step c.turn_there.ensures.others) c.in-Did.is
 
 pub returns-in-Did-clause-sweeps : goal.returns-in-Did-clause-sweeps
 returns-in-Did-clause-sweeps g c =
     λ yes first at before begun there more.
-    sweep-on g.J.Join.predicate first at before c.args.sweep.now.moved begun c.args.self.now c.turn.new.self (Core c.args.core c.args.end) more there c.step.new.self.moved c.step.ensures refl
-    (tried-is g.J.Join.predicate c.args.self.now c.turn.new.self (Core c.args.core c.args.end) c.turn.result Did c.in-Did.is (tried-end g.J.Join.predicate c.args.self.now c.turn.new.self c.args.core c.args.end c.turn.result c.turn.ensures.step c.turn.ensures.others))
+    sweep-on g.J.Join.predicate first at before c.args.sweep.now.moved begun c.args.self.now c.turn_there.new.self (Core c.args.core c.args.end) more there c.step.new.self.moved c.step.ensures refl
+    (tried-is g.J.Join.predicate c.args.self.now c.turn_there.new.self (Core c.args.core c.args.end) c.turn_there.result Did c.in-Did.is (tried-end g.J.Join.predicate c.args.self.now c.turn_there.new.self c.args.core c.args.end c.turn_there.result c.turn_there.ensures.step c.turn_there.ensures.others))

@@ -9,6 +9,16 @@ use Rattle.hj_chain.specs.Sweep.{StandsThere, Sweeps}
 use Rattle.hj_chain.proofs.ActorOrder.{at-left, at-right}
 use Rattle.hj_chain.proofs.chain.Chain.try_ends.Goals as goal
 
+pub try_end-requires-clause-within : goal.try_end-requires-clause-within
+try_end-requires-clause-within g c =
+    let n : c.len-place-end.result ≡ length c.args.self.now.state.cores = (c.len-place-end.ensures ∙ c.self.inside.cores.ok.0 ∙ sym (length-map c.self.inside.cores.items (state_of g.L.Store.entries g.R.Store.entries)) ∙ ap (λ (k : Contents g.row.P.Denot g.row.J.Denot). length k.state.cores) c.self.view_is) in
+    omega (arith, n, c.loop-place.invariant.cores)
+
+pub try_end-requires-in-loop-place-clause-within : goal.try_end-requires-in-loop-place-clause-within
+try_end-requires-in-loop-place-clause-within g c =
+    let n : c.len-place-end.result ≡ length c.args.self.now.state.cores = (c.len-place-end.ensures ∙ c.self.inside.cores.ok.0 ∙ sym (length-map c.self.inside.cores.items (state_of g.L.Store.entries g.R.Store.entries)) ∙ ap (λ (k : Contents g.row.P.Denot g.row.J.Denot). length k.state.cores) c.self.view_is) in
+    omega (arith, n, c.loop-place.invariant.cores, c.try_end.ensures.cores c.if-not-try_end.false)
+
 pub returns-then-not-try_end-clause-runs_out : goal.returns-then-not-try_end-clause-runs_out
 returns-then-not-try_end-clause-runs_out g c =
     let n : c.len-place-end.result ≡ length c.args.self.now.state.cores = (c.len-place-end.ensures ∙ c.self.inside.cores.ok.0 ∙ sym (length-map c.self.inside.cores.items (state_of g.L.Store.entries g.R.Store.entries)) ∙ ap (λ (k : Contents g.row.P.Denot g.row.J.Denot). length k.state.cores) c.self.view_is) in

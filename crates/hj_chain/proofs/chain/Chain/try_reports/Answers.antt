@@ -8,6 +8,11 @@ use Rattle.hj_chain.specs.Sweep.{Collects, StandsThere}
 use Rattle.hj_chain.proofs.ActorOrder.{at-collection}
 use Rattle.hj_chain.proofs.chain.Chain.try_reports.Goals as goal
 
+pub try_report-requires-clause-within : goal.try_report-requires-clause-within
+try_report-requires-clause-within g c =
+    let n : c.len-place-end.result ≡ length c.args.self.now.state.cores = (c.len-place-end.ensures ∙ c.self.inside.cores.ok.0 ∙ sym (length-map c.self.inside.cores.items (state_of g.L.Store.entries g.R.Store.entries)) ∙ ap (λ (k : Contents g.row.P.Denot g.row.J.Denot). length k.state.cores) c.self.view_is) in
+    omega (arith, n, c.loop-place.invariant.cores)
+
 pub returns-in-Some-clause-ends : goal.returns-in-Some-clause-ends
 returns-in-Some-clause-ends g c =
     let n : c.len-place-end.result ≡ length c.args.self.now.state.cores = (c.len-place-end.ensures ∙ c.self.inside.cores.ok.0 ∙ sym (length-map c.self.inside.cores.items (state_of g.L.Store.entries g.R.Store.entries)) ∙ ap (λ (k : Contents g.row.P.Denot g.row.J.Denot). length k.state.cores) c.self.view_is) in
