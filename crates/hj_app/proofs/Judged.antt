@@ -1,10 +1,10 @@
 -- The check of a trace and an output, from the verdict on what was read of its four streams.
-use Rattle.std.proofs.Common.{◌≡◌, ◌≢◌, ◌⊎◌, ℕ, Bool, true, false, List, [], Result, sym, ◌∙◌, ap, subst, inl, inr, refl, arith}
+use Rattle.std.proofs.Common.{◌≡◌, ◌≢◌, ◌⊎◌, ℕ, Bool, true, false, List, [], Result, sym, ◌∙◌, ap, subst, inl, refl, arith}
 use Rattle.std.proofs.KnownBytes.{Appends-nil}
 use Rattle.std.specs.declared.option.Option.{Option}
 use Rattle.hj_base.specs.declared.outside.Role.{Role}
 use Rattle.hj_base.specs.declared.outside.Role.TheVariants as role
-use Rattle.hj_base.specs.Outside.{RoleState, IsOpen, opened, unbegun}
+use Rattle.hj_base.specs.Outside.{RoleState, opened, unbegun}
 use Rattle.hj_record.specs.Pieces.{Stream}
 use Rattle.hj_query.specs.Parts.{Parts}
 use Rattle.hj_event.specs.Arrivals.{Ending, bad, clean, too_many}
@@ -14,7 +14,6 @@ use Rattle.hj_event.specs.Sides.{Follows, in_front}
 use Rattle.hj_stream.specs.declared.outcome.Outcome.TheVariants as outcome
 use Rattle.hj_notes.specs.declared.verify_note.VerifyNote.{VerifyNote}
 use Rattle.hj_notes.specs.VerifyText.{status_of_verify, text_of_verify}
-use Rattle.hj_trace.specs.declared.fault.TraceFault.{TraceFault}
 use Rattle.hj_verify.specs.declared.verdict.Verdict.{Verdict}
 use Rattle.hj_verify.specs.declared.verdict.Verdict.TheVariants as verdict
 use Rattle.hj_verify.specs.Checked.{IsChecked as IsReadRole}

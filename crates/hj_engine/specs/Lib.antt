@@ -1,4 +1,3 @@
 pub mod Running
 pub mod Showing
 pub mod ShowingRaw
-pub mod Stores

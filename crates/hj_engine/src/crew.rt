@@ -2,14 +2,14 @@ ghost use Rattle.std.specs.Prelude.{◌≡◌, IfOk, OnErr};
 ghost use Rattle.hj_msg.specs.Feed.{IsFresh};
 ghost use Rattle.hj_eval.specs.Holds.{holds};
 ghost use Rattle.hj_crew.specs.Ran.{RunsOnThreads};
-ghost use Rattle.hj_engine.specs.Stores.{AreReady};
+ghost use Rattle.hj_stores.specs.Stores.{AreReady};
 
-use crate::stores::{PlannedStores, planned_stores};
 use hj_base::{Gate, Memory};
 use hj_crew::{CrewPlan, Ran, Stores, run_threads};
 use hj_eval::{QueryJoin, ReadyQuery};
 use hj_msg::{Drain, Feed, Join, Store};
 use hj_query::Query;
+use hj_stores::{ChainStores, PlannedStores, planned_stores};
 use hj_value::SharedRow;
 use std::alloc::Global;
 use std::sync::Wait;
@@ -61,7 +61,7 @@ fn run_light<
     alloc: Global,
     plan: &CrewPlan<'_, T, G>,
     join: &J,
-    stores: Stores<S, S>,
+    stores: ChainStores<S>,
     feed: F,
     drain: D,
 ) -> (Result<Ran<SharedRow>, Memory>, F, D)
@@ -85,7 +85,7 @@ fn run_over<
     alloc: Global,
     plan: &CrewPlan<'_, T, G>,
     join: &J,
-    stores: Stores<S, S>,
+    stores: ChainStores<S>,
     feed: F,
     drain: D,
 ) -> (Result<Ran<SharedRow>, Memory>, F, D)
@@ -94,5 +94,9 @@ fn run_over<
     ensures runs { IfOk result.0 (RunsOnThreads F.gives F.state D.takes (J.predicate join.now) plan.now.size.chain.cores plan.now.size.chain.flight feed result.1 drain result.2) }
     ensures refused { OnErr result.0 ((result.1 ≡ feed) × (result.2 ≡ drain)) }
 {
+    let stores = Stores {
+        left: stores.left,
+        right: stores.right,
+    };
     run_threads(alloc, plan, join, stores, feed, drain)
 }

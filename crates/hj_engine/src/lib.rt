@@ -7,12 +7,10 @@ mod raw;
 mod raw_crew;
 mod run;
 mod serial;
-mod stores;
 mod threads;
 
 pub use lines::LineJoin;
 pub use raw::join_raw;
 pub use run::SerialPlan;
 pub use serial::{join_serial, join_serial_by};
-pub use stores::{PlannedStores, planned_stores};
 pub use threads::{join_threads, join_threads_by};

@@ -2,15 +2,15 @@ ghost use Rattle.std.specs.Prelude.{◌≡◌, IfOk, OnErr};
 ghost use Rattle.hj_msg.specs.Feed.{IsFresh};
 ghost use Rattle.hj_eval.specs.Holds.{holds};
 ghost use Rattle.hj_crew.specs.RanRaw.{RunsRaw};
-ghost use Rattle.hj_engine.specs.Stores.{AreReady};
+ghost use Rattle.hj_stores.specs.Stores.{AreReady};
 
-use crate::stores::{PlannedStores, planned_stores};
 use hj_base::{Gate, Memory};
 use hj_crew::{CrewPlan, Ran, Stores, run_raw};
 use hj_eval::{QueryJoin, ReadyQuery};
 use hj_msg::{Feed, Join, Store};
 use hj_query::Query;
 use hj_raw::RawDrain;
+use hj_stores::{ChainStores, PlannedStores, planned_stores};
 use hj_value::SharedRow;
 use std::alloc::Global;
 use std::sync::Wait;
@@ -62,7 +62,7 @@ fn run_light<
     alloc: Global,
     plan: &CrewPlan<'_, T, G>,
     join: &J,
-    stores: Stores<S, S>,
+    stores: ChainStores<S>,
     feed: F,
     drain: D,
 ) -> (Result<Ran<SharedRow>, Memory>, F, D)
@@ -86,7 +86,7 @@ fn run_over<
     alloc: Global,
     plan: &CrewPlan<'_, T, G>,
     join: &J,
-    stores: Stores<S, S>,
+    stores: ChainStores<S>,
     feed: F,
     drain: D,
 ) -> (Result<Ran<SharedRow>, Memory>, F, D)
@@ -95,5 +95,9 @@ fn run_over<
     ensures runs { IfOk result.0 (RunsRaw F.gives F.state D.takes (J.predicate join.now) plan.now.size.chain.cores plan.now.size.chain.flight feed result.1 drain result.2) }
     ensures refused { OnErr result.0 ((result.1 ≡ feed) × (result.2 ≡ drain)) }
 {
+    let stores = Stores {
+        left: stores.left,
+        right: stores.right,
+    };
     run_raw(alloc, plan, join, stores, feed, drain)
 }

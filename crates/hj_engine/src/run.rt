@@ -4,15 +4,14 @@ ghost use Rattle.hj_eval.specs.Holds.{holds};
 ghost use Rattle.hj_msg.specs.RunsJoin.{RunsJoin};
 ghost use Rattle.hj_chain.specs.Steps.{GoesWith};
 ghost use Rattle.hj_engine.specs.Running.{IsBegun};
-ghost use Rattle.hj_engine.specs.Stores.{AreReady};
+ghost use Rattle.hj_stores.specs.Stores.{AreReady};
 
-use crate::stores::{PlannedStores, planned_stores};
 use hj_base::{ChainSize, Gate, Memory};
 use hj_chain::{Chain, Chooser};
-use hj_crew::Stores;
 use hj_eval::{QueryJoin, ReadyQuery};
 use hj_msg::{Drain, Feed, Fin, Store};
 use hj_query::Query;
+use hj_stores::{ChainStores, PlannedStores, planned_stores};
 use hj_value::SharedRow;
 use std::alloc::Global;
 
@@ -77,7 +76,7 @@ fn run_over<
     alloc: Global,
     query: &'r ReadyQuery<'q>,
     plan: &SerialPlan<'_, G>,
-    stores: Stores<S, S>,
+    stores: ChainStores<S>,
     feed: &mut F,
     drain: &mut D,
 ) -> Result<Fin, Memory>
@@ -95,7 +94,7 @@ fn begun<'r, 'q, S: Store<SharedRow, QueryJoin<'r>> + Drop, F: Feed<SharedRow>>(
     alloc: Global,
     query: &'r ReadyQuery<'q>,
     size: ChainSize,
-    stores: Stores<S, S>,
+    stores: ChainStores<S>,
     feed: &mut F,
 ) -> Result<Chain<SharedRow, QueryJoin<'r>, S, S>, Memory>
     requires fresh { IsFresh (F.state feed.old) }

@@ -2,7 +2,7 @@ use Rattle.std.proofs.Common.{ℕ, ap, sym, subst}
 use Rattle.std.specs.Prelude.{IfOk}
 use Rattle.hj_base.specs.declared.numbers.ChainSize.{ChainSize}
 use Rattle.hj_crew.specs.RanRaw.{RunsRaw}
-use Rattle.hj_engine.specs.Stores.{AreReady}
+use Rattle.hj_stores.specs.Stores.{AreReady}
 use Rattle.hj_engine.proofs.raw_crew.run_light.Goals as goal
 
 pub run_over-requires-clause-stores : goal.run_over-requires-clause-stores

@@ -1,7 +1,7 @@
 use Rattle.std.proofs.Common.{◌∙◌, sym, subst₂}
 use Rattle.hj_query.specs.Parts.{Parts}
-use Rattle.hj_engine.specs.declared.stores.PlannedStores.{PlannedStores}
-use Rattle.hj_engine.specs.Stores.{AreReadyFor}
+use Rattle.hj_stores.specs.declared.stores.PlannedStores.{PlannedStores}
+use Rattle.hj_stores.specs.Stores.{AreReadyFor}
 use Rattle.hj_engine.proofs.raw_crew.run_raw_crew.Goals as goal
 
 pub run_light-requires-clause-stores : goal.run_light-requires-clause-stores
