@@ -1,4 +1,4 @@
--- A crew before its threads are started, and what comes back of them.
+-- A crew while no thread is at work, and what comes back of a run.
 use Rattle.std.specs.Prelude.{◌≡◌, ℕ, ◌≤◌, Bool, false, List, length, min}
 use Rattle.std.specs.List.{AllZip}
 use Rattle.hj_msg.specs.declared.drain.Drained.{Drained}
@@ -6,13 +6,15 @@ use Rattle.hj_msg.specs.declared.feed.Given.{Given}
 use Rattle.hj_msg.specs.Feed.{FeedState, IsFresh}
 use Rattle.hj_collect.specs.Collector.{CollectorState}
 use Rattle.hj_raw.specs.Items.{Taken}
-use Rattle.hj_desk.specs.Caller.{Ends}
+use Rattle.hj_desk.specs.Caller.{Ends, GoesRound}
 use Rattle.hj_desk.specs.Desk.{Stands, StandsFor, nothing_happened}
+use Rattle.hj_crew.specs.declared.drive.Halt.{Halt}
 use Rattle.hj_crew.specs.declared.making.Crew.{Crew}
 use Rattle.hj_crew.specs.declared.plan.CrewSize.{CrewSize}
 use Rattle.hj_crew.specs.declared.run.Begun.{Begun}
 use Rattle.hj_crew.specs.declared.run.Returned.{Returned}
 use Rattle.hj_crew.specs.Cores.{AreCrew}
+use Rattle.hj_crew.specs.Halt.{round_of}
 use Rattle.hj_crew.specs.Room.{IsRoomOf}
 use Rattle.hj_crew.specs.Teams.{TeamStays}
 
@@ -36,6 +38,12 @@ module _ {P J L R F O : Type 0} where
     pub few : signals ≤ 64
     pub own : IsRoomOf (length begun.teams.items) begun.own
     pub done : IsRoomOf (length begun.teams.items) begun.done
+
+  -- The calling thread made its rounds up to where they halted, and each team came back. Threads may be started again.
+  pub record HasHalted (gives : F → Given P → F → Type 0) (state : F → FeedState) (gave : O → ℕ → List (Taken P) → Bool → Drained → O → Type 0) (rests : O → CollectorState → Type 0) (begun : Begun P J L R F O) (halt : Halt) (back : Begun P J L R F O) : Type 0 where
+    pub goes : GoesRound gives state gave rests (round_of halt) begun.caller back.caller
+    pub teams : AllZip TeamStays begun.teams.items back.teams.items
+    pub ready : (signals : ℕ) → CanStart state signals begun → CanStart state signals back
 
   -- The calling thread made its rounds up to the end of the run, and each team came back.
   pub record HasRun (gives : F → Given P → F → Type 0) (state : F → FeedState) (gave : O → ℕ → List (Taken P) → Bool → Drained → O → Type 0) (rests : O → CollectorState → Type 0) (begun : Begun P J L R F O) (returned : Returned P J L R F O) : Type 0 where

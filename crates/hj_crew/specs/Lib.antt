@@ -2,6 +2,7 @@ pub mod Begun
 pub mod Cores
 pub mod Deal
 pub mod Ends
+pub mod Halt
 pub mod Links
 pub mod Ran
 pub mod RanRaw

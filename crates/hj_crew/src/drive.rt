@@ -1,13 +1,14 @@
-//! The calling thread of a run: its rounds, and the turns of the workers for which no thread was started.
-ghost use Rattle.std.specs.Prelude.{◌≤◌, length, MatchOption};
+//! The calling thread of a run: its rounds, and the turns of the workers that no thread turns.
+ghost use Rattle.std.specs.Prelude.{◌≤◌, length};
 ghost use Rattle.std.specs.List.{AllZip};
-ghost use Rattle.hj_desk.specs.declared.caller.Round.TheVariants.{GotOn};
-ghost use Rattle.hj_desk.specs.Caller.{Ends, GoesRound};
+ghost use Rattle.hj_desk.specs.Caller.{GoesRound};
 ghost use Rattle.hj_desk.specs.Desk.{Stands};
+ghost use Rattle.hj_crew.specs.Halt.{round_of};
 ghost use Rattle.hj_crew.specs.Teams.{TeamStays};
 
 use crate::bell::Awaits;
 use crate::levels::Shared;
+use crate::load::Load;
 use crate::pause::Pause;
 use crate::team::{Progress, Signals, Team};
 use hj_base::{Gate, Share};
@@ -15,12 +16,32 @@ use hj_desk::{Caller, Outlet, Round};
 use hj_msg::{Feed, Fin, Join, Store};
 use std::sync::Wait;
 use std::sync::atomic::Ordering;
-use std::time::Clock;
+use std::time::{Clock, Instant};
+
+/// Who turns the teams of a run.
+#[derive(Clone, Copy, Debug)]
+pub(crate) enum Turners {
+    /// Threads.
+    Threads,
+    /// The calling thread, as long as it isn't busy for most of the time.
+    Caller,
+    /// The calling thread, up to the end.
+    CallerToTheEnd,
+}
+
+/// Where the calling thread's rounds halt.
+#[derive(Clone, Copy, Debug)]
+pub(crate) enum Halt {
+    /// The run has ended.
+    Over(Fin),
+    /// The run goes on, and these turn the teams from then on.
+    GoesOn(Turners),
+}
 
 /// Makes rounds until the run has ended, and tells how. Between them it turns the teams of its `own`. After a round that got on it
-/// rings the threads, where they may wait for what it did. It waits at its own bell. Where the calling thread is to take the teams
-/// back and other programs want the processors, it answers None before the run has ended. With each answer every thread was told to
-/// hand back its team.
+/// rings the threads, where they may wait for what it did. It waits at its own bell. Where the calling thread may take the teams
+/// back, it halts before the run has ended where other programs want the processors, or there is little to do. Wherever it halts
+/// every thread was told to hand back its team.
 pub(crate) fn drive<
     P: Share + Drop,
     J: Join<P> + Drop,
@@ -30,31 +51,46 @@ pub(crate) fn drive<
     O: Outlet<P>,
     G: Gate,
     T: Wait + Clock,
->(
-    shared: &Shared<'_, G, T>,
-    caller: &mut Caller<P, F, O>,
-    own: &mut [Team<P, J, L, R>],
-) -> Option<Fin>
+>(shared: &Shared<'_, G, T>, caller: &mut Caller<P, F, O>, own: &mut [Team<P, J, L, R>]) -> Halt
     requires stands { Stands caller.old.desk (F.state caller.old.feed) }
     requires few { length caller.old.desk.reports.items ≤ 64 }
-    ensures goes { MatchOption result (GoesRound F.gives F.state O.gave O.rests GotOn caller.old caller.new)
-        (λ fin. Ends F.gives F.state O.gave O.rests fin caller.old caller.new) }
+    ensures goes { GoesRound F.gives F.state O.gave O.rests (round_of result) caller.old caller.new }
+    ensures own { AllZip TeamStays own.old own.new }
+{
+    let halt = drive_threads(shared, caller, own);
+    call_back(shared);
+    halt
+}
+
+/// Makes the rounds of `drive`, but leaves the threads at work where it halts.
+fn drive_threads<
+    P: Share + Drop,
+    J: Join<P> + Drop,
+    L: Store<P, J> + Drop,
+    R: Store<P, J> + Drop,
+    F: Feed<P>,
+    O: Outlet<P>,
+    G: Gate,
+    T: Wait + Clock,
+>(shared: &Shared<'_, G, T>, caller: &mut Caller<P, F, O>, own: &mut [Team<P, J, L, R>]) -> Halt
+    requires stands { Stands caller.old.desk (F.state caller.old.feed) }
+    requires few { length caller.old.desk.reports.items ≤ 64 }
+    ensures goes { GoesRound F.gives F.state O.gave O.rests (round_of result) caller.old caller.new }
     ensures own { AllZip TeamStays own.old own.new }
 {
     let mut pause = Pause::new(shared.bell);
+    let mut load = Load::new();
     for _ in shared.rt.forever() {
-        match round_of_all(caller, own, shared.gate) {
-            Round::Over(fin) => {
-                call_back(shared);
-                return Some(fin);
+        if shared.takes_back {
+            if let Some(turners) = after_threads(shared.rt, &pause, &mut load) {
+                return Halt::GoesOn(turners);
             }
+        }
+        match round_of_all(shared.rt, caller, own, shared.gate, &mut load) {
+            Round::Over(fin) => return Halt::Over(fin),
             Round::GotOn => {
                 ring_teams(shared.signals);
                 pause.reset();
-            }
-            Round::Waits if shared.takes_back && pause.is_crowded() => {
-                call_back(shared);
-                return None;
             }
             Round::Waits => pause.wait(shared.rt, Awaits::Message),
         }
@@ -62,7 +98,16 @@ pub(crate) fn drive<
     unreachable!()
 }
 
-/// Makes rounds until the run has ended, and tells how. Between them it turns these teams, which are all: no thread turns one.
+/// Returns who turns the teams from now on, where threads are to turn them no more.
+fn after_threads<T: Clock>(rt: &T, pause: &Pause<'_>, load: &mut Load) -> Option<Turners> {
+    if pause.is_crowded() {
+        return Some(Turners::CallerToTheEnd);
+    }
+    load.end_window(rt)?.is_idle().then_some(Turners::Caller)
+}
+
+/// Makes rounds until the run has ended, and tells how. Between them it turns these teams, which are all: no thread turns one. Where it
+/// `may_leave` the teams to threads, it halts before the run has ended where it is busy for most of the time.
 pub(crate) fn drive_alone<
     P: Share + Drop,
     J: Join<P> + Drop,
@@ -71,21 +116,39 @@ pub(crate) fn drive_alone<
     F: Feed<P>,
     O: Outlet<P>,
     G: Gate,
-    T: Wait,
->(rt: &T, caller: &mut Caller<P, F, O>, teams: &mut [Team<P, J, L, R>], gate: &G) -> Fin
+    T: Wait + Clock,
+>(
+    rt: &T,
+    caller: &mut Caller<P, F, O>,
+    teams: &mut [Team<P, J, L, R>],
+    gate: &G,
+    may_leave: bool,
+) -> Halt
     requires stands { Stands caller.old.desk (F.state caller.old.feed) }
     requires few { length caller.old.desk.reports.items ≤ 64 }
-    ensures ends { Ends F.gives F.state O.gave O.rests result caller.old caller.new }
+    ensures goes { GoesRound F.gives F.state O.gave O.rests (round_of result) caller.old caller.new }
     ensures teams { AllZip TeamStays teams.old teams.new }
 {
+    let mut load = Load::new();
     for _ in rt.forever() {
-        match round_of_all(caller, teams, gate) {
-            Round::Over(fin) => return fin,
+        if may_leave && is_laden(rt, &mut load) {
+            return Halt::GoesOn(Turners::Threads);
+        }
+        match round_of_all(rt, caller, teams, gate, &mut load) {
+            Round::Over(fin) => return Halt::Over(fin),
             Round::GotOn => (),
             Round::Waits => (),
         }
     }
     unreachable!()
+}
+
+/// Returns whether a window of time is over in which there was something to do for most of it.
+fn is_laden<T: Clock>(rt: &T, load: &mut Load) -> bool {
+    match load.end_window(rt) {
+        Some(window) => window.is_laden(),
+        None => false,
+    }
 }
 
 /// Tells every thread to hand back its team.
@@ -124,7 +187,8 @@ fn is_callers(signals: Option<&Signals>) -> bool {
     }
 }
 
-/// Does one round of the calling thread, and then one of each team, where the run goes on.
+/// Does one round of the calling thread, and then one of each team, where the run goes on. Notes for how long it may have waited for
+/// the feed.
 fn round_of_all<
     P: Share + Drop,
     J: Join<P> + Drop,
@@ -133,13 +197,20 @@ fn round_of_all<
     F: Feed<P>,
     O: Outlet<P>,
     G: Gate,
->(caller: &mut Caller<P, F, O>, own: &mut [Team<P, J, L, R>], gate: &G) -> Round
+    T: Clock,
+>(
+    rt: &T,
+    caller: &mut Caller<P, F, O>,
+    own: &mut [Team<P, J, L, R>],
+    gate: &G,
+    load: &mut Load,
+) -> Round
     requires stands { Stands caller.old.desk (F.state caller.old.feed) }
     requires few { length caller.old.desk.reports.items ≤ 64 }
     ensures goes { GoesRound F.gives F.state O.gave O.rests result caller.old caller.new }
     ensures own { AllZip TeamStays own.old own.new }
 {
-    match caller.round() {
+    match timed_round(rt, caller, load) {
         Round::Over(fin) => Round::Over(fin),
         Round::GotOn => {
             turn_all(own, gate);
@@ -153,6 +224,29 @@ fn round_of_all<
             }
         }
     }
+}
+
+/// Does one round of the calling thread, and notes how long that took where it may have waited for the feed.
+fn timed_round<P: Share + Drop, F: Feed<P>, O: Outlet<P>, T: Clock>(
+    rt: &T,
+    caller: &mut Caller<P, F, O>,
+    load: &mut Load,
+) -> Round
+    requires stands { Stands caller.old.desk (F.state caller.old.feed) }
+    requires few { length caller.old.desk.reports.items ≤ 64 }
+    ensures goes { GoesRound F.gives F.state O.gave O.rests result caller.old caller.new }
+{
+    let may_wait = caller.desk.is_unasked() && !caller.feed.is_ready();
+    let begun = if may_wait {
+        Instant::now(rt).ok()
+    } else {
+        None
+    };
+    let round = caller.round();
+    if let Some(begun) = begun {
+        load.add_wait(rt, begun);
+    }
+    round
 }
 
 /// Does a round of each team, and returns whether one got on.

@@ -1,17 +1,17 @@
 //! The threads of a run: each is started by a level of its own, which joins it again.
 ghost use Rattle.std.specs.Prelude.{◌≡◌, ◌+◌, ◌<◌, ◌≤◌, ◌∷◌, ◌++◌, [], length, vec_capacity, vec_len, IfErr, IfOk, IfNone, MatchOption};
 ghost use Rattle.std.specs.List.{AllZip};
-ghost use Rattle.hj_desk.specs.declared.caller.Round.TheVariants.{GotOn};
-ghost use Rattle.hj_desk.specs.Caller.{Ends, GoesRound};
+ghost use Rattle.hj_desk.specs.Caller.{GoesRound};
 ghost use Rattle.hj_desk.specs.Desk.{Stands};
+ghost use Rattle.hj_crew.specs.Halt.{round_of};
 ghost use Rattle.hj_crew.specs.Teams.{AppendsTeams, TeamStays};
 
 use crate::bell::{Bell, Neighbours};
-use crate::drive::drive;
+use crate::drive::{Halt, drive};
 use crate::team::{Signals, Team, work};
 use hj_base::{Gate, Share};
 use hj_desk::{Caller, Outlet};
-use hj_msg::{Feed, Fin, Join, Store};
+use hj_msg::{Feed, Join, Store};
 use std::snapshot::Snapshot;
 use std::sync::Wait;
 use std::sync::atomic::{AtomicBool, Ordering};
@@ -44,14 +44,14 @@ pub(crate) struct Shared<'s, G, T> {
     pub(crate) bell: &'s Bell,
     /// How many teams, the first ones, the calling thread turns itself.
     pub(crate) kept: usize,
-    /// Whether the calling thread takes the teams back where other programs want the processors.
+    /// Whether the calling thread may take the teams back before the run has ended.
     pub(crate) takes_back: bool,
     pub(crate) gate: &'s G,
 }
 
 /// Starts a thread for the last of these teams, does so for the others, and lets the calling thread run once no team
 /// is left. Then the team comes back, behind those that are `done`. Where no thread can be made, or the calling thread
-/// is to turn the team, that goes among its `own` until then. Returns how the run ended, or None where it goes on without threads.
+/// is to turn the team, that goes among its `own` until then. Returns where the calling thread's rounds halted.
 pub(crate) fn levels<
     's,
     E,
@@ -70,16 +70,18 @@ pub(crate) fn levels<
     teams: &mut Vec<Team<P, J, L, R>>,
     own: &mut Vec<Team<P, J, L, R>>,
     done: &mut Vec<Team<P, J, L, R>>,
-) -> Option<Fin>
+) -> Halt
     requires stands { Stands caller.old.desk (F.state caller.old.feed) }
     requires cores { length caller.old.desk.reports.items ≤ 64 }
     requires signals { vec_len teams.old ≤ length shared.now.signals.now }
     requires few { length shared.now.signals.now ≤ 64 }
     requires done_room { vec_len done.old + vec_len teams.old ≤ vec_capacity done.old }
     requires own_room { vec_len own.old + vec_len teams.old ≤ vec_capacity own.old }
-    ensures goes { MatchOption result (GoesRound F.gives F.state O.gave O.rests GotOn caller.old caller.new)
-        (λ fin. Ends F.gives F.state O.gave O.rests fin caller.old caller.new) }
+    ensures goes { GoesRound F.gives F.state O.gave O.rests (round_of result) caller.old caller.new }
     ensures own { AllZip TeamStays own.old.items own.new.items }
+    ensures own_capacity { vec_capacity own.new ≡ vec_capacity own.old }
+    ensures none { teams.new.items ≡ [] }
+    ensures teams_capacity { vec_capacity teams.new ≡ vec_capacity teams.old }
     ensures done { AppendsTeams teams.old.items done.old.items done.new.items }
     ensures done_capacity { vec_capacity done.new ≡ vec_capacity done.old }
 {
@@ -87,9 +89,9 @@ pub(crate) fn levels<
         return drive(shared, caller, own.as_mut_slice());
     };
     let child = start_or_keep(scope, shared, teams.len(), team, own);
-    let ended = levels(scope, shared, caller, teams, own, done);
+    let halt = levels(scope, shared, caller, teams, own, done);
     done.push_reserved(take_back(shared.rt, child, own));
-    ended
+    halt
 }
 
 /// Takes back a team: from its thread, once that has ended, or where it has none the last one of the calling thread's
@@ -100,8 +102,9 @@ fn take_back<P: Drop, J: Join<P> + Drop, L: Store<P, J> + Drop, R: Store<P, J> +
     own: &mut Vec<Team<P, J, L, R>>,
 ) -> Team<P, J, L, R>
     requires { IfNone child (0 < length own.old.items) }
-    ensures { MatchOption child (own.old.items ≡ own.new.items ++ result ∷ [])
+    ensures back { MatchOption child (own.old.items ≡ own.new.items ++ result ∷ [])
         (λ child. TeamStays child.promise.0.value result × (own.new.items ≡ own.old.items)) }
+    ensures capacity { vec_capacity own.new ≡ vec_capacity own.old }
 {
     match child {
         Some(child) => child.join(rt),
@@ -195,6 +198,8 @@ fn start<
     let rt = shared.rt;
     let stop = shared.stop;
     let signals = &shared.signals[place];
+    // it was set where an earlier thread of the team was refused
+    signals.leave.store(false, Ordering::SeqCst);
     let neighbours = neighbours_of(shared, place);
     let gate = shared.gate;
     let promise = SameTeam(Snapshot::of(&team));

@@ -8,6 +8,7 @@ mod drive;
 mod ends;
 mod levels;
 mod links;
+mod load;
 mod making;
 mod pause;
 mod plan;

@@ -92,8 +92,9 @@ impl Delays {
 }
 
 impl<'b> Pause<'b> {
-    /// Makes a pause that a bell ends.
+    /// Makes a pause that a bell ends. Its thread is awake.
     pub(crate) fn new(bell: &'b Bell) -> Self {
+        bell.set(Awaits::Nothing);
         Pause {
             bell,
             yields: 0,

@@ -31,18 +31,18 @@ pub struct CrewPlan<'r, T, G> {
     /// Starts the threads, and lets them wait.
     pub rt: &'r T,
     pub size: CrewSize,
-    /// How many teams, the first ones, the calling thread turns itself.
+    /// How many teams, the first ones, the calling thread turns itself while threads turn the others.
     pub kept: u16,
-    /// Whether the calling thread takes all teams back, and turns them itself from then on, where other programs want the
-    /// processors. That pays where the cores have little to do.
+    /// Whether the calling thread may take all teams back, and turn them itself: where it mostly waits for the feed, until it is busy
+    /// for most of the time; and where other programs want the processors, up to the end. That pays where the cores have little to do.
     pub takes_back: bool,
     /// Is passed before each turn of a core.
     pub gate: &'r G,
 }
 
 impl<'r, T, G> CrewPlan<'r, T, G> {
-    /// Returns the plan for cores that have little to do: where other programs want the processors, the calling thread turns all
-    /// cores from then on.
+    /// Returns the plan for cores that have little to do: the calling thread turns all of them where it mostly waits for the feed, or
+    /// other programs want the processors.
     pub fn for_light_cores(&self) -> Self
         ensures { result.size.chain ≡ self.now.size.chain }
     {

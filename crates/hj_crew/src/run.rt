@@ -1,11 +1,11 @@
 //! A run of a chain on threads.
-ghost use Rattle.std.specs.Prelude.{◌≡◌, ◌≤◌, length, IfOk, OnErr};
+ghost use Rattle.std.specs.Prelude.{◌≡◌, ℕ, ◌≤◌, length, IfOk, OnErr};
 ghost use Rattle.std.specs.List.{AllZip};
 ghost use Rattle.hj_base.specs.declared.numbers.Side.TheVariants.{Left, Right};
 ghost use Rattle.hj_msg.specs.Feed.{IsFresh};
 ghost use Rattle.hj_desk.specs.Caller.{Ends};
 ghost use Rattle.hj_desk.specs.Desk.{Stands};
-ghost use Rattle.hj_crew.specs.Begun.{CanStart, HasRun, IsManned};
+ghost use Rattle.hj_crew.specs.Begun.{CanStart, HasHalted, HasRun, IsManned};
 ghost use Rattle.hj_crew.specs.RunsCrew.{RunsCrew};
 ghost use Rattle.hj_crew.specs.Ran.{RunsOnThreads};
 ghost use Rattle.hj_crew.specs.Room.{IsRoomFor, IsRoomOf};
@@ -14,7 +14,7 @@ ghost use Rattle.hj_crew.specs.Teams.{TeamStays};
 
 use crate::bell::Bell;
 use crate::closing::close_crew;
-use crate::drive::drive_alone;
+use crate::drive::{Halt, Turners, drive_alone};
 use crate::levels::{Shared, levels};
 use crate::making::Crew;
 use crate::plan::{CrewPlan, Stores};
@@ -123,12 +123,12 @@ pub(crate) fn run_and_close<
     (ran, feed, outlet)
 }
 
-/// What a run has before its first thread is started.
+/// What a run has while no thread is at work.
 #[derive(Drop)]
 pub(crate) struct Begun<P: Drop, J: Join<P>, L: Store<P, J>, R: Store<P, J>, F, O> {
     pub(crate) caller: Caller<P, F, O>,
     pub(crate) teams: Vec<Team<P, J, L, R>>,
-    /// Room for the teams that the calling thread turns itself, and for those that came back.
+    /// Room for the teams that the calling thread turns beside threads, and for those that come back.
     pub(crate) own: Vec<Team<P, J, L, R>>,
     pub(crate) done: Vec<Team<P, J, L, R>>,
 }
@@ -140,7 +140,7 @@ pub(crate) struct Returned<P: Drop, J: Join<P>, L: Store<P, J>, R: Store<P, J>, 
     pub(crate) fin: Fin,
 }
 
-/// Lets a crew run, each team in a thread of its own, until the run has ended.
+/// Lets a crew run until the run has ended.
 fn run_crew<
     P: Share + Send + Drop,
     J: Join<P> + Send + Drop,
@@ -185,11 +185,12 @@ fn run_crew<
         own,
         done,
     };
-    run_in_scope(plan, signals.as_slice(), begun)
+    run_to_end(plan, signals.as_slice(), begun)
 }
 
-/// Makes what the threads of a run use, and lets them run.
-fn run_in_scope<
+/// Lets the calling thread make its rounds until the run has ended, while threads turn the teams, and then now that thread itself and
+/// now threads.
+fn run_to_end<
     P: Share + Send + Drop,
     J: Join<P> + Send + Drop,
     L: Store<P, J> + Send + Drop,
@@ -206,6 +207,69 @@ fn run_in_scope<
     requires { CanStart F.state (length signals.now) begun }
     ensures { HasRun F.gives F.state O.gave O.rests begun result }
 {
+    let mut begun = begun;
+    let mut turners = Turners::Threads;
+    for _ in plan.rt.forever() {
+        let (halt, back) = run_under(plan, turners, signals, begun);
+        match halt {
+            Halt::Over(fin) => {
+                return Returned {
+                    caller: back.caller,
+                    teams: back.teams,
+                    fin,
+                };
+            }
+            Halt::GoesOn(next) => turners = next,
+        }
+        begun = back;
+    }
+    unreachable!()
+}
+
+/// Lets a run go on under these turners until it halts.
+fn run_under<
+    P: Share + Send + Drop,
+    J: Join<P> + Send + Drop,
+    L: Store<P, J> + Send + Drop,
+    R: Store<P, J> + Send + Drop,
+    F: Feed<P> + Drop,
+    O: Outlet<P> + Drop,
+    G: Gate + Sync,
+    T: Threads + Wait + Clock + Sync,
+>(
+    plan: &CrewPlan<'_, T, G>,
+    turners: Turners,
+    signals: &[Signals],
+    begun: Begun<P, J, L, R, F, O>,
+) -> (Halt, Begun<P, J, L, R, F, O>)
+    requires { CanStart F.state (length signals.now) begun }
+    ensures { HasHalted F.gives F.state O.gave O.rests begun result.0 result.1 }
+{
+    match turners {
+        Turners::Threads => run_in_scope(plan, signals, begun),
+        Turners::Caller => run_alone(plan, begun, true),
+        Turners::CallerToTheEnd => run_alone(plan, begun, false),
+    }
+}
+
+/// Makes what the threads of a run use, and lets them run.
+fn run_in_scope<
+    P: Share + Send + Drop,
+    J: Join<P> + Send + Drop,
+    L: Store<P, J> + Send + Drop,
+    R: Store<P, J> + Send + Drop,
+    F: Feed<P> + Drop,
+    O: Outlet<P> + Drop,
+    G: Gate + Sync,
+    T: Threads + Wait + Clock + Sync,
+>(
+    plan: &CrewPlan<'_, T, G>,
+    signals: &[Signals],
+    begun: Begun<P, J, L, R, F, O>,
+) -> (Halt, Begun<P, J, L, R, F, O>)
+    requires { CanStart F.state (length signals.now) begun }
+    ensures { HasHalted F.gives F.state O.gave O.rests begun result.0 result.1 }
+{
     let stop = AtomicBool::new(false);
     let bell = Bell::new();
     let shared = Shared {
@@ -220,7 +284,7 @@ fn run_in_scope<
     scoped(&shared, begun)
 }
 
-/// Starts the threads of a run, and joins them when it has ended.
+/// Starts the threads of a run, and joins them where the calling thread's rounds halt.
 fn scoped<
     P: Share + Send + Drop,
     J: Join<P> + Send + Drop,
@@ -230,22 +294,21 @@ fn scoped<
     O: Outlet<P> + Drop,
     G: Gate + Sync,
     T: Threads + Wait + Clock + Sync,
->(shared: &Shared<'_, G, T>, begun: Begun<P, J, L, R, F, O>) -> Returned<P, J, L, R, F, O>
+>(shared: &Shared<'_, G, T>, begun: Begun<P, J, L, R, F, O>) -> (Halt, Begun<P, J, L, R, F, O>)
     requires { CanStart F.state (length shared.now.signals.now) begun }
-    ensures { HasRun F.gives F.state O.gave O.rests begun result }
+    ensures { HasHalted F.gives F.state O.gave O.rests begun result.0 result.1 }
 {
     thread::scope(
         thread::scope_env(),
         shared.rt,
-        move |scope| -> Returned<P, J, L, R, F, O>
+        move |scope| -> (Halt, Begun<P, J, L, R, F, O>)
             requires { CanStart F.state (length shared.now.signals.now) begun }
-            ensures { HasRun F.gives F.state O.gave O.rests begun result }
+            ensures { HasHalted F.gives F.state O.gave O.rests begun result.0 result.1 }
         { all_levels(scope, shared, begun) },
     )
 }
 
-/// Starts the thread of each team, makes the calling thread's rounds, and joins the threads. Where the run goes on then, the calling
-/// thread turns all teams.
+/// Starts the thread of each team, makes the calling thread's rounds, and joins the threads.
 fn all_levels<
     's,
     E,
@@ -261,9 +324,9 @@ fn all_levels<
     scope: &'s Scope<'s, E>,
     shared: &Shared<'s, G, T>,
     begun: Begun<P, J, L, R, F, O>,
-) -> Returned<P, J, L, R, F, O>
+) -> (Halt, Begun<P, J, L, R, F, O>)
     requires { CanStart F.state (length shared.now.signals.now) begun }
-    ensures { HasRun F.gives F.state O.gave O.rests begun result }
+    ensures { HasHalted F.gives F.state O.gave O.rests begun result.0 result.1 }
 {
     let Begun {
         mut caller,
@@ -271,18 +334,17 @@ fn all_levels<
         mut own,
         mut done,
     } = begun;
-    let ended = levels(scope, shared, &mut caller, &mut teams, &mut own, &mut done);
-    match ended {
-        Some(fin) => Returned {
-            caller,
-            teams: done,
-            fin,
-        },
-        None => run_alone(shared, caller, done),
-    }
+    let halt = levels(scope, shared, &mut caller, &mut teams, &mut own, &mut done);
+    let back = Begun {
+        caller,
+        teams: done,
+        own,
+        done: teams,
+    };
+    (halt, back)
 }
 
-/// Lets the calling thread turn all teams of a run, up to its end.
+/// Lets the calling thread turn all teams of a run, until it halts.
 fn run_alone<
     P: Share + Drop,
     J: Join<P> + Drop,
@@ -291,19 +353,33 @@ fn run_alone<
     F: Feed<P>,
     O: Outlet<P>,
     G: Gate,
-    T: Wait,
+    T: Wait + Clock,
 >(
-    shared: &Shared<'_, G, T>,
-    caller: Caller<P, F, O>,
-    teams: Vec<Team<P, J, L, R>>,
-) -> Returned<P, J, L, R, F, O>
-    requires stands { Stands caller.desk (F.state caller.feed) }
-    requires few { length caller.desk.reports.items ≤ 64 }
-    ensures ends { Ends F.gives F.state O.gave O.rests result.fin caller result.caller }
-    ensures teams { AllZip TeamStays teams.items result.teams.items }
+    plan: &CrewPlan<'_, T, G>,
+    begun: Begun<P, J, L, R, F, O>,
+    may_leave: bool,
+) -> (Halt, Begun<P, J, L, R, F, O>)
+    requires { (signals : ℕ) × CanStart F.state signals begun }
+    ensures { HasHalted F.gives F.state O.gave O.rests begun result.0 result.1 }
 {
-    let mut caller = caller;
-    let mut teams = teams;
-    let fin = drive_alone(shared.rt, &mut caller, teams.as_mut_slice(), shared.gate);
-    Returned { caller, teams, fin }
+    let Begun {
+        mut caller,
+        mut teams,
+        own,
+        done,
+    } = begun;
+    let halt = drive_alone(
+        plan.rt,
+        &mut caller,
+        teams.as_mut_slice(),
+        plan.gate,
+        may_leave,
+    );
+    let back = Begun {
+        caller,
+        teams,
+        own,
+        done,
+    };
+    (halt, back)
 }

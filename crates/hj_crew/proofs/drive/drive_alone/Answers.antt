@@ -7,8 +7,8 @@ use Rattle.hj_crew.proofs.drive.drive_alone.Goals as goal
 pub loop-init : goal.loop-init
 loop-init g c = record { goes = no-round g.F.Feed.gives g.F.Feed.state g.O.Outlet.gave g.O.Outlet.rests c.args.caller.now; teams = related-refl TeamStays team-stays c.args.teams.now }
 
-pub returns-in-Over-clause-ends : goal.returns-in-Over-clause-ends
-returns-in-Over-clause-ends g c = round-behind g.F.Feed.gives g.F.Feed.state g.O.Outlet.gave g.O.Outlet.rests (Over c.in-Over.fin) c.args.caller.now c.loop.caller c.round_of_all.new.caller c.loop.invariant.goes c.in-Over.ensures.goes
+pub returns-in-Over-clause-goes : goal.returns-in-Over-clause-goes
+returns-in-Over-clause-goes g c = round-behind g.F.Feed.gives g.F.Feed.state g.O.Outlet.gave g.O.Outlet.rests (Over c.in-Over.fin) c.args.caller.now c.loop.caller c.round_of_all.new.caller c.loop.invariant.goes c.in-Over.ensures.goes
 
 pub returns-in-Over-clause-teams : goal.returns-in-Over-clause-teams
 returns-in-Over-clause-teams g c = related-trans TeamStays team-stays-on c.args.teams.now c.loop.teams c.round_of_all.new.own c.loop.invariant.teams c.round_of_all.ensures.own

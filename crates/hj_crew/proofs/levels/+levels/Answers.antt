@@ -11,23 +11,23 @@ drive-requires-clause-few g t c = c.requires.cores
 pub returns-in_default-clause-done : goal.returns-in_default-clause-done
 returns-in_default-clause-done g t c = appends-none c.args.teams.now.items c.args.done.now.items (omega (arith, c.in_default.ensures.cases.0))
 
-pub levels-ended-requires-clause-stands : goal.levels-ended-requires-clause-stands
-levels-ended-requires-clause-stands g t c κs within = c.requires.stands
+pub levels-halt-requires-clause-stands : goal.levels-halt-requires-clause-stands
+levels-halt-requires-clause-stands g t c κs within = c.requires.stands
 
-pub levels-ended-requires-clause-cores : goal.levels-ended-requires-clause-cores
-levels-ended-requires-clause-cores g t c κs within = c.requires.cores
+pub levels-halt-requires-clause-cores : goal.levels-halt-requires-clause-cores
+levels-halt-requires-clause-cores g t c κs within = c.requires.cores
 
-pub levels-ended-requires-clause-signals : goal.levels-ended-requires-clause-signals
-levels-ended-requires-clause-signals g t c κs within = omega (arith, c.requires.signals, c.in-Some.ensures.len)
+pub levels-halt-requires-clause-signals : goal.levels-halt-requires-clause-signals
+levels-halt-requires-clause-signals g t c κs within = omega (arith, c.requires.signals, c.in-Some.ensures.len)
 
-pub levels-ended-requires-clause-few : goal.levels-ended-requires-clause-few
-levels-ended-requires-clause-few g t c κs within = c.requires.few
+pub levels-halt-requires-clause-few : goal.levels-halt-requires-clause-few
+levels-halt-requires-clause-few g t c κs within = c.requires.few
 
-pub levels-ended-requires-clause-done_room : goal.levels-ended-requires-clause-done_room
-levels-ended-requires-clause-done_room g t c κs within = omega (arith, c.requires.done_room, c.in-Some.ensures.len)
+pub levels-halt-requires-clause-done_room : goal.levels-halt-requires-clause-done_room
+levels-halt-requires-clause-done_room g t c κs within = omega (arith, c.requires.done_room, c.in-Some.ensures.len)
 
-pub levels-ended-requires-clause-own_room : goal.levels-ended-requires-clause-own_room
-levels-ended-requires-clause-own_room g t c κs within =
+pub levels-halt-requires-clause-own_room : goal.levels-halt-requires-clause-own_room
+levels-halt-requires-clause-own_room g t c κs within =
     let child = c.start_or_keep-child.result in
     omega (
       arith,
@@ -39,27 +39,27 @@ levels-ended-requires-clause-own_room g t c κs within =
 
 pub take_back-requires : goal.take_back-requires
 take_back-requires g t c =
-    some-own c.start_or_keep-child.result (λ h. h.promise.0.value) c.in-Some.team c.args.own.now.items c.start_or_keep-child.new.own.items c.levels-ended.new.own.items c.start_or_keep-child.ensures.started c.levels-ended.ensures.own
+    some-own c.start_or_keep-child.result (λ h. h.promise.0.value) c.in-Some.team c.args.own.now.items c.start_or_keep-child.new.own.items c.levels-halt.new.own.items c.start_or_keep-child.ensures.started c.levels-halt.ensures.own
 
 pub push_reserved-requires : goal.push_reserved-requires
 push_reserved-requires g t c =
     omega (
       arith,
-      length-appended c.pop.new.self.items c.args.done.now.items c.levels-ended.new.done.items c.levels-ended.ensures.done,
-      c.levels-ended.ensures.done_capacity,
+      length-appended c.pop.new.self.items c.args.done.now.items c.levels-halt.new.done.items c.levels-halt.ensures.done,
+      c.levels-halt.ensures.done_capacity,
       c.requires.done_room,
       c.in-Some.ensures.len,
     )
 
 pub returns-clause-own : goal.returns-clause-own
 returns-clause-own g t c =
-    (comes-back c.start_or_keep-child.result (λ h. h.promise.0.value) c.in-Some.team c.args.own.now.items c.start_or_keep-child.new.own.items c.levels-ended.new.own.items c.take_back.new.own.items c.take_back.result
-    c.start_or_keep-child.ensures.started c.levels-ended.ensures.own c.take_back.ensures).1
+    (comes-back c.start_or_keep-child.result (λ h. h.promise.0.value) c.in-Some.team c.args.own.now.items c.start_or_keep-child.new.own.items c.levels-halt.new.own.items c.take_back.new.own.items c.take_back.result
+    c.start_or_keep-child.ensures.started c.levels-halt.ensures.own c.take_back.ensures.back).1
 
 pub returns-clause-done : goal.returns-clause-done
 returns-clause-done g t c =
     let back =
-    comes-back c.start_or_keep-child.result (λ h. h.promise.0.value) c.in-Some.team c.args.own.now.items c.start_or_keep-child.new.own.items c.levels-ended.new.own.items c.take_back.new.own.items c.take_back.result
-    c.start_or_keep-child.ensures.started c.levels-ended.ensures.own c.take_back.ensures in
-    appends-with c.args.teams.now.items c.pop.new.self.items c.args.done.now.items c.levels-ended.new.done.items c.push_reserved.new.self.items c.in-Some.team c.take_back.result c.in-Some.ensures.items
-    c.levels-ended.ensures.done back.0 c.push_reserved.ensures.items
+    comes-back c.start_or_keep-child.result (λ h. h.promise.0.value) c.in-Some.team c.args.own.now.items c.start_or_keep-child.new.own.items c.levels-halt.new.own.items c.take_back.new.own.items c.take_back.result
+    c.start_or_keep-child.ensures.started c.levels-halt.ensures.own c.take_back.ensures.back in
+    appends-with c.args.teams.now.items c.pop.new.self.items c.args.done.now.items c.levels-halt.new.done.items c.push_reserved.new.self.items c.in-Some.team c.take_back.result c.in-Some.ensures.items
+    c.levels-halt.ensures.done back.0 c.push_reserved.ensures.items

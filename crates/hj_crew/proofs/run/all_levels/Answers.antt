@@ -1,35 +1,20 @@
-use Rattle.std.proofs.Common.{arith, ap, length}
-use Rattle.std.proofs.lemmas.List.{length-map}
-use Rattle.hj_msg.specs.declared.drain.Drained.TheVariants.{Kept}
-use Rattle.hj_desk.specs.declared.caller.Round.TheVariants.{Over}
-use Rattle.hj_desk.proofs.Going.{goes-stands}
-use Rattle.hj_desk.proofs.Rounds.{round-behind}
+use Rattle.std.proofs.Common.{ap, arith, length}
+use Rattle.std.proofs.lemmas.Slice.Zip.{AllZip-long}
 use Rattle.hj_crew.specs.Teams.{TeamStays}
-use Rattle.hj_crew.proofs.Staying.{related-trans, team-stays-on}
+use Rattle.hj_crew.proofs.Halting.{has-halted, stays-empty}
 use Rattle.hj_crew.proofs.Teaming.{all-back}
 use Rattle.hj_crew.proofs.run.all_levels.Goals as goal
 
-pub run_alone-requires-clause-stands : goal.run_alone-requires-clause-stands
-run_alone-requires-clause-stands g c =
-    let round = c.in-None.ensures.goes in
-    goes-stands g.F.Feed.gives g.F.Feed.state g.O.Outlet.gave c.args.begun.caller c.levels-ended.new.caller round.answers Kept round.goes c.requires.stands
-
-pub run_alone-requires-clause-few : goal.run_alone-requires-clause-few
-run_alone-requires-clause-few g c =
-    let queues = c.in-None.ensures.goes.goes.queues in
-    omega (
-      arith,
-      ap length queues.links,
-      length-map c.levels-ended.new.caller.desk.reports.items (λ receiver. receiver.link),
-      length-map c.args.begun.caller.desk.reports.items (λ receiver. receiver.link),
-      c.requires.cores,
-    )
-
 pub returns : goal.returns
-returns g c = record {
-  ends =
-      round-behind g.F.Feed.gives g.F.Feed.state g.O.Outlet.gave g.O.Outlet.rests (Over c.run_alone.result.fin) c.args.begun.caller c.levels-ended.new.caller c.run_alone.result.caller c.in-None.ensures.goes c.run_alone.ensures.ends;
-  teams =
-      related-trans TeamStays team-stays-on c.args.begun.teams.items c.levels-ended.new.done.items c.run_alone.result.teams.items
-      (all-back c.args.begun.teams.items c.args.begun.done.items c.levels-ended.new.done.items c.requires.done.empty c.levels-ended.ensures.done) c.run_alone.ensures.teams;
-}
+returns g c =
+    let begun = c.args.begun in
+    let caller = c.levels-halt.new.caller in
+    let teams = c.levels-halt.new.teams in
+    let own = c.levels-halt.new.own in
+    let done = c.levels-halt.new.done in
+    let back = all-back begun.teams.items begun.done.items done.items c.requires.done.empty c.levels-halt.ensures.done in
+    let long = AllZip-long TeamStays begun.teams.items done.items back in
+    let no_own = stays-empty begun.own.items own.items c.requires.own.empty c.levels-halt.ensures.own in
+    has-halted g.F.Feed.gives g.F.Feed.state g.O.Outlet.gave g.O.Outlet.rests begun (record { caller = caller; teams = done; own = own; done = teams }) c.levels-halt.result c.levels-halt.ensures.goes back
+    (record { empty = no_own; room = omega (arith, own.ok.0, ap length no_own, long, c.levels-halt.ensures.own_capacity, c.requires.own.room) })
+    (record { empty = c.levels-halt.ensures.none; room = omega (arith, teams.ok.0, ap length c.levels-halt.ensures.none, long, c.levels-halt.ensures.teams_capacity, begun.teams.ok.0, begun.teams.ok.1) })

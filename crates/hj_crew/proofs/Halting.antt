@@ -1,0 +1,49 @@
+-- A run that halted, and may go on.
+use Rattle.std.proofs.Common.{◌≡◌, ℕ, Bool, List, [], length, ap, arith}
+use Rattle.std.specs.List.{AllZip}
+use Rattle.std.proofs.lemmas.List.{length-map, nil_from_length}
+use Rattle.std.proofs.lemmas.Slice.Zip.{AllZip-long}
+use Rattle.hj_msg.specs.declared.drain.Drained.{Drained}
+use Rattle.hj_msg.specs.declared.feed.Given.{Given}
+use Rattle.hj_msg.specs.Feed.{FeedState}
+use Rattle.hj_collect.specs.Collector.{CollectorState}
+use Rattle.hj_raw.specs.Items.{Taken}
+use Rattle.hj_desk.specs.declared.caller.Round.{Round}
+use Rattle.hj_desk.specs.Caller.{GoesRound, answer_of}
+use Rattle.hj_desk.proofs.Going.{goes-stands}
+use Rattle.hj_crew.specs.declared.drive.Halt.{Halt}
+use Rattle.hj_crew.specs.declared.run.Begun.{Begun}
+use Rattle.hj_crew.specs.declared.team.Team.{Team}
+use Rattle.hj_crew.specs.Begun.{CanStart, HasHalted}
+use Rattle.hj_crew.specs.Halt.{round_of}
+use Rattle.hj_crew.specs.Room.{IsRoomOf}
+use Rattle.hj_crew.specs.Teams.{TeamStays}
+
+-- where nothing was there before, nothing is there
+pub stays-empty : {P J L R : Type 0} (old new : List (Team P J L R)) → old ≡ [] → AllZip TeamStays old new → new ≡ []
+stays-empty old new none same = nil_from_length new (omega (arith, AllZip-long TeamStays old new same, ap length none))
+
+module _ {P J L R F O : Type 0} (gives : F → Given P → F → Type 0) (state : F → FeedState) (gave : O → ℕ → List (Taken P) → Bool → Drained → O → Type 0) (rests : O → CollectorState → Type 0) (begun back : Begun P J L R F O) (halt : Halt)
+    (goes : GoesRound gives state gave rests (round_of halt) begun.caller back.caller) (teams : AllZip TeamStays begun.teams.items back.teams.items) where
+  -- threads may be started again
+  ready : IsRoomOf (length back.teams.items) back.own → IsRoomOf (length back.teams.items) back.done → (signals : ℕ) → CanStart state signals begun → CanStart state signals back
+  ready own done signals can =
+      let queues = goes.goes.queues in
+      record {
+        stands = goes-stands gives state gave begun.caller back.caller goes.answers (answer_of (round_of halt)) goes.goes can.stands;
+        cores =
+            omega (
+              arith,
+              ap length queues.links,
+              length-map back.caller.desk.reports.items (λ receiver. receiver.link),
+              length-map begun.caller.desk.reports.items (λ receiver. receiver.link),
+              can.cores,
+            );
+        enough = omega (arith, AllZip-long TeamStays begun.teams.items back.teams.items teams, can.enough);
+        few = can.few;
+        own = own;
+        done = done;
+      }
+
+  pub has-halted : IsRoomOf (length back.teams.items) back.own → IsRoomOf (length back.teams.items) back.done → HasHalted gives state gave rests begun halt back
+  has-halted own done = record { goes = goes; teams = teams; ready = ready own done }
