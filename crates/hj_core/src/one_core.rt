@@ -1,4 +1,4 @@
-ghost use Rattle.std.specs.Prelude.{◌≡◌, ◌+◌, ◌==◌, ◌<◌, nat_lt, ◌≤◌, [], not, ◌&&◌, None, IfOk, IfSome, IfNone, OnErr, MatchOption};
+ghost use Rattle.std.specs.Prelude.{◌≡◌, ◌+◌, ◌==◌, ◌<◌, nat_lt, ◌≤◌, [], not, ◌&&◌, None, Some, IfOk, IfSome, IfNone, OnErr, MatchOption};
 ghost use Rattle.std.specs.Option.{ForSome};
 ghost use Rattle.hj_msg.specs.Core.{empty_state, after, sends, report, is_home, is_last};
 ghost use Rattle.hj_msg.specs.Store.{with_element};
@@ -110,51 +110,32 @@ impl<P: Share + Drop, J: Join<P> + Drop, L: Store<P, J> + Drop, R: Store<P, J> +
         ensures report { result.entry ≡ report (J.predicate self.old.join) (state_of L.entries R.entries self.old) msg }
         ensures kept { KeepsPlace self.old self.new }
     {
+        let entry = self.keep_prepared(&msg, prepared);
+        self.answer(msg, entry)
+    }
+
+    /// Makes what this core sends for a message, with what it reports of it.
+    #[inline(always)]
+    pub fn answer(&self, msg: Msg<P>, entry: Option<Report<P>>) -> Sends<P>
+        ensures sends { sent result ≡ sends self.now.place self.now.cores msg }
+        ensures report { result.entry ≡ entry }
+    {
         match msg {
-            Msg::R { no, row } => self.commit_left(no, row, prepared),
-            Msg::S { no, row } => self.commit_right(no, row, prepared),
-            Msg::EndR(no) => {
-                self.settle_left(no);
-                Sends::left(Msg::EndR(no))
-            }
-            Msg::EndS(no) => {
-                self.settle_right(no);
-                Sends::right(Msg::EndS(no))
-            }
-            Msg::ExpR(no) => {
-                self.remove_left(no);
-                Sends::left(Msg::ExpR(no))
-            }
-            Msg::ExpS(no) => {
-                self.remove_right(no);
-                Sends::right(Msg::ExpS(no))
-            }
-            Msg::AckS(no) => {
-                self.flight.acknowledge(no);
-                Sends::nothing()
-            }
-            Msg::QuietL(no) => {
-                Sends::right(Msg::QuietL(no)).with_report(Report::Quiet {
-                    no,
-                    side: Side::Left,
-                })
-            }
-            Msg::QuietR(no) => {
-                Sends::left(Msg::QuietR(no)).with_report(Report::Quiet {
-                    no,
-                    side: Side::Right,
-                })
-            }
-            Msg::CloseL => {
-                let is_second = self.closed_right && !self.closed_left;
-                self.closed_left = true;
-                Sends::right(Msg::CloseL).with_end(is_second)
-            }
-            Msg::CloseR => {
-                let is_second = self.closed_left && !self.closed_right;
-                self.closed_right = true;
-                Sends::left(Msg::CloseR).with_end(is_second)
-            }
+            Msg::R { no, row } => Sends {
+                to_left: when(self.is_last(), Msg::EndR(no)),
+                to_right: Some(Msg::R { no, row }),
+                to_right_then: None,
+                entry,
+            },
+            Msg::S { no, row } => Sends {
+                to_left: Some(Msg::S { no, row }),
+                to_right: when(self.has_right_neighbour(), Msg::AckS(no)),
+                to_right_then: when(self.is_first(), Msg::EndS(no)),
+                entry,
+            },
+            Msg::EndR(_) | Msg::ExpR(_) | Msg::QuietR(_) | Msg::CloseR => Sends::left(msg, entry),
+            Msg::EndS(_) | Msg::ExpS(_) | Msg::QuietL(_) | Msg::CloseL => Sends::right(msg, entry),
+            Msg::AckS(_) => Sends::nothing(entry),
         }
     }
 
@@ -407,13 +388,37 @@ impl<P: Share + Drop, J: Join<P> + Drop, L: Store<P, J> + Drop, R: Store<P, J> +
         })
     }
 
+    /// Handles a message for which `prepared` was made, and returns what is to be reported. The message isn't sent on.
     #[inline(always)]
-    fn commit_left(&mut self, no: EventNo, row: P, prepared: Prepared<P>) -> Sends<P>
+    fn keep_prepared(&mut self, msg: &Msg<P>, prepared: Prepared<P>) -> Option<Report<P>>
         requires { IsPrepared (J.predicate self.old.join) self.old.place self.old.cores (state_of L.entries R.entries self.old)
-            (L.has_place self.old.left) (R.has_place self.old.right) self.old.flight.room (LeftRow no row) prepared }
-        ensures state { state_of L.entries R.entries self.new ≡ after self.old.place self.old.cores (state_of L.entries R.entries self.old) (LeftRow no row) }
-        ensures sends { sent result ≡ sends self.old.place self.old.cores (LeftRow no row) }
-        ensures report { result.entry ≡ report (J.predicate self.old.join) (state_of L.entries R.entries self.old) (LeftRow no row) }
+            (L.has_place self.old.left) (R.has_place self.old.right) self.old.flight.room msg.now prepared }
+        ensures state { state_of L.entries R.entries self.new ≡ after self.old.place self.old.cores (state_of L.entries R.entries self.old) msg.now }
+        ensures report { result ≡ report (J.predicate self.old.join) (state_of L.entries R.entries self.old) msg.now }
+        ensures kept { KeepsPlace self.old self.new }
+    {
+        match msg {
+            Msg::R { no, row } => return Some(self.commit_left(*no, row, prepared)),
+            Msg::S { no, row } => return Some(self.commit_right(*no, row, prepared)),
+            Msg::EndR(no) => self.settle_left(*no),
+            Msg::EndS(no) => self.settle_right(*no),
+            Msg::ExpR(no) => self.remove_left(*no),
+            Msg::ExpS(no) => self.remove_right(*no),
+            Msg::AckS(no) => self.flight.acknowledge(*no),
+            Msg::QuietL(no) => return Some(quiet(*no, Side::Left)),
+            Msg::QuietR(no) => return Some(quiet(*no, Side::Right)),
+            Msg::CloseL => return self.close_left(),
+            Msg::CloseR => return self.close_right(),
+        }
+        None
+    }
+
+    #[inline(always)]
+    fn commit_left(&mut self, no: EventNo, _row: &P, prepared: Prepared<P>) -> Report<P>
+        requires { IsPrepared (J.predicate self.old.join) self.old.place self.old.cores (state_of L.entries R.entries self.old)
+            (L.has_place self.old.left) (R.has_place self.old.right) self.old.flight.room (LeftRow no _row.now) prepared }
+        ensures state { state_of L.entries R.entries self.new ≡ after self.old.place self.old.cores (state_of L.entries R.entries self.old) (LeftRow no _row.now) }
+        ensures report { Some result ≡ report (J.predicate self.old.join) (state_of L.entries R.entries self.old) (LeftRow no _row.now) }
         ensures kept { KeepsPlace self.old self.new }
     {
         let Prepared::Arrival {
@@ -427,26 +432,20 @@ impl<P: Share + Drop, J: Join<P> + Drop, L: Store<P, J> + Drop, R: Store<P, J> +
         };
         let last = self.is_last();
         rest_at_home::<P, J, L>(&mut self.left, no, resting, last);
-        Sends {
-            to_left: when(last, Msg::EndR(no)),
-            to_right: Some(Msg::R { no, row }),
-            to_right_then: None,
-            entry: Some(Report::Handled {
-                no,
-                side: Side::Left,
-                row: reported,
-                partners,
-            }),
+        Report::Handled {
+            no,
+            side: Side::Left,
+            row: reported,
+            partners,
         }
     }
 
     #[inline(always)]
-    fn commit_right(&mut self, no: EventNo, row: P, prepared: Prepared<P>) -> Sends<P>
+    fn commit_right(&mut self, no: EventNo, _row: &P, prepared: Prepared<P>) -> Report<P>
         requires { IsPrepared (J.predicate self.old.join) self.old.place self.old.cores (state_of L.entries R.entries self.old)
-            (L.has_place self.old.left) (R.has_place self.old.right) self.old.flight.room (RightRow no row) prepared }
-        ensures state { state_of L.entries R.entries self.new ≡ after self.old.place self.old.cores (state_of L.entries R.entries self.old) (RightRow no row) }
-        ensures sends { sent result ≡ sends self.old.place self.old.cores (RightRow no row) }
-        ensures report { result.entry ≡ report (J.predicate self.old.join) (state_of L.entries R.entries self.old) (RightRow no row) }
+            (L.has_place self.old.left) (R.has_place self.old.right) self.old.flight.room (RightRow no _row.now) prepared }
+        ensures state { state_of L.entries R.entries self.new ≡ after self.old.place self.old.cores (state_of L.entries R.entries self.old) (RightRow no _row.now) }
+        ensures report { Some result ≡ report (J.predicate self.old.join) (state_of L.entries R.entries self.old) (RightRow no _row.now) }
         ensures kept { KeepsPlace self.old self.new }
     {
         let Prepared::Arrival {
@@ -459,19 +458,13 @@ impl<P: Share + Drop, J: Join<P> + Drop, L: Store<P, J> + Drop, R: Store<P, J> +
             unreachable!()
         };
         let first = self.is_first();
-        let acknowledged = self.has_right_neighbour();
         rest_at_home::<P, J, R>(&mut self.right, no, resting, first);
         keep_in_flight(&mut self.flight, no, flying);
-        Sends {
-            to_left: Some(Msg::S { no, row }),
-            to_right: when(acknowledged, Msg::AckS(no)),
-            to_right_then: when(first, Msg::EndS(no)),
-            entry: Some(Report::Handled {
-                no,
-                side: Side::Right,
-                row: reported,
-                partners,
-            }),
+        Report::Handled {
+            no,
+            side: Side::Right,
+            row: reported,
+            partners,
         }
     }
 }

@@ -1,5 +1,4 @@
-ghost use Rattle.std.specs.Prelude.{◌≡◌, None, Some, option_to_list, if◌then◌else◌};
-ghost use Rattle.hj_msg.specs.declared.message.Report.TheVariants.{Ended};
+ghost use Rattle.std.specs.Prelude.{◌≡◌, None, Some, option_to_list};
 ghost use Rattle.hj_msg.specs.Core.{only_if};
 
 use hj_msg::{Msg, Report};
@@ -18,72 +17,42 @@ pub struct Sends<P> {
 }
 
 impl<P> Sends<P> {
-    /// Makes one that sends and reports nothing.
+    /// Makes one that sends nothing.
     #[inline(always)]
-    pub(crate) fn nothing() -> Self
-        ensures { result ≡ record { to_left = None; to_right = None; to_right_then = None; entry = None } }
+    pub(crate) fn nothing(entry: Option<Report<P>>) -> Self
+        ensures { result ≡ record { to_left = None; to_right = None; to_right_then = None; entry = entry } }
     {
         Sends {
             to_left: None,
             to_right: None,
             to_right_then: None,
-            entry: None,
+            entry,
         }
     }
 
     /// Makes one that sends a message to the left alone.
     #[inline(always)]
-    pub(crate) fn left(msg: Msg<P>) -> Self
-        ensures { result ≡ record { to_left = Some msg; to_right = None; to_right_then = None; entry = None } }
+    pub(crate) fn left(msg: Msg<P>, entry: Option<Report<P>>) -> Self
+        ensures { result ≡ record { to_left = Some msg; to_right = None; to_right_then = None; entry = entry } }
     {
         Sends {
             to_left: Some(msg),
             to_right: None,
             to_right_then: None,
-            entry: None,
+            entry,
         }
     }
 
     /// Makes one that sends a message to the right alone.
     #[inline(always)]
-    pub(crate) fn right(msg: Msg<P>) -> Self
-        ensures { result ≡ record { to_left = None; to_right = Some msg; to_right_then = None; entry = None } }
+    pub(crate) fn right(msg: Msg<P>, entry: Option<Report<P>>) -> Self
+        ensures { result ≡ record { to_left = None; to_right = Some msg; to_right_then = None; entry = entry } }
     {
         Sends {
             to_left: None,
             to_right: Some(msg),
             to_right_then: None,
-            entry: None,
-        }
-    }
-}
-
-impl<P: Drop> Sends<P> {
-    /// Adds a report. There is none yet.
-    #[inline(always)]
-    pub(crate) fn with_report(self, report: Report<P>) -> Self
-        requires { self.entry ≡ None }
-        ensures { result ≡ record self { entry = Some report } }
-    {
-        Sends {
-            to_left: self.to_left,
-            to_right: self.to_right,
-            to_right_then: self.to_right_then,
-            entry: Some(report),
-        }
-    }
-
-    /// Adds the core's end, if that is to be reported. There is no report yet.
-    #[inline(always)]
-    pub(crate) fn with_end(self, ends: bool) -> Self
-        requires { self.entry ≡ None }
-        ensures { result ≡ record self { entry = if ends then Some Ended else None } }
-    {
-        Sends {
-            to_left: self.to_left,
-            to_right: self.to_right,
-            to_right_then: self.to_right_then,
-            entry: if ends { Some(Report::Ended) } else { None },
+            entry,
         }
     }
 }

@@ -12,12 +12,12 @@ pub invariant_of-self : goal.invariant_of-self
 invariant_of-self g c =
     let old = c.args.self.now in
     let ready =
-    (subst (λ (p : Prepared g.row.P.Denot). IsPrepared (g.J.Join.predicate old.join) old.place old.cores (state_of g.L.Store.entries g.R.Store.entries old) (g.L.Store.has_place old.left) (g.R.Store.has_place old.right) old.flight.room (message.S c.args.no c.args.row) p) c.in-Arrival.is c.requires).2 in
+    (subst (λ (p : Prepared g.row.P.Denot). IsPrepared (g.J.Join.predicate old.join) old.place old.cores (state_of g.L.Store.entries g.R.Store.entries old) (g.L.Store.has_place old.left) (g.R.Store.has_place old.right) old.flight.room (message.S c.args.no c.args._row.now) p) c.in-Arrival.is c.requires).2 in
     record {
       some = c.self.invariant.some;
       suits = record { on_right = (c.rest_at_home.ensures.suits Right c.self.inside.join).1 c.self.invariant.suits.on_right; on_left = c.self.invariant.suits.on_left };
       own = record {
-        right = ready-home c.self.inside.place.0 c.self.inside.cores c.args.no.0 c.args.row _ c.is_first-first.result (is_home old.place old.cores c.args.no.0) c.in-Arrival.resting (g.R.Store.entries c.self.inside.right) (g.R.Store.entries c.rest_at_home.new.store)
+        right = ready-home c.self.inside.place.0 c.self.inside.cores c.args.no.0 c.args._row.now _ c.is_first-first.result (is_home old.place old.cores c.args.no.0) c.in-Arrival.resting (g.R.Store.entries c.self.inside.right) (g.R.Store.entries c.rest_at_home.new.store)
             (ap (λ (k : Contents g.row.P.Denot g.row.J.Denot g.row.L.Denot g.row.R.Denot). is_home k.place k.cores c.args.no.0) (sym c.self.view_is)) ready c.rest_at_home.ensures.entries c.self.invariant.own.right;
         left = c.self.invariant.own.left;
       };
