@@ -1,5 +1,5 @@
 -- What a call does, put together from what its parts did.
-use Rattle.std.proofs.Common.{◌≡◌, ℕ, ◌+◌, ◌-◌, ◌<◌, Bool, false, List, [], ◌∷◌, ◌++◌, length, refl, ap, ap₂, sym, ◌∙◌, subst, arith, append-nil}
+use Rattle.std.proofs.Common.{◌≡◌, None, Option, ℕ, ◌+◌, ◌-◌, ◌<◌, Bool, false, List, [], ◌∷◌, ◌++◌, length, refl, ap, ap₂, sym, ◌∙◌, subst, arith, append-nil}
 use Rattle.hj_base.specs.declared.numbers.Side.{Side}
 use Rattle.hj_base.specs.declared.numbers.Side.TheVariants.{Left, Right}
 use Rattle.hj_base.specs.Journals.{put}
@@ -8,15 +8,16 @@ use Rattle.hj_msg.specs.declared.message.Report.{Report}
 use Rattle.hj_msg.specs.declared.message.Report.TheVariants.{NoMemory}
 use Rattle.hj_msg.specs.Core as step
 use Rattle.hj_core.specs.declared.sends.Sends.{Sends}
+use Rattle.hj_core.specs.declared.way.Way.{Way}
 use Rattle.hj_core.specs.Contents.{Contents, KeepsPlace}
-use Rattle.hj_core.specs.Sent.{sent}
+use Rattle.hj_core.specs.Sent.{passed_on, sent}
 use Rattle.hj_link.specs.Seen.{EndSeen, SenderSeen}
 use Rattle.hj_worker.specs.declared.answers.Place.{Place}
 use Rattle.hj_worker.specs.declared.answers.Place.TheVariants.{Link, Reports}
 use Rattle.hj_worker.specs.declared.ends.Ends.{Ends}
 use Rattle.hj_worker.specs.declared.hand.Hand.{Hand}
 use Rattle.hj_worker.specs.declared.hand.Hand.TheVariants.{Nothing, Rest, Refused}
-use Rattle.hj_worker.specs.Outgoing.{Outgoing, Journals, in_order, outgoing, with_puts, with_take}
+use Rattle.hj_worker.specs.Outgoing.{Outgoing, Journals, in_order, outgoing, passed, with_puts, with_take}
 use Rattle.hj_worker.specs.Hands.{InHand, unput, in_hand, things_of}
 use Rattle.hj_worker.specs.Seen.{WorkerSeen, journals_of, full_looks, has_ended}
 use Rattle.hj_worker.specs.Standing.{Begins, IsBetween, IsInTheMidst, IsOutOfMemory, Stands}
@@ -112,30 +113,36 @@ module _ {P J L R : Type 0} (predicate : J → P → P → Bool) (rows : Content
       }
 
   -- Its core handled the message.
-  pub record Handled (core new : Contents P J L R) (message : Msg P) (sends : Sends P) : Type 0 where
+  pub record Handled (core new : Contents P J L R) (message : Msg P) (items : List (Outgoing P)) : Type 0 where
     pub kept : KeepsPlace core new
-    pub things : things_of sends ≡ outgoing (predicate core.join) core.place core.cores (rows core) message
+    pub things : items ≡ outgoing (predicate core.join) core.place core.cores (rows core) message
     pub state : rows new ≡ step.after core.place core.cores (rows core) message
 
-  pub handled : (core prepared new : Contents P J L R) (message : Msg P) (sends : Sends P) → KeepsPlace core prepared → rows prepared ≡ rows core → KeepsPlace prepared new
-      → rows new ≡ step.after prepared.place prepared.cores (rows prepared) message → sent sends ≡ step.sends prepared.place prepared.cores message
-      → sends.entry ≡ step.report (predicate prepared.join) (rows prepared) message → Handled core new message sends
-  handled core prepared new message sends kept same kept' state_is sent_is entry_is = record {
-    kept = record { join = kept'.join ∙ kept.join; place = kept'.place ∙ kept.place; cores = kept'.cores ∙ kept.cores };
-    things = ap₂ (λ s e. in_order s e) (sent_is ∙ ap₂ (λ p n. step.sends p n message) kept.place kept.cores) (entry_is ∙ ap₂ (λ j s. step.report (predicate j) s message) kept.join same);
-    state = state_is ∙ ap₂ (λ p n. step.after p n (rows prepared) message) kept.place kept.cores ∙ ap (λ s. step.after core.place core.cores s message) same;
-  }
+  -- It wasn't one to be passed on, so the core is as before, and handles it; what it sends and reports is put together of it.
+  pub handled : (core same new : Contents P J L R) (message : Msg P) (sends : Sends P) → same ≡ core → KeepsPlace same new → rows new ≡ step.after same.place same.cores (rows same) message
+      → sent sends ≡ step.sends new.place new.cores message → (entry : Option (Report P)) → sends.entry ≡ entry → entry ≡ step.report (predicate same.join) (rows same) message → Handled core new message (things_of sends)
+  handled core same new message sends is kept state_is sent_is entry entry_is report_is =
+      subst (λ (c : Contents P J L R). Handled c new message (things_of sends)) is
+      (record {
+        kept = kept;
+        things = ap₂ (λ s e. in_order s e) (sent_is ∙ ap₂ (λ p n. step.sends p n message) kept.place kept.cores) (entry_is ∙ report_is);
+        state = state_is;
+      })
+
+  pub handed-on : (core new : Contents P J L R) (message : Msg P) (way : Way) → KeepsPlace core new → rows new ≡ step.after core.place core.cores (rows core) message
+      → step.sends core.place core.cores message ≡ passed_on way message → step.report (predicate core.join) (rows core) message ≡ None → Handled core new message (passed way message)
+  handed-on core new message way kept state_is sent_is entry_is = record { kept = kept; things = ap₂ (λ s e. in_order s e) (sym sent_is) (sym entry_is); state = state_is }
 
   -- All that it made of the message was put.
-  pub all_put : {core new : Contents P J L R} {number : ℕ} {first : Side} {message : Msg P} {old mid : Ends P} {sends : Sends P} (last : Journals P) → Took core number first message old mid → Handled core new message sends
-      → last ≡ with_puts number (journals_of mid) (things_of sends) → IsBetween (predicate new.join) new.place new.cores (rows new) last (number + 1)
+  pub all_put : {core new : Contents P J L R} {number : ℕ} {first : Side} {message : Msg P} {old mid : Ends P} {items : List (Outgoing P)} (last : Journals P) → Took core number first message old mid → Handled core new message items
+      → last ≡ with_puts number (journals_of mid) items → IsBetween (predicate new.join) new.place new.cores (rows new) last (number + 1)
   all_put {core = core} {new = new} {number = number} {message = message} {mid = mid} last took handled puts =
       kept-core (λ m p n s. IsBetween m p n s last (number + 1)) core new (step.after core.place core.cores (rows core) message) handled.kept handled.state
       (finished took.begins last (puts ∙ ap (with_puts number (journals_of mid)) handled.things) (number + 1) refl)
 
   -- Some of it is left.
-  pub some_left : {core new : Contents P J L R} {number : ℕ} {first : Side} {message : Msg P} {old mid : Ends P} {sends : Sends P} (others : List (Outgoing P)) (last : Journals P) → Took core number first message old mid
-      → Handled core new message sends → Puts number (things_of sends) (journals_of mid) others last → 0 < length others → IsInTheMidst (predicate new.join) new.place new.cores (rows new) last (number + 1) others
+  pub some_left : {core new : Contents P J L R} {number : ℕ} {first : Side} {message : Msg P} {old mid : Ends P} {items : List (Outgoing P)} (others : List (Outgoing P)) (last : Journals P) → Took core number first message old mid
+      → Handled core new message items → Puts number items (journals_of mid) others last → 0 < length others → IsInTheMidst (predicate new.join) new.place new.cores (rows new) last (number + 1) others
   some_left {core = core} {new = new} {number = number} {message = message} {mid = mid} others last took handled puts some =
       kept-core (λ m p n s. IsInTheMidst m p n s last (number + 1) others) core new (step.after core.place core.cores (rows core) message) handled.kept handled.state
       (record {
@@ -152,8 +159,8 @@ module _ {P J L R : Type 0} (predicate : J → P → P → Bool) (rows : Content
         counted = refl;
       })
 
-  pub handles : {core new : Contents P J L R} {number : ℕ} {first : Side} {message : Msg P} {ends mid : Ends P} {sends : Sends P} (old : WorkerSeen P J) (last : Ends P) (others : List (Outgoing P)) (hand hand' : InHand P)
-      (calls calls' : ℕ) → seen core ends hand number calls ≡ old → Took core number first message ends mid → Handled core new message sends → Puts number (things_of sends) (journals_of mid) others (journals_of last)
+  pub handles : {core new : Contents P J L R} {number : ℕ} {first : Side} {message : Msg P} {ends mid : Ends P} {items : List (Outgoing P)} (old : WorkerSeen P J) (last : Ends P) (others : List (Outgoing P)) (hand hand' : InHand P)
+      (calls calls' : ℕ) → seen core ends hand number calls ≡ old → Took core number first message ends mid → Handled core new message items → Puts number items (journals_of mid) others (journals_of last)
       → (0 < length others → (place : Place) × AreBlocked place others ends last) → hand' ≡ unput others → Handles (predicate old.join) first old (seen new last hand' (number + 1) calls')
   handles {core = core} {new = new} {number = number} {first = first} {message = message} {mid = mid} old last others hand hand' calls calls' is took handled puts waits hand_is =
       subst (λ (v : WorkerSeen P J). Handles (predicate v.join) first v (seen new last hand' (number + 1) calls')) is

@@ -1,5 +1,5 @@
 -- What a worker puts for a message, one thing after another, and what its takes and puts leave in the journals of its ends.
-use Rattle.std.specs.Prelude.{ℕ, ◌+◌, Bool, List, [], ◌∷◌, ◌++◌, length, map, fold, option_to_list}
+use Rattle.std.specs.Prelude.{ℕ, ◌+◌, Bool, List, [], ◌∷◌, ◌++◌, length, map, fold, option_to_list, None}
 use Rattle.std.specs.declared.option.Option.{Option}
 use Rattle.hj_base.specs.declared.numbers.Side.{Side}
 use Rattle.hj_base.specs.declared.numbers.Side.TheVariants.{Left, Right}
@@ -7,6 +7,8 @@ use Rattle.hj_base.specs.Journals.{Entry, put, taken}
 use Rattle.hj_msg.specs.declared.message.Msg.{Msg}
 use Rattle.hj_msg.specs.declared.message.Report.{Report}
 use Rattle.hj_msg.specs.Core.{State, Sends, sends, report}
+use Rattle.hj_core.specs.declared.way.Way.{Way}
+use Rattle.hj_core.specs.Sent.{passed_on}
 
 -- one thing that is put: a message on the left link or on the right one, or a report
 pub data Outgoing (P : Type 0) : Type 0 where
@@ -28,6 +30,10 @@ module _ {P : Type 0} where
   -- All that the core of this place among `n` sends and reports of a message, in order.
   abbrev pub outgoing : (P → P → Bool) → ℕ → ℕ → State P → Msg P → List (Outgoing P)
   outgoing matches place n state message = in_order (sends place n message) (report matches state message)
+
+  -- what is put of a message that goes on this way, and of which nothing is reported
+  abbrev pub passed : Way → Msg P → List (Outgoing P)
+  passed way message = in_order (passed_on way message) None
 
   -- the journals with one more put, under the number of a turn
   abbrev pub with_put : ℕ → Journals P → Outgoing P → Journals P

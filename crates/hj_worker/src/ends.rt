@@ -4,7 +4,7 @@ ghost use Rattle.hj_base.specs.Journals.{put};
 
 use crate::answers::Place;
 use hj_base::Side;
-use hj_core::Sends;
+use hj_core::{Sends, Way};
 use hj_link::{Full, LeftEnd, RightEnd, Sender};
 use hj_msg::{Msg, Report};
 
@@ -29,7 +29,7 @@ impl<P: Drop> Ends<P> {
     ghost use Rattle.std.specs.Prelude.{ℕ};
     ghost use Rattle.hj_base.specs.declared.numbers.Side.TheVariants.{Left as OnLeft, Right as OnRight};
     ghost use Rattle.hj_worker.specs.Hands.{things_of};
-    ghost use Rattle.hj_worker.specs.Outgoing.{with_puts};
+    ghost use Rattle.hj_worker.specs.Outgoing.{passed, with_puts};
     ghost use Rattle.hj_worker.specs.Seen.{journals_of};
     ghost use Rattle.hj_worker.specs.Turning.{KeepsLinks, Puts, AreBlocked, FindsNone, Takes};
 
@@ -51,6 +51,43 @@ impl<P: Drop> Ends<P> {
                 Some(message) => Some(message),
                 None => self.left.take(turn),
             },
+        }
+    }
+
+    /// Puts a message that goes on this way. Returns it where there was no room for it.
+    #[inline(always)]
+    pub(crate) fn pass_on(&mut self, turn: u64, way: Way, message: Msg<P>) -> Option<Unput<P>>
+        ensures links { KeepsLinks self.old self.new }
+        ensures all { IfNone result (journals_of self.new ≡ with_puts turn (journals_of self.old) (passed way message)) }
+        ensures some { IfSome result (λ unput. Puts turn (passed way message) (journals_of self.old) (things_of unput.sends) (journals_of self.new)) }
+        ensures blocked { IfSome result (λ unput. AreBlocked unput.place (things_of unput.sends) self.old self.new) }
+    {
+        match way {
+            Way::Left => {
+                let message = put_left(&mut self.left, turn, Some(message))?;
+                Some(Unput {
+                    place: Place::Link(Side::Left),
+                    sends: Sends {
+                        to_left: Some(message),
+                        to_right: None,
+                        to_right_then: None,
+                        entry: None,
+                    },
+                })
+            }
+            Way::Right => {
+                let message = put_right(&mut self.right, turn, Some(message))?;
+                Some(Unput {
+                    place: Place::Link(Side::Right),
+                    sends: Sends {
+                        to_left: None,
+                        to_right: Some(message),
+                        to_right_then: None,
+                        entry: None,
+                    },
+                })
+            }
+            Way::Nowhere => None,
         }
     }
 

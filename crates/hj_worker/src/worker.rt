@@ -204,14 +204,23 @@ impl<P: Share + Drop, J: Join<P> + Drop, L: Store<P, J> + Drop, R: Store<P, J> +
             return Turn::Idle;
         };
         self.taken = number + 1;
-        let Ok(prepared) = self.core.prepare(&message) else {
+        if let Some(way) = self.core.pass(&message) {
+            return match self.ends.pass_on(number, way, message) {
+                None => Turn::Did,
+                Some(unput) => {
+                    self.hand = Hand::Rest(unput.sends);
+                    Turn::Did
+                }
+            };
+        }
+        let Ok(entry) = self.core.handle(&message) else {
             let Ok(()) = self.ends.reports.put(number, Report::NoMemory) else {
                 unreachable!()
             };
             self.hand = Hand::Refused(message);
             return Turn::NoMemory;
         };
-        let sends = self.core.commit(message, prepared);
+        let sends = self.core.answer(message, entry);
         match self.ends.put_all(number, sends) {
             None => Turn::Did,
             Some(unput) => {
