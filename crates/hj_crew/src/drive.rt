@@ -11,6 +11,7 @@ use crate::levels::Shared;
 use crate::load::Load;
 use crate::pause::Pause;
 use crate::team::{Progress, Signals, Team};
+use crate::turners::Seen;
 use hj_base::{Gate, Share};
 use hj_desk::{Caller, Outlet, Round};
 use hj_msg::{Feed, Fin, Join, Store};
@@ -18,30 +19,19 @@ use std::sync::Wait;
 use std::sync::atomic::Ordering;
 use std::time::{Clock, Instant};
 
-/// Who turns the teams of a run.
-#[derive(Clone, Copy, Debug)]
-pub(crate) enum Turners {
-    /// Threads.
-    Threads,
-    /// The calling thread, as long as it isn't busy for most of the time.
-    Caller,
-    /// The calling thread, up to the end.
-    CallerToTheEnd,
-}
-
 /// Where the calling thread's rounds halt.
 #[derive(Clone, Copy, Debug)]
 pub(crate) enum Halt {
     /// The run has ended.
     Over(Fin),
-    /// The run goes on, and these turn the teams from then on.
-    GoesOn(Turners),
+    /// The run goes on, and this was seen of it.
+    GoesOn(Seen),
 }
 
 /// Makes rounds until the run has ended, and tells how. Between them it turns the teams of its `own`. After a round that got on it
 /// rings the threads, where they may wait for what it did. It waits at its own bell. Where the calling thread may take the teams
-/// back, it halts before the run has ended where other programs want the processors, or there is little to do. Wherever it halts
-/// every thread was told to hand back its team.
+/// back, it halts before the run has ended where other programs want the processors, where there is little to do, and where its pace is
+/// to be seen. Wherever it halts every thread was told to hand back its team.
 pub(crate) fn drive<
     P: Share + Drop,
     J: Join<P> + Drop,
@@ -79,12 +69,10 @@ fn drive_threads<
     ensures own { AllZip TeamStays own.old own.new }
 {
     let mut pause = Pause::new(shared.bell);
-    let mut load = Load::new();
+    let mut load = Load::new(shared.windows);
     for _ in shared.rt.forever() {
-        if shared.takes_back {
-            if let Some(turners) = after_threads(shared.rt, &pause, &mut load) {
-                return Halt::GoesOn(turners);
-            }
+        if let Some(seen) = look(shared.rt, &pause, &mut load, caller.desk.turns) {
+            return Halt::GoesOn(seen);
         }
         match round_of_all(shared.rt, caller, own, shared.gate, &mut load) {
             Round::Over(fin) => return Halt::Over(fin),
@@ -98,16 +86,16 @@ fn drive_threads<
     unreachable!()
 }
 
-/// Returns who turns the teams from now on, where threads are to turn them no more.
-fn after_threads<T: Clock>(rt: &T, pause: &Pause<'_>, load: &mut Load) -> Option<Turners> {
-    if pause.is_crowded() {
-        return Some(Turners::CallerToTheEnd);
+/// Returns what is seen of a run on threads by which it is to be chosen anew who turns the teams.
+fn look<T: Clock>(rt: &T, pause: &Pause<'_>, load: &mut Load, turns: u64) -> Option<Seen> {
+    if load.is_told() && pause.is_crowded() {
+        return Some(Seen::Crowded);
     }
-    load.end_window(rt)?.is_idle().then_some(Turners::Caller)
+    load.end_round(rt, turns)
 }
 
-/// Makes rounds until the run has ended, and tells how. Between them it turns these teams, which are all: no thread turns one. Where it
-/// `may_leave` the teams to threads, it halts before the run has ended where it is busy for most of the time.
+/// Makes rounds until the run has ended, and tells how. Between them it turns these teams, which are all: no thread turns one. With
+/// `windows` it halts before the run has ended behind so many windows of time in which it was busy, and tells its pace in the last one.
 pub(crate) fn drive_alone<
     P: Share + Drop,
     J: Join<P> + Drop,
@@ -122,17 +110,17 @@ pub(crate) fn drive_alone<
     caller: &mut Caller<P, F, O>,
     teams: &mut [Team<P, J, L, R>],
     gate: &G,
-    may_leave: bool,
+    windows: Option<u32>,
 ) -> Halt
     requires stands { Stands caller.old.desk (F.state caller.old.feed) }
     requires few { length caller.old.desk.reports.items ≤ 64 }
     ensures goes { GoesRound F.gives F.state O.gave O.rests (round_of result) caller.old caller.new }
     ensures teams { AllZip TeamStays teams.old teams.new }
 {
-    let mut load = Load::new();
+    let mut load = Load::new(windows);
     for _ in rt.forever() {
-        if may_leave && is_laden(rt, &mut load) {
-            return Halt::GoesOn(Turners::Threads);
+        if let Some(Seen::Busy(pace)) = load.end_round(rt, caller.desk.turns) {
+            return Halt::GoesOn(Seen::Busy(pace));
         }
         match round_of_all(rt, caller, teams, gate, &mut load) {
             Round::Over(fin) => return Halt::Over(fin),
@@ -141,14 +129,6 @@ pub(crate) fn drive_alone<
         }
     }
     unreachable!()
-}
-
-/// Returns whether a window of time is over in which there was something to do for most of it.
-fn is_laden<T: Clock>(rt: &T, load: &mut Load) -> bool {
-    match load.end_window(rt) {
-        Some(window) => window.is_laden(),
-        None => false,
-    }
 }
 
 /// Tells every thread to hand back its team.

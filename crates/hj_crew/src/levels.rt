@@ -44,8 +44,9 @@ pub(crate) struct Shared<'s, G, T> {
     pub(crate) bell: &'s Bell,
     /// How many teams, the first ones, the calling thread turns itself.
     pub(crate) kept: usize,
-    /// Whether the calling thread may take the teams back before the run has ended.
-    pub(crate) takes_back: bool,
+    /// In how many busy windows the calling thread takes the teams back and its pace is seen, where it may take them back before the run
+    /// has ended.
+    pub(crate) windows: Option<u32>,
     pub(crate) gate: &'s G,
 }
 

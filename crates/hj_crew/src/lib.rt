@@ -17,6 +17,7 @@ mod raw_run;
 mod room;
 mod run;
 mod team;
+mod turners;
 
 pub use plan::{CrewPlan, CrewSize, Stores};
 pub use ran::Ran;

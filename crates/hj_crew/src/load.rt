@@ -1,4 +1,5 @@
-//! How much of its time the calling thread has something to do.
+//! How the calling thread gets on, and how much of its time it has something to do.
+use crate::turners::Seen;
 use std::time::{Clock, Duration, Instant};
 
 /// After how many rounds it looks at the clock, and how many microseconds a window has at least.
@@ -6,42 +7,79 @@ const ROUNDS: u32 = 16;
 
 const TIME: u64 = 10_000;
 
-/// Measures for how long the feed is waited for, in one window of time after another.
+/// How many turns are made at the chain's ends at least in a busy window. Where threads are just started, or are held up, few are.
+const TURNS: u64 = 256;
+
+/// How many turns were made at the chain's ends in how much time.
+#[derive(Clone, Copy, Debug)]
+pub(crate) struct Pace {
+    turns: u64,
+    took: Duration,
+}
+
+impl Pace {
+    /// Returns whether more turns were made in the same time.
+    pub(crate) fn is_above(self, other: Pace) -> bool {
+        self.turns_within(other) > other.turns_within(self)
+    }
+
+    /// Returns as many turns as were made at this pace in the time of the other one, in a unit that is the same for both of them.
+    fn turns_within(self, other: Pace) -> u128 {
+        u128::from(self.turns).saturating_mul(other.took.as_micros())
+    }
+}
+
+/// Measures how the calling thread gets on, and for how long the feed is waited for, in one window of time after another.
 #[derive(Drop)]
 pub(crate) struct Load {
-    /// When the window began.
+    /// When the window began, and how many turns had been made then.
     since: Option<Instant>,
+    turns: u64,
     /// How many rounds were made since the clock was looked at.
     rounds: u32,
-    /// For how long of it the feed was waited for.
+    /// For how long of the window the feed was waited for.
     waited: Duration,
+    /// Behind how many busy windows the pace is told, if it is.
+    windows: Option<u32>,
 }
 
 /// A window of time that is over.
 #[derive(Clone, Copy)]
-pub(crate) struct Window {
+struct Window {
+    turns: u64,
     took: Duration,
     waited: Duration,
 }
 
 impl Window {
-    /// Returns whether there was something to do for more than half of the time.
-    pub(crate) fn is_laden(self) -> bool {
-        self.waited.saturating_mul(2) < self.took
+    /// Returns whether there was something to do for more than half of the time, and much was done.
+    fn is_busy(self) -> bool {
+        self.turns >= TURNS && self.waited.saturating_mul(2) < self.took
     }
 
     /// Returns whether there was something to do for a quarter of the time at most. Then one thread can do by itself what four did.
-    pub(crate) fn is_idle(self) -> bool {
+    fn is_idle(self) -> bool {
         self.waited.saturating_mul(4) >= self.took.saturating_mul(3)
+    }
+
+    /// Returns the pace of what was done while there was something to do.
+    fn pace(self) -> Pace {
+        Pace {
+            turns: self.turns,
+            took: self.took.saturating_sub(self.waited),
+        }
     }
 }
 
 impl Load {
-    pub(crate) fn new() -> Self {
+    /// Makes one that tells what is seen, and behind so many busy windows the pace; with None it tells nothing.
+    pub(crate) fn new(windows: Option<u32>) -> Self {
         Load {
             since: None,
+            turns: 0,
             rounds: 0,
             waited: Duration::from_micros(0),
+            windows,
         }
     }
 
@@ -52,28 +90,53 @@ impl Load {
         }
     }
 
+    /// Returns whether what is seen is told.
+    pub(crate) fn is_told(&self) -> bool {
+        self.windows.is_some()
+    }
+
+    /// Counts a round, up to which so many turns were made, and returns what is seen of the window that is over with it, where that was
+    /// idle, or the last busy one.
+    pub(crate) fn end_round<R: Clock>(&mut self, rt: &R, turns: u64) -> Option<Seen> {
+        let windows = self.windows?;
+        let window = self.end_window(rt, turns)?;
+        if window.is_idle() {
+            return Some(Seen::Idle);
+        }
+        if !window.is_busy() {
+            return None;
+        }
+        if windows > 1 {
+            self.windows = Some(windows - 1);
+            return None;
+        }
+        Some(Seen::Busy(window.pace()))
+    }
+
     /// Counts a round, and returns the window that is over with it, if one is.
-    pub(crate) fn end_window<R: Clock>(&mut self, rt: &R) -> Option<Window> {
+    fn end_window<R: Clock>(&mut self, rt: &R, turns: u64) -> Option<Window> {
         self.rounds = self.rounds.saturating_add(1);
         if self.rounds < ROUNDS {
             return None;
         }
         self.rounds = 0;
-        let window = self.window(rt);
+        let window = self.window(rt, turns);
         if window.is_some() || self.since.is_none() {
             self.since = Instant::now(rt).ok();
+            self.turns = turns;
             self.waited = Duration::from_micros(0);
         }
         window
     }
 
     /// Returns the window up to now, where it was long enough.
-    fn window<R: Clock>(&self, rt: &R) -> Option<Window> {
+    fn window<R: Clock>(&self, rt: &R, turns: u64) -> Option<Window> {
         let took = self.since?.elapsed(rt).ok()?;
         if took < Duration::from_micros(TIME) {
             return None;
         }
         Some(Window {
+            turns: turns.saturating_sub(self.turns),
             took,
             waited: self.waited,
         })

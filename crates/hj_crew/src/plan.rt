@@ -33,16 +33,17 @@ pub struct CrewPlan<'r, T, G> {
     pub size: CrewSize,
     /// How many teams, the first ones, the calling thread turns itself while threads turn the others.
     pub kept: u16,
-    /// Whether the calling thread may take all teams back, and turn them itself: where it mostly waits for the feed, until it is busy
-    /// for most of the time; and where other programs want the processors, up to the end. That pays where the cores have little to do.
+    /// Whether the calling thread may take all teams back, and turn them itself: where it mostly waits for the feed; where it gets on
+    /// faster so than with threads; and where other programs want the processors, up to the end. That pays where the cores have little
+    /// to do.
     pub takes_back: bool,
     /// Is passed before each turn of a core.
     pub gate: &'r G,
 }
 
 impl<'r, T, G> CrewPlan<'r, T, G> {
-    /// Returns the plan for cores that have little to do: the calling thread turns all of them where it mostly waits for the feed, or
-    /// other programs want the processors.
+    /// Returns the plan for cores that have little to do: the calling thread turns all of them where it mostly waits for the feed, where
+    /// it gets on faster so, or where other programs want the processors.
     pub fn for_light_cores(&self) -> Self
         ensures { result.size.chain ≡ self.now.size.chain }
     {

@@ -14,13 +14,14 @@ ghost use Rattle.hj_crew.specs.Teams.{TeamStays};
 
 use crate::bell::Bell;
 use crate::closing::close_crew;
-use crate::drive::{Halt, Turners, drive_alone};
+use crate::drive::{Halt, drive_alone};
 use crate::levels::{Shared, levels};
 use crate::making::Crew;
 use crate::plan::{CrewPlan, Stores};
 use crate::ran::Ran;
 use crate::room::Room;
 use crate::team::{Signals, Team};
+use crate::turners::{Choice, Turners};
 use hj_base::{Gate, Memory, Share};
 use hj_desk::{Caller, InOrder, Outlet};
 use hj_msg::{Drain, Feed, Fin, Join, Store};
@@ -189,7 +190,7 @@ fn run_crew<
 }
 
 /// Lets the calling thread make its rounds until the run has ended, while threads turn the teams, and then now that thread itself and
-/// now threads.
+/// now threads, whichever get on faster.
 fn run_to_end<
     P: Share + Send + Drop,
     J: Join<P> + Send + Drop,
@@ -208,9 +209,9 @@ fn run_to_end<
     ensures { HasRun F.gives F.state O.gave O.rests begun result }
 {
     let mut begun = begun;
-    let mut turners = Turners::Threads;
+    let mut choice = Choice::new();
     for _ in plan.rt.forever() {
-        let (halt, back) = run_under(plan, turners, signals, begun);
+        let (halt, back) = run_under(plan, choice, signals, begun);
         match halt {
             Halt::Over(fin) => {
                 return Returned {
@@ -219,14 +220,14 @@ fn run_to_end<
                     fin,
                 };
             }
-            Halt::GoesOn(next) => turners = next,
+            Halt::GoesOn(seen) => choice = choice.after(seen),
         }
         begun = back;
     }
     unreachable!()
 }
 
-/// Lets a run go on under these turners until it halts.
+/// Lets a run go on as it was chosen until it halts.
 fn run_under<
     P: Share + Send + Drop,
     J: Join<P> + Send + Drop,
@@ -238,21 +239,21 @@ fn run_under<
     T: Threads + Wait + Clock + Sync,
 >(
     plan: &CrewPlan<'_, T, G>,
-    turners: Turners,
+    choice: Choice,
     signals: &[Signals],
     begun: Begun<P, J, L, R, F, O>,
 ) -> (Halt, Begun<P, J, L, R, F, O>)
     requires { CanStart F.state (length signals.now) begun }
     ensures { HasHalted F.gives F.state O.gave O.rests begun result.0 result.1 }
 {
-    match turners {
-        Turners::Threads => run_in_scope(plan, signals, begun),
-        Turners::Caller => run_alone(plan, begun, true),
-        Turners::CallerToTheEnd => run_alone(plan, begun, false),
+    match choice.turners() {
+        Turners::Threads => run_in_scope(plan, choice.windows(), signals, begun),
+        Turners::Caller => run_alone(plan, choice.windows(), begun),
     }
 }
 
-/// Makes what the threads of a run use, and lets them run.
+/// Makes what the threads of a run use, and lets them run. With `windows` they are called back behind so many busy windows of time, if
+/// the plan says that they may be.
 fn run_in_scope<
     P: Share + Send + Drop,
     J: Join<P> + Send + Drop,
@@ -264,6 +265,7 @@ fn run_in_scope<
     T: Threads + Wait + Clock + Sync,
 >(
     plan: &CrewPlan<'_, T, G>,
+    windows: Option<u32>,
     signals: &[Signals],
     begun: Begun<P, J, L, R, F, O>,
 ) -> (Halt, Begun<P, J, L, R, F, O>)
@@ -278,7 +280,7 @@ fn run_in_scope<
         signals,
         bell: &bell,
         kept: usize::from(plan.kept),
-        takes_back: plan.takes_back,
+        windows: if plan.takes_back { windows } else { None },
         gate: plan.gate,
     };
     scoped(&shared, begun)
@@ -344,7 +346,7 @@ fn all_levels<
     (halt, back)
 }
 
-/// Lets the calling thread turn all teams of a run, until it halts.
+/// Lets the calling thread turn all teams of a run, until it halts. With `windows` it halts behind so many busy windows of time.
 fn run_alone<
     P: Share + Drop,
     J: Join<P> + Drop,
@@ -356,8 +358,8 @@ fn run_alone<
     T: Wait + Clock,
 >(
     plan: &CrewPlan<'_, T, G>,
+    windows: Option<u32>,
     begun: Begun<P, J, L, R, F, O>,
-    may_leave: bool,
 ) -> (Halt, Begun<P, J, L, R, F, O>)
     requires { (signals : ℕ) × CanStart F.state signals begun }
     ensures { HasHalted F.gives F.state O.gave O.rests begun result.0 result.1 }
@@ -373,7 +375,7 @@ fn run_alone<
         &mut caller,
         teams.as_mut_slice(),
         plan.gate,
-        may_leave,
+        windows,
     );
     let back = Begun {
         caller,
