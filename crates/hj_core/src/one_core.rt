@@ -150,8 +150,8 @@ impl<P: Share + Drop, J: Join<P> + Drop, L: Store<P, J> + Drop, R: Store<P, J> +
         ensures kept { KeepsPlace self.old self.new }
     {
         match msg {
-            Msg::R { no, row } => return self.handle_left(*no, row),
-            Msg::S { no, row } => return self.handle_right(*no, row),
+            Msg::R { no, row } => return Ok(Some(self.handle_left(*no, row)?)),
+            Msg::S { no, row } => return Ok(Some(self.handle_right(*no, row)?)),
             Msg::EndR(no) => self.settle_left(*no),
             Msg::EndS(no) => self.settle_right(*no),
             Msg::ExpR(no) => self.remove_left(*no),
@@ -307,11 +307,12 @@ impl<P: Share + Drop, J: Join<P> + Drop, L: Store<P, J> + Drop, R: Store<P, J> +
         if ends { Some(Report::Ended) } else { None }
     }
 
-    /// Finds the partners of a left row, and keeps it if it rests here.
+    /// Handles a left row of a number, as `handle` does its message, and returns its report: finds its partners, and keeps it if it
+    /// rests here.
     #[inline(always)]
-    fn handle_left(&mut self, no: EventNo, row: &P) -> Result<Option<Report<P>>, Memory>
+    pub fn handle_left(&mut self, no: EventNo, row: &P) -> Result<Report<P>, Memory>
         ensures state { IfOk result (λ entry. state_of L.entries R.entries self.new ≡ after self.old.place self.old.cores (state_of L.entries R.entries self.old) (LeftRow no row.now)) }
-        ensures report { IfOk result (λ entry. entry ≡ report (J.predicate self.old.join) (state_of L.entries R.entries self.old) (LeftRow no row.now)) }
+        ensures report { IfOk result (λ entry. Some entry ≡ report (J.predicate self.old.join) (state_of L.entries R.entries self.old) (LeftRow no row.now)) }
         ensures unchanged { OnErr result (state_of L.entries R.entries self.new ≡ state_of L.entries R.entries self.old) }
         ensures kept { KeepsPlace self.old self.new }
     {
@@ -321,19 +322,20 @@ impl<P: Share + Drop, J: Join<P> + Drop, L: Store<P, J> + Drop, R: Store<P, J> +
         let home = self.is_home(no);
         let last = self.is_last();
         keep_at_home::<P, J, L>(&mut self.left, home, no, row, last)?;
-        Ok(Some(Report::Handled {
+        Ok(Report::Handled {
             no,
             side: Side::Left,
             row: reported,
             partners,
-        }))
+        })
     }
 
-    /// Finds the partners of a right row, and keeps it if it rests here, and until the left neighbour acknowledges it.
+    /// Handles a right row of a number, as `handle` does its message, and returns its report: finds its partners, and keeps it if it
+    /// rests here, and until the left neighbour acknowledges it.
     #[inline(always)]
-    fn handle_right(&mut self, no: EventNo, row: &P) -> Result<Option<Report<P>>, Memory>
+    pub fn handle_right(&mut self, no: EventNo, row: &P) -> Result<Report<P>, Memory>
         ensures state { IfOk result (λ entry. state_of L.entries R.entries self.new ≡ after self.old.place self.old.cores (state_of L.entries R.entries self.old) (RightRow no row.now)) }
-        ensures report { IfOk result (λ entry. entry ≡ report (J.predicate self.old.join) (state_of L.entries R.entries self.old) (RightRow no row.now)) }
+        ensures report { IfOk result (λ entry. Some entry ≡ report (J.predicate self.old.join) (state_of L.entries R.entries self.old) (RightRow no row.now)) }
         ensures unchanged { OnErr result (state_of L.entries R.entries self.new ≡ state_of L.entries R.entries self.old) }
         ensures kept { KeepsPlace self.old self.new }
     {
@@ -344,12 +346,12 @@ impl<P: Share + Drop, J: Join<P> + Drop, L: Store<P, J> + Drop, R: Store<P, J> +
         let flying = share_in_flight(&mut self.flight, first, row)?;
         keep_at_home::<P, J, R>(&mut self.right, home, no, row, first)?;
         keep_in_flight(&mut self.flight, no, flying);
-        Ok(Some(Report::Handled {
+        Ok(Report::Handled {
             no,
             side: Side::Right,
             row: reported,
             partners,
-        }))
+        })
     }
 
     #[inline(always)]
