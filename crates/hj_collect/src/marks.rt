@@ -61,10 +61,14 @@ impl Marks {
         }
         self.of_cores[core] = Reach::UpTo(no);
         // the least one is below the new one: it stays, unless this core alone had it
-        self.least = match self.least.without(before) {
-            Some(least) => least,
-            None => Least::of(&self.of_cores),
-        };
+        if !before.is_same(self.least.mark) {
+            return;
+        }
+        if self.least.holders > 1 {
+            self.least.holders -= 1;
+            return;
+        }
+        self.least = Least::of(&self.of_cores);
     }
 
     /// Takes note of the same, whatever the marks are.

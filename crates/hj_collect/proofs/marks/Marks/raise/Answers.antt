@@ -1,32 +1,61 @@
-use Rattle.std.proofs.Common.{◌≡◌, ◌<◌, map, get_or, set, length, None, ap, sym, subst, ◌∙◌, arith}
+use Rattle.std.proofs.Common.{◌≡◌, ◌-◌, ◌<◌, ℕ, List, map, get_or, set, length, true, false, None, Some, ap, sym, ◌∙◌, ◌∷◌, arith}
+use Rattle.std.specs.declared.option.Option.{Option}
 use Rattle.std.proofs.lemmas.List.{map-set, length-map}
 use Rattle.std.specs.declared.cmp.Ordering.TheVariants.{Less}
+use Rattle.hj_base.specs.declared.numbers.EventNo.{EventNo}
+use Rattle.hj_msg.specs.Punctuation.{Mark as Meaning, up_to}
+use Rattle.hj_collect.specs.declared.least.Least.{Least}
 use Rattle.hj_collect.specs.declared.reach.Reach.{Reach}
 use Rattle.hj_collect.specs.declared.reach.Reach.TheVariants.{UpTo}
-use Rattle.hj_collect.specs.Marks.{compared, raised_to}
+use Rattle.hj_collect.specs.Least.{IsLeast}
+use Rattle.hj_collect.specs.Marks.{compared, is_same, raised_to, with_raised}
 use Rattle.hj_collect.specs.Reach.{reached}
+use Rattle.hj_collect.proofs.LeastMarks.{without_other, without_same}
 use Rattle.hj_collect.proofs.Replacing.{rest, least_with, put_above, mark_at}
 use Rattle.hj_collect.proofs.marks.Marks.raise.Goals as goal
-use Rattle.hj_collect.proofs.marks.Marks.raise.Goals.{in-Some, in-None}
+
+-- a mark that comes in the place of another one, above the least
+module _ (items : List Reach) (core : ℕ) (number : EventNo) (low : core < length items) (before : Reach) (was : before ≡ get_or items core before) (least : Least) (is : IsLeast least (map reached items))
+    (under : Less ≡ compared (reached least.mark) (reached (UpTo number))) where
+  here : IsLeast least (reached before ∷ rest items core low)
+  here = least_with items core low least before was is
+
+  stays : is_same (reached before) (reached least.mark) ≡ false → IsLeast least (map reached (set items core (UpTo number)))
+  stays apart =
+      let counts = without_other (reached before) (reached least.mark) least.holders (rest items core low) (here.mark, here.holders) apart in
+      put_above items core low least (UpTo number) (record { mark = counts.0; holders = counts.1 }) under
+
+  fewer : is_same (reached before) (reached least.mark) ≡ true → 1 < least.holders → IsLeast (record { mark = least.mark; holders = least.holders - 1 }) (map reached (set items core (UpTo number)))
+  fewer same more =
+      let counts = without_same (reached before) (reached least.mark) least.holders (rest items core low) (here.mark, here.holders) same (omega arith) in
+      put_above items core low (record { mark = least.mark; holders = least.holders - 1 }) (UpTo number) (record { mark = counts.0; holders = counts.1 }) under
+
+marks_raised : (items : List Reach) (core : ℕ) (number : EventNo) (now : List (Option Meaning)) (before : Reach) → map reached items ≡ now → core < length now → before ≡ get_or items core before → raised_to number.0 (reached before) ≡ Some (up_to number.0)
+    → map reached (set items core (UpTo number)) ≡ with_raised core number.0 now
+marks_raised items core number now before view within was rises =
+    let low : core < length items = omega (arith, within, length-map items reached, ap length view) in
+    let mark : Reach = UpTo number in
+    let raised : reached mark ≡ raised_to number.0 (get_or (map reached items) core None) = sym rises ∙ ap (raised_to number.0) (mark_at items core low before was) in
+    map-set reached items core mark ∙ ap (set (map reached items) core) raised ∙ ap (λ ms. set ms core (raised_to number.0 (get_or ms core None))) view
 
 pub invariant_of-self : goal.invariant_of-self
 invariant_of-self c =
-    let items = c.self.inside.of_cores.items in
-    let low : c.args.core < length items = omega (arith, c.requires, length-map items reached, ap length c.self.view_is) in
-    elim c.match-without.branch [
-      | in-Some w ↦
-          let left = w.in-Some.ensures.least (rest items c.args.core low) (least_with items c.args.core low c.self.inside.least c.index-before.result.now c.index-before.ensures c.self.invariant) in
-          let under : Less ≡ compared (reached w.in-Some.least.mark) (reached (UpTo c.args.no)) = subst (λ (m : Reach). Less ≡ compared (reached m) (reached (UpTo c.args.no))) (sym w.in-Some.ensures.same) (c.rises.ensures.after c.if-not-rises.false) in
-          rw w.self-is (put_above items c.args.core low w.in-Some.least (UpTo c.args.no) left under)
-      | in-None w ↦ rw (w.self-is, ← w.deref.ensures.value) w.of-self-inside.ensures
-    ]
+    let low : c.args.core < length c.self.inside.of_cores.items = omega (arith, c.requires, length-map c.self.inside.of_cores.items reached, ap length c.self.view_is) in
+    stays c.self.inside.of_cores.items c.args.core c.args.no low c.index-before.result.now c.index-before.ensures c.self.inside.least c.self.invariant (c.rises.ensures.after c.if-not-rises.false) (sym c.is_same.ensures ∙ c.if-not-is_same.true)
+
+pub invariant_of-self-then-self-gt1 : goal.invariant_of-self-then-self-gt1
+invariant_of-self-then-self-gt1 c =
+    let low : c.args.core < length c.self.inside.of_cores.items = omega (arith, c.requires, length-map c.self.inside.of_cores.items reached, ap length c.self.view_is) in
+    fewer c.self.inside.of_cores.items c.args.core c.args.no low c.index-before.result.now c.index-before.ensures c.self.inside.least c.self.invariant (c.rises.ensures.after c.if-not-rises.false) (sym c.is_same.ensures ∙ c.if-not-is_same.false) c.if-self-gt1.true
+
+pub invariant_of-self-2 : goal.invariant_of-self-2
+invariant_of-self-2 c = rw (← c.deref.ensures.value) c.of-self-inside.ensures
+
+pub returns-then-not-is_same : goal.returns-then-not-is_same
+returns-then-not-is_same c = marks_raised c.self.inside.of_cores.items c.args.core c.args.no c.args.self.now c.index-before.result.now c.self.view_is c.requires c.index-before.ensures (c.rises.ensures.raised c.if-not-rises.false)
+
+pub returns-then-self-gt1 : goal.returns-then-self-gt1
+returns-then-self-gt1 c = marks_raised c.self.inside.of_cores.items c.args.core c.args.no c.args.self.now c.index-before.result.now c.self.view_is c.requires c.index-before.ensures (c.rises.ensures.raised c.if-not-rises.false)
 
 pub returns : goal.returns
-returns c =
-    let items = c.self.inside.of_cores.items in
-    let low : c.args.core < length items = omega (arith, c.requires, length-map items reached, ap length c.self.view_is) in
-    let mark : Reach = UpTo c.args.no in
-    let raised : reached mark ≡ raised_to c.args.no.0 (get_or (map reached items) c.args.core None) =
-    sym (c.rises.ensures.raised c.if-not-rises.false) ∙ ap (raised_to c.args.no.0) (mark_at items c.args.core low c.index-before.result.now c.index-before.ensures) in
-    map-set reached items c.args.core mark ∙ ap (set (map reached items) c.args.core) raised
-    ∙ ap (λ ms. set ms c.args.core (raised_to c.args.no.0 (get_or ms c.args.core None))) c.self.view_is
+returns c = marks_raised c.self.inside.of_cores.items c.args.core c.args.no c.args.self.now c.index-before.result.now c.self.view_is c.requires c.index-before.ensures (c.rises.ensures.raised c.if-not-rises.false)
