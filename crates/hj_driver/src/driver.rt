@@ -1,4 +1,4 @@
-ghost use Rattle.std.specs.Prelude.{◌≡◌, ◌<◌, ◌≤◌, List, [], ◌∷◌, ◌++◌, IfOk, IsTrue};
+ghost use Rattle.std.specs.Prelude.{◌≡◌, ◌<◌, ◌≤◌, List, None, [], ◌∷◌, ◌++◌, IfOk, IsTrue};
 ghost use Rattle.std.specs.Bool.{OnTrue, OnFalse};
 ghost use Rattle.hj_msg.specs.Driver.{DriverTurn, admission, receipt, admitted, message_of, port_of};
 ghost use Rattle.hj_msg.specs.Event.{IsWellFormed};
@@ -92,6 +92,7 @@ impl Driver {
     pub fn waits<P>(&self, event: &Event<P>) -> Option<Why>
         ensures kept { result ≡ cause_of event.now self.now }
         ensures log { (log : List (DriverTurn P)) → StandsFor self.now log → IsWellFormed (admitted log ++ event.now ∷ []) → result ≡ cause_after self.now.flight event.now log }
+        ensures few { count_of self.now ≤ self.now.flight }
     {
         self.cause(event)
     }
@@ -109,10 +110,25 @@ impl Driver {
         match self.cause(&event) {
             Some(why) => Admitted::Wait(why, event),
             None => {
-                let (port, msg) = self.put(event);
+                let (port, msg) = self.admit_now(event);
                 Admitted::Send(port, msg)
             }
         }
+    }
+
+    /// Puts the next event into the chain, for which `waits` gave no cause. Returns the end of the chain at which its message is to be put,
+    /// and the message.
+    #[inline(always)]
+    pub fn admit_now<P>(&mut self, event: Event<P>) -> (Side, Msg<P>)
+        // the events put so far, in some log that the driver stands for, and this one after them are well formed
+        requires log { (log : List (DriverTurn P)) × StandsFor self.old log × IsWellFormed (admitted log ++ event ∷ []) }
+        requires free { cause_of event self.old ≡ None }
+        requires few { count_of self.old ≤ self.old.flight }
+        ensures answer { (log : List (DriverTurn P)) → StandsFor self.old log → IsWellFormed (admitted log ++ event ∷ []) → Admitted.Send result.0 result.1 ≡ answer_to event (cause_after self.old.flight event log) }
+        ensures sent { (log : List (DriverTurn P)) → StandsFor self.old log → IsWellFormed (admitted log ++ event ∷ []) → StandsFor self.new (log ++ admission event ∷ []) }
+        ensures flight { self.new.flight ≡ self.old.flight }
+    {
+        self.put(event)
     }
 
     /// Takes note of a message that was taken at a port.
