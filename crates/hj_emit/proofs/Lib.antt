@@ -1,4 +1,6 @@
 mod Backwards
 mod Cells
+mod Covers
+mod Lanes
 mod Plain
 mod Steps

@@ -1,11 +1,11 @@
-ghost use Rattle.std.specs.Prelude.{◌≡◌, ◌==◌, ◌++◌, [], ◌∷◌, ℕ, List, length, map, OnOk};
-ghost use Rattle.std.specs.List.{list_any};
-ghost use Rattle.csv.specs.Writing.{default_writer, escaped, field_text, needs_byte, needs_quotes, quoted, row_body, row_text};
+ghost use Rattle.std.specs.Prelude.{◌≡◌, ◌++◌, [], ◌∷◌, ℕ, List, length, map, take, OnOk};
+ghost use Rattle.csv.specs.Writing.{default_writer, row_text};
 ghost use Rattle.hj_emit.specs.Cells.{cell, cells};
 ghost use Rattle.hj_value.specs.declared.field.Field.{Field};
 ghost use Rattle.hj_emit.specs.Line.{field_bytes, line_of};
 
 use crate::numbers::{push_number, push_numbers};
+use crate::text::push_text;
 use hj_base::Memory;
 use hj_value::{Field, Row};
 
@@ -55,118 +55,38 @@ fn push_row(text: &mut Vec<u8>, row: &Row) -> Result<(), Memory>
 }
 
 /// Appends a field and a comma.
+#[inline(always)]
 fn push_field(text: &mut Vec<u8>, field: &Field<'_>) -> Result<(), Memory>
     ensures { OnOk result (text.new.items ≡ text.old.items ++ cell (field_bytes field.now)) }
 {
     match field {
         Field::Int(number) => push_number(text, *number),
-        Field::Text(bytes) => {
-            push_text(text, bytes.bytes())?;
-            text.push(b',')?;
-            Ok(())
-        }
+        Field::Text(bytes) => push_text(text, bytes.bytes()),
     }
-}
-
-/// Appends a text, in quotes if it needs them.
-fn push_text(text: &mut Vec<u8>, bytes: &[u8]) -> Result<(), Memory>
-    ensures { OnOk result (text.new.items ≡ text.old.items ++ field_text default_writer bytes.now) }
-{
-    if needs_quotes(bytes) {
-        return push_quoted(text, bytes);
-    }
-    text.extend_from_slice(bytes)?;
-    Ok(())
-}
-
-/// Returns whether a text needs quotes. It looks at all bytes, several at a time.
-fn needs_quotes(bytes: &[u8]) -> bool
-    ensures { result ≡ needs_quotes default_writer bytes.now }
-{
-    let mut found = false;
-    for &byte in bytes {
-        found |= is_special(byte);
-    }
-    found
-}
-
-/// Returns whether a text with this byte needs quotes.
-fn is_special(byte: u8) -> bool
-    ensures { result ≡ needs_byte default_writer byte }
-{
-    matches!(byte, b',' | b'"' | b'\r' | b'\n')
-}
-
-/// Appends a text in quotes, with each quote in it doubled.
-#[cold]
-fn push_quoted(text: &mut Vec<u8>, bytes: &[u8]) -> Result<(), Memory>
-    ensures { OnOk result (text.new.items ≡ text.old.items ++ quoted default_writer bytes.now) }
-{
-    text.push(b'"')?;
-    push_inside(text, bytes)?;
-    text.push(b'"')?;
-    Ok(())
-}
-
-/// Appends what stands between the quotes: the text, with each quote in it doubled.
-fn push_inside(text: &mut Vec<u8>, bytes: &[u8]) -> Result<(), Memory>
-    ensures { OnOk result (text.new.items ≡ text.old.items ++ escaped default_writer bytes.now) }
-{
-    if !has_quote(bytes) {
-        text.extend_from_slice(bytes)?;
-        return Ok(());
-    }
-    for byte in bytes {
-        push_escaped(text, *byte)?;
-    }
-    Ok(())
-}
-
-/// Returns whether there is a quote among some bytes.
-fn has_quote(bytes: &[u8]) -> bool
-    ensures { result ≡ list_any (λ byte. byte == 34) bytes.now }
-{
-    let mut found = false;
-    for &byte in bytes {
-        found |= byte == b'"';
-    }
-    found
-}
-
-/// Appends a byte of a text in quotes: a quote twice.
-#[tactic(auto, unfolding(csv::specs::Writing::escaped))]
-fn push_escaped(text: &mut Vec<u8>, byte: u8) -> Result<(), Memory>
-    ensures { OnOk result (text.new.items ≡ text.old.items ++ escaped default_writer (byte ∷ [])) }
-{
-    if byte == b'"' {
-        text.extend_from_slice(b"\"\"")?;
-        return Ok(());
-    }
-    text.push(byte)?;
-    Ok(())
 }
 
 /// Ends a line of fields that begins at `start`, with a comma after each: a line feed comes in place of the last comma. If
-/// no byte of it is left, two quotes stand for the one empty field.
+/// no byte is in front of that, two quotes stand for the one empty field.
+#[inline(always)]
 fn end_line(text: &mut Vec<u8>, start: usize) -> Result<(), Memory>
     ensures { (front : List ℕ) (fields : List Field) → length front ≡ start → text.old.items ≡ front ++ cells fields
         → OnOk result (text.new.items ≡ front ++ row_text default_writer (map field_bytes fields)) }
 {
-    drop_comma(text, start);
-    if text.len() == start {
-        text.extend_from_slice(b"\"\"\n")?;
+    let last = text.len().saturating_sub(1);
+    if last <= start {
+        end_blank(text, start)?;
         return Ok(());
     }
-    text.push(b'\n')?;
+    text[last] = b'\n';
     Ok(())
 }
 
-/// Takes off the comma after the last of the fields that begin at `start`.
-fn drop_comma(text: &mut Vec<u8>, start: usize)
-    ensures { (front : List ℕ) (fields : List Field) → length front ≡ start → text.old.items ≡ front ++ cells fields
-        → text.new.items ≡ front ++ row_body default_writer (map field_bytes fields) }
+/// Ends a line that begins at `start` and has no byte but a comma, or none.
+#[cold]
+fn end_blank(text: &mut Vec<u8>, start: usize) -> Result<(), Memory>
+    ensures { OnOk result (text.new.items ≡ take start text.old.items ++ 34 ∷ 34 ∷ 10 ∷ []) }
 {
-    if text.len() > start {
-        text.pop();
-    }
+    text.truncate(start);
+    text.extend_from_slice(b"\"\"\n")?;
+    Ok(())
 }

@@ -2,7 +2,9 @@
 #![tactic(auto)]
 
 mod fill;
+mod marks;
 mod numbers;
+mod text;
 mod writer;
 
 pub use fill::{fill_line, push_line};

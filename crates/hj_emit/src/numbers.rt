@@ -9,6 +9,9 @@ use itoa::write_digits;
 /// The most bytes that a number and a comma take.
 const MOST_IN_CELL: usize = 21;
 
+/// Twice as many.
+const TWO_CELLS: usize = 42;
+
 /// The most bytes that two rows of four numbers take, with a comma after each number.
 const MOST_BYTES: usize = 168;
 
@@ -29,9 +32,11 @@ pub(crate) fn push_numbers(text: &mut Vec<u8>, left: &[i64], right: &[i64]) -> R
 pub(crate) fn push_number(text: &mut Vec<u8>, number: i64) -> Result<(), Memory>
     ensures { OnOk result (text.new.items ≡ text.old.items ++ cell (signed_decimal number)) }
 {
-    let mut bytes = [0; MOST_IN_CELL];
+    let mut bytes = [0; TWO_CELLS];
     let start = write_number(number, &mut bytes, MOST_IN_CELL);
-    text.extend_from_slice(&bytes[start..])?;
+    let end = text.len() + (MOST_IN_CELL - start);
+    text.extend_from_slice(&bytes[start..start + MOST_IN_CELL])?;
+    text.truncate(end);
     Ok(())
 }
 

@@ -1,15 +1,15 @@
-use Rattle.std.proofs.Common.{◌≡◌, length, vec_len, rules}
-use Rattle.hj_emit.proofs.Cells.{blank_line, full_line}
+use Rattle.std.proofs.Common.{◌≡◌, ◌++◌, ◌∷◌, [], length, take, vec_len, refl, sym, ap, ◌∙◌, rules, arith}
+use Rattle.hj_emit.proofs.Cells.{blank_line, line_fed}
 use Rattle.hj_emit.proofs.fill.end_line.Goals as goal
 
-pub returns-then-len-start : goal.returns-then-len-start
-returns-then-len-start c =
-    let text = c.drop_comma.new.text in
+pub returns-then-last-start : goal.returns-then-last-start
+returns-then-last-start c =
+    let text = c.args.text.now in
     let long : vec_len text ≡ length text.items = search rules in
-    λ front fields begins e. blank_line front fields text.items c.extend_from_slice.new.self.items (vec_len text) (c.drop_comma.ensures front fields begins e) long (search rules) c.in_ok-extend_from_slice.ensures.items
+    λ front fields begins e. blank_line front fields text.items c.end_blank.new.text.items e (omega (arith, long, begins)) (c.in_ok-end_blank.ensures ∙ ap (λ n. take n text.items ++ 34 ∷ 34 ∷ 10 ∷ []) (sym begins))
 
 pub returns : goal.returns
 returns c =
-    let text = c.drop_comma.new.text in
+    let text = c.args.text.now in
     let long : vec_len text ≡ length text.items = search rules in
-    λ front fields begins e. full_line front fields text.items c.push.new.self.items (vec_len text) (c.drop_comma.ensures front fields begins e) long (search rules) c.in_ok-push.ensures.items
+    λ front fields begins e. line_fed front fields text.items _ c.saturating_sub-last.result e (omega (arith, long)) (omega (arith, begins)) refl

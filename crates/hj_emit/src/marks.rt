@@ -1,0 +1,144 @@
+ghost use Rattle.std.specs.Prelude.{◌≡◌, ◌==◌, ◌||◌, ◌+◌, ◌≤◌, length, take, drop};
+ghost use Rattle.std.specs.List.{list_any};
+ghost use Rattle.csv.specs.Writing.{default_writer, needs_byte, needs_quotes};
+
+use std::simd::prelude::*;
+
+/// What of some bytes decides how they stand in a line.
+#[derive(Clone, Copy)]
+pub(crate) struct Marks {
+    /// One of them is a comma, a quote, a carriage return or a line feed.
+    pub(crate) special: bool,
+    /// One of them is a quote.
+    pub(crate) quote: bool,
+}
+
+/// Looks at the bytes of a text, several in one step. Of the last ones some are looked at twice, so that none are left over.
+#[inline(always)]
+pub(crate) fn marks_in(bytes: &[u8]) -> Marks
+    ensures special { result.special ≡ needs_quotes default_writer bytes.now }
+    ensures quote { result.quote ≡ list_any (λ byte. byte == 34) bytes.now }
+{
+    let count = bytes.len();
+    if count < 8 {
+        marks_of_few(bytes)
+    } else if count < 16 {
+        marks_of_both(marks_of_8(bytes, 0), marks_of_8(bytes, count - 8))
+    } else {
+        marks_of_many(bytes)
+    }
+}
+
+/// Looks at 16 bytes or more.
+#[inline(always)]
+fn marks_of_many(bytes: &[u8]) -> Marks
+    requires { 16 ≤ length bytes.now }
+    ensures special { result.special ≡ needs_quotes default_writer bytes.now }
+    ensures quote { result.quote ≡ list_any (λ byte. byte == 34) bytes.now }
+{
+    let last = bytes.len() - 16;
+    let mut marks = marks_of_16(bytes, last);
+    let mut at = 0;
+    while at < last {
+        marks = marks_of_both(marks, marks_of_16(bytes, at));
+        at += 16;
+    }
+    marks
+}
+
+/// Looks at a few bytes, one by one.
+#[inline(always)]
+fn marks_of_few(bytes: &[u8]) -> Marks
+    ensures special { result.special ≡ needs_quotes default_writer bytes.now }
+    ensures quote { result.quote ≡ list_any (λ byte. byte == 34) bytes.now }
+{
+    let mut marks = Marks {
+        special: false,
+        quote: false,
+    };
+    for &byte in bytes {
+        marks = marks_with(marks, byte);
+    }
+    marks
+}
+
+/// Returns the marks of some bytes and one more.
+#[inline(always)]
+fn marks_with(marks: Marks, byte: u8) -> Marks
+    ensures special { result.special ≡ (marks.special || needs_byte default_writer byte) }
+    ensures quote { result.quote ≡ (marks.quote || byte == 34) }
+{
+    if !is_special(byte) {
+        return marks;
+    }
+    Marks {
+        special: true,
+        quote: marks.quote | (byte == b'"'),
+    }
+}
+
+/// Returns whether a text with this byte needs quotes.
+#[inline(always)]
+fn is_special(byte: u8) -> bool
+    ensures { result ≡ needs_byte default_writer byte }
+{
+    matches!(byte, b',' | b'"' | b'\r' | b'\n')
+}
+
+/// Looks at the 16 bytes from a place on.
+#[inline(always)]
+fn marks_of_16(bytes: &[u8], at: usize) -> Marks
+    requires { at + 16 ≤ length bytes.now }
+    ensures special { result.special ≡ needs_quotes default_writer (take 16 (drop at bytes.now)) }
+    ensures quote { result.quote ≡ list_any (λ byte. byte == 34) (take 16 (drop at bytes.now)) }
+{
+    let lanes = u8x16::from_slice(&bytes[at..]);
+    let quote = has_16(lanes, b'"');
+    Marks {
+        special: has_16(lanes, b',') | quote | has_16(lanes, b'\r') | has_16(lanes, b'\n'),
+        quote,
+    }
+}
+
+/// Looks at the 8 bytes from a place on.
+#[inline(always)]
+fn marks_of_8(bytes: &[u8], at: usize) -> Marks
+    requires { at + 8 ≤ length bytes.now }
+    ensures special { result.special ≡ needs_quotes default_writer (take 8 (drop at bytes.now)) }
+    ensures quote { result.quote ≡ list_any (λ byte. byte == 34) (take 8 (drop at bytes.now)) }
+{
+    let lanes = u8x8::from_slice(&bytes[at..]);
+    let quote = has_8(lanes, b'"');
+    Marks {
+        special: has_8(lanes, b',') | quote | has_8(lanes, b'\r') | has_8(lanes, b'\n'),
+        quote,
+    }
+}
+
+/// Returns whether one of the 16 is this byte.
+#[inline(always)]
+fn has_16(lanes: u8x16, byte: u8) -> bool
+    ensures { result ≡ list_any (λ lane. lane == byte) lanes }
+{
+    lanes.simd_eq(u8x16::splat(byte)).to_bitmask() != 0
+}
+
+/// Returns whether one of the 8 is this byte.
+#[inline(always)]
+fn has_8(lanes: u8x8, byte: u8) -> bool
+    ensures { result ≡ list_any (λ lane. lane == byte) lanes }
+{
+    lanes.simd_eq(u8x8::splat(byte)).to_bitmask() != 0
+}
+
+/// Returns the marks of two parts together.
+#[inline(always)]
+fn marks_of_both(one: Marks, other: Marks) -> Marks
+    ensures special { result.special ≡ (one.special || other.special) }
+    ensures quote { result.quote ≡ (one.quote || other.quote) }
+{
+    Marks {
+        special: one.special | other.special,
+        quote: one.quote | other.quote,
+    }
+}
