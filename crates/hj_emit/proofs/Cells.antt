@@ -47,7 +47,7 @@ blank_body (field ∷ next ∷ rest) =
 ended : (fields : List (List ℕ)) (blank : Bool) → is_blank default_writer fields ≡ blank → row_text default_writer fields ≡ row_body default_writer fields ++ (cond blank (34 ∷ 34 ∷ []) [] ++ 10 ∷ [])
 ended fields blank e = ap (λ b. row_body default_writer fields ++ (cond b (34 ∷ 34 ∷ []) [] ++ 10 ∷ [])) e
 
-pub take-behind : (front back : List ℕ) (k : ℕ) → take (length front + k) (front ++ back) ≡ front ++ take k back
+take-behind : (front back : List ℕ) (k : ℕ) → take (length front + k) (front ++ back) ≡ front ++ take k back
 take-behind [] back k = let same : 0 + k ≡ k = omega arith in ap (λ j. take j back) same
 take-behind (x ∷ front) back k =
     let same : suc (length front) + k ≡ suc (length front + k) = omega arith in

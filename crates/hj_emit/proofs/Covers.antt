@@ -1,5 +1,5 @@
 -- Bytes in parts which cover them: one of all passes a test where one of a part does.
-use Rattle.std.proofs.Common.{◌≡◌, ℕ, ◌+◌, ◌-◌, ◌≤◌, Bool, true, false, ◌||◌, List, length, take, drop, refl, sym, ap, ap₂, ◌∙◌, arith, length-drop, take-append-drop}
+use Rattle.std.proofs.Common.{◌≡◌, ℕ, ◌+◌, ◌-◌, ◌≤◌, Bool, true, false, ◌||◌, List, ◌++◌, length, take, drop, refl, sym, ap, ap₂, ◌∙◌, arith, length-drop, take-append-drop}
 use Rattle.std.proofs.lemmas.List.{drop-take, take-take, take_all}
 use Rattle.std.proofs.lemmas.List.Folds.{list_any-append}
 use Rattle.std.specs.List.{list_any}
@@ -44,3 +44,10 @@ pub one_more_part : (p : ℕ → Bool) (bytes : List ℕ) (at more : ℕ) (rest 
 one_more_part p bytes at more rest =
     last_moved (list_any p (take at bytes)) rest (list_any p (take more (drop at bytes)))
     ∙ ap (λ b. b || rest) (sym (any_front p bytes at more))
+
+-- the first and the last lanes of some bytes
+pub ends_tell : (p : ℕ → Bool) (bytes lanes : List ℕ) (half : ℕ) → lanes ≡ take half bytes ++ take half (drop (length bytes - half) bytes) → half ≤ length bytes → length bytes ≤ half + half
+    → list_any p lanes ≡ list_any p bytes
+ends_tell p bytes lanes half is within both =
+    ap (list_any p) is ∙ list_any-append p (take half bytes) (take half (drop (length bytes - half) bytes))
+    ∙ covered p bytes half (length bytes - half) half (omega arith) (omega arith)

@@ -1,4 +1,4 @@
-ghost use Rattle.std.specs.Prelude.{◌≡◌, ◌==◌, ◌||◌, ◌+◌, ◌≤◌, length, take, drop};
+ghost use Rattle.std.specs.Prelude.{◌≡◌, ◌==◌, ◌||◌, ◌++◌, ◌-◌, ◌≤◌, length, take, drop};
 ghost use Rattle.std.specs.List.{list_any};
 ghost use Rattle.csv.specs.Writing.{default_writer, needs_byte, needs_quotes};
 
@@ -13,34 +13,51 @@ pub(crate) struct Marks {
     pub(crate) quote: bool,
 }
 
-/// Looks at the bytes of a text, several in one step. Of the last ones some are looked at twice, so that none are left over.
+/// Looks at the bytes of a text, many in one step. Of those between the first and the last ones some are looked at twice, so
+/// that none is left over.
 #[inline(always)]
 pub(crate) fn marks_in(bytes: &[u8]) -> Marks
     ensures special { result.special ≡ needs_quotes default_writer bytes.now }
     ensures quote { result.quote ≡ list_any (λ byte. byte == 34) bytes.now }
 {
     let count = bytes.len();
-    if count < 8 {
+    if count < 4 {
         marks_of_few(bytes)
-    } else if count < 16 {
-        marks_of_both(marks_of_8(bytes, 0), marks_of_8(bytes, count - 8))
+    } else if count <= 8 {
+        marks_of_8(ends_of_4(bytes))
+    } else if count <= 16 {
+        marks_of_16(ends_of_8(bytes))
+    } else if count <= 32 {
+        marks_of_ends(bytes)
     } else {
         marks_of_many(bytes)
     }
 }
 
-/// Looks at 16 bytes or more.
+/// Looks at 16 to 32 bytes.
 #[inline(always)]
+fn marks_of_ends(bytes: &[u8]) -> Marks
+    requires { (16 ≤ length bytes.now) × (length bytes.now ≤ 32) }
+    ensures special { result.special ≡ needs_quotes default_writer bytes.now }
+    ensures quote { result.quote ≡ list_any (λ byte. byte == 34) bytes.now }
+{
+    let last = bytes.len() - 16;
+    let front = marks_of_16(u8x16::from_slice(bytes));
+    marks_of_both(front, marks_of_16(u8x16::from_slice(&bytes[last..])))
+}
+
+/// Looks at 16 bytes or more.
 fn marks_of_many(bytes: &[u8]) -> Marks
     requires { 16 ≤ length bytes.now }
     ensures special { result.special ≡ needs_quotes default_writer bytes.now }
     ensures quote { result.quote ≡ list_any (λ byte. byte == 34) bytes.now }
 {
     let last = bytes.len() - 16;
-    let mut marks = marks_of_16(bytes, last);
+    let mut marks = marks_of_16(u8x16::from_slice(&bytes[last..]));
     let mut at = 0;
     while at < last {
-        marks = marks_of_both(marks, marks_of_16(bytes, at));
+        let next = marks_of_16(u8x16::from_slice(&bytes[at..]));
+        marks = marks_of_both(marks, next);
         at += 16;
     }
     marks
@@ -85,14 +102,37 @@ fn is_special(byte: u8) -> bool
     matches!(byte, b',' | b'"' | b'\r' | b'\n')
 }
 
-/// Looks at the 16 bytes from a place on.
+/// Returns the first 4 bytes and the last 4.
 #[inline(always)]
-fn marks_of_16(bytes: &[u8], at: usize) -> Marks
-    requires { at + 16 ≤ length bytes.now }
-    ensures special { result.special ≡ needs_quotes default_writer (take 16 (drop at bytes.now)) }
-    ensures quote { result.quote ≡ list_any (λ byte. byte == 34) (take 16 (drop at bytes.now)) }
+fn ends_of_4(bytes: &[u8]) -> u8x8
+    requires { 4 ≤ length bytes.now }
+    ensures { result ≡ take 4 bytes.now ++ take 4 (drop (length bytes.now - 4) bytes.now) }
 {
-    let lanes = u8x16::from_slice(&bytes[at..]);
+    let last = bytes.len() - 4;
+    let front = u8x4::from_slice(bytes);
+    front.shuffle(u8x4::from_slice(&bytes[last..]), [0, 1, 2, 3, 4, 5, 6, 7])
+}
+
+/// Returns the first 8 bytes and the last 8.
+#[inline(always)]
+fn ends_of_8(bytes: &[u8]) -> u8x16
+    requires { 8 ≤ length bytes.now }
+    ensures { result ≡ take 8 bytes.now ++ take 8 (drop (length bytes.now - 8) bytes.now) }
+{
+    let last = bytes.len() - 8;
+    let front = u8x8::from_slice(bytes);
+    front.shuffle(
+        u8x8::from_slice(&bytes[last..]),
+        [0, 1, 2, 3, 4, 5, 6, 7, 8, 9, 10, 11, 12, 13, 14, 15],
+    )
+}
+
+/// Looks at 16 bytes in one step.
+#[inline(always)]
+fn marks_of_16(lanes: u8x16) -> Marks
+    ensures special { result.special ≡ needs_quotes default_writer lanes }
+    ensures quote { result.quote ≡ list_any (λ byte. byte == 34) lanes }
+{
     let quote = has_16(lanes, b'"');
     Marks {
         special: has_16(lanes, b',') | quote | has_16(lanes, b'\r') | has_16(lanes, b'\n'),
@@ -100,14 +140,12 @@ fn marks_of_16(bytes: &[u8], at: usize) -> Marks
     }
 }
 
-/// Looks at the 8 bytes from a place on.
+/// Looks at 8 bytes in one step.
 #[inline(always)]
-fn marks_of_8(bytes: &[u8], at: usize) -> Marks
-    requires { at + 8 ≤ length bytes.now }
-    ensures special { result.special ≡ needs_quotes default_writer (take 8 (drop at bytes.now)) }
-    ensures quote { result.quote ≡ list_any (λ byte. byte == 34) (take 8 (drop at bytes.now)) }
+fn marks_of_8(lanes: u8x8) -> Marks
+    ensures special { result.special ≡ needs_quotes default_writer lanes }
+    ensures quote { result.quote ≡ list_any (λ byte. byte == 34) lanes }
 {
-    let lanes = u8x8::from_slice(&bytes[at..]);
     let quote = has_8(lanes, b'"');
     Marks {
         special: has_8(lanes, b',') | quote | has_8(lanes, b'\r') | has_8(lanes, b'\n'),

@@ -1,8 +1,8 @@
-use Rattle.std.proofs.Common.{◌||◌, take, drop, ap₂, ◌∙◌}
+use Rattle.std.proofs.Common.{◌||◌, ap₂, ◌∙◌}
 use Rattle.hj_emit.proofs.Lanes.{any_of_four}
 use Rattle.hj_emit.proofs.marks.marks_of_16.Goals as goal
 
 pub returns-clause-special : goal.returns-clause-special
 returns-clause-special c =
     ap₂ (λ a b. a || b) (ap₂ (λ a b. a || b) (ap₂ (λ a b. a || b) c.has_16.ensures c.has_16-quote.ensures) c.has_16-2.ensures) c.has_16-3.ensures
-    ∙ any_of_four (take 16 (drop c.args.at c.args.bytes.now))
+    ∙ any_of_four c.args.lanes

@@ -10,10 +10,10 @@ loop-at-preserved c =
     let last = take 16 (drop (length bytes - 16) bytes) in
     record {
       special =
-          c.marks_of_both-marks.ensures.special ∙ ap₂ (λ a b. a || b) c.loop-at.invariant.special c.marks_of_16.ensures.special
+          c.marks_of_both-marks.ensures.special ∙ ap₂ (λ a b. a || b) c.loop-at.invariant.special c.marks_of_16-next.ensures.special
           ∙ one_more_part (needs_byte default_writer) bytes c.loop-at.at 16 (list_any (needs_byte default_writer) last);
       quote =
-          c.marks_of_both-marks.ensures.quote ∙ ap₂ (λ a b. a || b) c.loop-at.invariant.quote c.marks_of_16.ensures.quote
+          c.marks_of_both-marks.ensures.quote ∙ ap₂ (λ a b. a || b) c.loop-at.invariant.quote c.marks_of_16-next.ensures.quote
           ∙ one_more_part (λ byte. byte == 34) bytes c.loop-at.at 16 (list_any (λ byte. byte == 34) last);
     }
 
