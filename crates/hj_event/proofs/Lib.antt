@@ -5,6 +5,8 @@ pub mod Pieces
 pub mod OrderLemmas
 pub mod OrderLaws
 pub mod LateLemmas
+pub mod PlaceLemmas
+pub mod DayLemmas
 pub mod WaitingLemmas
 pub mod TimedLemmas
 pub mod RowLemmas

@@ -2,6 +2,7 @@ pub mod Arrivals
 pub mod Arriving
 pub mod Calls
 pub mod Cut
+pub mod Days
 pub mod Events
 pub mod Late
 pub mod Merger

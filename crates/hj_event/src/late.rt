@@ -1,102 +1,55 @@
-ghost use Rattle.std.specs.Prelude.{◌≡◌, [], OnErr, OnOk};
-ghost use Rattle.std.proofs.Common.{rules};
-ghost use Rattle.std.specs.Cmp.Rules.{comparing};
-ghost use Rattle.std.specs.Ordering.{as_partial_cmp, eq_by_cmp};
+ghost use Rattle.std.specs.Prelude.{◌≡◌, true, false, [], ◌∷◌, IfOk, OnErr, OnOk};
+ghost use Rattle.std.specs.BinaryHeap.{heap_items, IsHeap};
+ghost use Rattle.std.specs.List.Sorted.{IsPermutation};
 ghost use Rattle.hj_value.specs.Row.{time_of};
 ghost use Rattle.hj_event.specs.Rows.{put_in};
+ghost use Rattle.hj_event.specs.Late.{late_cmp, TakesFirstLate, HaveFirst};
+ghost use Rattle.hj_event.specs.Days.{late_on, all_late, AreOnDays};
 ghost use Rattle.hj_event.specs.Waiting.{first_time, TakesFirst};
 
+use crate::days::Days;
+use crate::late_row::LateRow;
 use hj_base::Memory;
 use hj_value::SharedRow;
 use std::alloc::Global;
-use std::cmp::Ordering;
 use std::collections::BinaryHeap;
 use std::marker::Model;
 
-/// A row that came late. It is the greater the sooner it is to be given: by its time, then by its number.
-#[derive(Drop)]
-struct LateRow {
-    time: i64,
-    /// The number under which it came.
-    no: u64,
-    row: SharedRow,
-}
-
-impl Ord for LateRow {
-    ghost use Rattle.hj_event.specs.Late.{late_cmp};
-
-    ghost cmp = { late_cmp };
-
-    ghost total = { Prim.search (comparing, rules) };
-
-    ghost matches_partial_cmp = { Prim.search (comparing, rules) };
-
-    ghost matches_eq = { Prim.search (comparing, rules) };
-
-    fn cmp(&self, other: &Self) -> Ordering {
-        if self.time == other.time {
-            return other.no.cmp(&self.no);
-        }
-        other.time.cmp(&self.time)
-    }
-}
-
-impl PartialOrd for LateRow {
-    ghost use Rattle.hj_event.specs.Late.{late_cmp};
-
-    ghost partial_cmp = { as_partial_cmp late_cmp };
-
-    ghost laws = { Prim.search (comparing, rules) };
-
-    fn partial_cmp(&self, other: &Self) -> Option<Ordering> {
-        Some(self.cmp(other))
-    }
-}
-
-impl PartialEq for LateRow {
-    ghost use Rattle.hj_event.specs.Late.{late_cmp};
-
-    ghost eq = { eq_by_cmp late_cmp };
-
-    ghost laws = { Prim.search (comparing, rules) };
-
-    fn eq(&self, other: &Self) -> bool {
-        self.cmp(other).is_eq()
-    }
-}
-
-impl Eq for LateRow {
-    ghost laws = { Prim.search (comparing, rules) };
-}
+/// Where fewer rows wait than this, most days would have none, and going over them would cost more than a heap.
+const FEW: usize = 8;
 
 /// Rows in order of time, rows of equal time in the order in which they came.
 #[derive(Drop)]
 pub(crate) struct Late {
-    rows: BinaryHeap<LateRow>,
+    /// The rows that came while few waited, and those that had no place on a day.
+    others: BinaryHeap<LateRow>,
+    days: Days,
     /// The number of the next row that comes.
     next: u64,
 }
 
 impl Model for Late {
     ghost use Rattle.std.specs.Prelude.{List};
-    ghost use Rattle.std.specs.BinaryHeap.{heap_items};
+    ghost use Rattle.std.specs.BinaryHeap.{heap_items, IsHeap};
     ghost use Rattle.hj_value.specs.declared.field.Field.{Field};
-    ghost use Rattle.hj_event.specs.Late.{rows_in_order, AreLate};
+    ghost use Rattle.hj_event.specs.Late.{late_cmp, rows_in_order, AreLate};
+    ghost use Rattle.hj_event.specs.Days.{all_late, AreOnDays};
 
     ghost Value = { List (List Field) };
 
-    ghost view = { λ l. rows_in_order (heap_items l.rows) };
+    ghost view = { λ l. rows_in_order (all_late (heap_items l.others) l.days) };
 
-    ghost invariant = { λ l. AreLate l.next (heap_items l.rows) };
+    ghost invariant = { λ l. IsHeap late_cmp (heap_items l.others) × AreOnDays l.days × AreLate l.next (all_late (heap_items l.others) l.days) };
 }
 
 impl Late {
-    /// Makes one that keeps no rows.
-    pub(crate) fn new(alloc: Global) -> Self
+    /// Makes one that keeps no rows, for rows that are late by at most this slack.
+    pub(crate) fn new(alloc: Global, slack: u64) -> Self
         ensures { result ≡ [] }
     {
         Late {
-            rows: BinaryHeap::new(alloc),
+            others: BinaryHeap::new(alloc),
+            days: Days::new(alloc, slack),
             next: 0,
         }
     }
@@ -110,7 +63,7 @@ impl Late {
     {
         let no = self.next;
         let next = no.checked_add(1).ok_or(Memory)?;
-        self.rows.push(LateRow { time, no, row })?;
+        put_row(&mut self.others, &mut self.days, LateRow { time, no, row })?;
         self.next = next;
         Ok(())
     }
@@ -120,7 +73,7 @@ impl Late {
     pub(crate) fn take(&mut self) -> Option<SharedRow>
         ensures { TakesFirst result self.old self.new }
     {
-        let first = self.rows.pop()?;
+        let first = take_row(&mut self.others, &mut self.days)?;
         Some(first.row)
     }
 
@@ -129,7 +82,58 @@ impl Late {
     pub(crate) fn first_time(&self) -> Option<i64>
         ensures { result ≡ first_time self.now }
     {
-        let first = self.rows.peek()?;
-        Some(first.time)
+        match (self.others.peek(), self.days.first()) {
+            (Some(other), Some(first)) => Some(other.time.min(first.time)),
+            (Some(other), None) => Some(other.time),
+            (None, Some(first)) => Some(first.time),
+            (None, None) => None,
+        }
+    }
+}
+
+/// Puts a late row on its day where many wait, or among the others.
+#[inline(always)]
+fn put_row(others: &mut BinaryHeap<LateRow>, days: &mut Days, late: LateRow) -> Result<(), Memory>
+    requires heap { IsHeap late_cmp (heap_items others.old) }
+    requires days { AreOnDays days.old }
+    ensures heap { IsHeap late_cmp (heap_items others.new) }
+    ensures days { AreOnDays days.new }
+    ensures ok { OnOk result (IsPermutation (late ∷ all_late (heap_items others.old) days.old) (all_late (heap_items others.new) days.new)) }
+    ensures err { OnErr result (all_late (heap_items others.new) days.new ≡ all_late (heap_items others.old) days.old) }
+{
+    if others.len() < FEW {
+        others.push(late)?;
+        return Ok(());
+    }
+    days.put(late, others)
+}
+
+/// Takes the late row that comes first; None where there is none.
+#[inline(always)]
+fn take_row(others: &mut BinaryHeap<LateRow>, days: &mut Days) -> Option<LateRow>
+    requires heap { IsHeap late_cmp (heap_items others.old) }
+    requires days { AreOnDays days.old }
+    ensures heap { IsHeap late_cmp (heap_items others.new) }
+    ensures days { AreOnDays days.new }
+    ensures takes { TakesFirstLate result (all_late (heap_items others.old) days.old) (all_late (heap_items others.new) days.new) }
+{
+    if is_on_day(others, days) {
+        days.take()
+    } else {
+        others.pop()
+    }
+}
+
+/// Returns whether the late row that comes first stands on a day.
+#[inline(always)]
+fn is_on_day(others: &BinaryHeap<LateRow>, days: &Days) -> bool
+    requires heap { IsHeap late_cmp (heap_items others.now) }
+    requires days { AreOnDays days.now }
+    ensures day { result ≡ true → HaveFirst (late_on days.now) (heap_items others.now) }
+    ensures other { result ≡ false → HaveFirst (heap_items others.now) (late_on days.now) }
+{
+    match (others.peek(), days.first()) {
+        (Some(other), Some(first)) => first.comes_before(other),
+        (_, first) => first.is_some(),
     }
 }

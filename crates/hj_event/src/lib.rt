@@ -2,9 +2,11 @@
 #![tactic(auto)]
 
 mod arrivals;
+mod days;
 mod due;
 mod fault;
 mod late;
+mod late_row;
 mod laws;
 mod merger;
 mod numbering;

@@ -60,7 +60,7 @@ impl Source {
         Source {
             reader: Reader::new(alloc, schema, slack),
             next: None,
-            waiting: Waiting::new(alloc),
+            waiting: Waiting::new(alloc, slack),
             ahead: Ahead::Unknown,
         }
     }

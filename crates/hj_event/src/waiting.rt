@@ -42,13 +42,13 @@ impl Model for Waiting {
 }
 
 impl Waiting {
-    /// Makes one that keeps no rows.
-    pub(crate) fn new(alloc: Global) -> Self
+    /// Makes one that keeps no rows, for rows that are late by at most this slack.
+    pub(crate) fn new(alloc: Global, slack: u64) -> Self
         ensures { result ≡ [] }
     {
         Waiting {
             queue: VecDeque::new(alloc),
-            late: Late::new(alloc),
+            late: Late::new(alloc, slack),
         }
     }
 

@@ -1,0 +1,7 @@
+use Rattle.std.proofs.Common.{◌∷◌, heap_items}
+use Rattle.std.proofs.lemmas.List.Sorted.{IsPermutation-append_left}
+use Rattle.hj_event.specs.Days.{late_on}
+use Rattle.hj_event.proofs.late.put_row.Goals as goal
+
+pub returns-then-len-lt-FEW-clause-ok : goal.returns-then-len-lt-FEW-clause-ok
+returns-then-len-lt-FEW-clause-ok c = IsPermutation-append_left (late_on c.args.days.now) (c.args.late ∷ heap_items c.args.others.now) (heap_items c.push.new.self) c.in_ok-push.ensures.permutation
