@@ -2,8 +2,16 @@
 #![tactic(auto)]
 
 #[cfg(test)]
+mod cases;
+#[cfg(test)]
 mod in_a_row;
 #[cfg(test)]
 mod joins;
 #[cfg(test)]
+mod meeting;
+#[cfg(test)]
 mod raw;
+#[cfg(test)]
+mod runs;
+#[cfg(test)]
+mod watched;
