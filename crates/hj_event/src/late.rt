@@ -16,7 +16,7 @@ use std::collections::BinaryHeap;
 use std::marker::Model;
 
 /// Where fewer rows wait than this, most days would have none, and going over them would cost more than a heap.
-const FEW: usize = 8;
+const FEW: usize = 16;
 
 /// Rows in order of time, rows of equal time in the order in which they came.
 #[derive(Drop)]

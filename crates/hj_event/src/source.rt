@@ -160,13 +160,7 @@ impl Source {
         ensures { GoesOn result self.old self.new }
     {
         match self.ahead {
-            Ahead::Unknown => {
-                if self.read_row()? {
-                    Ok(Found::More)
-                } else {
-                    Ok(Found::NoRecord)
-                }
-            }
+            Ahead::Unknown => self.read_more(),
             Ahead::Over => match self.waiting.take() {
                 Some(row) => Ok(Found::Row(row)),
                 None => Ok(Found::End),
@@ -178,6 +172,24 @@ impl Source {
         }
     }
 
+    /// Reads rows in the bytes that were read, until it is known what comes next or more bytes are wanted.
+    #[inline(always)]
+    fn read_more(&mut self) -> Result<Found, Stop>
+        requires late { self.old.reading.slack ≢ 0 }
+        requires going { self.old.stop ≡ None }
+        ensures { GoesOn result self.old self.new }
+    {
+        self.read_on()?;
+        if self.knows_next() {
+            return Ok(Found::NoRecord);
+        }
+        if self.read_row()? {
+            Ok(Found::More)
+        } else {
+            Ok(Found::NoRecord)
+        }
+    }
+
     /// Reads rows in the bytes that were read, at least one, until the next one is known. So `is_ready` can tell, and the rows that
     /// wait grow in number only where the slack holds them back.
     #[inline(never)]
@@ -185,6 +197,7 @@ impl Source {
         requires late { self.old.reading.slack ≢ 0 }
         requires going { self.old.stop ≡ None }
         ensures ended { self.new.reading.ended ≡ self.old.reading.ended }
+        ensures slack { self.new.reading.slack ≡ self.old.reading.slack }
         ensures same { OnOk result ((stream : Stream) → MayFollow self.new.reading.ended stream → rows_ahead self.old stream ≡ rows_ahead self.new stream) }
     {
         for _ in 0..u64::MAX {
