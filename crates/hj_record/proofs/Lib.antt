@@ -1,3 +1,4 @@
+mod Ahead
 pub mod Splits
 pub mod Streams
 pub mod Bare

@@ -5,6 +5,7 @@ mod byte;
 mod cutter;
 mod fault;
 mod fields;
+mod lanes;
 mod laws;
 mod piece;
 mod plain;

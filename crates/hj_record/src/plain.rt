@@ -1,6 +1,7 @@
 ghost use Rattle.std.specs.Prelude.{◌≡◌, ◌≤◌, [], true, false, length, take, slice_get, All, IfOk, IfSome};
 ghost use Rattle.hj_record.specs.Plain.{BeginsWithField, CutsPlain, IsBare, IsLineEnd, IsNextQuote, StandsBehind, TakesField, is_special};
 
+use crate::lanes::{LANES, bare_ahead, unquoted_ahead};
 use crate::{CARRIAGE_RETURN, COMMA, Fields, LINE_FEED, QUOTE};
 use hj_base::Memory;
 
@@ -97,6 +98,22 @@ pub fn bare_size(text: &[u8]) -> usize
     ensures within { result ≤ length text.now }
     ensures bare { All IsBare (take result text.now) }
 {
+    let mut at = 0;
+    while text.len() - at >= LANES {
+        let bare = bare_ahead(text, at);
+        at += bare;
+        if bare < LANES {
+            return at;
+        }
+    }
+    at + bare_of_few(&text[at..])
+}
+
+/// Returns the same of few bytes, looked at one by one.
+fn bare_of_few(text: &[u8]) -> usize
+    ensures within { result ≤ length text.now }
+    ensures bare { All IsBare (take result text.now) }
+{
     for (at, &byte) in text.iter().enumerate() {
         if is_special(byte) {
             return at;
@@ -114,6 +131,25 @@ fn is_special(byte: u8) -> bool
 
 /// Finds the first quote from a place on.
 pub fn quote_from(text: &[u8], from: usize) -> Option<usize>
+    requires { from ≤ length text.now }
+    ensures { IfSome result (λ quote. IsNextQuote quote from text.now) }
+{
+    let mut at = from;
+    while text.len() - at >= LANES {
+        let unquoted = unquoted_ahead(text, at);
+        at += unquoted;
+        if unquoted < LANES {
+            return Some(at);
+        }
+    }
+    match quote_of_few(text, at) {
+        Some(quote) => Some(quote),
+        None => None,
+    }
+}
+
+/// Finds the first quote from a place on, behind which few bytes stand.
+fn quote_of_few(text: &[u8], from: usize) -> Option<usize>
     requires { from ≤ length text.now }
     ensures { IfSome result (λ quote. IsNextQuote quote from text.now) }
 {
