@@ -21,7 +21,7 @@ use Rattle.hj_chain.specs.declared.actor.Stepped.TheVariants.{Did, NotEnabled}
 use Rattle.hj_chain.specs.Links.{put_in}
 use Rattle.hj_chain.specs.Chain.{FeedAnswer, ChainState, Contents, if_there}
 use Rattle.hj_chain.specs.Steps.{GoesWith, IsGoing, StepsTo, asks}
-use Rattle.hj_chain.proofs.Drivers.{wait-same, never_waits, sent}
+use Rattle.hj_chain.proofs.Drivers.{wait-same, sent}
 use Rattle.hj_chain.proofs.Standing.{log, driving}
 use Rattle.hj_chain.proofs.Stepping.{admit-waits, admit-did, asks-did}
 
@@ -71,9 +71,8 @@ module _ {P J : Type 0} (predicate : J → P → P → Bool) (opened now : Conte
       subst (λ (c : Contents P J). StepsTo (predicate c.join) Admit answer c.state (NotEnabled (Waits why)) new) is
       (admit-waits matches chain going_on.going answer event why new next (waits_for event found next asked ∙ some) same)
 
-  pub admitting-never : (one : Event P) (found : Option Why) → chain.next ≡ Some (given.Event one) → Asked one found → found ≡ None → (result : Admitted P) (why : Why) (back : Event P) → Answered result → result ≡ admitted_as.Wait why back → ⊥
-  admitting-never one found next_one asked none result why back answered waits =
-      never_waits chain.driver past event stood well why back (waits_for one found next_one asked ∙ none) (subst Answered waits answered)
+  pub admitting-free : (one : Event P) (found : Option Why) → chain.next ≡ Some (given.Event one) → Asked one found → found ≡ None → wait_of event chain.driver ≡ None
+  admitting-free one found next_one asked none = waits_for one found next_one asked ∙ none
 
   pub admitting-did : (one : Event P) (found : Option Why) → chain.next ≡ Some (given.Event one) → Asked one found → found ≡ None
       → (answer : FeedAnswer P) (driver : DriverState) (result : Admitted P) (port : Side) (message : Msg P) (count : ℕ) (links : List (Queues (Msg P))) (later : Option (Given P)) → Answered result → result ≡ admitted_as.Send port message

@@ -46,10 +46,6 @@ module _ {P : Type 0} (old : DriverState) (log : List (DriverTurn P)) (event : E
       → found ≡ admitted_as.Send (port_of event) (message_of event)
   answer-is found free is = is log stands well ∙ ap (answer_to event) (sym (cause_of-same event old log stands well) ∙ free)
 
-  pub never_waits : (why : Why) (back : Event P) → wait_of event old ≡ None
-      → ((l : List (DriverTurn P)) → StandsFor old l → IsWellFormed (admitted l ++ event ∷ []) → admitted_as.Wait why back ≡ answer_to event (cause_after old.flight event l)) → ⊥
-  never_waits why back free is = let e = answer-is (admitted_as.Wait why back) free is in cc
-
   pub sent : (new : DriverState) (port : Side) (message : Msg P) → wait_of event old ≡ None → new.flight ≡ old.flight
       → ((l : List (DriverTurn P)) → StandsFor old l → IsWellFormed (admitted l ++ event ∷ []) → admitted_as.Send port message ≡ answer_to event (cause_after old.flight event l))
       → ((l : List (DriverTurn P)) → StandsFor old l → IsWellFormed (admitted l ++ event ∷ []) → StandsFor new (l ++ admission event ∷ [])) → Sent old new event port message

@@ -3,7 +3,7 @@ use Rattle.std.proofs.Common.{◌≡◌, ◌≢◌, ℕ, ◌+◌, ◌<◌, ◌�
 use Rattle.std.specs.Option.{option_to_list, IfSome}
 use Rattle.std.specs.declared.result.Result.{Result}
 use Rattle.std.specs.declared.result.Result.TheVariants.{Ok, Err}
-use Rattle.std.specs.Result.{OnOk, is_err}
+use Rattle.std.specs.Result.{OnOk, OnErr, is_err}
 use Rattle.std.specs.List.Sorted.{IsPermutation}
 use Rattle.std.proofs.lemmas.List.{length-map}
 use Rattle.hj_msg.specs.Met.{pairs_of}
@@ -46,6 +46,12 @@ same_links {P} chain links is = ap (λ (ls : List (Queues (Msg P))). record chai
 
 below : (x y : ℕ) → (x == y) ≡ false → x ≢ y
 below x y other same = true≢false (sym (eq-eqb x y same) ∙ other)
+
+-- what a step answers that was made if there was memory for it
+pub turned : {T E A : Type 0} (made : Result T E) (result : Stepped) (What : A → Stepped → Type 0) → OnOk made (result ≡ Did) → OnErr made (result ≡ Memory) → OnOk made ((answer : A) → What answer Did) → OnErr made ((answer : A) → What answer Memory)
+    → (answer : A) → What answer result
+turned (Ok value) result What did memory done out answer = subst (What answer) (sym did) (done answer)
+turned (Err refusal) result What did memory done out answer = subst (What answer) (sym memory) (out answer)
 
 -- a call that wasn't refused
 pub granted : {T E : Type 0} (result : Result T E) (What : Type 0) → is_err result ≡ false → OnOk result What → What
@@ -161,6 +167,15 @@ module _ {P J : Type 0} (predicate : J → P → P → Bool) (opened now : Conte
       let here : first (queue_at chain.reports place.0) ≡ Some report = ap (λ (m : ℕ). first (queue_at chain.reports m)) (sym is_at) ∙ some in
       subst (λ (c : Contents P J). IfSome (first (queue_at c.state.reports place.0)) (λ r. (collector ≡ after_report place r c.collector) × IsPermutation (c.kept ++ pairs_of r) kept)) is
       (subst (λ (o : Option (Report P)). IfSome o (λ r. (collector ≡ after_report place r opened.collector) × IsPermutation (opened.kept ++ pairs_of r) kept)) (sym here) (noted, added))
+
+  -- the message that comes in first at an end of a core
+  pub comes_in : (end : Side) (at place : ℕ) (message : Msg P) → at ≡ place → first (incoming end at chain.links) ≡ Some message → first (incoming end place now.state.links) ≡ Some message
+  comes_in end at place message is_at some =
+      subst (λ (c : Contents P J). first (incoming end place c.state.links) ≡ Some message) is (ap (λ (m : ℕ). first (incoming end m chain.links)) (sym is_at) ∙ some)
+
+  pub came_in : (end : Side) (at place : ℕ) (message : Msg P) → at ≡ place → first (incoming end place now.state.links) ≡ Some message → first (incoming end at chain.links) ≡ Some message
+  came_in end at place message is_at some =
+      ap (λ (m : ℕ). first (incoming end m chain.links)) is_at ∙ subst (λ (c : Contents P J). first (incoming end place c.state.links) ≡ Some message) (sym is) some
 
   -- a message that a core handles
   named : (actor : CoreNo → Actor) (place : CoreNo) (at : ℕ) (answer : FeedAnswer P) (result : Stepped) (new : ChainState P) → at ≡ place.0 → StepsTo matches (actor (record { 0 = at })) answer chain result new

@@ -1,10 +1,9 @@
 -- What a core sends, message by message.
-use Rattle.std.proofs.Common.{◌≡◌, ℕ, ◌+◌, ◌<◌, ◌≤◌, ◌==◌, Bool, true, false, cond, List, [], ◌∷◌, ◌++◌, ◌⊎◌, inl, inr, length, Option, refl, ap, sym, ◌∙◌, arith, append_assoc, length-append, eq-eqb}
-use Rattle.std.specs.Option.{option_to_list}
+use Rattle.std.proofs.Common.{◌≡◌, ℕ, ◌+◌, ◌<◌, ◌≤◌, ◌==◌, Bool, true, false, cond, List, [], ◌∷◌, ◌++◌, ◌⊎◌, inl, inr, length, refl, ap, sym, ◌∙◌, arith, append_assoc, length-append, eq-eqb}
 use Rattle.hj_base.specs.declared.numbers.EventNo.{EventNo}
 use Rattle.hj_msg.specs.declared.message.Msg.{Msg}
 use Rattle.hj_msg.specs.declared.message.Msg.TheVariants.{AckS, EndR, EndS, ExpR, ExpS, QuietL, QuietR, CloseL, CloseR}
-use Rattle.hj_msg.specs.Core.{Sends, sends}
+use Rattle.hj_msg.specs.Core.{Sends, only_if, sends}
 use Rattle.hj_core.specs.declared.way.Way.{Way}
 use Rattle.hj_core.specs.declared.way.Way.TheVariants as way
 use Rattle.hj_core.specs.Sent.{passed_on}
@@ -13,7 +12,6 @@ use Rattle.hj_chain.specs.Links.{changed_at, link_at, put_rightwards, put_leftwa
 use Rattle.hj_chain.proofs.Places.{length-changed_at, changed_at-twice}
 use Rattle.hj_chain.proofs.Putting.{nothing_left, nothing_right}
 use Rattle.hj_chain.proofs.Ways.{link_at-changed, rights-put_left, rights-put_right, when}
-use Rattle.hj_chain.proofs.Turning.{at_most_one}
 
 capacity-if : {M : Type 0} (b : Bool) (f : Queues M → Queues M) (q : Queues M) → (f q).capacity ≡ q.capacity → (cond b (f q) q).capacity ≡ q.capacity
 capacity-if true f q same = same
@@ -25,55 +23,59 @@ capacity-changed {M} i f links k low same = ap (λ (q : Queues M). q.capacity) (
 here : {M : Type 0} (k : ℕ) (ms : List M) → when (k == k) ms ≡ ms
 here k ms = ap (λ b. when b ms) (eq-eqb k k refl)
 
-module _ {M : Type 0} (links one two three : List (Queues M)) (place : ℕ) (l r s : Option M) (low : place + 1 < length links)
-    (is_one : one ≡ changed_at place (put_leftwards (option_to_list l)) links)
-    (is_two : two ≡ changed_at (place + 1) (put_rightwards (option_to_list r)) one)
-    (is_three : three ≡ changed_at (place + 1) (put_rightwards (option_to_list s)) two)
-    (room : length (link_at links (place + 1)).rightwards + length (option_to_list r ++ option_to_list s) ≤ (link_at links (place + 1)).capacity) where
+module _ {M : Type 0} (links one two three : List (Queues M)) (place : ℕ) (l r s : List M) (low : place + 1 < length links)
+    (is_one : one ≡ changed_at place (put_leftwards l) links)
+    (is_two : two ≡ changed_at (place + 1) (put_rightwards r) one)
+    (is_three : three ≡ changed_at (place + 1) (put_rightwards s) two)
+    (room : length (link_at links (place + 1)).rightwards + length (r ++ s) ≤ (link_at links (place + 1)).capacity) where
   in_one : place + 1 < length one
-  in_one = omega (arith, low, ap length is_one, length-changed_at place (put_leftwards (option_to_list l)) links)
+  in_one = omega (arith, low, ap length is_one, length-changed_at place (put_leftwards l) links)
 
   in_two : place + 1 < length two
-  in_two = omega (arith, in_one, ap length is_two, length-changed_at (place + 1) (put_rightwards (option_to_list r)) one)
+  in_two = omega (arith, in_one, ap length is_two, length-changed_at (place + 1) (put_rightwards r) one)
 
   rights_one : (link_at one (place + 1)).rightwards ≡ (link_at links (place + 1)).rightwards
-  rights_one = ap (λ (ls : List (Queues M)). (link_at ls (place + 1)).rightwards) is_one ∙ rights-put_left links (place + 1) low place (option_to_list l)
+  rights_one = ap (λ (ls : List (Queues M)). (link_at ls (place + 1)).rightwards) is_one ∙ rights-put_left links (place + 1) low place l
 
   capacity_one : (link_at one (place + 1)).capacity ≡ (link_at links (place + 1)).capacity
-  capacity_one = ap (λ (ls : List (Queues M)). (link_at ls (place + 1)).capacity) is_one ∙ capacity-changed place (put_leftwards (option_to_list l)) links (place + 1) low (λ q. refl)
+  capacity_one = ap (λ (ls : List (Queues M)). (link_at ls (place + 1)).capacity) is_one ∙ capacity-changed place (put_leftwards l) links (place + 1) low (λ q. refl)
 
-  rights_two : (link_at two (place + 1)).rightwards ≡ (link_at links (place + 1)).rightwards ++ option_to_list r
+  rights_two : (link_at two (place + 1)).rightwards ≡ (link_at links (place + 1)).rightwards ++ r
   rights_two =
-      ap (λ (ls : List (Queues M)). (link_at ls (place + 1)).rightwards) is_two ∙ rights-put_right one (place + 1) in_one (place + 1) (option_to_list r)
-      ∙ ap (λ ms. (link_at one (place + 1)).rightwards ++ ms) (here (place + 1) (option_to_list r)) ∙ ap (λ ms. ms ++ option_to_list r) rights_one
+      ap (λ (ls : List (Queues M)). (link_at ls (place + 1)).rightwards) is_two ∙ rights-put_right one (place + 1) in_one (place + 1) r
+      ∙ ap (λ ms. (link_at one (place + 1)).rightwards ++ ms) (here (place + 1) r) ∙ ap (λ ms. ms ++ r) rights_one
 
   capacity_two : (link_at two (place + 1)).capacity ≡ (link_at links (place + 1)).capacity
-  capacity_two = ap (λ (ls : List (Queues M)). (link_at ls (place + 1)).capacity) is_two ∙ capacity-changed (place + 1) (put_rightwards (option_to_list r)) one (place + 1) in_one (λ q. refl) ∙ capacity_one
+  capacity_two = ap (λ (ls : List (Queues M)). (link_at ls (place + 1)).capacity) is_two ∙ capacity-changed (place + 1) (put_rightwards r) one (place + 1) in_one (λ q. refl) ∙ capacity_one
 
   pub record Fits : Type 0 where
     pub low_one : place + 1 < length one
-    pub room_one : length (link_at one (place + 1)).rightwards + length (option_to_list r) ≤ (link_at one (place + 1)).capacity
+    pub room_one : length (link_at one (place + 1)).rightwards + length r ≤ (link_at one (place + 1)).capacity
     pub low_two : place + 1 < length two
-    pub room_two : length (link_at two (place + 1)).rightwards + length (option_to_list s) ≤ (link_at two (place + 1)).capacity
-    pub all : three ≡ send_out place (option_to_list l) (option_to_list r ++ option_to_list s) links
+    pub room_two : length (link_at two (place + 1)).rightwards + length s ≤ (link_at two (place + 1)).capacity
+    pub all : three ≡ send_out place l (r ++ s) links
 
   pub fits : Fits
   fits = record {
     low_one = in_one;
-    room_one = omega (arith, room, ap length rights_one, capacity_one, length-append (option_to_list r) (option_to_list s));
+    room_one = omega (arith, room, ap length rights_one, capacity_one, length-append r s);
     low_two = in_two;
-    room_two = omega (arith, room, ap length rights_two, capacity_two, length-append (link_at links (place + 1)).rightwards (option_to_list r), length-append (option_to_list r) (option_to_list s));
+    room_two = omega (arith, room, ap length rights_two, capacity_two, length-append (link_at links (place + 1)).rightwards r, length-append r s);
     all =
-        is_three ∙ ap (changed_at (place + 1) (put_rightwards (option_to_list s))) is_two
-        ∙ changed_at-twice (place + 1) (put_rightwards (option_to_list r)) (put_rightwards (option_to_list s)) (put_rightwards (option_to_list r ++ option_to_list s)) one
-        (λ (q : Queues M). ap (λ (ms : List M). record q { rightwards = ms }) (append_assoc q.rightwards (option_to_list r) (option_to_list s)))
-        ∙ ap (changed_at (place + 1) (put_rightwards (option_to_list r ++ option_to_list s))) is_one;
+        is_three ∙ ap (changed_at (place + 1) (put_rightwards s)) is_two
+        ∙ changed_at-twice (place + 1) (put_rightwards r) (put_rightwards s) (put_rightwards (r ++ s)) one
+        (λ (q : Queues M). ap (λ (ms : List M). record q { rightwards = ms }) (append_assoc q.rightwards r s))
+        ∙ ap (changed_at (place + 1) (put_rightwards (r ++ s))) is_one;
   }
 
 -- to the left there is at most one
-pub one_left : {M : Type 0} (links : List (Queues M)) (place : ℕ) (l : Option M) → length (link_at links place).leftwards + 1 ≤ (link_at links place).capacity
-    → length (link_at links place).leftwards + length (option_to_list l) ≤ (link_at links place).capacity
-one_left links place l room = omega (arith, room, at_most_one l)
+one_if : {P : Type 0} (holds : Bool) (message : Msg P) → length (only_if holds message) ≤ 1
+one_if true message = omega arith
+one_if false message = omega arith
+
+pub one_left : {P : Type 0} (links : List (Queues (Msg P))) (place : ℕ) (holds : Bool) (message : Msg P) → length (link_at links place).leftwards + 1 ≤ (link_at links place).capacity
+    → length (link_at links place).leftwards + length (only_if holds message) ≤ (link_at links place).capacity
+one_left links place holds message room = omega (arith, room, one_if holds message)
 
 -- ---- messages that are passed on alone, or not at all
 

@@ -1,4 +1,4 @@
-ghost use Rattle.std.specs.Prelude.{◌≡◌, ◌≢◌, ◌↔◌, true, ◌+◌, ◌==◌, ◌<◌, ◌≤◌, ◌++◌, [], ◌∷◌, ℕ, false, List, length, map, replicate, option_to_list, Some, All, IfOk, IfSome, IfNone, IsPermutation, OnErr};
+ghost use Rattle.std.specs.Prelude.{◌≡◌, ◌≢◌, ◌↔◌, true, ◌+◌, ◌<◌, ◌≤◌, ◌++◌, [], ◌∷◌, ℕ, false, List, length, map, replicate, option_to_list, Some, All, IfOk, IfSome, IfNone, IsPermutation, OnErr};
 ghost use Rattle.hj_base.specs.declared.numbers.Side.{Side as Sides};
 ghost use Rattle.hj_base.specs.declared.numbers.Side.TheVariants.{Left, Right};
 ghost use Rattle.hj_msg.specs.declared.event.Event.{Event};
@@ -8,8 +8,7 @@ ghost use Rattle.hj_msg.specs.Feed.{IsFresh, Answers, FeedState, GoesOver};
 ghost use Rattle.hj_msg.specs.GoesOn.{GoesOnWith};
 ghost use Rattle.hj_core.specs.Contents.{state_of};
 ghost use Rattle.hj_chain.specs.Placed.{ArePlaced};
-ghost use Rattle.hj_chain.specs.Chain.{FeedAnswer, capacity, empty_chain, if_there};
-ghost use Rattle.hj_chain.specs.Reports.{queue_at};
+ghost use Rattle.hj_chain.specs.Chain.{FeedAnswer, empty_chain, if_there};
 ghost use Rattle.hj_collect.specs.Collector.{nothing_taken};
 ghost use Rattle.hj_chain.specs.Reached.{StandsFor, next_pair};
 ghost use Rattle.hj_chain.specs.Progress.{IsDone};
@@ -21,7 +20,7 @@ use crate::{Actor, NotNow, Stepped};
 use hj_base::{CoreNo, Gate, Memory, OpenGate, Share, Side};
 use hj_collect::Collector;
 use hj_core::Core;
-use hj_driver::{Admitted, Closing, Driver};
+use hj_driver::{Closing, Driver};
 use hj_msg::{Feed, Given, Join, Msg, Pair, Store};
 use hj_order::Ordered;
 use std::alloc::Global;
@@ -31,6 +30,7 @@ use std::mem;
 mod looks;
 mod serial;
 mod sweep;
+mod turns;
 
 /// A chain of cores, with the driver at its ends. Its actors make their steps one at a time, in whatever order they are asked
 /// to, so that any interleaving of a run can be played.
@@ -276,9 +276,7 @@ impl<P: Share + Drop, J: Join<P> + Drop, L: Store<P, J> + Drop, R: Store<P, J> +
         let Given::Event(event) = given else {
             unreachable!()
         };
-        let Admitted::Send(port, msg) = self.driver.admit(event) else {
-            unreachable!()
-        };
+        let (port, msg) = self.driver.admit_now(event);
         self.links.put_in(port, self.cores.len(), msg);
         Stepped::Did
     }
@@ -316,73 +314,6 @@ impl<P: Share + Drop, J: Join<P> + Drop, L: Store<P, J> + Drop, R: Store<P, J> +
                 Stepped::Did
             }
         }
-    }
-
-    /// Lets a core handle the first message that comes in at one of its ends. It passes the gate before, with the number of steps
-    /// that were made before.
-    #[inline(always)]
-    fn turn<G: Gate>(&mut self, core: CoreNo, end: Side, gate: &G, made: u64) -> Stepped
-        requires { IsGoing J.predicate self.old }
-        ensures step { (answer : FeedAnswer P) → StepsTo (J.predicate self.old.join) (Actor.Core core end) answer self.old.state result self.new.state }
-        ensures others { self.new ≡ record self.old { state = self.new.state } }
-    {
-        if usize::from(core.0) >= self.cores.len() {
-            return Stepped::NotEnabled(NotNow::NoSuchCore);
-        }
-        self.turn_there(core, end, gate, made)
-    }
-
-    /// Lets a core that is there handle the first message that comes in at one of its ends, as `turn` does.
-    #[inline(always)]
-    fn turn_there<G: Gate>(&mut self, core: CoreNo, end: Side, gate: &G, made: u64) -> Stepped
-        requires going { IsGoing J.predicate self.old }
-        requires within { core.0 < length self.old.state.cores }
-        ensures step { (answer : FeedAnswer P) → StepsTo (J.predicate self.old.join) (Actor.Core core end) answer self.old.state result self.new.state }
-        ensures others { self.new ≡ record self.old { state = self.new.state } }
-    {
-        let place = usize::from(core.0);
-        let Some(msg) = self.links.incoming(place, end) else {
-            return Stepped::NotEnabled(NotNow::Empty);
-        };
-        if self.reports.is_queue_full(place) {
-            return Stepped::NotEnabled(NotNow::ReportsFull);
-        }
-        gate.pass(core, made);
-        let Some(way) = self.cores[place].pass(msg) else {
-            return self.handle(core, end);
-        };
-        let Some(msg) = self.links.take_in(place, end) else {
-            unreachable!()
-        };
-        self.links.pass_on(place, way, msg);
-        Stepped::Did
-    }
-
-    /// Lets a core handle the first message that comes in at one of its ends, whatever it is; its reports aren't full.
-    // Called, so that the sweep over the actors stays small.
-    #[inline(never)]
-    fn handle(&mut self, core: CoreNo, end: Side) -> Stepped
-        requires going { IsGoing J.predicate self.old }
-        requires within { core.0 < length self.old.state.cores }
-        requires room { (length (queue_at self.old.state.reports core.0) == capacity self.old.state.driver.flight) ≡ false }
-        ensures step { (answer : FeedAnswer P) → StepsTo (J.predicate self.old.join) (Actor.Core core end) answer self.old.state result self.new.state }
-        ensures others { self.new ≡ record self.old { state = self.new.state } }
-    {
-        let place = usize::from(core.0);
-        let Some(msg) = self.links.incoming(place, end) else {
-            return Stepped::NotEnabled(NotNow::Empty);
-        };
-        let core = &mut self.cores[place];
-        let Ok(entry) = core.handle(msg) else {
-            self.over = true;
-            return Stepped::Memory;
-        };
-        let Some(msg) = self.links.take_in(place, end) else {
-            unreachable!()
-        };
-        self.links.send_on(place, self.cores.len(), msg);
-        self.reports.put(place, entry);
-        Stepped::Did
     }
 
     /// Takes a core's first report. The queue gives it up only once there is room for its pairs.

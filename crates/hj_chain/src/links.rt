@@ -1,4 +1,4 @@
-ghost use Rattle.std.specs.Prelude.{◌≡◌, ◌+◌, ◌++◌, ◌^◌, ◌<◌, ◌≤◌, [], ◌∷◌, length, replicate, option_to_list, IfOk};
+ghost use Rattle.std.specs.Prelude.{◌≡◌, ◌+◌, ◌++◌, ◌^◌, ◌<◌, ◌≤◌, [], ◌∷◌, length, replicate, IfOk};
 ghost use Rattle.std.specs.Option.{option_copied};
 ghost use Rattle.hj_base.specs.declared.numbers.Side.TheVariants.{Left, Right};
 ghost use Rattle.hj_msg.specs.Core.{only_if, sends};
@@ -11,7 +11,7 @@ ghost use Rattle.hj_chain.specs.Links.{link_at, changed_at, put_leftwards, put_r
 use hj_base::{EventNo, Memory, Side};
 use hj_core::Way;
 use hj_msg::Msg;
-use hj_queue::{Full, PlainLink};
+use hj_queue::PlainLink;
 use std::alloc::Global;
 use std::marker::Model;
 
@@ -94,31 +94,51 @@ impl<P: Drop> Links<P> {
         }
     }
 
-    /// Puts a message on a link to the right, if there is one.
+    /// Puts a message on a link to the right.
     #[inline(always)]
-    pub fn put_right(&mut self, at: usize, msg: Option<Msg<P>>)
+    pub fn put_right(&mut self, at: usize, msg: Msg<P>)
         requires in_range { at < length self.old }
-        requires room { length (link_at self.old at).rightwards + length (option_to_list msg) ≤ (link_at self.old at).capacity }
-        ensures { self.new ≡ changed_at at (put_rightwards (option_to_list msg)) self.old }
+        requires room { length (link_at self.old at).rightwards < (link_at self.old at).capacity }
+        ensures { self.new ≡ changed_at at (put_rightwards (msg ∷ [])) self.old }
     {
-        if let Some(msg) = msg {
-            if let Err(Full(_)) = self.links[at].put_right(msg) {
-                unreachable!()
-            }
+        let Ok(()) = self.links[at].put_right(msg) else {
+            unreachable!()
+        };
+    }
+
+    /// Puts a message on a link to the left.
+    #[inline(always)]
+    pub fn put_left(&mut self, at: usize, msg: Msg<P>)
+        requires in_range { at < length self.old }
+        requires room { length (link_at self.old at).leftwards < (link_at self.old at).capacity }
+        ensures { self.new ≡ changed_at at (put_leftwards (msg ∷ [])) self.old }
+    {
+        let Ok(()) = self.links[at].put_left(msg) else {
+            unreachable!()
+        };
+    }
+
+    /// Puts a message on a link to the right, if it is to be sent.
+    #[inline(always)]
+    fn put_right_if(&mut self, at: usize, holds: bool, msg: Msg<P>)
+        requires in_range { at < length self.old }
+        requires room { length (link_at self.old at).rightwards + length (only_if holds msg) ≤ (link_at self.old at).capacity }
+        ensures { self.new ≡ changed_at at (put_rightwards (only_if holds msg)) self.old }
+    {
+        if holds {
+            self.put_right(at, msg);
         }
     }
 
-    /// Puts a message on a link to the left, if there is one.
+    /// Puts a message on a link to the left, if it is to be sent.
     #[inline(always)]
-    pub fn put_left(&mut self, at: usize, msg: Option<Msg<P>>)
+    fn put_left_if(&mut self, at: usize, holds: bool, msg: Msg<P>)
         requires in_range { at < length self.old }
-        requires room { length (link_at self.old at).leftwards + length (option_to_list msg) ≤ (link_at self.old at).capacity }
-        ensures { self.new ≡ changed_at at (put_leftwards (option_to_list msg)) self.old }
+        requires room { length (link_at self.old at).leftwards + length (only_if holds msg) ≤ (link_at self.old at).capacity }
+        ensures { self.new ≡ changed_at at (put_leftwards (only_if holds msg)) self.old }
     {
-        if let Some(msg) = msg {
-            if let Err(Full(_)) = self.links[at].put_left(msg) {
-                unreachable!()
-            }
+        if holds {
+            self.put_left(at, msg);
         }
     }
 
@@ -135,78 +155,72 @@ impl<P: Drop> Links<P> {
             Msg::R { no, row } => self.send_left_row(place, cores, no, row),
             Msg::S { no, row } => self.send_right_row(place, cores, no, row),
             Msg::EndR(_) | Msg::ExpR(_) | Msg::QuietR(_) | Msg::CloseR => {
-                self.put_left(place, Some(msg));
+                self.put_left(place, msg);
             }
             Msg::EndS(_) | Msg::ExpS(_) | Msg::QuietL(_) | Msg::CloseL => {
-                self.put_right(place + 1, Some(msg));
+                self.put_right(place + 1, msg);
             }
             Msg::AckS(_) => {}
         }
     }
 
-    /// Puts a message that a core of this place passes on on the link on its way.
+    /// Takes the first message that comes in at an end of a core of this place, and puts it on the link on its way. There is one.
+    // Each way takes the message itself, so that the way isn't asked for again behind the taking.
     #[inline(always)]
-    pub fn pass_on(&mut self, place: usize, way: Way, msg: Msg<P>)
+    pub fn carry(&mut self, place: usize, end: Side, way: Way)
         requires small { place < 2 ^ 16 }
         requires in_range { place + 1 < length self.old }
-        requires room_left { length (link_at self.old place).leftwards + 1 ≤ (link_at self.old place).capacity }
-        requires room_right { length (link_at self.old (place + 1)).rightwards + length (passed_on way msg).right ≤ (link_at self.old (place + 1)).capacity }
-        ensures { self.new ≡ send_out place (passed_on way msg).left (passed_on way msg).right self.old }
+        requires some { (msg : Msg P) × first (incoming_of end place self.old) ≡ Some msg }
+        requires room_left { length (link_at (take_in end place self.old) place).leftwards + 1 ≤ (link_at (take_in end place self.old) place).capacity }
+        requires room_right { (msg : Msg P) → first (incoming_of end place self.old) ≡ Some msg
+            → length (link_at (take_in end place self.old) (place + 1)).rightwards + length (passed_on way msg).right ≤ (link_at (take_in end place self.old) (place + 1)).capacity }
+        ensures { (msg : Msg P) → first (incoming_of end place self.old) ≡ Some msg → self.new ≡ send_out place (passed_on way msg).left (passed_on way msg).right (take_in end place self.old) }
     {
         match way {
-            Way::Left => self.put_left(place, Some(msg)),
-            Way::Right => self.put_right(place + 1, Some(msg)),
-            Way::Nowhere => {}
+            Way::Left => {
+                let Some(msg) = self.take_in(place, end) else {
+                    unreachable!()
+                };
+                self.put_left(place, msg);
+            }
+            Way::Right => {
+                let Some(msg) = self.take_in(place, end) else {
+                    unreachable!()
+                };
+                self.put_right(place + 1, msg);
+            }
+            Way::Nowhere => {
+                self.take_in(place, end);
+            }
         }
     }
 
     /// Puts what a core of this place among `cores` sends for a left row: the row to the right, and at the last core its end to the left.
     #[inline(always)]
-    fn send_left_row(&mut self, place: usize, cores: usize, no: EventNo, row: P)
+    pub fn send_left_row(&mut self, place: usize, cores: usize, no: EventNo, row: P)
         requires small { place < 2 ^ 16 }
         requires in_range { place + 1 < length self.old }
         requires room_left { length (link_at self.old place).leftwards + 1 ≤ (link_at self.old place).capacity }
         requires room_right { length (link_at self.old (place + 1)).rightwards + 1 ≤ (link_at self.old (place + 1)).capacity }
         ensures { self.new ≡ send_out place (sends place cores (LeftRow no row)).left (sends place cores (LeftRow no row)).right self.old }
     {
-        let ends = when(place + 1 == cores, Msg::EndR(no));
-        self.put_around(place, ends, Some(Msg::R { no, row }), None);
+        self.put_left_if(place, place + 1 == cores, Msg::EndR(no));
+        self.put_right(place + 1, Msg::R { no, row });
     }
 
     /// Puts what a core of this place among `cores` sends for a right row: the row to the left; to the right an acknowledgement, if there
     /// is a neighbour, and at the first core its end.
     #[inline(always)]
-    fn send_right_row(&mut self, place: usize, cores: usize, no: EventNo, row: P)
+    pub fn send_right_row(&mut self, place: usize, cores: usize, no: EventNo, row: P)
         requires small { place < 2 ^ 16 }
         requires in_range { place + 1 < length self.old }
         requires room_left { length (link_at self.old place).leftwards + 1 ≤ (link_at self.old place).capacity }
         requires room_right { length (link_at self.old (place + 1)).rightwards + length (sends place cores (RightRow no row)).right ≤ (link_at self.old (place + 1)).capacity }
         ensures { self.new ≡ send_out place (sends place cores (RightRow no row)).left (sends place cores (RightRow no row)).right self.old }
     {
-        let acknowledged = when(place + 1 < cores, Msg::AckS(no));
-        let ends = when(place == 0, Msg::EndS(no));
-        self.put_around(place, Some(Msg::S { no, row }), acknowledged, ends);
-    }
-
-    /// Puts messages on the links at the sides of the core of a place: at most one to the left, and to the right one and then
-    /// another.
-    #[inline(always)]
-    fn put_around(
-        &mut self,
-        place: usize,
-        to_left: Option<Msg<P>>,
-        to_right: Option<Msg<P>>,
-        to_right_then: Option<Msg<P>>,
-    )
-        requires small { place < 2 ^ 16 }
-        requires in_range { place + 1 < length self.old }
-        requires room_left { length (link_at self.old place).leftwards + 1 ≤ (link_at self.old place).capacity }
-        requires room_right { length (link_at self.old (place + 1)).rightwards + length (option_to_list to_right ++ option_to_list to_right_then) ≤ (link_at self.old (place + 1)).capacity }
-        ensures { self.new ≡ send_out place (option_to_list to_left) (option_to_list to_right ++ option_to_list to_right_then) self.old }
-    {
-        self.put_left(place, to_left);
-        self.put_right(place + 1, to_right);
-        self.put_right(place + 1, to_right_then);
+        self.put_left(place, Msg::S { no, row });
+        self.put_right_if(place + 1, place + 1 < cores, Msg::AckS(no));
+        self.put_right_if(place + 1, place == 0, Msg::EndS(no));
     }
 
     /// Puts a message in at a port of a chain of this many cores.
@@ -217,8 +231,8 @@ impl<P: Drop> Links<P> {
         ensures { self.new ≡ put_in port cores msg self.old }
     {
         match port {
-            Side::Left => self.put_right(0, Some(msg)),
-            Side::Right => self.put_left(cores, Some(msg)),
+            Side::Left => self.put_right(0, msg),
+            Side::Right => self.put_left(cores, msg),
         }
     }
 
@@ -234,12 +248,4 @@ impl<P: Drop> Links<P> {
             Side::Right => self.links[cores].take_right(),
         }
     }
-}
-
-/// Returns a message if it is to be sent.
-#[inline(always)]
-fn when<P: Drop>(holds: bool, msg: Msg<P>) -> Option<Msg<P>>
-    ensures { option_to_list result ≡ only_if holds msg }
-{
-    if holds { Some(msg) } else { None }
 }

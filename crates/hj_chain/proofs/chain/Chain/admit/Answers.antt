@@ -1,10 +1,11 @@
 use Rattle.std.proofs.Common.{Option, Some, sym, ◌∙◌, ap, refl}
 use Rattle.std.proofs.lemmas.List.{length-map}
 use Rattle.hj_msg.specs.declared.feed.Given.{Given}
+use Rattle.hj_driver.specs.declared.answers.Admitted.TheVariants.{Send}
 use Rattle.hj_chain.specs.Chain.{Contents, FeedAnswer}
 use Rattle.hj_chain.specs.Steps.{asks}
 use Rattle.hj_chain.specs.declared.actor.Actor.TheVariants.{Admit}
-use Rattle.hj_chain.proofs.Admitting.{going_from, admitting-log, admitting-waits, admitting-never, admitting-did, asking-did, asks-event, asks-first}
+use Rattle.hj_chain.proofs.Admitting.{going_from, admitting-log, admitting-waits, admitting-free, admitting-did, asking-did, asks-event, asks-first}
 use Rattle.hj_chain.proofs.Advancing.{goes-unasked, same-join, same-kept, steps-unasked, unheard}
 use Rattle.hj_chain.proofs.Opening.{in_links, room_port}
 use Rattle.hj_chain.proofs.Goings.{goes-did}
@@ -47,14 +48,17 @@ returns-in-Some-waits-clause-step g c = record {
   feed = refl;
 }
 
-pub admit-requires : goal.admit-requires
-admit-requires g c =
+pub admit_now-port-requires-clause-log : goal.admit_now-port-requires-clause-log
+admit_now-port-requires-clause-log g c =
     admitting-log g.J.Join.predicate _ _ c.self.view_is (going_from g.J.Join.predicate _ _ c.requires.goes c.requires.going) c.in-Event-given.event (sym c.replace.ensures.value ∙ c.in-Some-replace.is ∙ ap (λ (x : Given g.row.P.Denot). Some x) c.in-Event-given.is)
 
-pub unreachable-requires-in_default-admit : goal.unreachable-requires-in_default-admit
-unreachable-requires-in_default-admit g c =
-    admitting-never g.J.Join.predicate _ _ c.self.view_is (going_from g.J.Join.predicate _ _ c.requires.goes c.requires.going) c.in-Event-given.event (sym c.replace.ensures.value ∙ c.in-Some-replace.is ∙ ap (λ (x : Given g.row.P.Denot). Some x) c.in-Event-given.is)
-    c.in-Event.event c.waits.result (c.in-Some.is ∙ ap (λ (x : Given g.row.P.Denot). Some x) c.in-Event.is) c.waits.ensures.log c.in_default-waits.is c.admit.result c.in_default-admit.field-0 c.in_default-admit.field-1 c.admit.ensures.answer c.in_default-admit.is
+pub admit_now-port-requires-clause-few : goal.admit_now-port-requires-clause-few
+admit_now-port-requires-clause-few g c = c.waits.ensures.few
+
+pub admit_now-port-requires-clause-free : goal.admit_now-port-requires-clause-free
+admit_now-port-requires-clause-free g c =
+    admitting-free g.J.Join.predicate _ _ c.self.view_is (going_from g.J.Join.predicate _ _ c.requires.goes c.requires.going) c.in-Event-given.event (sym c.replace.ensures.value ∙ c.in-Some-replace.is ∙ ap (λ (x : Given g.row.P.Denot). Some x) c.in-Event-given.is)
+    c.in-Event.event c.waits.result (c.in-Some.is ∙ ap (λ (x : Given g.row.P.Denot). Some x) c.in-Event.is) c.waits.ensures.log c.in_default-waits.is
 
 pub put_in-requires-clause-in_range : goal.put_in-requires-clause-in_range
 put_in-requires-clause-in_range g c =
@@ -62,7 +66,7 @@ put_in-requires-clause-in_range g c =
 
 pub put_in-requires-clause-room : goal.put_in-requires-clause-room
 put_in-requires-clause-room g c =
-    room_port g.J.Join.predicate _ _ c.self.view_is (going_from g.J.Join.predicate _ _ c.requires.goes c.requires.going) c.in-Send.port c.len.result (c.len.ensures ∙ c.self.inside.cores.ok.0 ∙ sym (length-map c.self.inside.cores.items _))
+    room_port g.J.Join.predicate _ _ c.self.view_is (going_from g.J.Join.predicate _ _ c.requires.goes c.requires.going) c.admit_now-port.result.0 c.len.result (c.len.ensures ∙ c.self.inside.cores.ok.0 ∙ sym (length-map c.self.inside.cores.items _))
 
 pub returns-clause-step : goal.returns-clause-step
 returns-clause-step g c =
@@ -72,8 +76,8 @@ returns-clause-step g c =
       ready = told.2.ready;
       chain =
           admitting-did g.J.Join.predicate _ _ c.self.view_is (going_from g.J.Join.predicate _ _ c.requires.goes c.requires.going) c.in-Event-given.event (sym c.replace.ensures.value ∙ c.in-Some-replace.is ∙ ap (λ (x : Given g.row.P.Denot). Some x) c.in-Event-given.is)
-          c.in-Event.event c.waits.result (c.in-Some.is ∙ ap (λ (x : Given g.row.P.Denot). Some x) c.in-Event.is) c.waits.ensures.log c.in_default-waits.is told.0 c.admit.new.self c.admit.result c.in-Send.port c.in-Send.msg c.len.result _ _ c.admit.ensures.answer c.in-Send.is c.admit.ensures.sent
-          c.admit.ensures.flight (c.len.ensures ∙ c.self.inside.cores.ok.0 ∙ sym (length-map c.self.inside.cores.items _)) c.put_in.ensures (c.replace.ensures.after ∙ told.1);
+          c.in-Event.event c.waits.result (c.in-Some.is ∙ ap (λ (x : Given g.row.P.Denot). Some x) c.in-Event.is) c.waits.ensures.log c.in_default-waits.is told.0 c.admit_now-port.new.self (Send c.admit_now-port.result.0 c.admit_now-port.result.1) c.admit_now-port.result.0 c.admit_now-port.result.1 c.len.result _ _ c.admit_now-port.ensures.answer refl c.admit_now-port.ensures.sent
+          c.admit_now-port.ensures.flight (c.len.ensures ∙ c.self.inside.cores.ok.0 ∙ sym (length-map c.self.inside.cores.items _)) c.put_in.ensures (c.replace.ensures.after ∙ told.1);
       feed = asks-event _ _ c.args.self.now.state.next c.in-Event.event told.0.ready (ap (λ (k : Contents g.row.P.Denot g.row.J.Denot). k.state.next) (sym c.self.view_is) ∙ (c.in-Some.is ∙ ap (λ (x : Given g.row.P.Denot). Some x) c.in-Event.is)) told.2.gave;
     }
 
@@ -82,7 +86,7 @@ returns-clause-goes g c =
     let told = c.next_if_there.ensures in
     goes-did g.J.Join.predicate c.args.self.now _ Admit (ap (λ (k : Contents g.row.P.Denot g.row.J.Denot). k.join) c.self.view_is) (g.F.Feed.state c.args.feed.now) (g.F.Feed.state c.next_if_there.new.feed) c.requires.goes told.0
     (admitting-did g.J.Join.predicate _ _ c.self.view_is (going_from g.J.Join.predicate _ _ c.requires.goes c.requires.going) c.in-Event-given.event (sym c.replace.ensures.value ∙ c.in-Some-replace.is ∙ ap (λ (x : Given g.row.P.Denot). Some x) c.in-Event-given.is)
-    c.in-Event.event c.waits.result (c.in-Some.is ∙ ap (λ (x : Given g.row.P.Denot). Some x) c.in-Event.is) c.waits.ensures.log c.in_default-waits.is told.0 c.admit.new.self c.admit.result c.in-Send.port c.in-Send.msg c.len.result _ _ c.admit.ensures.answer c.in-Send.is c.admit.ensures.sent
-    c.admit.ensures.flight (c.len.ensures ∙ c.self.inside.cores.ok.0 ∙ sym (length-map c.self.inside.cores.items _)) c.put_in.ensures (c.replace.ensures.after ∙ told.1))
+    c.in-Event.event c.waits.result (c.in-Some.is ∙ ap (λ (x : Given g.row.P.Denot). Some x) c.in-Event.is) c.waits.ensures.log c.in_default-waits.is told.0 c.admit_now-port.new.self (Send c.admit_now-port.result.0 c.admit_now-port.result.1) c.admit_now-port.result.0 c.admit_now-port.result.1 c.len.result _ _ c.admit_now-port.ensures.answer refl c.admit_now-port.ensures.sent
+    c.admit_now-port.ensures.flight (c.len.ensures ∙ c.self.inside.cores.ok.0 ∙ sym (length-map c.self.inside.cores.items _)) c.put_in.ensures (c.replace.ensures.after ∙ told.1))
     (ap (λ (k : Contents g.row.P.Denot g.row.J.Denot). k.collector) c.self.view_is, ap (λ (k : Contents g.row.P.Denot g.row.J.Denot). k.kept) c.self.view_is)
     (asks-event _ _ c.args.self.now.state.next c.in-Event.event told.0.ready (ap (λ (k : Contents g.row.P.Denot g.row.J.Denot). k.state.next) (sym c.self.view_is) ∙ (c.in-Some.is ∙ ap (λ (x : Given g.row.P.Denot). Some x) c.in-Event.is)) told.2.says)

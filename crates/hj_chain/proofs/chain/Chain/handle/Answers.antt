@@ -22,8 +22,8 @@ invariant_of-self g c = record {
   capacity = c.self.invariant.capacity;
 }
 
-pub returns-in_default-handle-clause-step : goal.returns-in_default-handle-clause-step
-returns-in_default-handle-clause-step g c = λ answer.
+pub returns-in_default-handle-clause-memory : goal.returns-in_default-handle-clause-memory
+returns-in_default-handle-clause-memory g c = λ answer.
     turning-no_memory g.J.Join.predicate _ _ c.self.view_is c.requires.going c.args.end c.from-place.result c.in-Some.msg.now c.self.inside.reports.capacity
     (in_cores g.J.Join.predicate _ _ c.self.view_is c.requires.going c.from-place.result c.args.core.0 c.from-place.ensures c.requires.within)
     (sym c.incoming.ensures ∙ ap option_copied c.in-Some.is) c.self.invariant.capacity (has_room g.J.Join.predicate _ _ c.self.view_is c.requires.going c.from-place.result c.args.core.0 c.self.inside.reports.capacity c.from-place.ensures c.self.invariant.capacity c.requires.room)
@@ -81,8 +81,8 @@ invariant_of-self-2 g c =
     let few : length (set c.self.inside.cores.items c.from-place.result c.handle.new.self) ≤ 64 = omega (arith, c.self.invariant.few, length-set c.self.inside.cores.items c.from-place.result c.handle.new.self) in
     record { placed = d.placed; few = few; flight = c.self.invariant.flight; capacity = ap (λ (q : ReportQueues g.row.P.Denot). q.capacity) c.put.ensures ∙ c.self.invariant.capacity }
 
-pub returns-clause-step : goal.returns-clause-step
-returns-clause-step g c = λ answer.
+pub returns-clause-did : goal.returns-clause-did
+returns-clause-did g c = λ answer.
     let d = done g.J.Join.predicate (state_of g.L.Store.entries g.R.Store.entries) c.self.inside.join c.self.inside.cores.items c.from-place.result c.index_mut-core.result.now c.index_mut-core.result.now c.self.invariant.placed
     (omega (arith, in_cores g.J.Join.predicate _ _ c.self.view_is c.requires.going c.from-place.result c.args.core.0 c.from-place.ensures c.requires.within, length-map c.self.inside.cores.items (state_of g.L.Store.entries g.R.Store.entries))) c.index_mut-core.ensures.value refl (record { join = refl; place = refl; cores = refl })
     c.handle.new.self c.in-Some.msg.now (step.sends c.index_mut-core.result.now.place c.index_mut-core.result.now.cores c.in-Some.msg.now) c.in-Ok.entry c.in-Ok.ensures.state refl c.in-Ok.ensures.report c.handle.ensures.kept in
