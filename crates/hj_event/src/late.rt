@@ -1,4 +1,4 @@
-ghost use Rattle.std.specs.Prelude.{◌≡◌, true, false, [], ◌∷◌, IfOk, OnErr, OnOk};
+ghost use Rattle.std.specs.Prelude.{◌≡◌, true, false, [], ◌∷◌, OnErr, OnOk};
 ghost use Rattle.std.specs.BinaryHeap.{heap_items, IsHeap};
 ghost use Rattle.std.specs.List.Sorted.{IsPermutation};
 ghost use Rattle.hj_value.specs.Row.{time_of};
