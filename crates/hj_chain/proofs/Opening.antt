@@ -173,10 +173,6 @@ module _ {P J : Type 0} (predicate : J → P → P → Bool) (opened now : Conte
   comes_in end at place message is_at some =
       subst (λ (c : Contents P J). first (incoming end place c.state.links) ≡ Some message) is (ap (λ (m : ℕ). first (incoming end m chain.links)) (sym is_at) ∙ some)
 
-  pub came_in : (end : Side) (at place : ℕ) (message : Msg P) → at ≡ place → first (incoming end place now.state.links) ≡ Some message → first (incoming end at chain.links) ≡ Some message
-  came_in end at place message is_at some =
-      ap (λ (m : ℕ). first (incoming end m chain.links)) is_at ∙ subst (λ (c : Contents P J). first (incoming end place c.state.links) ≡ Some message) (sym is) some
-
   -- a message that a core handles
   named : (actor : CoreNo → Actor) (place : CoreNo) (at : ℕ) (answer : FeedAnswer P) (result : Stepped) (new : ChainState P) → at ≡ place.0 → StepsTo matches (actor (record { 0 = at })) answer chain result new
       → StepsTo (predicate now.join) (actor place) answer now.state result new

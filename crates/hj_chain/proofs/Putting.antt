@@ -13,14 +13,6 @@ nothing_right {M} links at = sym (changed_at-same at (put_rightwards []) links (
 pub nothing_left : {M : Type 0} (links : List (Queues M)) (at : ℕ) → links ≡ changed_at at (put_leftwards []) links
 nothing_left {M} links at = sym (changed_at-same at (put_leftwards []) links (λ (q : Queues M). ap (λ (ms : List M). record q { leftwards = ms }) (append-nil q.leftwards)))
 
-pub no_put_right : {M : Type 0} (links : List (Queues M)) (at : ℕ) (message : Option M) → ((x : M) → message ≡ Some x → ⊥) → links ≡ changed_at at (put_rightwards (option_to_list message)) links
-no_put_right links at None none = nothing_right links at
-no_put_right links at (Some x) none = absurd (none x refl)
-
-pub no_put_left : {M : Type 0} (links : List (Queues M)) (at : ℕ) (message : Option M) → ((x : M) → message ≡ Some x → ⊥) → links ≡ changed_at at (put_leftwards (option_to_list message)) links
-no_put_left links at None none = nothing_left links at
-no_put_left links at (Some x) none = absurd (none x refl)
-
 pub no_report : {P : Type 0} (reports : ReportQueues P) (at : ℕ) (report : Option (Report P)) → ((x : Report P) → report ≡ Some x → ⊥) → reports ≡ record reports { queues = changed_at at (λ queue. queue ++ option_to_list report) reports.queues }
 no_report {P} reports at None none = ap (λ (qs : List (List (Report P))). record reports { queues = qs }) (sym (changed_at-same at (λ queue. queue ++ []) reports.queues (λ queue. append-nil queue)))
 no_report reports at (Some x) none = absurd (none x refl)
