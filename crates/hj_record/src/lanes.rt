@@ -53,7 +53,8 @@ fn quotes(lanes: u8x16) -> u64
 /// Returns how many bits stand below the lowest that is set, or 16.
 #[inline(always)]
 fn first_set(mask: u64) -> usize
-    ensures { (test : ℕ → Bool) (lanes : List ℕ) → length lanes ≡ 16 → mask ≡ mask_l (map test lanes) → result ≡ prefix_len (λ byte. not (test byte)) lanes }
+    ensures { (test : ℕ → Bool) (lanes : List ℕ) → length lanes ≡ 16 → mask ≡ mask_l (map test lanes)
+        → result ≡ prefix_len (λ byte. not (test byte)) lanes }
 {
     if mask == 0 {
         LANES

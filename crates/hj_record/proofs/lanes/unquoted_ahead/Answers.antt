@@ -1,4 +1,4 @@
-use Rattle.std.proofs.Common.{◌==◌, length, take, drop, arith}
+use Rattle.std.proofs.Common.{◌==◌, take, drop}
 use Rattle.std.proofs.lemmas.Bool.{eqb-true}
 use Rattle.std.proofs.lemmas.Simd.{length-chunk}
 use Rattle.hj_record.proofs.Ahead.{ahead_fail, ahead_stops, ahead_within}

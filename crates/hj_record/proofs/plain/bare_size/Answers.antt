@@ -1,4 +1,4 @@
-use Rattle.std.proofs.Common.{length, take, drop, subst, All, arith}
+use Rattle.std.proofs.Common.{take, subst, All, arith}
 use Rattle.std.proofs.lemmas.List.{take_rest}
 use Rattle.hj_record.specs.Plain.{IsBare}
 use Rattle.hj_record.proofs.Ahead.{all_further}
