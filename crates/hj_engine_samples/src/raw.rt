@@ -1,14 +1,43 @@
 //! Joins whose pairs are written as they are met. A line of a table is a case, and a way is `CORES FLIGHT THREADS KEPT`.
+ghost use Rattle.hj_engine_samples.specs.Begun.{AreUnbegun};
+
 use crate::cases::{Case, case_of, crew_plan, number, query_of, streams_of, unescaped};
 use crate::joins::TRADES_AND_QUOTES;
 use crate::runs::{is_done, is_written, start_two};
-use hj_base::{MemSink, OpenGate};
+use hj_base::{MemSink, OpenGate, Outside, Sink};
 use hj_engine::join_raw;
+use hj_stream::Outcome;
 use std::alloc::Global;
 use std::process::Abort;
 use std::sync::Wait;
 use std::thread::Threads;
 use std::time::Clock;
+
+/// Makes the join of a case, and looks how it ends.
+fn join_case<R: Abort + Threads + Wait + Clock + Sync, O: Outside, K: Sink>(
+    rt: &R,
+    alloc: Global,
+    way: &str,
+    case: Case<'_>,
+    outside: &mut O,
+    sink: &mut K,
+)
+    requires { AreUnbegun (O.state outside.old) }
+{
+    let query = query_of(rt, alloc, case.query);
+    let limit = u64::from(number(rt, Some(case.limit)));
+    let plan = crew_plan(rt, way, &OpenGate);
+    start_two(rt, outside);
+    let (ended, ran) = join_raw(alloc, &query, &plan, limit, outside, sink);
+    is_done(rt, ran);
+    is_ended(rt, alloc, ended, case);
+}
+
+/// Holds an end to be that of a case.
+fn is_ended(rt: &impl Abort, alloc: Global, ended: Outcome, case: Case<'_>) {
+    let ended = format!(in alloc; "{ended:?}").expect(rt, "memory");
+    assert_eq!(rt; ended.as_str(), case.ended);
+}
 
 /// Makes the join of a case, looks how it ends, and returns what is written.
 fn joined_raw<R: Abort + Threads + Wait + Clock + Sync>(
@@ -17,16 +46,9 @@ fn joined_raw<R: Abort + Threads + Wait + Clock + Sync>(
     way: &str,
     case: Case<'_>,
 ) -> MemSink {
-    let query = query_of(rt, alloc, case.query);
-    let limit = u64::from(number(rt, Some(case.limit)));
-    let plan = crew_plan(rt, way, &OpenGate);
     let mut outside = streams_of(rt, alloc, case);
     let mut sink = MemSink::new(alloc, 100);
-    start_two(rt, &mut outside);
-    let (ended, ran) = join_raw(alloc, &query, &plan, limit, &mut outside, &mut sink);
-    is_done(rt, ran);
-    let ended = format!(in alloc; "{ended:?}").expect(rt, "memory");
-    assert_eq!(rt; ended.as_str(), case.ended);
+    join_case(rt, alloc, way, case, &mut outside, &mut sink);
     sink
 }
 

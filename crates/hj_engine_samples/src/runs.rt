@@ -1,13 +1,12 @@
 //! Runs of the cases of a table, and what comes of them.
 ghost use Rattle.std.specs.Prelude.{◌≡◌, false};
-ghost use Rattle.hj_base.specs.MemOutside.{role_at};
 ghost use Rattle.hj_base.specs.Outside.{unbegun, ChangesOnly};
 ghost use Rattle.hj_base.specs.declared.outside.Role.TheVariants as role;
 ghost use Rattle.hj_event.specs.Roles.{IsInStep};
 ghost use Rattle.hj_engine_samples.specs.Begun.{AreUnbegun};
 
 use crate::cases::{Case, case_of, mode_of, number, query_of, streams_of, unescaped};
-use hj_base::{Gate, MemOutside, MemSink, OpenGate, Opened, Outside, Role, Sink};
+use hj_base::{Gate, MemSink, OpenGate, Opened, Outside, Role, Sink};
 use hj_crew::Ran;
 use hj_engine::{join_serial, join_threads};
 use hj_msg::Fin;
@@ -96,15 +95,15 @@ fn joined_twice<R: Abort + Threads + Wait + Clock + Sync, O: Outside, K: Sink, G
 }
 
 /// Makes the join of a case, or its two joins, and tells how that ends.
-fn ended<R: Abort + Threads + Wait + Clock + Sync, G: Gate + Sync>(
+fn ended<R: Abort + Threads + Wait + Clock + Sync, O: Outside, K: Sink, G: Gate + Sync>(
     rt: &R,
     alloc: Global,
     case: Case<'_>,
     mode: &Mode<'_, R, G>,
-    outside: &mut MemOutside,
-    sink: &mut MemSink,
+    outside: &mut O,
+    sink: &mut K,
 ) -> String
-    requires { AreUnbegun (role_at outside.old) }
+    requires { AreUnbegun (O.state outside.old) }
 {
     let text = if case.second.is_empty() {
         let ended = joined(rt, alloc, case, mode, outside, sink);
@@ -114,6 +113,23 @@ fn ended<R: Abort + Threads + Wait + Clock + Sync, G: Gate + Sync>(
         format!(in alloc; "{ended:?}")
     };
     text.expect(rt, "memory")
+}
+
+/// Makes the join of a case, or its two joins, in a way, and looks how that ends.
+fn make<R: Abort + Threads + Wait + Clock + Sync, O: Outside, K: Sink, G: Gate + Sync>(
+    rt: &R,
+    alloc: Global,
+    way: &str,
+    case: Case<'_>,
+    gate: &G,
+    outside: &mut O,
+    sink: &mut K,
+)
+    requires { AreUnbegun (O.state outside.old) }
+{
+    let mode = mode_of(rt, way, gate);
+    let found = ended(rt, alloc, case, &mode, outside, sink);
+    assert_eq!(rt; found.as_str(), case.ended, "{way}");
 }
 
 /// Holds a sink to have the text of a case.
@@ -131,11 +147,9 @@ pub(crate) fn run<R: Abort + Threads + Wait + Clock + Sync, G: Gate + Sync>(
     gate: &G,
 ) {
     let case = case_of(rt, line);
-    let mode = mode_of(rt, way, gate);
     let mut outside = streams_of(rt, alloc, case);
     let mut sink = MemSink::new(alloc, 100);
-    let found = ended(rt, alloc, case, &mode, &mut outside, &mut sink);
-    assert_eq!(rt; found.as_str(), case.ended, "{way}");
+    make(rt, alloc, way, case, gate, &mut outside, &mut sink);
     is_written(rt, alloc, &sink, case);
 }
 

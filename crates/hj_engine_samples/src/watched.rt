@@ -1,8 +1,9 @@
 //! When a join writes what it found.
 ghost use Rattle.std.specs.Prelude.{Some};
 ghost use Rattle.hj_base.specs.MemOutside.{role_at, told_under};
+ghost use Rattle.hj_engine_samples.specs.Begun.{AreUnbegun};
 
-use crate::cases::{case_of, mode_of, streams_of};
+use crate::cases::{Case, case_of, mode_of, streams_of};
 use crate::runs::joined;
 use hj_base::{Got, MemOutside, MemSink, OpenGate, Opened, Outside, Put, Role, Sink};
 use std::alloc::Global;
@@ -56,6 +57,21 @@ impl Outside for WatchedStreams<'_> {
 }
 
 /// Makes the join of a case by four cores, and tells how it ends, and what its streams noted.
+fn watch<R: Abort + Threads + Wait + Clock + Sync>(
+    rt: &R,
+    alloc: Global,
+    case: Case<'_>,
+    outside: &mut WatchedStreams<'_>,
+    sink: &mut CountingSink<'_>,
+) -> String
+    requires { AreUnbegun (role_at outside.old.streams) }
+{
+    let mode = mode_of(rt, "serial 4 32", &OpenGate);
+    let ended = joined(rt, alloc, case, &mode, outside, sink);
+    format!(in alloc; "{ended:?}, {:?}", outside.seen).expect(rt, "memory")
+}
+
+/// Makes the join of a line, of which the streams and the sink are watched.
 fn watched<R: Abort + Threads + Wait + Clock + Sync>(
     rt: &R,
     alloc: Global,
@@ -63,7 +79,6 @@ fn watched<R: Abort + Threads + Wait + Clock + Sync>(
     line: &str,
 ) -> String {
     let case = case_of(rt, line);
-    let mode = mode_of(rt, "serial 4 32", &OpenGate);
     let mut outside = WatchedStreams {
         streams: streams_of(rt, alloc, case),
         lines,
@@ -73,8 +88,7 @@ fn watched<R: Abort + Threads + Wait + Clock + Sync>(
         sink: MemSink::new(alloc, 100),
         lines,
     };
-    let ended = joined(rt, alloc, case, &mode, &mut outside, &mut sink);
-    format!(in alloc; "{ended:?}, {:?}", outside.seen).expect(rt, "memory")
+    watch(rt, alloc, case, &mut outside, &mut sink)
 }
 
 const FIVE_ROWS: &str = "\
