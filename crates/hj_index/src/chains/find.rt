@@ -65,6 +65,20 @@ impl Chains {
     {
         match self.places.back() {
             Some(last) if last.no == no && last.rest.is_some() => Some(self.places.len() - 1),
+            _ => self.find_before_last(no),
+        }
+    }
+
+    /// Finds the place that holds the row of a number, which is often the last but one.
+    // Called, so that what is mostly done stays short.
+    #[inline(never)]
+    fn find_before_last(&self, no: u64) -> Option<usize>
+        requires { AreChained self.now }
+        ensures { FindsRow no self.now.places.items result }
+    {
+        let at = self.places.len().saturating_sub(2);
+        match self.places.get(at) {
+            Some(place) if place.no == no && place.rest.is_some() => Some(at),
             _ => self.find(no),
         }
     }
