@@ -3,11 +3,11 @@ ghost use Rattle.std.specs.BinaryHeap.{heap_items, IsHeap};
 ghost use Rattle.std.specs.List.Sorted.{IsPermutation};
 ghost use Rattle.hj_value.specs.Row.{time_of};
 ghost use Rattle.hj_event.specs.Rows.{put_in};
-ghost use Rattle.hj_event.specs.Late.{late_cmp, TakesFirstLate, HaveFirst};
+ghost use Rattle.hj_event.specs.Late.{late_cmp, TakesFirstRow, HaveFirst};
 ghost use Rattle.hj_event.specs.Days.{late_on, all_late, AreOnDays};
 ghost use Rattle.hj_event.specs.Waiting.{first_time, TakesFirst};
 
-use crate::days::Days;
+use crate::days::{Days, put_among};
 use crate::late_row::LateRow;
 use hj_base::Memory;
 use hj_value::SharedRow;
@@ -62,10 +62,11 @@ impl Late {
         ensures err { OnErr result (self.new ≡ self.old) }
     {
         let no = self.next;
-        let next = no.checked_add(1).ok_or(Memory)?;
-        put_row(&mut self.others, &mut self.days, LateRow { time, no, row })?;
+        let Some(next) = no.checked_add(1) else {
+            return Err(refuse(row));
+        };
         self.next = next;
-        Ok(())
+        put_row(&mut self.others, &mut self.days, LateRow { time, no, row })
     }
 
     /// Takes the first row; None where there is none.
@@ -73,8 +74,11 @@ impl Late {
     pub(crate) fn take(&mut self) -> Option<SharedRow>
         ensures { TakesFirst result self.old self.new }
     {
-        let first = take_row(&mut self.others, &mut self.days)?;
-        Some(first.row)
+        if is_on_day(&self.others, &self.days) {
+            let first = self.days.take()?;
+            return Some(first.row);
+        }
+        take_from(&mut self.others)
     }
 
     /// Returns the time of the first row, in the stream's own units; None where there is none.
@@ -102,26 +106,27 @@ fn put_row(others: &mut BinaryHeap<LateRow>, days: &mut Days, late: LateRow) -> 
     ensures err { OnErr result (all_late (heap_items others.new) days.new ≡ all_late (heap_items others.old) days.old) }
 {
     if others.len() < FEW {
-        others.push(late)?;
-        return Ok(());
+        return put_among(others, late);
     }
     days.put(late, others)
 }
 
-/// Takes the late row that comes first; None where there is none.
-#[inline(always)]
-fn take_row(others: &mut BinaryHeap<LateRow>, days: &mut Days) -> Option<LateRow>
-    requires heap { IsHeap late_cmp (heap_items others.old) }
-    requires days { AreOnDays days.old }
+/// Drops a row for which no number is left. It stands apart, as do those below that are seldom called, so that what calls them has
+/// no registers to save.
+#[inline(never)]
+fn refuse(_row: SharedRow) -> Memory {
+    Memory
+}
+
+/// Takes the row that comes first of those on no day; None where there is none.
+#[inline(never)]
+fn take_from(others: &mut BinaryHeap<LateRow>) -> Option<SharedRow>
+    requires { IsHeap late_cmp (heap_items others.old) }
     ensures heap { IsHeap late_cmp (heap_items others.new) }
-    ensures days { AreOnDays days.new }
-    ensures takes { TakesFirstLate result (all_late (heap_items others.old) days.old) (all_late (heap_items others.new) days.new) }
+    ensures takes { TakesFirstRow result (heap_items others.old) (heap_items others.new) }
 {
-    if is_on_day(others, days) {
-        days.take()
-    } else {
-        others.pop()
-    }
+    let first = others.pop()?;
+    Some(first.row)
 }
 
 /// Returns whether the late row that comes first stands on a day.

@@ -3,6 +3,7 @@
 
 mod arrivals;
 mod days;
+mod dealing;
 mod due;
 mod fault;
 mod late;

@@ -1,4 +1,4 @@
-ghost use Rattle.std.specs.Prelude.{◌≡◌, ◌-ℤ◌, List, [], if◌then◌else◌, OnOk, int_le, pos};
+ghost use Rattle.std.specs.Prelude.{◌≡◌, ◌-ℤ◌, List, [], OnOk, int_le, pos};
 ghost use Rattle.hj_value.specs.declared.field.Field.{Field};
 ghost use Rattle.hj_event.specs.Rows.{put_in};
 ghost use Rattle.hj_event.specs.Timed.{timed_rows, AreTimed};
@@ -87,13 +87,14 @@ impl Waiting {
     {
         let late = self.late.first_time();
         let queue = first_time(&self.queue);
-        let is_late = is_before(late, queue);
-        let time = first_of(is_late, late, queue);
-        if !has_sure(slack, greatest, time) {
-            return None;
-        }
-        if is_late {
+        if is_before(late, queue) {
+            if !has_sure(slack, greatest, late) {
+                return None;
+            }
             return self.late.take();
+        }
+        if !has_sure(slack, greatest, queue) {
+            return None;
         }
         let first = self.queue.pop_front()?;
         Some(first.row)
@@ -126,13 +127,6 @@ fn is_before(time: Option<i64>, other: Option<i64>) -> bool
         (Some(time), Some(other)) => time < other,
         _ => false,
     }
-}
-
-/// Returns the first of two times, where it is told which one that is.
-fn first_of(is_first: bool, time: Option<i64>, other: Option<i64>) -> Option<i64>
-    ensures { result ≡ (if is_first then time else other) }
-{
-    if is_first { time } else { other }
 }
 
 /// Returns whether the first of some rows, which has this time, is sure; false where there is none.
