@@ -168,6 +168,13 @@ next_counts f xs i d m held low counts =
     let is : map f (take (i + 1) xs) ≡ map f (take i xs) ++ f (get_or xs i d) ∷ [] = rw (next, take-suc xs i d low) (map-append f (take i xs) (get_or xs i d ∷ [])) in
     subst (λ ys. Counts m held ys) (sym is) (put_last m held (map f (take i xs)) (f (get_or xs i d)) counts)
 
+-- the same behind a first one
+pub next_behind : {X : Type 0} (f : X → Option Mark) (first : Option Mark) (xs : List X) (i : ℕ) (d : X) (m : Option Mark) (held : ℕ) → i < length xs → Counts m held (f (get_or xs i d) ∷ first ∷ map f (take i xs)) → Counts m held (first ∷ map f (take (i + 1) xs))
+next_behind f first xs i d m held low counts =
+    let next : i + 1 ≡ suc i = omega arith in
+    let is : map f (take (i + 1) xs) ≡ map f (take i xs) ++ f (get_or xs i d) ∷ [] = rw (next, take-suc xs i d low) (map-append f (take i xs) (get_or xs i d ∷ [])) in
+    subst (λ ys. Counts m held (first ∷ ys)) (sym is) (put_last m held (first ∷ map f (take i xs)) (f (get_or xs i d)) counts)
+
 -- none but those that are there are counted
 pub few : (m : Option Mark) (held : ℕ) (xs : List (Option Mark)) (i : ℕ) (x : Option Mark) → slice_get xs i ≡ Some x → Counts m held (others xs i) → held < length xs
 few m held xs i x e counts = omega (arith, counts.1, count_by-le-length (is_same m) (others xs i), length-others xs i x e)

@@ -1,5 +1,5 @@
 -- The order of marks: what comparing two of them tells, and the lesser of two.
-use Rattle.std.proofs.Common.{◌≡◌, Bool, true, false, Some, None, Less, Equal, Greater, refl, ap, arith, ◌⊎◌, inl, inr, nat_lt}
+use Rattle.std.proofs.Common.{◌≡◌, ℕ, ◌<◌, Bool, true, false, Some, None, Less, Equal, Greater, refl, ap, arith, ◌⊎◌, inl, inr, nat_lt}
 use Rattle.std.specs.declared.option.Option.{Option}
 use Rattle.std.proofs.lemmas.Bool.Decides.{nat_tests}
 use Rattle.hj_msg.specs.Punctuation.{Mark as Meaning, up_to, all, lesser}
@@ -43,6 +43,10 @@ same_by_cmp (Some (up_to a)) (Some (up_to b)) h = ap (λ n. Some (up_to n)) (gri
 same_by_cmp (Some (up_to a)) (Some all) h = absurd (cc)
 same_by_cmp (Some all) (Some (up_to b)) h = absurd (cc)
 same_by_cmp (Some all) (Some all) h = refl
+
+-- the same of numbers
+pub less_number : (a b : ℕ) → a < b → IsLess (Some (up_to a)) (Some (up_to b))
+less_number a b h = (grind (arith, nat_tests, h), grind (arith, nat_tests, h))
 
 -- ---- sameness
 

@@ -1,5 +1,5 @@
 -- The pairs of a report.
-use Rattle.std.proofs.Common.{◌≡◌, ℕ, zero, suc, ◌+◌, List, [], ◌∷◌, ◌++◌, map, take, length, slice_get, Some, refl, ap, sym, ◌∙◌, arith}
+use Rattle.std.proofs.Common.{◌≡◌, ℕ, zero, suc, ◌+◌, List, [], ◌∷◌, ◌++◌, map, take, length, slice_get, Some, refl, ap, sym, ◌∙◌, arith, append_assoc}
 use Rattle.hj_base.specs.declared.numbers.EventNo.{EventNo}
 use Rattle.hj_base.specs.declared.numbers.Side.{Side}
 use Rattle.hj_base.specs.declared.numbers.Side.TheVariants.{Left, Right}
@@ -19,9 +19,10 @@ mapped_more f xs i x e = let next : i + 1 ≡ suc i = omega arith in rw next (go
     go f (y ∷ ys) zero x e = let same : y ≡ x = cc in ap (λ z. f z ∷ []) same
     go f (y ∷ ys) (suc i) x e = ap (λ zs. f y ∷ zs) (go f ys i x e)
 
-pub mapped_push : {X Y : Type 0} (f : X → Y) (xs : List X) (i : ℕ) (x : X) (y : Y) (found pushed : List Y) → Some x ≡ slice_get xs i → found ≡ map f (take i xs) → y ≡ f x → pushed ≡ found ++ y ∷ []
-    → pushed ≡ map f (take (i + 1) xs)
-mapped_push f xs i x y found pushed at is same pushes = rw (pushes, is, same) (sym (mapped_more f xs i x (sym at)))
+pub mapped_push : {X Y : Type 0} (f : X → Y) (xs : List X) (i : ℕ) (x : X) (y : Y) (front found pushed : List Y) → Some x ≡ slice_get xs i → found ≡ front ++ map f (take i xs) → y ≡ f x → pushed ≡ found ++ y ∷ []
+    → pushed ≡ front ++ map f (take (i + 1) xs)
+mapped_push f xs i x y front found pushed at is same pushes =
+    rw (pushes, is, same) (append_assoc front (map f (take i xs)) (f x ∷ []) ∙ ap (λ zs. front ++ zs) (sym (mapped_more f xs i x (sym at))))
 
 -- ---- the only pair
 

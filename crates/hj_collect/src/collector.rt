@@ -1,14 +1,17 @@
-ghost use Rattle.std.specs.Prelude.{◌≡◌, ◌<◌, [], ◌∷◌, List, length, IfOk, IfSome, OnOk, OnErr};
+ghost use Rattle.std.specs.Prelude.{◌≡◌, ◌<◌, ◌++◌, [], ◌∷◌, List, length, IfOk, IfSome, OnOk, OnErr};
 ghost use Rattle.hj_msg.specs.declared.message.Report.{Report};
 ghost use Rattle.hj_msg.specs.Met.{pairs_of};
-ghost use Rattle.hj_collect.specs.Marks.{meaning_of};
+ghost use Rattle.hj_msg.specs.Punctuation.{lesser};
+ghost use Rattle.hj_collect.specs.Marks.{least_of, meaning_of, with_end, with_raised};
+ghost use Rattle.hj_collect.specs.Reach.{reached};
 ghost use Rattle.hj_collect.specs.Collector.{after_report, first_stopped, has_ended, least_mark, nothing_taken};
 ghost use Rattle.hj_collect.specs.StandsFor.{StandsFor, with_report};
 
 use crate::Mark;
 use crate::marks::Marks;
-use crate::pairs::{only_pair, pairs_of};
-use hj_base::{CoreNo, Memory, Share, Side};
+use crate::pairs::{only_pair, pairs_of, push_pairs};
+use crate::reach::Reach;
+use hj_base::{CoreNo, EventNo, Memory, Share, Side};
 use hj_msg::{Pair, Report};
 use std::alloc::Global;
 use std::marker::Model;
@@ -19,18 +22,26 @@ pub struct Collector {
     alloc: Global,
     left: Marks,
     right: Marks,
+    /// The least mark of all cores and both sides.
+    least: Reach,
     stopped: Option<CoreNo>,
 }
 
 impl Model for Collector {
     ghost use Rattle.std.specs.Prelude.{◌≡◌, length};
+    ghost use Rattle.hj_msg.specs.Punctuation.{lesser};
     ghost use Rattle.hj_collect.specs.Collector.{CollectorState};
+    ghost use Rattle.hj_collect.specs.Marks.{least_of};
+    ghost use Rattle.hj_collect.specs.Reach.{reached};
 
     ghost Value = { CollectorState };
 
     ghost view = { λ c. record { left = c.left; right = c.right; stopped = c.stopped } };
 
-    ghost invariant = { λ c. length c.left ≡ length c.right };
+    ghost invariant = { λ c. record {
+      cores : length c.left ≡ length c.right;
+      least : reached c.least ≡ lesser (least_of c.left) (least_of c.right);
+    } };
 }
 
 impl Collector {
@@ -38,10 +49,14 @@ impl Collector {
     pub fn new(alloc: Global, cores: u16) -> Result<Self, Memory>
         ensures { IfOk result (λ collector. collector ≡ nothing_taken cores) }
     {
+        let left = Marks::new(alloc, cores)?;
+        let right = Marks::new(alloc, cores)?;
+        let least = least_of(&left, &right);
         Ok(Collector {
             alloc,
-            left: Marks::new(alloc, cores)?,
-            right: Marks::new(alloc, cores)?,
+            left,
+            right,
+            least,
             stopped: None,
         })
     }
@@ -73,6 +88,19 @@ impl Collector {
         pairs_of(self.alloc, report)
     }
 
+    /// Puts the pairs of a report behind those of a list, each with rows of its own. A report without partners takes no memory. After an
+    /// error a part of its pairs may be there.
+    #[inline(always)]
+    pub fn push_pairs<P: Share + Drop>(
+        &self,
+        pairs: &mut Vec<Pair<P>>,
+        report: &Report<P>,
+    ) -> Result<(), Memory>
+        ensures { OnOk result (pairs.new.items ≡ pairs.old.items ++ pairs_of report.now) }
+    {
+        push_pairs(pairs, report)
+    }
+
     /// Makes the pair of a report that has one, with rows of its own: it takes no list. None where there is none, or where there are
     /// several.
     #[inline(always)]
@@ -89,31 +117,50 @@ impl Collector {
         ensures { self.new ≡ after_report core report.now self.old }
     {
         let at = usize::from(core.0);
-        match report {
-            Report::Handled {
-                no,
-                side: Side::Left,
-                ..
+        let (no, side) = match report {
+            Report::Handled { no, side, .. } | Report::Quiet { no, side } => (*no, *side),
+            Report::Ended => return self.end(at),
+            Report::NoMemory => {
+                self.stopped = self.stopped.or(Some(core));
+                return;
             }
-            | Report::Quiet {
-                no,
-                side: Side::Left,
-            } => self.left.raise(at, *no),
-            Report::Handled {
-                no,
-                side: Side::Right,
-                ..
-            }
-            | Report::Quiet {
-                no,
-                side: Side::Right,
-            } => self.right.raise(at, *no),
-            Report::Ended => {
-                self.left.end(at);
-                self.right.end(at);
-            }
-            Report::NoMemory => self.stopped = self.stopped.or(Some(core)),
+        };
+        match side {
+            Side::Left => self.raise_left(at, no),
+            Side::Right => self.raise_right(at, no),
         }
+    }
+
+    /// Takes note that a core reported a left arrival, or a quiet event of the left side.
+    #[inline(always)]
+    fn raise_left(&mut self, core: usize, no: EventNo)
+        requires { core < length self.old.left }
+        ensures { self.new ≡ record self.old { left = with_raised core no.0 self.old.left } }
+    {
+        if self.left.raise(core, no) {
+            self.least = least_of(&self.left, &self.right);
+        }
+    }
+
+    /// Takes note of the same of the right side.
+    #[inline(always)]
+    fn raise_right(&mut self, core: usize, no: EventNo)
+        requires { core < length self.old.left }
+        ensures { self.new ≡ record self.old { right = with_raised core no.0 self.old.right } }
+    {
+        if self.right.raise(core, no) {
+            self.least = least_of(&self.left, &self.right);
+        }
+    }
+
+    /// Takes note that a core reported its end.
+    fn end(&mut self, core: usize)
+        requires { core < length self.old.left }
+        ensures { self.new ≡ record self.old { left = with_end core self.old.left; right = with_end core self.old.right } }
+    {
+        self.left.end(core);
+        self.right.end(core);
+        self.least = least_of(&self.left, &self.right);
     }
 
     /// Returns up to which number all pairs have come: None if some core that hasn't ended hasn't reported both sides.
@@ -121,7 +168,7 @@ impl Collector {
     pub fn punctuation(&self) -> Option<Mark>
         ensures { meaning_of result ≡ least_mark self.now }
     {
-        self.left.least().min(self.right.least()).mark()
+        self.least.mark()
     }
 
     /// Returns whether every core reported its end.
@@ -137,4 +184,12 @@ impl Collector {
     {
         self.stopped
     }
+}
+
+/// Returns the least mark of both sides.
+#[inline(always)]
+fn least_of(left: &Marks, right: &Marks) -> Reach
+    ensures { reached result ≡ lesser (least_of left.now) (least_of right.now) }
+{
+    left.least().min(right.least())
 }

@@ -1,4 +1,4 @@
-ghost use Rattle.std.specs.Prelude.{◌≡◌, ◌<◌, length, replicate, slice_set, IfOk, None};
+ghost use Rattle.std.specs.Prelude.{◌≡◌, ◌<◌, false, length, replicate, slice_set, IfOk, None};
 ghost use Rattle.hj_collect.specs.Marks.{least_of, with_raised, with_end};
 ghost use Rattle.hj_collect.specs.Reach.{reached};
 
@@ -48,27 +48,31 @@ impl Marks {
         self.least.mark
     }
 
-    /// Takes note that a core reported an arrival or a quiet event. If it has ended, its mark stays past every number.
+    /// Takes note that a core reported an arrival or a quiet event. If it has ended, its mark stays past every number. Returns false
+    /// only where the least mark stays.
     #[inline(always)]
-    pub(crate) fn raise(&mut self, core: usize, no: EventNo)
+    pub(crate) fn raise(&mut self, core: usize, no: EventNo) -> bool
         requires { core < length self.old }
-        ensures { self.new ≡ with_raised core no.0 self.old }
+        ensures marks { self.new ≡ with_raised core no.0 self.old }
+        ensures least { result ≡ false → least_of self.new ≡ least_of self.old }
     {
         let before = self.of_cores[core];
         if !before.rises(self.least.mark, no) {
             self.raise_other(core, no);
-            return;
+            return true;
         }
+        let held = before.is_same(self.least.mark);
         self.of_cores[core] = Reach::UpTo(no);
         // the least one is below the new one: it stays, unless this core alone had it
-        if !before.is_same(self.least.mark) {
-            return;
+        if !held {
+            return false;
         }
         if self.least.holders > 1 {
             self.least.holders -= 1;
-            return;
+            return false;
         }
-        self.least = Least::of(&self.of_cores);
+        self.least.look_anew(&self.of_cores);
+        true
     }
 
     /// Takes note of the same, whatever the marks are.

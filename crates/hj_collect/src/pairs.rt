@@ -1,4 +1,4 @@
-ghost use Rattle.std.specs.Prelude.{◌≡◌, [], ◌∷◌, IfOk, IfSome};
+ghost use Rattle.std.specs.Prelude.{◌≡◌, ◌++◌, [], ◌∷◌, IfOk, IfSome, OnOk};
 ghost use Rattle.hj_msg.specs.Met.{pairs_of};
 ghost use Rattle.hj_collect.specs.Pairs.{pair_of};
 
@@ -13,6 +13,19 @@ pub(crate) fn pairs_of<P: Share + Drop>(
 ) -> Result<Vec<Pair<P>>, Memory>
     ensures { IfOk result (λ pairs. pairs.items ≡ pairs_of report.now) }
 {
+    let mut pairs = Vec::new(alloc);
+    push_pairs(&mut pairs, report)?;
+    Ok(pairs)
+}
+
+/// Puts the pairs of a report behind those of a list, each with rows of its own. Takes memory only if there are some; after an error
+/// a part of them may be there.
+pub(crate) fn push_pairs<P: Share + Drop>(
+    pairs: &mut Vec<Pair<P>>,
+    report: &Report<P>,
+) -> Result<(), Memory>
+    ensures { OnOk result (pairs.new.items ≡ pairs.old.items ++ pairs_of report.now) }
+{
     let Report::Handled {
         no,
         side,
@@ -20,16 +33,16 @@ pub(crate) fn pairs_of<P: Share + Drop>(
         partners,
     } = report
     else {
-        return Ok(Vec::new(alloc));
+        return Ok(());
     };
-    let mut pairs = Vec::with_capacity(alloc, partners.len())?;
+    pairs.reserve(partners.len())?;
     for at in 0..partners.len() {
         let Some(partner) = partners.get(at) else {
             unreachable!()
         };
         pairs.push(pair_of(*no, *side, row, partner)?)?;
     }
-    Ok(pairs)
+    Ok(())
 }
 
 /// Makes the pair of a report that has one, with rows of its own. None where there is none, or where there are several.

@@ -1,4 +1,4 @@
-ghost use Rattle.std.specs.Prelude.{◌≡◌, true, Some};
+ghost use Rattle.std.specs.Prelude.{◌≡◌, true, IfSome, Some};
 ghost use Rattle.std.specs.declared.cmp.Ordering.TheVariants.{Less};
 ghost use Rattle.hj_msg.specs.Punctuation.{up_to, lesser};
 ghost use Rattle.hj_collect.specs.Marks.{compared, is_same, meaning_of, raised_to};
@@ -56,9 +56,21 @@ impl Reach {
     pub(crate) fn min(self, other: Reach) -> Reach
         ensures { reached result ≡ lesser (reached self) (reached other) }
     {
-        match self.compare(other) {
-            Ordering::Less | Ordering::Equal => self,
-            Ordering::Greater => other,
+        match (self, other) {
+            (Reach::UpTo(no), Reach::UpTo(last)) => { if last.0 < no.0 { other } else { self } }
+            (Reach::Nowhere, _) | (_, Reach::All) => self,
+            (_, Reach::Nowhere) | (Reach::All, _) => other,
+        }
+    }
+
+    /// Returns its number; None where nothing was reported, and past every number.
+    #[inline(always)]
+    pub(crate) fn number(self) -> Option<EventNo>
+        ensures { IfSome result (λ no. reached self ≡ Some (up_to no.0)) }
+    {
+        match self {
+            Reach::UpTo(no) => Some(no),
+            Reach::Nowhere | Reach::All => None,
         }
     }
 

@@ -8,7 +8,7 @@ use Rattle.hj_collect.specs.declared.least.Least.{Least}
 use Rattle.hj_collect.specs.declared.reach.Reach.{Reach}
 use Rattle.hj_collect.specs.declared.reach.Reach.TheVariants.{UpTo}
 use Rattle.hj_collect.specs.Least.{IsLeast}
-use Rattle.hj_collect.specs.Marks.{compared, is_same, raised_to, with_raised}
+use Rattle.hj_collect.specs.Marks.{compared, is_same, least_of, raised_to, with_raised}
 use Rattle.hj_collect.specs.Reach.{reached}
 use Rattle.hj_collect.proofs.LeastMarks.{without_other, without_same}
 use Rattle.hj_collect.proofs.Replacing.{rest, least_with, put_above, mark_at}
@@ -41,21 +41,33 @@ marks_raised items core number now before view within was rises =
 pub invariant_of-self : goal.invariant_of-self
 invariant_of-self c =
     let low : c.args.core < length c.self.inside.of_cores.items = omega (arith, c.requires, length-map c.self.inside.of_cores.items reached, ap length c.self.view_is) in
-    stays c.self.inside.of_cores.items c.args.core c.args.no low c.index-before.result.now c.index-before.ensures c.self.inside.least c.self.invariant (c.rises.ensures.after c.if-not-rises.false) (sym c.is_same.ensures ∙ c.if-not-is_same.true)
+    stays c.self.inside.of_cores.items c.args.core c.args.no low c.index-before.result.now c.index-before.ensures c.self.inside.least c.self.invariant (c.rises.ensures.after c.if-not-rises.false) (sym c.is_same-held.ensures ∙ c.if-not-held.true)
 
 pub invariant_of-self-then-self-gt1 : goal.invariant_of-self-then-self-gt1
 invariant_of-self-then-self-gt1 c =
     let low : c.args.core < length c.self.inside.of_cores.items = omega (arith, c.requires, length-map c.self.inside.of_cores.items reached, ap length c.self.view_is) in
-    fewer c.self.inside.of_cores.items c.args.core c.args.no low c.index-before.result.now c.index-before.ensures c.self.inside.least c.self.invariant (c.rises.ensures.after c.if-not-rises.false) (sym c.is_same.ensures ∙ c.if-not-is_same.false) c.if-self-gt1.true
+    fewer c.self.inside.of_cores.items c.args.core c.args.no low c.index-before.result.now c.index-before.ensures c.self.inside.least c.self.invariant (c.rises.ensures.after c.if-not-rises.false) (sym c.is_same-held.ensures ∙ c.if-not-held.false) c.if-self-gt1.true
 
 pub invariant_of-self-2 : goal.invariant_of-self-2
-invariant_of-self-2 c = rw (← c.deref.ensures.value) c.of-self-inside.ensures
+invariant_of-self-2 c = rw (← c.deref.ensures.value) c.look_anew.ensures
 
-pub returns-then-not-is_same : goal.returns-then-not-is_same
-returns-then-not-is_same c = marks_raised c.self.inside.of_cores.items c.args.core c.args.no c.args.self.now c.index-before.result.now c.self.view_is c.requires c.index-before.ensures (c.rises.ensures.raised c.if-not-rises.false)
+pub returns-then-not-held-clause-marks : goal.returns-then-not-held-clause-marks
+returns-then-not-held-clause-marks c = marks_raised c.self.inside.of_cores.items c.args.core c.args.no c.args.self.now c.index-before.result.now c.self.view_is c.requires c.index-before.ensures (c.rises.ensures.raised c.if-not-rises.false)
 
-pub returns-then-self-gt1 : goal.returns-then-self-gt1
-returns-then-self-gt1 c = marks_raised c.self.inside.of_cores.items c.args.core c.args.no c.args.self.now c.index-before.result.now c.self.view_is c.requires c.index-before.ensures (c.rises.ensures.raised c.if-not-rises.false)
+pub returns-then-not-held-clause-least : goal.returns-then-not-held-clause-least
+returns-then-not-held-clause-least c =
+    let low : c.args.core < length c.self.inside.of_cores.items = omega (arith, c.requires, length-map c.self.inside.of_cores.items reached, ap length c.self.view_is) in
+    let after = stays c.self.inside.of_cores.items c.args.core c.args.no low c.index-before.result.now c.index-before.ensures c.self.inside.least c.self.invariant (c.rises.ensures.after c.if-not-rises.false) (sym c.is_same-held.ensures ∙ c.if-not-held.true) in
+    λ same. sym after.mark ∙ (c.self.invariant.mark ∙ ap least_of c.self.view_is)
 
-pub returns : goal.returns
-returns c = marks_raised c.self.inside.of_cores.items c.args.core c.args.no c.args.self.now c.index-before.result.now c.self.view_is c.requires c.index-before.ensures (c.rises.ensures.raised c.if-not-rises.false)
+pub returns-then-self-gt1-clause-marks : goal.returns-then-self-gt1-clause-marks
+returns-then-self-gt1-clause-marks c = marks_raised c.self.inside.of_cores.items c.args.core c.args.no c.args.self.now c.index-before.result.now c.self.view_is c.requires c.index-before.ensures (c.rises.ensures.raised c.if-not-rises.false)
+
+pub returns-then-self-gt1-clause-least : goal.returns-then-self-gt1-clause-least
+returns-then-self-gt1-clause-least c =
+    let low : c.args.core < length c.self.inside.of_cores.items = omega (arith, c.requires, length-map c.self.inside.of_cores.items reached, ap length c.self.view_is) in
+    let after = fewer c.self.inside.of_cores.items c.args.core c.args.no low c.index-before.result.now c.index-before.ensures c.self.inside.least c.self.invariant (c.rises.ensures.after c.if-not-rises.false) (sym c.is_same-held.ensures ∙ c.if-not-held.false) c.if-self-gt1.true in
+    λ same. sym after.mark ∙ (c.self.invariant.mark ∙ ap least_of c.self.view_is)
+
+pub returns-clause-marks : goal.returns-clause-marks
+returns-clause-marks c = marks_raised c.self.inside.of_cores.items c.args.core c.args.no c.args.self.now c.index-before.result.now c.self.view_is c.requires c.index-before.ensures (c.rises.ensures.raised c.if-not-rises.false)

@@ -1,7 +1,7 @@
 use Rattle.hj_collect.specs.declared.reach.Reach.TheVariants.{Nowhere}
 use Rattle.hj_collect.specs.Reach.{reached}
 use Rattle.hj_collect.proofs.LeastMarks.{next_counts}
-use Rattle.hj_collect.proofs.least.Least.of.Goals as goal
+use Rattle.hj_collect.proofs.least.Least.of_any.Goals as goal
 
 pub loop-mark-preserved : goal.loop-mark-preserved
 loop-mark-preserved c =

@@ -1,7 +1,7 @@
 use Rattle.std.proofs.Common.{map, take}
 use Rattle.hj_collect.specs.Reach.{reached}
 use Rattle.hj_collect.specs.Least.{IsLeast}
-use Rattle.hj_collect.proofs.least.Least.of.Given as goal
+use Rattle.hj_collect.proofs.least.Least.of_any.Given as goal
 
 -- the least of the marks so far
 abbrev pub invariant-loop-mark : goal.invariant-loop-mark

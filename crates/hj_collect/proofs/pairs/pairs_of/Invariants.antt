@@ -1,7 +1,0 @@
-use Rattle.std.proofs.Common.{◌≡◌, map, take}
-use Rattle.hj_collect.specs.Pairs.{pair_of}
-use Rattle.hj_collect.proofs.pairs.pairs_of.Given as goal
-
--- the pairs with the partners so far
-abbrev pub invariant-loop-at : goal.invariant-loop-at
-invariant-loop-at g l = l.pairs.items ≡ map (pair_of l.side l.no l.row) (take l.at l.partners)
