@@ -2,7 +2,7 @@
 use Rattle.std.proofs.Common.{◌≡◌, suc, ◌-◌, ◌<◌, true, false, List, [], ◌∷◌, ◌++◌, length, get_or, slice_get, All, Some, refl, sym, ap, subst, ◌∙◌, arith, append_assoc, append-nil, true≢false}
 use Rattle.std.specs.List.Sorted.{IsPermutation}
 use Rattle.std.proofs.lemmas.Bool.Decides.{nat_tests}
-use Rattle.std.proofs.lemmas.List.Sorted.{IsPermutation-trans, IsPermutation-sym, IsPermutation-map, IsPermutation-middle, IsPermutation-append_left, All-permutation}
+use Rattle.std.proofs.lemmas.List.Sorted.{IsPermutation-refl, IsPermutation-append, IsPermutation-append_comm, IsPermutation-trans, IsPermutation-sym, IsPermutation-map, IsPermutation-middle, IsPermutation-append_left, All-permutation}
 use Rattle.std.proofs.lemmas.List.Elements.{All-nil, All-cons, All-head, All-push, All-append, All-weaker, All-map}
 use Rattle.hj_msg.specs.declared.event.Pair.{Pair}
 use Rattle.hj_msg.specs.Valid.{later}
@@ -89,6 +89,14 @@ module _ {P : Type 0} where
       IsPermutation-trans whole (pairs_in old ++ one.pair ∷ rest) (pairs_in new ++ rest) is
       (IsPermutation-trans (pairs_in old ++ one.pair ∷ rest) (pairs_in (one ∷ old) ++ rest) (pairs_in new ++ rest) (IsPermutation-middle (pairs_in old) one.pair rest)
       (IsPermutation-append_left rest (pairs_in (one ∷ old)) (pairs_in new) (IsPermutation-map (λ (k : Kept P). k.pair) (one ∷ old) new put)))
+
+  -- the same where it was the last one of the list
+  pub one_popped : (whole rest : List (Pair P)) (old new : List (Kept P)) (one : Kept P) → IsPermutation whole (pairs_in old ++ (rest ++ one.pair ∷ [])) → IsPermutation (one ∷ old) new → IsPermutation whole (pairs_in new ++ rest)
+  one_popped whole rest old new one is put =
+      one_kept whole rest old new one
+      (IsPermutation-trans whole (pairs_in old ++ (rest ++ one.pair ∷ [])) (pairs_in old ++ one.pair ∷ rest) is
+      (IsPermutation-append (pairs_in old) (pairs_in old) (rest ++ one.pair ∷ []) (one.pair ∷ rest) (IsPermutation-refl (pairs_in old)) (IsPermutation-append_comm rest (one.pair ∷ []))))
+      put
 
   -- ---- none is due
 

@@ -24,10 +24,12 @@ pub struct Ordered<P> {
     in_order: VecDeque<Kept<P>>,
     /// No later number of them all is below this one, so that a mark that is below it lets none out.
     soonest: u64,
+    /// Where the pairs of a report that has several are made, so that each report takes the same room. Empty between calls.
+    made: Vec<Pair<P>>,
 }
 
 impl<P> Model for Ordered<P> {
-    ghost use Rattle.std.specs.Prelude.{List, ◌++◌};
+    ghost use Rattle.std.specs.Prelude.{List, [], ◌++◌, ◌≡◌};
     ghost use Rattle.std.specs.BinaryHeap.{heap_items, IsHeap};
     ghost use Rattle.hj_msg.specs.declared.event.Pair.{Pair};
     ghost use Rattle.hj_order.specs.Due.{due_cmp, pairs_in, AreInOrder, NoneSooner};
@@ -40,6 +42,7 @@ impl<P> Model for Ordered<P> {
       late : IsHeap due_cmp (heap_items ordered.late);
       in_order : AreInOrder ordered.in_order.items;
       soonest : NoneSooner ordered.soonest (heap_items ordered.late ++ ordered.in_order.items);
+      made : ordered.made.items ≡ [];
     } };
 }
 
@@ -52,6 +55,7 @@ impl<P> Ordered<P> {
             late: BinaryHeap::new(alloc),
             in_order: VecDeque::new(alloc),
             soonest: u64::MAX,
+            made: Vec::new(alloc),
         }
     }
 }
@@ -63,9 +67,10 @@ impl<P: Drop> Ordered<P> {
         ensures ok { OnOk result (IsPermutation (self.old ++ pairs.items) self.new) }
         ensures err { OnErr result (self.new ≡ self.old) }
     {
+        let mut pairs = pairs;
         self.late.reserve(pairs.len())?;
         self.in_order.reserve(pairs.len())?;
-        put_all(&mut self.late, &mut self.in_order, pairs);
+        put_all(&mut self.late, &mut self.in_order, &mut pairs);
         self.soonest = soonest_of(&self.late, &self.in_order);
         Ok(())
     }
@@ -132,8 +137,23 @@ impl<P: Share + Drop> Ordered<P> {
     {
         match collector.only_pair(report)? {
             Some(pair) => self.keep_one(pair),
-            None => self.add(collector.pairs(report)?),
+            None => self.keep_several(collector, report),
         }
+    }
+
+    /// Keeps the pairs of a report, however many these are. An error changes nothing.
+    fn keep_several(&mut self, collector: &Collector, report: &Report<P>) -> Result<(), Memory>
+        ensures ok { OnOk result (IsPermutation (self.old ++ pairs_of report.now) self.new) }
+        ensures err { OnErr result (self.new ≡ self.old) }
+    {
+        let (late, in_order, made) = (&mut self.late, &mut self.in_order, &mut self.made);
+        if let Err(Memory) = make_pairs(late, in_order, made, collector, report) {
+            self.made.clear();
+            return Err(Memory);
+        }
+        put_all(&mut self.late, &mut self.in_order, &mut self.made);
+        self.soonest = soonest_of(&self.late, &self.in_order);
+        Ok(())
     }
 
     /// Keeps one more pair. An error changes nothing, and drops the pair.
@@ -160,20 +180,44 @@ fn has_pairs<P>(report: &Report<P>) -> bool
     }
 }
 
-/// Puts pairs where they belong, where there is room for all of them in both.
+/// Makes the pairs of a report in a list that is empty, and room for all of them among those that are kept. After an error a part of
+/// them may be in the list.
+fn make_pairs<P: Share + Drop>(
+    late: &mut BinaryHeap<Kept<P>>,
+    in_order: &mut VecDeque<Kept<P>>,
+    made: &mut Vec<Pair<P>>,
+    collector: &Collector,
+    report: &Report<P>,
+) -> Result<(), Memory>
+    requires { made.old.items ≡ [] }
+    ensures late { heap_items late.new ≡ heap_items late.old }
+    ensures in_order { in_order.new.items ≡ in_order.old.items }
+    ensures made { OnOk result (made.new.items ≡ pairs_of report.now) }
+    ensures late_room { OnOk result (heap_len late.new + vec_len made.new ≤ heap_capacity late.new) }
+    ensures room { OnOk result (deque_len in_order.new + vec_len made.new ≤ deque_capacity in_order.new) }
+{
+    collector.push_pairs(made, report)?;
+    late.reserve(made.len())?;
+    in_order.reserve(made.len())?;
+    Ok(())
+}
+
+/// Puts the pairs of a list where they belong, the first one first, where there is room for all of them in both. The list is empty then.
 #[inline(always)]
 fn put_all<P: Drop>(
     late: &mut BinaryHeap<Kept<P>>,
     in_order: &mut VecDeque<Kept<P>>,
-    pairs: Vec<Pair<P>>,
+    pairs: &mut Vec<Pair<P>>,
 )
-    requires late_room { heap_len late.old + vec_len pairs ≤ heap_capacity late.old }
-    requires room { deque_len in_order.old + vec_len pairs ≤ deque_capacity in_order.old }
-    ensures pairs { IsPermutation (pairs_in (heap_items late.old ++ in_order.old.items) ++ pairs.items) (pairs_in (heap_items late.new ++ in_order.new.items)) }
+    requires late_room { heap_len late.old + vec_len pairs.old ≤ heap_capacity late.old }
+    requires room { deque_len in_order.old + vec_len pairs.old ≤ deque_capacity in_order.old }
+    ensures pairs { IsPermutation (pairs_in (heap_items late.old ++ in_order.old.items) ++ pairs.old.items) (pairs_in (heap_items late.new ++ in_order.new.items)) }
     ensures late { KeepsHeap due_cmp (heap_items late.old) (heap_items late.new) }
     ensures order { AreInOrder in_order.old.items → AreInOrder in_order.new.items }
+    ensures none { pairs.new.items ≡ [] }
 {
-    for pair in pairs {
+    pairs.reverse();
+    while let Some(pair) = pairs.pop() {
         put(late, in_order, Kept { pair });
     }
 }

@@ -11,6 +11,7 @@ invariant_of-self-2 g c = record {
   late = c.put.ensures.late (subst (IsHeap due_cmp) (sym c.reserve.ensures.items) c.self.invariant.late);
   in_order = c.put.ensures.order (subst AreInOrder (sym c.reserve-2.ensures.items) c.self.invariant.in_order);
   soonest = c.soonest_of-self-inside.ensures;
+  made = c.self.invariant.made;
 }
 
 pub soonest_of-self-inside-requires : goal.soonest_of-self-inside-requires

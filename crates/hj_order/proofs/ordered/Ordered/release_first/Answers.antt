@@ -14,6 +14,7 @@ invariant_of-self-then-is_late_first g c = record {
   late = c.release_late.ensures.late;
   in_order = c.self.invariant.in_order;
   soonest = fewer_late c.self.inside.soonest (record { pair = c.in_ok-pair.pair }) (heap_items c.self.inside.late) (heap_items c.release_late.new.late) c.self.inside.in_order.items c.in_ok-pair.ensures.kept c.self.invariant.soonest;
+  made = c.self.invariant.made;
 }
 
 pub invariant_of-self-2 : goal.invariant_of-self-2
@@ -21,6 +22,7 @@ invariant_of-self-2 g c = record {
   late = c.self.invariant.late;
   in_order = (subst AreInOrder c.in_ok-kept.ensures.items c.self.invariant.in_order).1;
   soonest = fewer_ordered c.self.inside.soonest c.in_ok-kept.kept (heap_items c.self.inside.late) c.self.inside.in_order.items c.pop_front.new.self.items c.in_ok-kept.ensures.items c.self.invariant.soonest;
+  made = c.self.invariant.made;
 }
 
 pub returns-then-is_late_first-clause-kept : goal.returns-then-is_late_first-clause-kept
