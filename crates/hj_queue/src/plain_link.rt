@@ -2,9 +2,9 @@ ghost use Rattle.std.specs.Prelude.{◌≡◌, ◌<◌, ◌↔◌, ◌++◌, [],
 ghost use Rattle.std.specs.Option.{option_copied};
 ghost use Rattle.hj_queue.specs.Queues.{no_messages};
 
-use circular_buffer::HeapCircularBuffer;
 use hj_base::Memory;
 use std::alloc::Global;
+use std::collections::VecDeque;
 use std::marker::Model;
 
 /// A message that found no room, handed back.
@@ -15,21 +15,26 @@ pub struct Full<M>(pub M);
 /// alone takes memory.
 #[derive(Drop)]
 pub struct PlainLink<M> {
-    rightwards: HeapCircularBuffer<M>,
-    leftwards: HeapCircularBuffer<M>,
+    rightwards: VecDeque<M>,
+    leftwards: VecDeque<M>,
+    capacity: usize,
 }
 
 impl<M> Model for PlainLink<M> {
-    ghost use Rattle.std.specs.Prelude.{◌≡◌, ◌≤◌, length};
+    ghost use Rattle.std.specs.Prelude.{◌≤◌, length};
+    ghost use Rattle.std.specs.VecDeque.{deque_capacity};
     ghost use Rattle.hj_queue.specs.Queues.{Queues};
 
     ghost Value = { Queues M };
 
-    ghost view = { λ l. record { capacity = l.rightwards.capacity; rightwards = l.rightwards.items; leftwards = l.leftwards.items } };
+    ghost view = { λ l. record { capacity = l.capacity; rightwards = l.rightwards.items; leftwards = l.leftwards.items } };
 
-    ghost invariant = { λ l. (l.leftwards.capacity ≡ l.rightwards.capacity)
-        × (length l.rightwards.items ≤ l.rightwards.capacity)
-        × (length l.leftwards.items ≤ l.leftwards.capacity) };
+    ghost invariant = { λ l. record {
+      right_room : l.capacity ≤ deque_capacity l.rightwards;
+      left_room : l.capacity ≤ deque_capacity l.leftwards;
+      rightwards : length l.rightwards.items ≤ l.capacity;
+      leftwards : length l.leftwards.items ≤ l.capacity;
+    } };
 }
 
 impl<M> PlainLink<M> {
@@ -40,8 +45,9 @@ impl<M> PlainLink<M> {
         ensures { IfOk result (λ link. link ≡ no_messages capacity) }
     {
         Ok(PlainLink {
-            rightwards: HeapCircularBuffer::with_capacity(alloc, capacity)?,
-            leftwards: HeapCircularBuffer::with_capacity(alloc, capacity)?,
+            rightwards: VecDeque::with_capacity(alloc, capacity)?,
+            leftwards: VecDeque::with_capacity(alloc, capacity)?,
+            capacity,
         })
     }
 
@@ -53,10 +59,20 @@ impl<M> PlainLink<M> {
         ensures full { IfErr result (λ full. (full.0 ≡ m) × (length self.old.rightwards ≡ self.old.capacity)) }
         ensures same { OnErr result (self.new ≡ self.old) }
     {
-        match self.rightwards.try_push_back(m) {
-            Ok(()) => Ok(()),
-            Err(m) => Err(Full(m)),
+        if self.rightwards.len() == self.capacity {
+            return Err(Full(m));
         }
+        self.send_right(m);
+        Ok(())
+    }
+
+    /// Puts a message after those under way to the right, where there is room.
+    #[inline(always)]
+    pub fn send_right(&mut self, m: M)
+        requires { length self.old.rightwards < self.old.capacity }
+        ensures { self.new ≡ record self.old { rightwards = self.old.rightwards ++ m ∷ [] } }
+    {
+        self.rightwards.push_back_reserved(m);
     }
 
     /// Takes the first message under way to the right; None exactly if there is none.
@@ -87,10 +103,20 @@ impl<M> PlainLink<M> {
         ensures full { IfErr result (λ full. (full.0 ≡ m) × (length self.old.leftwards ≡ self.old.capacity)) }
         ensures same { OnErr result (self.new ≡ self.old) }
     {
-        match self.leftwards.try_push_back(m) {
-            Ok(()) => Ok(()),
-            Err(m) => Err(Full(m)),
+        if self.leftwards.len() == self.capacity {
+            return Err(Full(m));
         }
+        self.send_left(m);
+        Ok(())
+    }
+
+    /// Puts a message after those under way to the left, where there is room.
+    #[inline(always)]
+    pub fn send_left(&mut self, m: M)
+        requires { length self.old.leftwards < self.old.capacity }
+        ensures { self.new ≡ record self.old { leftwards = self.old.leftwards ++ m ∷ [] } }
+    {
+        self.leftwards.push_back_reserved(m);
     }
 
     /// Takes the first message under way to the left; None exactly if there is none.
