@@ -1,10 +1,11 @@
 -- The queues of reports, each as the list of what stands in it.
-use Rattle.std.proofs.Common.{◌≡◌, ℕ, suc, zero, ◌<◌, List, [], ◌∷◌, length, map, set, get_or, replicate, refl, ap, sym, ◌∙◌, arith}
+use Rattle.std.proofs.Common.{◌≡◌, ℕ, suc, zero, ◌+◌, ◌-◌, ◌<◌, ◌≤◌, ◌==◌, ◌++◌, false, All, List, [], ◌∷◌, length, map, set, get_or, replicate, refl, ap, sym, ◌∙◌, subst, arith, ne_eqb, length-append}
 use Rattle.std.proofs.lemmas.List.{length-map}
+use Rattle.std.proofs.lemmas.List.Elements.{All-get_or, All-map, All-set, All-weaker}
 use Rattle.circular_buffer.specs.Buffer.{Buffer, buffer}
 use Rattle.hj_msg.specs.declared.message.Report.{Report}
 use Rattle.hj_chain.specs.Links.{changed_at}
-use Rattle.hj_chain.specs.Reports.{ReportQueues, no_reports}
+use Rattle.hj_chain.specs.Reports.{ReportQueues, no_reports, queue_at}
 use Rattle.hj_chain.proofs.Places.{written, map-changed_at}
 
 pub queue-changed : {P : Type 0} (capacity : ℕ) (buffers : List (Buffer (Report P))) (now : ReportQueues P) (i : ℕ) (b c : Buffer (Report P)) (f : Buffer (Report P) → Buffer (Report P)) (g : List (Report P) → List (Report P))
@@ -23,3 +24,34 @@ map-replicate v (suc n) x = ap (λ ys. v x ∷ ys) (map-replicate v n x)
 pub new-reports : {P : Type 0} (n count capacity : ℕ) (buffers : List (Buffer (Report P))) → buffers ≡ replicate count (buffer [] capacity) → count ≡ n
     → record { capacity = capacity; queues = map (λ b. b.items) buffers } ≡ no_reports {P = P} n capacity
 new-reports {P} n count capacity buffers is all = ap (λ (queues : List (List (Report P))). record { capacity = capacity; queues = queues }) (ap (map (λ (b : Buffer (Report P)). b.items)) is ∙ map-replicate (λ (b : Buffer (Report P)). b.items) count (buffer [] capacity) ∙ ap (λ m. replicate m []) all)
+
+-- ---- the room that each queue has at least
+
+-- a report more, and room for one fewer
+pub room-put : {P : Type 0} (capacity room : ℕ) (buffers : List (Buffer (Report P))) (i : ℕ) (b c : Buffer (Report P)) (x : Report P)
+    → All (λ q. length q.items + room ≤ capacity) buffers → 0 < room → i < length buffers → b ≡ get_or buffers i b → c ≡ buffer (b.items ++ x ∷ []) b.capacity
+    → All (λ q. length q.items + (room - 1) ≤ capacity) (set buffers i c)
+room-put {P} capacity room buffers i b c x all some low at is =
+    let had : length b.items + room ≤ capacity = subst (λ (q : Buffer (Report P)). length q.items + room ≤ capacity) (sym at) (All-get_or (λ (q : Buffer (Report P)). length q.items + room ≤ capacity) buffers i b low all) in
+    let more : length c.items ≡ length b.items + 1 = ap (λ (q : Buffer (Report P)). length q.items) is ∙ length-append b.items (x ∷ []) in
+    let now : length c.items + (room - 1) ≤ capacity = omega (arith, had, more, some) in
+    All-set (λ (q : Buffer (Report P)). length q.items + (room - 1) ≤ capacity) buffers i c now
+    (All-weaker (λ (q : Buffer (Report P)). length q.items + room ≤ capacity) (λ (q : Buffer (Report P)). length q.items + (room - 1) ≤ capacity) (λ q e. omega (arith, e)) buffers all)
+
+-- where a queue has fewer reports than before, the room is there still
+pub room-fewer : {P : Type 0} (capacity room : ℕ) (buffers : List (Buffer (Report P))) (i : ℕ) (b c : Buffer (Report P))
+    → All (λ q. length q.items + room ≤ capacity) buffers → i < length buffers → b ≡ get_or buffers i b → length c.items ≤ length b.items
+    → All (λ q. length q.items + room ≤ capacity) (set buffers i c)
+room-fewer {P} capacity room buffers i b c all low at fewer =
+    let had : length b.items + room ≤ capacity = subst (λ (q : Buffer (Report P)). length q.items + room ≤ capacity) (sym at) (All-get_or (λ (q : Buffer (Report P)). length q.items + room ≤ capacity) buffers i b low all) in
+    All-set (λ (q : Buffer (Report P)). length q.items + room ≤ capacity) buffers i c (omega (arith, had, fewer)) all
+
+-- where there is room, no queue is full
+pub none_full : {P : Type 0} (capacity room : ℕ) (buffers : List (Buffer (Report P))) (now : ReportQueues P) (i : ℕ)
+    → record { capacity = capacity; queues = map (λ b. b.items) buffers } ≡ now → i < length now.queues → All (λ q. length q.items + room ≤ capacity) buffers → 0 < room
+    → (length (queue_at now.queues i) == now.capacity) ≡ false
+none_full {P} capacity room buffers now i view low all some =
+    let each : All (λ (ys : List (Report P)). length ys + room ≤ capacity) (map (λ (b : Buffer (Report P)). b.items) buffers) = All-map (λ (ys : List (Report P)). length ys + room ≤ capacity) (λ (b : Buffer (Report P)). b.items) buffers all in
+    let there : i < length (map (λ (b : Buffer (Report P)). b.items) buffers) = subst (λ (r : ReportQueues P). i < length r.queues) (sym view) low in
+    let below : length (queue_at (map (λ (b : Buffer (Report P)). b.items) buffers) i) + room ≤ capacity = each i [] there in
+    subst (λ (r : ReportQueues P). (length (queue_at r.queues i) == r.capacity) ≡ false) view (ne_eqb (length (queue_at (map (λ (b : Buffer (Report P)). b.items) buffers) i)) capacity (λ same. omega (arith, below, some, same)))

@@ -347,8 +347,11 @@ impl<P: Share + Drop, J: Join<P> + Drop, L: Store<P, J> + Drop, R: Store<P, J> +
             self.over = true;
             return Stepped::Memory;
         }
-        self.collector.note(core, report);
-        self.reports.drop_first(place);
+        // taken before it is noted, so that its place needn't be looked for anew
+        let Some(report) = self.reports.take_first(place) else {
+            unreachable!()
+        };
+        self.collector.note(core, &report);
         Stepped::Did
     }
 }

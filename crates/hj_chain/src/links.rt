@@ -101,9 +101,7 @@ impl<P: Drop> Links<P> {
         requires room { length (link_at self.old at).rightwards < (link_at self.old at).capacity }
         ensures { self.new ≡ changed_at at (put_rightwards (msg ∷ [])) self.old }
     {
-        let Ok(()) = self.links[at].put_right(msg) else {
-            unreachable!()
-        };
+        self.links[at].send_right(msg);
     }
 
     /// Puts a message on a link to the left.
@@ -113,9 +111,7 @@ impl<P: Drop> Links<P> {
         requires room { length (link_at self.old at).leftwards < (link_at self.old at).capacity }
         ensures { self.new ≡ changed_at at (put_leftwards (msg ∷ [])) self.old }
     {
-        let Ok(()) = self.links[at].put_left(msg) else {
-            unreachable!()
-        };
+        self.links[at].send_left(msg);
     }
 
     /// Puts a message on a link to the right, if it is to be sent.

@@ -1,4 +1,4 @@
-ghost use Rattle.std.specs.Prelude.{◌≡◌, ◌+◌, ◌==◌, ◌<◌, ◌≤◌, [], ◌∷◌, ◌++◌, drop, length, option_to_list, IfOk};
+ghost use Rattle.std.specs.Prelude.{◌≡◌, ◌+◌, ◌==◌, ◌<◌, ◌≤◌, [], ◌∷◌, ◌++◌, drop, length, option_to_list, All, IfOk};
 ghost use Rattle.std.specs.Option.{option_copied};
 ghost use Rattle.hj_chain.specs.Chain.{first};
 ghost use Rattle.hj_chain.specs.Links.{changed_at};
@@ -16,17 +16,22 @@ use std::marker::Model;
 pub struct Reports<P> {
     queues: Vec<HeapCircularBuffer<Report<P>>>,
     capacity: usize,
+    /// Each queue has room for so many reports at least: while there is some, no queue need be looked at.
+    room: usize,
 }
 
 impl<P> Model for Reports<P> {
-    ghost use Rattle.std.specs.Prelude.{◌≡◌, All, map};
+    ghost use Rattle.std.specs.Prelude.{◌≡◌, ◌+◌, ◌≤◌, All, length, map};
     ghost use Rattle.hj_chain.specs.Reports.{ReportQueues};
 
     ghost Value = { ReportQueues P };
 
     ghost view = { λ r. record { capacity = r.capacity; queues = map (λ q. q.items) r.queues.items } };
 
-    ghost invariant = { λ r. All (λ q. q.capacity ≡ r.capacity) r.queues.items };
+    ghost invariant = { λ r. record {
+      capacity : All (λ q. q.capacity ≡ r.capacity) r.queues.items;
+      room : All (λ q. length q.items + r.room ≤ r.capacity) r.queues.items;
+    } };
 }
 
 impl<P: Drop> Reports<P> {
@@ -38,7 +43,11 @@ impl<P: Drop> Reports<P> {
         for _at in 0..cores {
             queues.push(HeapCircularBuffer::with_capacity(alloc, capacity)?)?;
         }
-        Ok(Reports { queues, capacity })
+        Ok(Reports {
+            queues,
+            capacity,
+            room: capacity,
+        })
     }
 
     /// Returns a core's first report; None exactly where it has none, as where there is no such core.
@@ -92,7 +101,7 @@ impl<P: Drop> Reports<P> {
         requires { core < length self.now.queues }
         ensures { result ≡ (length (queue_at self.now.queues core) == self.now.capacity) }
     {
-        self.queues[core].is_full()
+        self.room == 0 && self.queues[core].is_full()
     }
 
     /// Puts a core's report after its others, if there is one.
@@ -102,19 +111,38 @@ impl<P: Drop> Reports<P> {
         requires room { length (queue_at self.old.queues core) < self.old.capacity }
         ensures { self.new ≡ record self.old { queues = changed_at core (λ queue. queue ++ option_to_list report) self.old.queues } }
     {
-        if let Some(report) = report {
-            if let Err(_) = self.queues[core].try_push_back(report) {
-                unreachable!()
-            }
+        let Some(report) = report else {
+            return;
+        };
+        if let Err(_) = self.queues[core].try_push_back(report) {
+            unreachable!()
         }
+        self.room = match self.room {
+            0 => least_room(&self.queues, self.capacity),
+            room => room - 1,
+        };
     }
 
-    /// Drops a core's first report, if it has one.
+    /// Takes a core's first report.
     #[inline(always)]
-    pub fn drop_first(&mut self, core: usize)
+    pub fn take_first(&mut self, core: usize) -> Option<Report<P>>
         requires { core < length self.old.queues }
-        ensures { self.new ≡ record self.old { queues = changed_at core (drop 1) self.old.queues } }
+        ensures first { result ≡ first (queue_at self.old.queues core) }
+        ensures rest { self.new ≡ record self.old { queues = changed_at core (drop 1) self.old.queues } }
     {
-        self.queues[core].pop_front();
+        self.queues[core].pop_front()
     }
+}
+
+/// Returns the room of the queue that has the least of all.
+#[cold]
+fn least_room<P>(queues: &[HeapCircularBuffer<Report<P>>], capacity: usize) -> usize
+    requires { All (λ q. q.capacity ≡ capacity) queues.now }
+    ensures { All (λ q. length q.items + result ≤ capacity) queues.now }
+{
+    let mut room = capacity;
+    for queue in queues {
+        room = room.min(capacity - queue.len());
+    }
+    room
 }

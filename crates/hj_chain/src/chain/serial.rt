@@ -103,7 +103,8 @@ impl<P: Share + Drop, J: Join<P> + Drop, L: Store<P, J> + Drop, R: Store<P, J> +
             return Fin::Memory;
         }
         let mut sweep = Sweep {
-            made: 0,
+            before: 0,
+            steps: 0,
             moved: true,
         };
         while self.try_put(feed, &mut sweep) {

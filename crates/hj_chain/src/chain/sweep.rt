@@ -13,19 +13,28 @@ use hj_msg::{Drain, Drained, Feed, Fin, Join, Store};
 /// How far a sweep over the actors has come.
 #[derive(Clone, Copy, Debug)]
 pub(super) struct Sweep {
-    /// How many steps were made in all; it stays at 2^64 - 1 once it is there.
-    pub(super) made: u64,
+    /// How many steps were made before this round; it stays at 2^64 - 1 once it is there.
+    pub(super) before: u64,
+    /// How many were made in this round: one of each of its 195 actors at most, so that this never wraps.
+    pub(super) steps: u32,
     /// Whether one was made in this round.
     pub(super) moved: bool,
 }
 
 impl Sweep {
+    /// Returns how many steps were made in all; it stays at 2^64 - 1 once it is there.
+    #[inline(always)]
+    fn made(&self) -> u64 {
+        self.before.saturating_add(u64::from(self.steps))
+    }
+
     /// Takes note of a step.
+    // The sum is made where a gate asks for it: an open one never does, and most steps come to no gate.
     #[inline(always)]
     fn step(&mut self)
         ensures { self.new.moved ≡ true }
     {
-        self.made = self.made.saturating_add(1);
+        self.steps = self.steps.wrapping_add(1);
         self.moved = true;
     }
 }
@@ -46,7 +55,11 @@ impl<P: Share + Drop, J: Join<P> + Drop, L: Store<P, J> + Drop, R: Store<P, J> +
         ensures some { 1 ≤ self.old.state.driver.flight }
     {
         let moved = sweep.moved;
-        sweep.moved = false;
+        *sweep = Sweep {
+            before: sweep.made(),
+            steps: 0,
+            moved: false,
+        };
         if self.is_put_last(moved, feed) {
             return true;
         }
@@ -118,7 +131,7 @@ impl<P: Share + Drop, J: Join<P> + Drop, L: Store<P, J> + Drop, R: Store<P, J> +
         ensures runs_out { result ≡ false → (first at : ℕ) (before : Bool) (begun : Contents P J) → StandsThere self.old at (AtCore core end) → Sweeps J.predicate first before begun at sweep.old.moved self.old
             → RunsOut J.predicate first before begun self.new }
     {
-        match self.turn_there(core, end, gate, sweep.made) {
+        match self.turn_there(core, end, gate, sweep.made()) {
             Stepped::Memory => false,
             Stepped::NotEnabled(_) => true,
             Stepped::Did => {

@@ -4,4 +4,4 @@ use Rattle.hj_chain.proofs.Places.{written}
 use Rattle.hj_chain.proofs.links.Links.put_left.Goals as goal
 
 pub returns : goal.returns
-returns g c = written _ _ c.args.at c.index_mut.result.now _ (put_leftwards (c.args.msg ∷ [])) c.self.view_is c.requires.in_range c.index_mut.ensures.value c.in-Ok.ensures.put
+returns g c = written _ _ c.args.at c.index_mut.result.now _ (put_leftwards (c.args.msg ∷ [])) c.self.view_is c.requires.in_range c.index_mut.ensures.value c.send_left.ensures
