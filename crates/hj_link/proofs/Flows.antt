@@ -9,7 +9,7 @@ use lib.ListN.{get_elem?}
 use Rattle.hj_base.specs.Journals.{IsPrefix}
 use Rattle.atomic_table.proofs.Lists.{set_here, set_else, at_longer, one_turn}
 use Rattle.hj_link.specs.declared.table.Slot.{Slot}
-use Rattle.hj_link.specs.declared.table.Slot.TheVariants.{Full}
+use Rattle.hj_link.specs.declared.table.Slot.TheVariants.{Empty, Full}
 use Rattle.hj_link.specs.Flow.{Flow}
 
 module _ {A : Type 0} where
@@ -101,7 +101,7 @@ module _ {M : Type 0} where
 
   -- the slot of the next place to put into is taken out
   pub flow_reserves : (c base pw tw : ℕ) (hs : Row M) (sent got known : List M) (kt : ℕ) (b : Bool) → Flow c base pw tw hs sent got known kt false b → length sent < kt + c
-      → (y : Slot M) × (get_elem? hs (base + length sent % c) ≡ some (some y)) × Flow c base pw tw (set hs (base + length sent % c) none) sent got known kt true b
+      → (t : ℕ) × (get_elem? hs (base + length sent % c) ≡ some (some (Empty t))) × Flow c base pw tw (set hs (base + length sent % c) none) sent got known kt true b
   flow_reserves c base pw tw hs sent got known kt b f room = let n : ℕ = length sent in let g : ℕ = length got in let k : ℕ = base + n % c in let old : kt ≤ g = f.stale in
       let gl : g ≤ length known = prefix_length got known f.taken in let kl : length known ≤ n = prefix_length known sent f.learned in
       let v = f.vacant n (le_refl n) (omega arith) (λ _. refl) in (
@@ -169,13 +169,13 @@ module _ {M : Type 0} where
         },
       )
 
-  -- the take is published, and the slot comes home with some value
-  pub flow_publishes_take : (c base pw tw : ℕ) (hs : Row M) (sent got known : List M) (kt : ℕ) (a : Bool) (x : M) (y : Slot M) (new : ℕ) → Flow c base pw tw hs sent got known kt a true → get_elem? known (length got) ≡ some x → new ≡ (length got + 1) % 2 ^ 64
-      → Flow c base pw new (set hs (base + length got % c) (some y)) sent (got ++ x ∷ []) known kt a false
-  flow_publishes_take c base pw tw hs sent got known kt a x y new f next is = let n : ℕ = length sent in let g : ℕ = length got in let k : ℕ = base + g % c in let old : kt ≤ g = f.stale in
+  -- the take is published, and the slot comes home empty
+  pub flow_publishes_take : (c base pw tw : ℕ) (hs : Row M) (sent got known : List M) (kt : ℕ) (a : Bool) (x : M) (t : ℕ) (new : ℕ) → Flow c base pw tw hs sent got known kt a true → get_elem? known (length got) ≡ some x → new ≡ (length got + 1) % 2 ^ 64
+      → Flow c base pw new (set hs (base + length got % c) (some (Empty t))) sent (got ++ x ∷ []) known kt a false
+  flow_publishes_take c base pw tw hs sent got known kt a x t new f next is = let n : ℕ = length sent in let g : ℕ = length got in let k : ℕ = base + g % c in let old : kt ≤ g = f.stale in
       let w : n ≤ kt + c = f.within in let kl : length known ≤ n = prefix_length known sent f.learned in let gl : g < length known = f.some_there refl in let pos : 0 < c = omega arith in
       let long : length (got ++ x ∷ []) ≡ g + 1 = omega (arith, length-append got (x ∷ [])) in record {
-        fits = subst (λ (z : ℕ). base + c ≤ z) (sym (length-set hs k (some y))) f.fits;
+        fits = subst (λ (z : ℕ). base + c ≤ z) (sym (length-set hs k (some (Empty t)))) f.fits;
         put_is = f.put_is;
         take_is = is ∙ ap (λ (z : ℕ). z % 2 ^ 64) (sym long);
         learned = f.learned;
@@ -184,8 +184,8 @@ module _ {M : Type 0} where
         within = f.within;
         free_there = f.free_there;
         some_there = (λ e. absurd (true≢false (sym e)));
-        full = (λ p m le at home. let lt : p < n = at_within sent p m at in let ne : p ≢ g = (λ e. omega arith) in let z = f.full p m (omega arith) at (λ e. absurd (ne e)) in (z.0, set_else hs k (base + p % c) (some y) (apart c base p g g (omega arith) (omega arith) (le_refl g) (omega arith) ne) ∙ z.1));
+        full = (λ p m le at home. let lt : p < n = at_within sent p m at in let ne : p ≢ g = (λ e. omega arith) in let z = f.full p m (omega arith) at (λ e. absurd (ne e)) in (z.0, set_else hs k (base + p % c) (some (Empty t)) (apart c base p g g (omega arith) (omega arith) (le_refl g) (omega arith) ne) ∙ z.1));
         vacant = (λ p le lt home. dite (ℕ_discrete p (g + c))
-            (λ e. (y, ap (λ (z : ℕ). get_elem? (set hs k (some y)) (base + z)) (ap (λ (z : ℕ). z % c) e ∙ add-mod_right g c) ∙ set_here hs k (some y) (inside c base g (length hs) pos f.fits)))
-            (λ ne. let other : p ≢ g = (λ e. omega arith) in let z = f.vacant p le (omega arith) home in (z.0, set_else hs k (base + p % c) (some y) (apart c base p g g (omega arith) (omega arith) (le_refl g) (omega arith) other) ∙ z.1)));
+            (λ e. (t, ap (λ (z : ℕ). get_elem? (set hs k (some (Empty t))) (base + z)) (ap (λ (z : ℕ). z % c) e ∙ add-mod_right g c) ∙ set_here hs k (some (Empty t)) (inside c base g (length hs) pos f.fits)))
+            (λ ne. let other : p ≢ g = (λ e. omega arith) in let z = f.vacant p le (omega arith) home in (z.0, set_else hs k (base + p % c) (some (Empty t)) (apart c base p g g (omega arith) (omega arith) (le_refl g) (omega arith) other) ∙ z.1)));
       }

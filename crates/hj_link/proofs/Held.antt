@@ -11,7 +11,7 @@ use Rattle.hj_link.specs.Steps.{IsLaid, IsEmptied, has_end, own, changed, put_sl
 module _ {M : Type 0} where
   -- the slot that was taken out is the one that is exchanged
   pub reserved_slot : (side : Bool) (old mid : Seated M) (slot : ℕ) → slot ≡ put_slot side old → reserves side old mid → (y : Slot M) × (mid.1 ≡ (slot, y) ∷ rest mid.1)
-  reserved_slot side old mid slot is did = (did.0, ap (λ (z : Seated M). z.1) did.1 ∙ (λ i. (sym is i, did.0) ∷ sym (ap (λ (z : Seated M). rest z.1) did.1) i))
+  reserved_slot side old mid slot is did = (Empty did.0, ap (λ (z : Seated M). z.1) did.1 ∙ (λ i. (sym is i, Empty did.0) ∷ sym (ap (λ (z : Seated M). rest z.1) did.1) i))
 
   -- the slot of the next place is out, and a message was laid into it
   pub holds_laid : (side : Bool) (old mid new : Seated M) (slot t : ℕ) (x : M) → old.1 ≡ [] → slot ≡ put_slot side old → reserves side old mid → new ≡ (mid.0, (slot, Full t x) ∷ rest mid.1) → new ≡ holding side old (Full t x)

@@ -1,7 +1,6 @@
 -- The steps keep what is known of the looks.
 use Rattle.std.proofs.Common.{◌≡◌, ℕ, Bool, true, false, ◌+◌, ◌<◌, ◌≤◌, List, [], ◌∷◌, ◌++◌, length, sym, refl, subst, ⊎_elim, arith, append-nil, length-append}
-use mathlib.Core.Option.{some, some-ne-none}
-use lib.ListN.{get_elem?}
+use mathlib.Core.Option.{some-ne-none}
 use Rattle.hj_link.specs.Looks.{Looks}
 use Rattle.hj_link.specs.Steps.{one_if, mark_if}
 use Rattle.hj_link.proofs.Flows.{at_end, at_within}

@@ -95,7 +95,7 @@ module _ {M : Type 0} where
   reserved_by side c n id me has idle room s r wide at _ = let e : End M = own side me in let f : End M = other_of side r in let w : ℕ = (words_of side).puts in let o = side_knows side c s r id me.0 at has in
       let i : ℕ = put_slot side me in let did = both_reserve _ _ _ _ _ _ _ _ _ _ _ o idle room in (
         changed side me (set_putting e true),
-        takes_slot i did.0,
+        takes_slot i (Empty did.0),
         did.1,
         side_goes side c s r id me.0 at has (set_putting e true) (set s.words w (get_or s.words w 0)) (set s.homes i none) (length-set s.words w (get_or s.words w 0) ∙ r.wide) (length-set s.homes i none)
             (loaded side me.0.capacities s.words (set s.homes i none) (set_putting e true) f w (puts_inside side _ r.wide) did.2),

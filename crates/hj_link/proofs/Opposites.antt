@@ -1,17 +1,18 @@
 -- The steps of one end keep both directions. Those of the other end follow by `swapped`.
-use Rattle.std.proofs.Common.{◌≡◌, ◌≢◌, ℕ, Bool, true, false, ◌+◌, ◌%◌, ◌^◌, ◌==◌, ◌<◌, ◌≤◌, List, [], ◌∷◌, ◌++◌, length, map, set, sym, refl, ap, ◌∙◌, subst, arith, mod-lt, le_refl, length-append, length-set, true≢false}
+use Rattle.std.proofs.Common.{◌≡◌, ◌≢◌, ℕ, Bool, true, false, ◌+◌, ◌%◌, ◌^◌, ◌==◌, ◌<◌, ◌≤◌, suc, zero, List, [], ◌∷◌, ◌++◌, All, length, map, set, sym, refl, ap, ◌∙◌, subst, arith, mod-lt, le_refl, length-append, length-set, true≢false}
 use Rattle.std.proofs.lemmas.Bool.{eqb-true}
 use Rattle.std.proofs.lemmas.List.{length-map}
+use Rattle.std.proofs.lemmas.List.Elements.{All-head, All-tail}
 use mathlib.Core.Option.{none, some, some-ne-none}
 use mathlib.Core.Option as maybe
 use lib.ListN.{get_elem?}
 use Rattle.hj_base.specs.Journals.{Entry, puts}
 use Rattle.hj_base.specs.Link.{TookBeforePut, Flows}
-use Rattle.atomic_table.proofs.Lists.{set_else, some_there}
+use Rattle.atomic_table.proofs.Lists.{set_else}
 use Rattle.hj_link.specs.declared.table.Slot.{Slot}
 use Rattle.hj_link.specs.declared.table.Slot.TheVariants.{Empty, Full}
 use Rattle.hj_link.specs.declared.table.End.{End}
-use Rattle.hj_link.specs.Flow.{Flow}
+use Rattle.hj_link.specs.Flow.{Flow, IsEmpty}
 use Rattle.hj_link.specs.Rule.{Opposed, entry_of, journal_of, sent, got, new_end}
 use Rattle.hj_link.specs.Steps.{noted, saw_takes, saw_puts, set_putting, set_fetching, after_put, after_take}
 use Rattle.hj_link.proofs.Flows.{Row, prefix_length, prefix_trans, prefix_refl, flow_looks_for_room, flow_looks_for_message, flow_reserves, flow_publishes, flow_fetches, flow_publishes_take}
@@ -59,7 +60,7 @@ module _ {M : Type 0} where
   }
 
   pub both_reserve : (k base k' base' a b c d : ℕ) (hs : Row M) (one two : End M) → Opposed k base k' base' a b c d hs one two → one.putting ≡ false → length (sent one) < one.known_takes + k
-      → (y : Slot M) × (get_elem? hs (base + length (sent one) % k) ≡ some (some y)) × Opposed k base k' base' a b c d (set hs (base + length (sent one) % k) none) (set_putting one true) two
+      → (t : ℕ) × (get_elem? hs (base + length (sent one) % k) ≡ some (some (Empty t))) × Opposed k base k' base' a b c d (set hs (base + length (sent one) % k) none) (set_putting one true) two
   both_reserve k base k' base' a b c d hs one two o idle room = let n : ℕ = length (sent one) in
       let f = flow_reserves _ _ _ _ _ _ _ _ _ _ (subst (λ (x : Bool). Flow k base a b hs (sent one) (got two) two.known one.known_takes x two.fetching) idle o.there) room in
       (f.0, f.1, record { apart = o.apart; there = f.2; back = frame k' base' c d hs (sent two) (got one) one.known two.known_takes two.putting one.fetching (base + n % k) none (λ p e. o.apart n p (sym e)) o.back; in_time = o.in_time; looks_there = o.looks_there; looks_back = o.looks_back })
@@ -89,7 +90,7 @@ module _ {M : Type 0} where
   pub both_take : (k base k' base' a b c d : ℕ) (hs : Row M) (one two : End M) (t : ℕ) (x : M) (new : ℕ) → Opposed k base k' base' a b c d hs one two → one.fetching ≡ true → get_elem? one.known (length (got one)) ≡ some x → new ≡ (length (got one) + 1) % 2 ^ 64
       → Opposed k base k' base' a b c new (set hs (base' + length (got one) % k') (some (Empty t))) (after_take one t x two.full_looks) two
   both_take k base k' base' a b c d hs one two t x new o out next is = let g : ℕ = length (got one) in let i : ℕ = base' + g % k' in let z : maybe.Option (Slot M) = some (Empty t) in
-      let f = flow_publishes_take _ _ _ _ _ _ _ _ _ _ x (Empty t) new (subst (λ (y : Bool). Flow k' base' c d hs (sent two) (got one) one.known two.known_takes two.putting y) out o.back) next is in
+      let f = flow_publishes_take _ _ _ _ _ _ _ _ _ _ x t new (subst (λ (y : Bool). Flow k' base' c d hs (sent two) (got one) one.known two.known_takes two.putting y) out o.back) next is in
       let same : length (puts (journal_of one ++ entry_of (noted false t x) ∷ [])) ≡ length (puts (journal_of one)) = ap (λ (l : List (Entry M)). length (puts l)) (sym (journal_more one.journal (noted false t x))) ∙ ap length (sent_same one.journal t x) in record {
         apart = o.apart;
         there = subst (λ (l : List M). Flow k base a b (set hs i z) l (got two) two.known one.known_takes one.putting two.fetching) (sym (sent_same one.journal t x))
@@ -104,9 +105,15 @@ module _ {M : Type 0} where
   pub flows_of : (k base a b : ℕ) (hs : Row M) (from to : End M) (known : List M) (kt : ℕ) (x y : Bool) → Flow k base a b hs (sent from) (got to) known kt x y → Flows k (journal_of from) (journal_of to)
   flows_of k base a b hs from to known kt x y f = let n : ℕ = length (sent from) in let g : ℕ = length (got to) in let p : kt ≤ g = f.stale in let q : n ≤ kt + k = f.within in record { taken = prefix_trans _ _ _ f.taken f.learned; room = omega arith }
 
+  -- a slot of a list of empty ones
+  empty_there : (xs : List (Slot M)) (i : ℕ) → All IsEmpty xs → i < length xs → (t : ℕ) × (get_elem? (map some xs) i ≡ some (some (Empty t)))
+  empty_there [] i empty h = absurd (omega arith)
+  empty_there (x ∷ xs) zero empty h = let head = All-head IsEmpty x xs empty in (head.0, ap (λ (z : Slot M). some (some z)) head.1)
+  empty_there (x ∷ xs) (suc i) empty h = empty_there xs i (All-tail IsEmpty x xs empty) (omega arith)
+
   -- a direction as it is made
-  flow_starts : (k base : ℕ) (xs : List (Slot M)) → base + k ≤ length xs → Flow k base 0 0 (map some xs) [] [] [] 0 false false
-  flow_starts k base xs long = record {
+  flow_starts : (k base : ℕ) (xs : List (Slot M)) → All IsEmpty xs → base + k ≤ length xs → Flow k base 0 0 (map some xs) [] [] [] 0 false false
+  flow_starts k base xs empty long = record {
     fits = grind (arith, length-map xs (λ (y : Slot M). some y), long);
     put_is = refl;
     take_is = refl;
@@ -117,14 +124,14 @@ module _ {M : Type 0} where
     free_there = (λ e. absurd (true≢false (sym e)));
     some_there = (λ e. absurd (true≢false (sym e)));
     full = (λ p m le at home. absurd (some-ne-none m (sym at)));
-    vacant = (λ p le lt home. let i : ℕ = p % k in let pos : 0 < k = omega arith in let small : i < k = mod-lt p pos in let l : ℕ = length xs in let fit : base + k ≤ l = long in some_there xs (base + i) (omega arith));
+    vacant = (λ p le lt home. let i : ℕ = p % k in let pos : 0 < k = omega arith in let small : i < k = mod-lt p pos in let l : ℕ = length xs in let fit : base + k ≤ l = long in empty_there xs (base + i) empty (omega arith));
   }
 
-  pub both_start : (k k' : ℕ) (xs : List (Slot M)) → 0 < k → length xs ≡ k + k' → Opposed k 0 k' k 0 0 0 0 (map some xs) new_end new_end
-  both_start k k' xs pos long = let l : ℕ = length xs in let is : l ≡ k + k' = long in record {
+  pub both_start : (k k' : ℕ) (xs : List (Slot M)) → All IsEmpty xs → 0 < k → length xs ≡ k + k' → Opposed k 0 k' k 0 0 0 0 (map some xs) new_end new_end
+  both_start k k' xs empty pos long = let l : ℕ = length xs in let is : l ≡ k + k' = long in record {
     apart = (λ p q e. let i : ℕ = p % k in let j : ℕ = q % k' in let small : i < k = mod-lt p pos in let same : 0 + i ≡ k + j = e in omega arith);
-    there = flow_starts k 0 xs (omega arith);
-    back = flow_starts k' k xs (omega arith);
+    there = flow_starts k 0 xs empty (omega arith);
+    back = flow_starts k' k xs empty (omega arith);
     in_time = (λ p q t u. let z : p < 0 = t.put in omega arith);
     looks_there = looks_start k;
     looks_back = looks_start k';

@@ -1,5 +1,5 @@
 -- What the seats of a table know, at a step of either end, and where a seat is cut or two are joined.
-use Rattle.std.proofs.Common.{◌≡◌, ℕ, Bool, true, false, not, suc, zero, ◌+◌, ◌<◌, List, [], ◌∷◌, length, set, get_or, sym, refl, ◌∙◌, subst, ⊎_elim, length-set, true≢false}
+use Rattle.std.proofs.Common.{◌≡◌, ℕ, Bool, true, false, not, suc, zero, ◌+◌, ◌<◌, List, [], ◌∷◌, All, length, set, get_or, sym, refl, ◌∙◌, subst, ⊎_elim, length-set, true≢false}
 use mathlib.Core.Option.{some, some-injective, some-ne-none}
 use lib.ListN.{get_elem?}
 use Rattle.std.proofs.lemmas.List.{length-map}
@@ -10,6 +10,7 @@ use Rattle.hj_link.specs.declared.table.Capacities.{Capacities}
 use Rattle.hj_link.specs.declared.table.End.{End}
 use Rattle.hj_link.specs.declared.table.View.{View}
 use Rattle.hj_link.specs.Words.{words_of, capacity_of, base_of}
+use Rattle.hj_link.specs.Flow.{IsEmpty}
 use Rattle.hj_link.specs.Rule.{Rule, Knows, Opposed, opened, new_end}
 use Rattle.hj_link.specs.Steps.{has_end, end_of, with_end, left_alone, right_alone, both_ends, neither}
 use Rattle.hj_link.proofs.Flows.{Row, at_end}
@@ -124,14 +125,14 @@ module _ {M : Type 0} where
       (subst (λ (u : ℕ). Opposed c.rightwards 0 c.leftwards c.rightwards u 0 0 0 hs new_end new_end) (sym p) o)))
 
   -- the table as it is made
-  pub starts : (c : Capacities) (ws : List ℕ) (xs : List (Slot M)) → 0 < c.rightwards → length xs ≡ c.rightwards + c.leftwards → length ws ≡ 64 → get_or ws 0 0 ≡ 0 → get_or ws 16 0 ≡ 0 → get_or ws 32 0 ≡ 0 → get_or ws 48 0 ≡ 0 → Rule c (opening ws xs (opened c))
-  starts c ws xs pos long wide p q r s = record {
+  pub starts : (c : Capacities) (ws : List ℕ) (xs : List (Slot M)) → All IsEmpty xs → 0 < c.rightwards → length xs ≡ c.rightwards + c.leftwards → length ws ≡ 64 → get_or ws 0 0 ≡ 0 → get_or ws 16 0 ≡ 0 → get_or ws 32 0 ≡ 0 → get_or ws 48 0 ≡ 0 → Rule c (opening ws xs (opened c))
+  starts c ws xs empty pos long wide p q r s = record {
     left_id = 0;
     right_id = 0;
     left = new_end;
     right = new_end;
     wide = wide;
     sized = length-map xs (λ (y : Slot M). some y) ∙ long;
-    flows = zero_words {c = c} _ _ _ _ p q r s (both_start c.rightwards c.leftwards xs pos long);
+    flows = zero_words {c = c} _ _ _ _ p q r s (both_start c.rightwards c.leftwards xs empty pos long);
     each_seat = (λ j u there. let t = only (opened c) u j there in subst (λ (z : View M). Knows c 0 0 new_end new_end j z) t.1 (record { of_left = (λ _. (t.0, refl, refl)); of_right = (λ _. (t.0, refl, refl)) }));
   }

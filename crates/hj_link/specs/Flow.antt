@@ -4,7 +4,11 @@ use mathlib.Core.Option.{Option, some}
 use lib.ListN.{get_elem?}
 use Rattle.hj_base.specs.Journals.{IsPrefix}
 use Rattle.hj_link.specs.declared.table.Slot.{Slot}
-use Rattle.hj_link.specs.declared.table.Slot.TheVariants.{Full}
+use Rattle.hj_link.specs.declared.table.Slot.TheVariants.{Empty, Full}
+
+-- a slot without a message
+abbrev pub IsEmpty : {M : Type 0} → Slot M → Type 0
+IsEmpty slot = (turn : ℕ) × (slot ≡ Empty turn)
 
 -- The ring has `capacity` slots from `base` on; the message of place p, counted from 0, lies in the slot p % capacity of it. A
 -- direction of capacity 0 has no slot, and nothing is ever put.
@@ -26,5 +30,5 @@ pub record Flow {M : Type 0} (capacity base put_word take_word : ℕ) (homes : L
   pub some_there : fetching ≡ true → length got < length known
   -- a published slot that is at home has the message of its place
   pub full : (p : ℕ) (m : M) → length got ≤ p → get_elem? sent p ≡ some m → (p ≡ length got → fetching ≡ false) → (turn : ℕ) × (get_elem? homes (base + p % capacity) ≡ some (some (Full turn m)))
-  -- the slot of a free place is at home unless it is the one that is out for a put
-  pub vacant : (p : ℕ) → length sent ≤ p → p < length got + capacity → (p ≡ length sent → putting ≡ false) → (y : Slot M) × (get_elem? homes (base + p % capacity) ≡ some (some y))
+  -- the slot of a free place is at home and empty unless it is the one that is out for a put
+  pub vacant : (p : ℕ) → length sent ≤ p → p < length got + capacity → (p ≡ length sent → putting ≡ false) → (turn : ℕ) × (get_elem? homes (base + p % capacity) ≡ some (some (Empty turn)))

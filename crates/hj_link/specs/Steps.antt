@@ -95,9 +95,9 @@ module _ {M : Type 0} where
   looks_for_message side m found m' = (put : List M) × (found ≡ length put % 2 ^ 64) × IsPrefix (own side m).known put × (length (got (own side m)) ≤ length put) × (length put ≤ length (got (own side m)) + room_back side m)
       × (m' ≡ (changed side m (saw_puts (own side m) put), m.1))
 
-  -- take out the slot of the next place to put into
+  -- take out the slot of the next place to put into, which is empty
   abbrev pub reserves : Bool → Seated M → Seated M → Type 0
-  reserves side m m' = (old : Slot M) × (m' ≡ (changed side m (set_putting (own side m) true), (put_slot side m, old) ∷ m.1))
+  reserves side m m' = (turn : ℕ) × (m' ≡ (changed side m (set_putting (own side m) true), (put_slot side m, Empty turn) ∷ m.1))
 
   -- the end after it published the slot that was taken out last, whose turn and message are those of the put
   abbrev pub laid : End M → List (ℕ × Slot M) → ℕ → End M

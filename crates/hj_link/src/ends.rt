@@ -42,6 +42,7 @@ impl<M: Drop, D: Side> Model for LinkEnd<M, D> {
 
 impl<M: Drop, D: Side> LinkEnd<M, D> {
     /// Returns whether the next put finds room. If it doesn't, this direction was full at a step of this call.
+    #[inline(always)]
     pub fn room(&mut self) -> bool
         ensures link { (self.new.link ≡ self.old.link) × (self.new.capacity ≡ self.old.capacity) }
         ensures journal { self.new.journal ≡ self.old.journal }
@@ -54,6 +55,7 @@ impl<M: Drop, D: Side> LinkEnd<M, D> {
     }
 
     /// Puts a message under a turn. Hands it back only if this direction was full at a step of this call.
+    #[inline(always)]
     pub fn put(&mut self, turn: u64, message: M) -> Result<(), Full<M>>
         ensures link { (self.new.link ≡ self.old.link) × (self.new.capacity ≡ self.old.capacity) }
         ensures put { OnOk result ((self.new.journal ≡ self.old.journal ++ put turn message ∷ []) × (self.new.full_looks ≡ self.old.full_looks)) }
@@ -68,6 +70,7 @@ impl<M: Drop, D: Side> LinkEnd<M, D> {
     }
 
     /// Takes the oldest message of the other end, under a turn. None only if there was none at a step of this call.
+    #[inline(always)]
     pub fn take(&mut self, turn: u64) -> Option<M>
         ensures link { (self.new.link ≡ self.old.link) × (self.new.capacity ≡ self.old.capacity) }
         ensures taken { IfSome result (λ message. (self.new.journal ≡ self.old.journal ++ taken turn message ∷ []) × (self.new.empty_looks ≡ self.old.empty_looks)) }

@@ -35,6 +35,7 @@ impl Ring {
     }
 
     // Returns the place after this one.
+    #[inline(always)]
     fn following(&self) -> Ring
         requires { self.now.next < self.now.capacity }
         ensures ring { (result.first ≡ self.now.first) × (result.capacity ≡ self.now.capacity) }
@@ -48,6 +49,7 @@ impl Ring {
     }
 }
 
+#[inline(always)]
 fn after(place: usize, capacity: usize) -> usize
     requires { place < capacity }
     ensures { (n : ℕ) → place ≡ n % capacity → result ≡ (n + 1) % capacity }
@@ -99,6 +101,7 @@ impl Outgoing {
     }
 
     // Returns whether the next put finds room. If it doesn't, the direction was full at a step of this call.
+    #[inline(always)]
     pub(crate) fn room<M: Drop, D: Side>(
         &mut self,
         table: &LinkTable<M>,
@@ -124,6 +127,7 @@ impl Outgoing {
     }
 
     // Puts a message under a turn. Hands it back only if the direction was full at a step of this call.
+    #[inline(always)]
     pub(crate) fn put<M: Drop, D: Side>(
         &mut self,
         table: &LinkTable<M>,
@@ -149,13 +153,38 @@ impl Outgoing {
         if !self.room::<M, D>(table, seat) {
             return Err(Full(message));
         }
+        self.put_there::<M, D>(table, seat, turn, message);
+        Ok(())
+    }
+
+    // Puts a message under a turn. There is room for it.
+    #[inline(always)]
+    pub(crate) fn put_there<M: Drop, D: Side>(
+        &mut self,
+        table: &LinkTable<M>,
+        seat: &mut LinkSeat<M>,
+        turn: u64,
+        message: M,
+    )
+        requires table { IsOfLink seat.old.table_id table.now.shared.table_id }
+        requires seat { IsSeated D.is_left seat.old.me }
+        requires half { Outgoes D.is_left seat.old.me self.old }
+        requires room { 0 < self.old.room }
+        ensures table { seat.new.table_id ≡ seat.old.table_id }
+        ensures seat { IsSeated D.is_left seat.new.me }
+        ensures half { Outgoes D.is_left seat.new.me self.new }
+        ensures ring { self.new.ring.capacity ≡ self.old.ring.capacity }
+        ensures takes { KeepsTakes D.is_left seat.old.me seat.new.me }
+        ensures put { journal_of (own D.is_left seat.new.me) ≡ journal_of (own D.is_left seat.old.me) ++ put turn message ∷ [] }
+        ensures looks { (own D.is_left seat.new.me).full_looks ≡ (own D.is_left seat.old.me).full_looks }
+        ensures room { self.new.room + 1 ≡ self.old.room }
+    {
         let puts = self.puts.wrapping_add(1);
         let slot = self.ring.first + self.ring.next;
         steps::put::<M, D>(table, seat, slot, puts, turn, message);
         self.puts = puts;
         self.room -= 1;
         self.ring = self.ring.following();
-        Ok(())
     }
 }
 
@@ -199,6 +228,7 @@ impl Incoming {
     }
 
     // Takes the oldest message, under a turn. None only if there was none at a step of this call.
+    #[inline(always)]
     pub(crate) fn take<M: Drop, D: Side>(
         &mut self,
         table: &LinkTable<M>,

@@ -37,6 +37,7 @@ pub(crate) fn look_for_message<M: Drop, D: Side>(
 }
 
 // Takes out the slot of the next place, and lays the message into it.
+#[inline(always)]
 fn lay<M: Drop, D: Side>(
     table: &LinkTable<M>,
     seat: &mut LinkSeat<M>,
@@ -54,9 +55,13 @@ fn lay<M: Drop, D: Side>(
 {
     let words = D::words();
     table.shared.load::<Reserve<D>>(seat, words.puts);
-    let _old = table.shared.exchange(seat, slot, Slot::Full(turn, message));
+    match table.shared.exchange(seat, slot, Slot::Full(turn, message)) {
+        Slot::Empty(_) => (),
+        Slot::Full(..) => unreachable!(),
+    }
 }
 
+#[inline(always)]
 fn publish_put<M: Drop, D: Side>(table: &LinkTable<M>, seat: &mut LinkSeat<M>, puts: u64)
     requires table { IsOfLink seat.old.table_id table.now.shared.table_id }
     requires laid { IsLaid D.is_left seat.old.me }
@@ -69,6 +74,7 @@ fn publish_put<M: Drop, D: Side>(table: &LinkTable<M>, seat: &mut LinkSeat<M>, p
 }
 
 // Puts a message into the slot of the next place; `puts` counts it too, modulo 2^64.
+#[inline(always)]
 pub(crate) fn put<M: Drop, D: Side>(
     table: &LinkTable<M>,
     seat: &mut LinkSeat<M>,
@@ -90,6 +96,7 @@ pub(crate) fn put<M: Drop, D: Side>(
 }
 
 // Takes out the slot of the next known put, and its message out of it.
+#[inline(always)]
 fn fetch<M: Drop, D: Side>(
     table: &LinkTable<M>,
     seat: &mut LinkSeat<M>,
@@ -113,6 +120,7 @@ fn fetch<M: Drop, D: Side>(
     }
 }
 
+#[inline(always)]
 fn publish_take<M: Drop, D: Side>(table: &LinkTable<M>, seat: &mut LinkSeat<M>, takes: u64)
     requires table { IsOfLink seat.old.table_id table.now.shared.table_id }
     requires emptied { IsEmptied D.is_left seat.old.me }
@@ -127,6 +135,7 @@ fn publish_take<M: Drop, D: Side>(table: &LinkTable<M>, seat: &mut LinkSeat<M>, 
 }
 
 // Takes the message out of the slot of the next place; `takes` counts it too, modulo 2^64.
+#[inline(always)]
 pub(crate) fn take<M: Drop, D: Side>(
     table: &LinkTable<M>,
     seat: &mut LinkSeat<M>,

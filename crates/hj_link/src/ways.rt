@@ -35,6 +35,7 @@ impl<M: Drop> Model for Sender<M> {
 
 impl<M: Drop> Sender<M> {
     /// Returns whether the next put finds room. If it doesn't, the link was full at a step of this call.
+    #[inline(always)]
     pub fn room(&mut self) -> bool
         ensures link { (self.new.link ≡ self.old.link) × (self.new.capacity ≡ self.old.capacity) }
         ensures journal { self.new.journal ≡ self.old.journal }
@@ -46,6 +47,7 @@ impl<M: Drop> Sender<M> {
     }
 
     /// Puts a message under a turn. Hands it back only if the link was full at a step of this call.
+    #[inline(always)]
     pub fn put(&mut self, turn: u64, message: M) -> Result<(), Full<M>>
         ensures link { (self.new.link ≡ self.old.link) × (self.new.capacity ≡ self.old.capacity) }
         ensures put { OnOk result ((self.new.journal ≡ self.old.journal ++ put turn message ∷ []) × (self.new.full_looks ≡ self.old.full_looks)) }
@@ -54,8 +56,24 @@ impl<M: Drop> Sender<M> {
         ensures same { OnErr result (self.new.journal ≡ self.old.journal) }
         ensures full { OnErr result ((self.old.room ≡ 0) × (self.new.room ≡ 0) × (self.new.full_looks ≡ self.old.full_looks + 1)) }
     {
+        if !self.room() {
+            return Err(Full(message));
+        }
+        self.put_there(turn, message);
+        Ok(())
+    }
+
+    // Puts a message under a turn. There is room for it.
+    // Called, since what goes one way may be large.
+    #[inline(never)]
+    fn put_there(&mut self, turn: u64, message: M)
+        requires { 0 < self.old.room }
+        ensures link { (self.new.link ≡ self.old.link) × (self.new.capacity ≡ self.old.capacity) }
+        ensures put { (self.new.journal ≡ self.old.journal ++ put turn message ∷ []) × (self.new.full_looks ≡ self.old.full_looks) }
+        ensures room { self.new.room + 1 ≡ self.old.room }
+    {
         self.outgoing
-            .put::<M, OnLeft>(&self.table, &mut self.seat, turn, message)
+            .put_there::<M, OnLeft>(&self.table, &mut self.seat, turn, message);
     }
 }
 
@@ -77,6 +95,7 @@ impl<M: Drop> Model for Receiver<M> {
 
 impl<M: Drop> Receiver<M> {
     /// Takes the oldest message, under a turn. None only if there was none at a step of this call.
+    #[inline(always)]
     pub fn take(&mut self, turn: u64) -> Option<M>
         ensures link { (self.new.link ≡ self.old.link) × (self.new.capacity ≡ self.old.capacity) }
         ensures taken { IfSome result (λ message. (self.new.journal ≡ self.old.journal ++ taken turn message ∷ []) × (self.new.empty_looks ≡ self.old.empty_looks)) }

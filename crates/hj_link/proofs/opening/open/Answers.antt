@@ -1,9 +1,21 @@
-use Rattle.std.proofs.Common.{rules, ap}
+use Rattle.std.proofs.Common.{All, rules, ap, refl, subst, sym}
+use Rattle.std.proofs.lemmas.List.Elements.{All-push}
+use Rattle.hj_link.specs.declared.table.Slot.TheVariants.{Empty}
+use Rattle.hj_link.specs.Flow.{IsEmpty}
 use Rattle.hj_link.proofs.Seats.{starts, splits}
 use Rattle.hj_link.proofs.opening.open.Goals as goal
 
+pub loop-preserved : goal.loop-preserved
+loop-preserved g c = (
+  search rules,
+  search rules,
+  search rules,
+  search rules,
+  subst (All IsEmpty) (sym c.push_reserved.ensures.items) (All-push IsEmpty c.loop.slots.items (Empty 0) c.loop.invariant.4 (0, refl)),
+)
+
 pub new-requires : goal.new-requires
-new-requires g c = starts _ _ _ c.requires.0 (search rules) (search rules) (search rules) (search rules) (search rules) (search rules)
+new-requires g c = starts _ _ _ c.loop.invariant.4 c.requires.0 (search rules) (search rules) (search rules) (search rules) (search rules) (search rules)
 
 pub split_seat-right-requires : goal.split_seat-right-requires
 split_seat-right-requires g c = let ok = c.in-Ok.ensures.ok in
