@@ -1,5 +1,5 @@
 -- What a call does, put together from what its parts did.
-use Rattle.std.proofs.Common.{◌≡◌, None, Option, ℕ, ◌+◌, ◌-◌, ◌<◌, Bool, false, List, [], ◌∷◌, ◌++◌, length, refl, ap, ap₂, sym, ◌∙◌, subst, arith, append-nil}
+use Rattle.std.proofs.Common.{◌≡◌, None, Some, Option, ℕ, ◌+◌, ◌-◌, ◌<◌, Bool, false, List, [], ◌∷◌, ◌++◌, length, refl, ap, ap₂, sym, ◌∙◌, subst, arith, append-nil}
 use Rattle.hj_base.specs.declared.numbers.Side.{Side}
 use Rattle.hj_base.specs.declared.numbers.Side.TheVariants.{Left, Right}
 use Rattle.hj_base.specs.Journals.{put}
@@ -9,19 +9,20 @@ use Rattle.hj_msg.specs.declared.message.Report.TheVariants.{NoMemory}
 use Rattle.hj_msg.specs.Core as step
 use Rattle.hj_core.specs.declared.sends.Sends.{Sends}
 use Rattle.hj_core.specs.declared.way.Way.{Way}
+use Rattle.hj_core.specs.declared.way.Way.TheVariants.{Left as ToLeft, Right as ToRight}
 use Rattle.hj_core.specs.Contents.{Contents, KeepsPlace}
-use Rattle.hj_core.specs.Sent.{passed_on, sent}
+use Rattle.hj_core.specs.Sent.{sent}
 use Rattle.hj_link.specs.Seen.{EndSeen, SenderSeen}
 use Rattle.hj_worker.specs.declared.answers.Place.{Place}
 use Rattle.hj_worker.specs.declared.answers.Place.TheVariants.{Link, Reports}
 use Rattle.hj_worker.specs.declared.ends.Ends.{Ends}
 use Rattle.hj_worker.specs.declared.hand.Hand.{Hand}
 use Rattle.hj_worker.specs.declared.hand.Hand.TheVariants.{Nothing, Rest, Refused}
-use Rattle.hj_worker.specs.Outgoing.{Outgoing, Journals, in_order, outgoing, passed, with_puts, with_take}
+use Rattle.hj_worker.specs.Outgoing.{Outgoing, Journals, leftwards, rightwards, reported, in_order, outgoing, passed, with_puts, with_take}
 use Rattle.hj_worker.specs.Hands.{InHand, unput, in_hand, things_of}
 use Rattle.hj_worker.specs.Seen.{WorkerSeen, journals_of, full_looks, has_ended}
 use Rattle.hj_worker.specs.Standing.{Begins, IsBetween, IsInTheMidst, IsOutOfMemory, Stands}
-use Rattle.hj_worker.specs.Turning.{AreBlocked, FindsNone, Handles, Puts, PutsInHand, Takes}
+use Rattle.hj_worker.specs.Turning.{AreBlocked, FindsNone, Handles, LeavesInHand, Puts, PutsInHand, RunsOut, Takes}
 use Rattle.hj_worker.proofs.Standings.{unput-is, refused-isnt, none-left, finished}
 
 module _ {P : Type 0} (matches : P → P → Bool) (place n : ℕ) where
@@ -84,6 +85,23 @@ module _ {P : Type 0} where
   pub puts-all : (number : ℕ) (items : List (Outgoing P)) (old new : Journals P) → new ≡ with_puts number old items → Puts number items old [] new
   puts-all number items old new is = record { done = items; all = sym (append-nil items); journals = is }
 
+  -- a message to be passed on for which there was no room is in hand
+  pub left-kept : (number : ℕ) (old : Ends P) (end : EndSeen (Msg P)) (way : Way) (message back : Msg P) (hand : Hand P) → way ≡ ToLeft → back ≡ message → end.journal ≡ old.left.journal → end.full_looks ≡ old.left.full_looks + 1
+      → hand ≡ Rest (record { to_left = Some back; to_right = None; to_right_then = None; entry = None }) → LeavesInHand number (passed way message) old hand (record old { left = end })
+  left-kept number old end way message back hand way_is back_is same full hand_is =
+      subst (λ (h : Hand P). LeavesInHand number (passed way message) old h (record old { left = end })) (sym hand_is)
+      (subst (λ (w : Way). LeavesInHand number (passed w message) old (Rest (record { to_left = Some back; to_right = None; to_right_then = None; entry = None })) (record old { left = end })) (sym way_is)
+      (subst (λ (m : Msg P). LeavesInHand number (passed ToLeft message) old (Rest (record { to_left = Some m; to_right = None; to_right_then = None; entry = None })) (record old { left = end })) (sym back_is)
+      (record { done = []; all = refl; journals = ap (λ j. record (journals_of old) { left = j }) same }, (Link Left, record { first = leftwards message; later = []; are = refl; at = refl; full = full }))))
+
+  pub right-kept : (number : ℕ) (old : Ends P) (end : EndSeen (Msg P)) (way : Way) (message back : Msg P) (hand : Hand P) → way ≡ ToRight → back ≡ message → end.journal ≡ old.right.journal → end.full_looks ≡ old.right.full_looks + 1
+      → hand ≡ Rest (record { to_left = None; to_right = Some back; to_right_then = None; entry = None }) → LeavesInHand number (passed way message) old hand (record old { right = end })
+  right-kept number old end way message back hand way_is back_is same full hand_is =
+      subst (λ (h : Hand P). LeavesInHand number (passed way message) old h (record old { right = end })) (sym hand_is)
+      (subst (λ (w : Way). LeavesInHand number (passed w message) old (Rest (record { to_left = None; to_right = Some back; to_right_then = None; entry = None })) (record old { right = end })) (sym way_is)
+      (subst (λ (m : Msg P). LeavesInHand number (passed ToRight message) old (Rest (record { to_left = None; to_right = Some m; to_right_then = None; entry = None })) (record old { right = end })) (sym back_is)
+      (record { done = []; all = refl; journals = ap (λ j. record (journals_of old) { right = j }) same }, (Link Right, record { first = rightwards message; later = []; are = refl; at = refl; full = full }))))
+
 module _ {P J L R : Type 0} (predicate : J → P → P → Bool) (rows : Contents P J L R → step.State P) where
   -- what is seen of a worker
   abbrev pub seen : Contents P J L R → Ends P → InHand P → ℕ → ℕ → WorkerSeen P J
@@ -129,9 +147,12 @@ module _ {P J L R : Type 0} (predicate : J → P → P → Bool) (rows : Content
         state = state_is;
       })
 
-  pub handed-on : (core new : Contents P J L R) (message : Msg P) (way : Way) → KeepsPlace core new → rows new ≡ step.after core.place core.cores (rows core) message
-      → step.sends core.place core.cores message ≡ passed_on way message → step.report (predicate core.join) (rows core) message ≡ None → Handled core new message (passed way message)
-  handed-on core new message way kept state_is sent_is entry_is = record { kept = kept; things = ap₂ (λ s e. in_order s e) (sym sent_is) (sym entry_is); state = state_is }
+  -- What the core made of it is what it sends and reports.
+  pub made : (core new : Contents P J L R) (message : Msg P) (sends : Sends P) → KeepsPlace core new → rows new ≡ step.after core.place core.cores (rows core) message → sent sends ≡ step.sends new.place new.cores message
+      → (entry : Option (Report P)) → sends.entry ≡ entry → entry ≡ step.report (predicate core.join) (rows core) message → (number : ℕ) (old last : Ends P) (hand : Hand P) → LeavesInHand number (things_of sends) old hand last
+      → LeavesInHand number (outgoing (predicate core.join) core.place core.cores (rows core) message) old hand last
+  made core new message sends kept state_is sent_is entry entry_is report_is number old last hand =
+      subst (λ items. LeavesInHand number items old hand last) (handled core core new message sends refl kept state_is sent_is entry entry_is report_is).things
 
   -- All that it made of the message was put.
   pub all_put : {core new : Contents P J L R} {number : ℕ} {first : Side} {message : Msg P} {old mid : Ends P} {items : List (Outgoing P)} (last : Journals P) → Took core number first message old mid → Handled core new message items
@@ -176,6 +197,22 @@ module _ {P J L R : Type 0} (predicate : J → P → P → Bool) (rows : Content
         taken = refl;
       })
 
+  -- What it made of the message was put, or is in hand.
+  pub leaves : {core new : Contents P J L R} {number : ℕ} {first : Side} {message : Msg P} {old mid : Ends P} {items : List (Outgoing P)} (last : Ends P) (hand : Hand P) → Took core number first message old mid
+      → Handled core new message items → LeavesInHand number items mid hand last → Stands (predicate new.join) new.place new.cores (rows new) (journals_of last) (number + 1) hand
+  leaves last Nothing taken done all = all_put (journals_of last) taken done all
+  leaves {mid = mid} last (Rest sends) taken done left = some_left (things_of sends) (journals_of last) taken done left.0 (some-blocked left.1.0 (things_of sends) mid last left.1.1)
+  leaves last (Refused message) taken done left = absurd left
+
+  pub handles-leaving : {core new : Contents P J L R} {number : ℕ} {first : Side} {message : Msg P} {ends mid : Ends P} {items : List (Outgoing P)} (old : WorkerSeen P J) (last : Ends P) (before : InHand P) (hand : Hand P)
+      (calls calls' : ℕ) → seen core ends before number calls ≡ old → Took core number first message ends mid → Handled core new message items → LeavesInHand number items mid hand last
+      → ((place : Place) → full_looks place mid ≡ full_looks place ends) → Handles (predicate old.join) first old (seen new last (in_hand hand) (number + 1) calls')
+  handles-leaving {number = number} {mid = mid} {items = items} old last before Nothing calls calls' is taken done all same =
+      handles old last [] before (unput []) calls calls' is taken done (puts-all number items (journals_of mid) (journals_of last) all) (λ some. absurd (omega arith)) refl
+  handles-leaving {ends = ends} {mid = mid} old last before (Rest sends) calls calls' is taken done left same =
+      handles old last (things_of sends) before (unput (things_of sends)) calls calls' is taken done left.0 (λ some. (left.1.0, blocked-since left.1.0 (things_of sends) ends mid last (same left.1.0) left.1.1)) refl
+  handles-leaving old last before (Refused message) calls calls' is taken done left same = absurd left
+
   -- Memory ran out.
   pub ran_out : {core : Contents P J L R} {number : ℕ} {first : Side} {message : Msg P} {old mid : Ends P} (prepared : Contents P J L R) (reports : SenderSeen (Report P)) → Took core number first message old mid
       → KeepsPlace core prepared → rows prepared ≡ rows core → reports.journal ≡ mid.reports.journal ++ put number NoMemory ∷ []
@@ -183,6 +220,32 @@ module _ {P J L R : Type 0} (predicate : J → P → P → Bool) (rows : Content
   ran_out {core = core} {number = number} {message = message} {mid = mid} prepared reports took kept same put_is =
       kept-core (λ m p n s. IsOutOfMemory m p n s (journals_of (record mid { reports = reports })) (number + 1) message) core prepared (rows core) kept same
       (record { number = number; begun = journals_of mid; begins = took.begins; put = ap (λ rs. record (journals_of mid) { reports = rs }) put_is; counted = refl })
+
+  -- The message is in hand then, and a report of it alone was put.
+  pub stands-out : {core : Contents P J L R} {number : ℕ} {first : Side} {message : Msg P} {old mid : Ends P} (new : Contents P J L R) (last : Ends P) (hand : Hand P) (reports : SenderSeen (Report P)) → Took core number first message old mid
+      → KeepsPlace core new → hand ≡ Refused message → rows new ≡ rows core → last ≡ mid → reports.journal ≡ last.reports.journal ++ put number NoMemory ∷ []
+      → Stands (predicate new.join) new.place new.cores (rows new) (journals_of (record last { reports = reports })) (number + 1) hand
+  stands-out {number = number} {message = message} new last hand reports took kept hand_is same last_is put_is =
+      subst (λ (h : Hand P). Stands (predicate new.join) new.place new.cores (rows new) (journals_of (record last { reports = reports })) (number + 1) h) (sym hand_is)
+      (subst (λ (e : Ends P). reports.journal ≡ e.reports.journal ++ put number NoMemory ∷ [] → IsOutOfMemory (predicate new.join) new.place new.cores (rows new) (journals_of (record e { reports = reports })) (number + 1) message)
+      (sym last_is) (λ put_here. ran_out new reports took kept same put_here) put_is)
+
+  pub runs-out : {core : Contents P J L R} {number : ℕ} {first : Side} {message : Msg P} {ends mid : Ends P} (old : WorkerSeen P J) (new : Contents P J L R) (last : Ends P) (before : InHand P) (hand : Hand P) (reports : SenderSeen (Report P))
+      (calls calls' : ℕ) → seen core ends before number calls ≡ old → Took core number first message ends mid → hand ≡ Refused message → rows new ≡ rows core → last ≡ mid
+      → reports.journal ≡ last.reports.journal ++ put number NoMemory ∷ [] → RunsOut first old (seen new (record last { reports = reports }) (in_hand hand) (number + 1) calls')
+  runs-out {number = number} {first = first} {message = message} {mid = mid} old new last before hand reports calls calls' is took hand_is same last_is put_is =
+      subst (λ (v : WorkerSeen P J). RunsOut first v (seen new (record last { reports = reports }) (in_hand hand) (number + 1) calls')) is
+      (record {
+        message = message;
+        between = mid;
+        takes = took.takes;
+        journals =
+            subst (λ (e : Ends P). reports.journal ≡ e.reports.journal ++ put number NoMemory ∷ [] → journals_of (record e { reports = reports }) ≡ with_puts number (journals_of mid) (reported NoMemory ∷ [])) (sym last_is)
+            (λ put_here. ap (λ rs. record (journals_of mid) { reports = rs }) put_here) put_is;
+        state = same;
+        hand = ap in_hand hand_is;
+        taken = refl;
+      })
 
   -- What was in hand was put, up to these others.
   pub puts-in_hand : (core : Contents P J L R) (old : WorkerSeen P J) (ends last : Ends P) (hand hand' : InHand P) (taken calls : ℕ) (items others : List (Outgoing P)) → seen core ends hand taken calls ≡ old

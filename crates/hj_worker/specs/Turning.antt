@@ -11,7 +11,9 @@ use Rattle.hj_worker.specs.declared.answers.Turn.{Turn}
 use Rattle.hj_worker.specs.declared.answers.Turn.TheVariants.{Did, Idle, Blocked, Ended, NoMemory}
 use Rattle.hj_worker.specs.declared.ends.Ends.{Ends}
 use Rattle.hj_worker.specs.Outgoing.{Outgoing, Journals, reported, outgoing, with_puts, with_take}
-use Rattle.hj_worker.specs.Hands.{unput, refused}
+use Rattle.hj_worker.specs.declared.hand.Hand.{Hand}
+use Rattle.hj_worker.specs.declared.hand.Hand.TheVariants.{Nothing, Rest, Refused}
+use Rattle.hj_worker.specs.Hands.{unput, refused, things_of}
 use Rattle.hj_worker.specs.Seen.{WorkerSeen, journals_of, place_of, full_looks, empty_looks, other_end}
 
 module _ {P : Type 0} where
@@ -34,6 +36,12 @@ module _ {P : Type 0} where
     pub are : items ≡ first ∷ later
     pub at : place_of first ≡ place
     pub full : full_looks place new ≡ full_looks place old + 1
+
+  -- Of some things the first ones were put under the number of a turn, and those that weren't are in hand.
+  abbrev pub LeavesInHand : ℕ → List (Outgoing P) → Ends P → Hand P → Ends P → Type 0
+  LeavesInHand number items old Nothing new = journals_of new ≡ with_puts number (journals_of old) items
+  LeavesInHand number items old (Rest sends) new = Puts number items (journals_of old) (things_of sends) (journals_of new) × ((place : Place) × AreBlocked place (things_of sends) old new)
+  LeavesInHand number items old (Refused message) new = ⊥
 
   -- a look at an end found nothing to take
   abbrev pub FindsNone : Side → Ends P → Ends P → Type 0

@@ -1,8 +1,10 @@
 //! The ends of a worker.
-ghost use Rattle.std.specs.Prelude.{◌≡◌, ◌+◌, ◌<◌, ◌++◌, [], map, option_to_list, Some, IfSome, IfNone, MatchOption};
+ghost use Rattle.std.specs.Prelude.{◌≡◌, ◌+◌, ◌<◌, ◌++◌, [], map, option_to_list, Some, None, IfSome, IfNone, MatchOption};
 ghost use Rattle.hj_base.specs.Journals.{put};
+ghost use Rattle.hj_worker.specs.declared.hand.Hand.TheVariants.{Nothing, Rest};
 
 use crate::answers::Place;
+use crate::hand::Hand;
 use hj_base::Side;
 use hj_core::{Sends, Way};
 use hj_link::{Full, LeftEnd, RightEnd, Sender};
@@ -31,7 +33,7 @@ impl<P: Drop> Ends<P> {
     ghost use Rattle.hj_worker.specs.Hands.{things_of};
     ghost use Rattle.hj_worker.specs.Outgoing.{passed, with_puts};
     ghost use Rattle.hj_worker.specs.Seen.{journals_of};
-    ghost use Rattle.hj_worker.specs.Turning.{KeepsLinks, Puts, AreBlocked, FindsNone, Takes};
+    ghost use Rattle.hj_worker.specs.Turning.{KeepsLinks, Puts, AreBlocked, FindsNone, Takes, LeavesInHand};
 
     /// Takes a message under a turn. Looks at the link on the side `first`, and only if that has none at the other one.
     #[inline(always)]
@@ -54,40 +56,37 @@ impl<P: Drop> Ends<P> {
         }
     }
 
-    /// Puts a message that goes on this way. Returns it where there was no room for it.
+    /// Puts a message that goes on this way. Where there was no room for it, it is in hand afterwards.
     #[inline(always)]
-    pub(crate) fn pass_on(&mut self, turn: u64, way: Way, message: Msg<P>) -> Option<Unput<P>>
+    pub(crate) fn pass_on(&mut self, hand: &mut Hand<P>, turn: u64, way: Way, message: Msg<P>)
+        requires { hand.old ≡ Nothing }
         ensures links { KeepsLinks self.old self.new }
-        ensures all { IfNone result (journals_of self.new ≡ with_puts turn (journals_of self.old) (passed way message)) }
-        ensures some { IfSome result (λ unput. Puts turn (passed way message) (journals_of self.old) (things_of unput.sends) (journals_of self.new)) }
-        ensures blocked { IfSome result (λ unput. AreBlocked unput.place (things_of unput.sends) self.old self.new) }
+        ensures puts { LeavesInHand turn (passed way message) self.old hand.new self.new }
     {
         match way {
             Way::Left => {
-                let message = put_left(&mut self.left, turn, Some(message))?;
-                Some(Unput {
-                    place: Place::Link(Side::Left),
-                    sends: Sends {
-                        to_left: Some(message),
-                        to_right: None,
-                        to_right_then: None,
-                        entry: None,
-                    },
-                })
+                if let Err(Full(message)) = self.left.put(turn, message) {
+                    keep_for_left(hand, message);
+                }
             }
             Way::Right => {
-                let message = put_right(&mut self.right, turn, Some(message))?;
-                Some(Unput {
-                    place: Place::Link(Side::Right),
-                    sends: Sends {
-                        to_left: None,
-                        to_right: Some(message),
-                        to_right_then: None,
-                        entry: None,
-                    },
-                })
+                if let Err(Full(message)) = self.right.put(turn, message) {
+                    keep_for_right(hand, message);
+                }
             }
-            Way::Nowhere => None,
+            Way::Nowhere => (),
+        }
+    }
+
+    /// Puts what a core makes of a message, in order, up to the first full place. The rest is in hand afterwards.
+    #[inline(always)]
+    pub(crate) fn put_made(&mut self, hand: &mut Hand<P>, turn: u64, sends: Sends<P>)
+        requires { hand.old ≡ Nothing }
+        ensures links { KeepsLinks self.old self.new }
+        ensures puts { LeavesInHand turn (things_of sends) self.old hand.new self.new }
+    {
+        if let Some(unput) = self.put_all(turn, sends) {
+            *hand = Hand::Rest(unput.sends);
         }
     }
 
@@ -151,6 +150,33 @@ impl<P: Drop> Ends<P> {
         }
         None
     }
+}
+
+/// Keeps a message that is to go to the left.
+// Called, since the room of all that may be in hand is cleared where a function begins.
+#[cold]
+fn keep_for_left<P: Drop>(hand: &mut Hand<P>, message: Msg<P>)
+    ensures { hand.new ≡ Rest (record { to_left = Some message; to_right = None; to_right_then = None; entry = None }) }
+{
+    *hand = Hand::Rest(Sends {
+        to_left: Some(message),
+        to_right: None,
+        to_right_then: None,
+        entry: None,
+    });
+}
+
+/// Keeps a message that is to go to the right.
+#[cold]
+fn keep_for_right<P: Drop>(hand: &mut Hand<P>, message: Msg<P>)
+    ensures { hand.new ≡ Rest (record { to_left = None; to_right = Some message; to_right_then = None; entry = None }) }
+{
+    *hand = Hand::Rest(Sends {
+        to_left: None,
+        to_right: Some(message),
+        to_right_then: None,
+        entry: None,
+    });
 }
 
 /// Puts a message, if there is one. Hands it back if the link is full.

@@ -4,6 +4,7 @@
 mod answers;
 mod ends;
 mod hand;
+mod messages;
 mod worker;
 
 pub use answers::{Place, Turn};

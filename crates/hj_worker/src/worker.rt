@@ -1,10 +1,13 @@
+ghost use Rattle.hj_base.specs.Journals.{put};
+ghost use Rattle.hj_msg.specs.declared.message.Report.TheVariants.{NoMemory};
 ghost use Rattle.hj_worker.specs.Seen.{first_end};
-ghost use Rattle.std.specs.Prelude.{◌≡◌, ◌≢◌, ◌+◌, ◌-◌, ◌^◌, ◌<◌, ◌==◌, ◌↔◌, [], true, false, min, length, None, Contains};
+ghost use Rattle.std.specs.Prelude.{◌≡◌, ◌≢◌, ◌+◌, ◌-◌, ◌^◌, ◌<◌, ◌==◌, ◌↔◌, ◌∷◌, ◌++◌, [], true, false, min, length, None, Contains};
 
 use crate::answers::{Place, Turn};
 use crate::ends::Ends;
 use crate::hand::Hand;
-use hj_base::{CoreNo, Gate, Share, Side};
+use crate::messages::handle;
+use hj_base::{CoreNo, Gate, Memory, Share, Side};
 use hj_core::Core;
 use hj_link::{LeftEnd, RightEnd, Sender};
 use hj_msg::{Join, Msg, Report, Store};
@@ -204,31 +207,33 @@ impl<P: Share + Drop, J: Join<P> + Drop, L: Store<P, J> + Drop, R: Store<P, J> +
             return Turn::Idle;
         };
         self.taken = number + 1;
-        if let Some(way) = self.core.pass(&message) {
-            return match self.ends.pass_on(number, way, message) {
-                None => Turn::Did,
-                Some(unput) => {
-                    self.hand = Hand::Rest(unput.sends);
-                    Turn::Did
-                }
-            };
-        }
-        let Ok(entry) = self.core.handle(&message) else {
-            let Ok(()) = self.ends.reports.put(number, Report::NoMemory) else {
-                unreachable!()
-            };
-            self.hand = Hand::Refused(message);
-            return Turn::NoMemory;
-        };
-        let sends = self.core.answer(message, entry);
-        match self.ends.put_all(number, sends) {
-            None => Turn::Did,
-            Some(unput) => {
-                self.hand = Hand::Rest(unput.sends);
-                Turn::Did
+        let handled = handle(
+            &mut self.core,
+            &mut self.ends,
+            &mut self.hand,
+            number,
+            message,
+        );
+        match handled {
+            Ok(()) => Turn::Did,
+            Err(Memory) => {
+                report_no_memory(&mut self.ends.reports, number);
+                Turn::NoMemory
             }
         }
     }
+}
+
+/// Reports under a turn that memory ran out. There is room for it.
+#[cold]
+fn report_no_memory<P: Drop>(reports: &mut Sender<Report<P>>, turn: u64)
+    requires { 0 < reports.old.room }
+    ensures link { (reports.new.link ≡ reports.old.link) × (reports.new.capacity ≡ reports.old.capacity) }
+    ensures put { reports.new.journal ≡ reports.old.journal ++ put turn NoMemory ∷ [] }
+{
+    let Ok(()) = reports.put(turn, Report::NoMemory) else {
+        unreachable!()
+    };
 }
 
 /// Returns the side of the link at which a call looks first, after `calls` earlier ones.
