@@ -9,16 +9,17 @@ use std::process::Abort;
 
 /// Makes a row of a number, and of the text after it if there is one.
 fn row(rt: &impl Abort, alloc: Global, text: &str) -> Row {
+    let (number, text) = text.split_once(' ').unwrap_or((text, ""));
     let mut row = Row::new(alloc);
-    match text.split_once(' ') {
-        Some((number, text)) => {
-            row.push(field(rt, number)).expect(rt, "memory");
-            let text = spelled(rt, alloc, text);
-            row.push(text_field(rt, &text)).expect(rt, "memory");
-        }
-        None => row.push(field(rt, text)).expect(rt, "memory"),
+    row.push(field(rt, number)).expect(rt, "memory");
+    if !text.is_empty() {
+        push_text(rt, &mut row, &spelled(rt, alloc, text));
     }
     row
+}
+
+fn push_text(rt: &impl Abort, row: &mut Row, text: &[u8]) {
+    row.push(text_field(rt, text)).expect(rt, "memory");
 }
 
 /// Both rows, and their line.
@@ -45,28 +46,35 @@ fn writes(
     same(rt, "a filled line", filled, want);
 }
 
+/// Makes the rows of a case, and asserts what their line is.
+fn writes_case(rt: &impl Abort, alloc: Global, filled: &mut Vec<u8>, case: &str) {
+    let (left, behind) = case.split_once(" | ").expect(rt, "a case");
+    let (right, want) = behind.split_once(" | ").expect(rt, "a line");
+    let (left, right) = (row(rt, alloc, left), row(rt, alloc, right));
+    writes(rt, alloc, filled, &left, &right, &spelled(rt, alloc, want));
+}
+
 #[test]
 fn writes_lines(rt: HostRuntime) {
     let mut filled = Vec::new(rt.alloc());
     for case in LINES.lines() {
-        let (left, behind) = case.split_once(" | ").expect(&rt, "a case");
-        let (right, want) = behind.split_once(" | ").expect(&rt, "a line");
-        let left = row(&rt, rt.alloc(), left);
-        let right = row(&rt, rt.alloc(), right);
-        let want = spelled(&rt, rt.alloc(), want);
-        writes(&rt, rt.alloc(), &mut filled, &left, &right, &want);
+        writes_case(&rt, rt.alloc(), &mut filled, case);
     }
+}
+
+/// Asserts what the lines of a row of no fields and of a row of an empty text are.
+fn writes_no_bytes(rt: &impl Abort, alloc: Global, none: &Row, empty: &Row) {
+    let mut filled = Vec::new(alloc);
+    writes(rt, alloc, &mut filled, none, none, b"\"\"\n");
+    writes(rt, alloc, &mut filled, empty, none, b"\"\"\n");
+    fill_line(&mut filled, empty, empty).expect(rt, "memory");
+    same(rt, "a comma", &filled, b",\n");
 }
 
 #[test]
 fn writes_a_record_of_no_bytes(rt: HostRuntime) {
     let none = Row::new(rt.alloc());
     let mut empty = Row::new(rt.alloc());
-    empty.push(text_field(&rt, b"")).expect(&rt, "memory");
-    let mut filled = Vec::new(rt.alloc());
-    let want = b"\"\"\n";
-    writes(&rt, rt.alloc(), &mut filled, &none, &none, want);
-    writes(&rt, rt.alloc(), &mut filled, &empty, &none, want);
-    fill_line(&mut filled, &empty, &empty).expect(&rt, "memory");
-    same(&rt, "a comma", &filled, b",\n");
+    push_text(&rt, &mut empty, b"");
+    writes_no_bytes(&rt, rt.alloc(), &none, &empty);
 }

@@ -1,11 +1,11 @@
 //! Contents and sinks in memory, draws, bytes and texts.
 
-ghost use Rattle.std.specs.Prelude.{◌≡◌, ◌<◌, length};
+ghost use Rattle.std.specs.Prelude.{◌≡◌, ◌<◌, ◌≤◌, length};
 ghost use Rattle.hj_base.specs.MemOutside.{role_at};
 ghost use Rattle.hj_base.specs.Outside.{unbegun, IsOpen, ChangesOnly};
 ghost use Rattle.hj_base.specs.declared.outside.Role.TheVariants as role;
 
-use crate::texts::{same, spelled};
+use crate::texts::{same, shows, spelled};
 use hj_base::{
     Bytes, CoreNo, Gate, Got, Lcg, MemOutside, MemSink, OpenGate, Opened, Outside, Role, Side,
     Sink, TextBytes,
@@ -24,8 +24,7 @@ fn writes(rt: &impl Abort, alloc: Global, sink: &mut MemSink, line: &str) {
     let (piece, want) = line.split_once(' ').expect(rt, "an answer");
     assert!(rt; !piece.is_empty());
     let put = sink.write(piece.as_bytes());
-    let found = format!(in alloc; "{put:?}").expect(rt, "memory");
-    same(rt, line, found.as_bytes(), want.as_bytes());
+    shows(rt, alloc, line, &put, want.as_bytes());
 }
 
 #[test]
@@ -82,31 +81,24 @@ fn reads<O: Outside>(rt: &impl Abort, outside: &mut O, role: Role, buf: &mut [u8
     }
 }
 
-/// Makes an outside of one name, of which a read gives one byte.
-fn one_name(rt: &impl Abort, alloc: Global) -> MemOutside
+/// Makes an outside of one name, of which a read gives at most `chunk` bytes.
+fn one_name(rt: &impl Abort, alloc: Global, chunk: usize) -> MemOutside
+    requires { 1 ≤ chunk }
     ensures left { (role_at result role.Left).phase ≡ unbegun }
     ensures right { (role_at result role.Right).phase ≡ unbegun }
     ensures query { (role_at result role.Query).phase ≡ unbegun }
 {
-    let mut outside = MemOutside::new(alloc, 1);
+    let mut outside = MemOutside::new(alloc, chunk);
     outside.add("ab.csv", b"ab").expect(rt, "memory");
     outside
 }
 
-#[test]
-fn reads_each_byte_to_the_end(rt: HostRuntime) {
-    let mut outside = one_name(&rt, rt.alloc());
-    starts(&rt, &mut outside, Role::Left, "ab.csv");
-    let mut buf = [0; 4];
-    reads(&rt, &mut outside, Role::Left, &mut buf, "a b end end");
-}
-
-/// Makes an outside with no contents, of which a read gives nine bytes.
-fn nothing_begun(alloc: Global) -> MemOutside
-    ensures left { (role_at result role.Left).phase ≡ unbegun }
-    ensures right { (role_at result role.Right).phase ≡ unbegun }
+fn reads_to_the_end<O: Outside>(rt: &impl Abort, outside: &mut O)
+    requires { (O.state outside.old role.Left).phase ≡ unbegun }
 {
-    MemOutside::new(alloc, 9)
+    starts(rt, outside, Role::Left, "ab.csv");
+    let mut buf = [0; 4];
+    reads(rt, outside, Role::Left, &mut buf, "a b end end");
 }
 
 /// Puts bytes under a name, in place of those that were there.
@@ -117,22 +109,99 @@ fn puts(rt: &impl Abort, outside: &mut MemOutside, bytes: &[u8])
     outside.add("l", bytes).expect(rt, "memory");
 }
 
+/// Starts both sides under one name, whose bytes are replaced in between.
+fn reads_what_stood(rt: &impl Abort, outside: &mut MemOutside)
+    requires left { (role_at outside.old role.Left).phase ≡ unbegun }
+    requires right { (role_at outside.old role.Right).phase ≡ unbegun }
+{
+    puts(rt, outside, b"old");
+    starts(rt, outside, Role::Left, "l");
+    puts(rt, outside, b"newer");
+    starts(rt, outside, Role::Right, "l");
+    reads_each(rt, outside);
+}
+
+fn reads_each<O: Outside>(rt: &impl Abort, outside: &mut O)
+    requires left { IsOpen (O.state outside.old role.Left).phase }
+    requires right { IsOpen (O.state outside.old role.Right).phase }
+{
+    let mut buf = [0; 9];
+    reads_once(rt, outside, Role::Left, &mut buf, "old");
+    reads_once(rt, outside, Role::Right, &mut buf, "newer");
+}
+
+/// Lists two reads and a start that fail.
+fn lists_failures(rt: &impl Abort, outside: &mut MemOutside)
+    ensures left { (role_at outside.new role.Left).phase ≡ (role_at outside.old role.Left).phase }
+    ensures right { (role_at outside.new role.Right).phase ≡ (role_at outside.old role.Right).phase }
+{
+    outside.fail_read(Role::Left, 2).expect(rt, "memory");
+    outside.fail_read(Role::Left, 4).expect(rt, "memory");
+    outside.fail_start(Role::Right).expect(rt, "memory");
+}
+
+fn fails_as_listed<O: Outside>(rt: &impl Abort, outside: &mut O)
+    requires left { (O.state outside.old role.Left).phase ≡ unbegun }
+    requires right { (O.state outside.old role.Right).phase ≡ unbegun }
+{
+    starts(rt, outside, Role::Left, "ab.csv");
+    fails_to_start(rt, outside, Role::Right, "ab.csv");
+    let mut buf = [0; 4];
+    let words = "a failed b failed end";
+    reads(rt, outside, Role::Left, &mut buf, words);
+}
+
+/// What is looked at of contents in memory.
+#[derive(Clone, Copy)]
+enum Look {
+    ToTheEnd,
+    WhatStood,
+    Missing,
+    Failures,
+}
+
+fn looks(rt: &impl Abort, outside: &mut MemOutside, look: Look)
+    requires left { (role_at outside.old role.Left).phase ≡ unbegun }
+    requires right { (role_at outside.old role.Right).phase ≡ unbegun }
+    requires query { (role_at outside.old role.Query).phase ≡ unbegun }
+{
+    match look {
+        Look::ToTheEnd => reads_to_the_end(rt, outside),
+        Look::WhatStood => reads_what_stood(rt, outside),
+        Look::Missing => fails_to_start(rt, outside, Role::Query, "q"),
+        Look::Failures => {
+            lists_failures(rt, outside);
+            fails_as_listed(rt, outside);
+        }
+    }
+}
+
+/// Makes an outside of one name, of which a read gives at most `chunk` bytes, and looks at it.
+fn run(rt: &impl Abort, alloc: Global, chunk: usize, look: Look)
+    requires { 1 ≤ chunk }
+{
+    let mut outside = one_name(rt, alloc, chunk);
+    looks(rt, &mut outside, look);
+}
+
+#[test]
+fn reads_each_byte_to_the_end(rt: HostRuntime) {
+    run(&rt, rt.alloc(), 1, Look::ToTheEnd);
+}
+
 #[test]
 fn starts_with_what_stands(rt: HostRuntime) {
-    let mut outside = nothing_begun(rt.alloc());
-    puts(&rt, &mut outside, b"old");
-    starts(&rt, &mut outside, Role::Left, "l");
-    puts(&rt, &mut outside, b"newer");
-    starts(&rt, &mut outside, Role::Right, "l");
-    let mut buf = [0; 9];
-    reads_once(&rt, &mut outside, Role::Left, &mut buf, "old");
-    reads_once(&rt, &mut outside, Role::Right, &mut buf, "newer");
+    run(&rt, rt.alloc(), 9, Look::WhatStood);
 }
 
 #[test]
 fn fails_to_start_a_missing_name(rt: HostRuntime) {
-    let mut outside = one_name(&rt, rt.alloc());
-    fails_to_start(&rt, &mut outside, Role::Query, "q");
+    run(&rt, rt.alloc(), 1, Look::Missing);
+}
+
+#[test]
+fn fails_where_that_was_listed(rt: HostRuntime) {
+    run(&rt, rt.alloc(), 1, Look::Failures);
 }
 
 #[test]
@@ -142,35 +211,13 @@ fn opens_the_gate(_rt: HostRuntime) {
 
 #[test]
 fn names_the_role_of_a_side(rt: HostRuntime) {
-    assert_eq!(rt; Side::Left.role(), Role::Left);
-    assert_eq!(rt; Side::Right.role(), Role::Right);
-}
-
-/// Makes an outside of one name, of which two reads and a start fail.
-fn failing(rt: &impl Abort, alloc: Global) -> MemOutside
-    ensures left { (role_at result role.Left).phase ≡ unbegun }
-    ensures right { (role_at result role.Right).phase ≡ unbegun }
-{
-    let mut outside = one_name(rt, alloc);
-    outside.fail_read(Role::Left, 2).expect(rt, "memory");
-    outside.fail_read(Role::Left, 4).expect(rt, "memory");
-    outside.fail_start(Role::Right).expect(rt, "memory");
-    outside
-}
-
-#[test]
-fn fails_where_that_was_listed(rt: HostRuntime) {
-    let mut outside = failing(&rt, rt.alloc());
-    starts(&rt, &mut outside, Role::Left, "ab.csv");
-    fails_to_start(&rt, &mut outside, Role::Right, "ab.csv");
-    let mut buf = [0; 4];
-    let words = "a failed b failed end";
-    reads(&rt, &mut outside, Role::Left, &mut buf, words);
+    assert!(rt; Side::Left.role() == Role::Left);
+    assert!(rt; Side::Right.role() == Role::Right);
 }
 
 /// Asserts what the first draw of a seed is.
 fn draws(rt: &impl Abort, seed: u64, first: u64) {
-    assert_eq!(rt; Lcg::new(seed).draw(), first);
+    assert!(rt; Lcg::new(seed).draw() == first);
 }
 
 #[test]
@@ -190,9 +237,9 @@ fn keeps_bytes(rt: HostRuntime) {
     let mut digits = Bytes::new(rt.alloc());
     push_all(&rt, &mut digits, b"42");
     same(&rt, "digits", digits.bytes(), b"42");
-    assert_eq!(rt; digits.len(), 2);
-    assert_eq!(rt; digits.get(1), Some(&b'2'));
-    assert_eq!(rt; digits.get(2), None);
+    assert!(rt; digits.len() == 2);
+    assert!(rt; digits.get(1) == Some(&b'2'));
+    assert!(rt; digits.get(2).is_none());
 }
 
 const TAKEN: &str = "\
@@ -209,9 +256,9 @@ fn text_of(rt: &impl Abort, alloc: Global, bytes: &[u8]) -> TextBytes {
 fn takes(rt: &impl Abort, alloc: Global, bytes: &[u8]) {
     let text = text_of(rt, alloc, bytes);
     same(rt, "a text", text.bytes(), bytes);
-    assert_eq!(rt; text.len(), bytes.len());
-    assert_eq!(rt; text.get(0), bytes.first());
-    assert_eq!(rt; text.get(bytes.len()), None);
+    assert!(rt; text.len() == bytes.len());
+    assert!(rt; text.get(0) == bytes.first());
+    assert!(rt; text.get(bytes.len()).is_none());
 }
 
 #[test]
@@ -229,11 +276,14 @@ a«ff»
 «ed»«a0»«80»
 «f4»«90»«80»«80»";
 
+fn refuses(rt: &impl Abort, alloc: Global, bytes: &[u8]) {
+    let text = TextBytes::from_bytes(alloc, bytes).expect(rt, "memory");
+    assert!(rt; text.is_none());
+}
+
 #[test]
 fn refuses_what_is_no_utf8(rt: HostRuntime) {
     for line in REFUSED.lines() {
-        let bytes = spelled(&rt, rt.alloc(), line);
-        let text = TextBytes::from_bytes(rt.alloc(), &bytes).expect(&rt, "memory");
-        assert!(rt; text.is_none(), "{line}");
+        refuses(&rt, rt.alloc(), &spelled(&rt, rt.alloc(), line));
     }
 }

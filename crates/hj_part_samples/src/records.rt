@@ -1,10 +1,10 @@
 //! Pieces of a stream, and the fields of a record.
 
-ghost use Rattle.std.specs.Prelude.{◌≡◌, ◌<◌, ◌≤◌, false, length};
+ghost use Rattle.std.specs.Prelude.{◌≡◌, ◌<◌, ◌≤◌, None, false, length, true};
 
-use crate::texts::{case, same};
+use crate::texts::{case, same, shows};
 use hj_record::{Cut, Cutter, Fed, Fields, PieceFault, read_piece, read_piece_into};
-use std::alloc::{AllocError, Global};
+use std::alloc::Global;
 use std::process::Abort;
 
 /// Reads a piece: tells each field with a bar before it, or why there is none.
@@ -76,32 +76,36 @@ fn reads_one_record(rt: HostRuntime) {
     }
 }
 
+/// Reads a piece of one field.
+fn reads_whole(rt: &impl Abort, fields: &mut Fields, piece: &[u8]) {
+    assert!(rt; piece.len() == 65_536);
+    assert!(rt; read_piece_into(piece, fields) == Ok(true));
+    assert!(rt; fields.len() == 1);
+    assert!(rt; fields.get(0) == Some(piece));
+}
+
 #[test]
 fn reads_the_longest_piece(rt: HostRuntime) {
-    let piece = vec![in rt.alloc(); b'x'; 65_536].expect(&rt, "memory");
     let mut fields = Fields::new(rt.alloc());
-    assert_eq!(rt; read_piece_into(&piece, &mut fields), Ok(true));
-    assert_eq!(rt; fields.len(), 1);
-    assert_eq!(rt; fields.get(0), Some(piece.as_slice()));
+    let piece = vec![in rt.alloc(); b'x'; 65_536].expect(&rt, "memory");
+    reads_whole(&rt, &mut fields, &piece);
 }
 
 /// Pieces, the answer to each, and how many fields it has.
 const ANSWERS: &str = "\
-1,2,3 => Ok(true) 3
-⏎ => Ok(false) 0
-\"a\"\"b\",\r⏎ => Ok(true) 2
-1,2\r3⏎ => Err(NotOneRecord) 0
-\"\",a\"b,\"c => Ok(true) 3
-\r\r => Ok(false) 0
-7 => Ok(true) 1";
+1,2,3 => (Ok(true), 3)
+⏎ => (Ok(false), 0)
+\"a\"\"b\",\r⏎ => (Ok(true), 2)
+1,2\r3⏎ => (Err(NotOneRecord), 0)
+\"\",a\"b,\"c => (Ok(true), 3)
+\r\r => (Ok(false), 0)
+7 => (Ok(true), 1)";
 
 fn reads_into(rt: &impl Abort, alloc: Global, fields: &mut Fields, line: &str) {
     let (piece, want) = case(rt, alloc, line);
     assert!(rt; piece.len() <= 65_536);
     let answer = read_piece_into(&piece, fields);
-    let count = fields.len();
-    let found = format!(in alloc; "{answer:?} {count}").expect(rt, "memory");
-    same(rt, line, found.as_bytes(), &want);
+    shows(rt, alloc, line, &(answer, fields.len()), &want);
 }
 
 #[test]
@@ -112,12 +116,34 @@ fn reads_into_the_same_fields(rt: HostRuntime) {
     }
 }
 
-/// Lists the pieces of a stream that comes in portions of this size, a bar after each, and the fault that ends them.
-fn cut(alloc: Global, limit: u64, stream: &[u8], portion: usize) -> Result<Vec<u8>, AllocError>
-    requires { 0 < portion }
+/// Appends a piece and a bar after it.
+fn push_piece(rt: &impl Abort, cuts: &mut Vec<u8>, piece: &[u8]) {
+    cuts.extend_from_slice(piece).expect(rt, "memory");
+    cuts.push(b'|').expect(rt, "memory");
+}
+
+/// Appends a fault.
+fn push_fault(rt: &impl Abort, alloc: Global, cuts: &mut Vec<u8>, fault: PieceFault) {
+    let fault = fault.to_string(alloc).expect(rt, "memory");
+    cuts.extend_from_slice(fault.as_bytes())
+        .expect(rt, "memory");
+}
+
+/// Cuts a stream that comes in portions of this size: lists its whole pieces, a bar after each, up to a fault. Returns whether
+/// there is none.
+fn cut_portions(
+    rt: &impl Abort,
+    alloc: Global,
+    cutter: &mut Cutter,
+    cuts: &mut Vec<u8>,
+    stream: &[u8],
+    portion: usize,
+) -> bool
+    requires some { 0 < portion }
+    requires going { cutter.old.whole ≡ false }
+    requires sound { cutter.old.fault ≡ None }
+    ensures { result ≡ true → cutter.new.whole ≡ false }
 {
-    let mut cutter = Cutter::new(alloc, limit);
-    let mut cuts = Vec::new(alloc);
     let mut at = 0;
     while at < stream.len() {
         let most = portion.min(stream.len() - at);
@@ -125,25 +151,39 @@ fn cut(alloc: Global, limit: u64, stream: &[u8], portion: usize) -> Result<Vec<u
             Fed::More => at += most,
             Fed::Piece(used) => {
                 at += used;
-                cuts.extend_from_slice(cutter.piece())?;
-                cuts.push(b'|')?;
+                push_piece(rt, cuts, cutter.piece());
                 cutter.clear();
             }
             Fed::Bad(fault) => {
-                cuts.extend_from_slice(fault.to_string(alloc)?.as_bytes())?;
-                return Ok(cuts);
+                push_fault(rt, alloc, cuts, fault);
+                return false;
             }
         }
     }
+    true
+}
+
+/// Ends a stream: lists what was left of it.
+fn cut_end(rt: &impl Abort, alloc: Global, cutter: &mut Cutter, cuts: &mut Vec<u8>)
+    requires { cutter.old.whole ≡ false }
+{
     match cutter.end() {
         Fed::More => {}
-        Fed::Piece(_) => {
-            cuts.extend_from_slice(cutter.piece())?;
-            cuts.push(b'|')?;
-        }
-        Fed::Bad(fault) => cuts.extend_from_slice(fault.to_string(alloc)?.as_bytes())?,
+        Fed::Piece(_) => push_piece(rt, cuts, cutter.piece()),
+        Fed::Bad(fault) => push_fault(rt, alloc, cuts, fault),
     }
-    Ok(cuts)
+}
+
+/// Lists the pieces of a stream that comes in portions of this size, a bar after each, and the fault that ends them.
+fn cut(rt: &impl Abort, alloc: Global, limit: u64, stream: &[u8], portion: usize) -> Vec<u8>
+    requires { 0 < portion }
+{
+    let mut cutter = Cutter::new(alloc, limit);
+    let mut cuts = Vec::new(alloc);
+    if cut_portions(rt, alloc, &mut cutter, &mut cuts, stream, portion) {
+        cut_end(rt, alloc, &mut cutter, &mut cuts);
+    }
+    cuts
 }
 
 /// Limits of a stream, streams, and their pieces.
@@ -165,8 +205,7 @@ fn cuts(rt: &impl Abort, alloc: Global, line: &str, portion: usize)
     let (limit, behind) = line.split_once(": ").expect(rt, "a limit");
     let limit = limit.parse::<u64>().expect(rt, "a number");
     let (stream, want) = case(rt, alloc, behind);
-    let found = cut(alloc, limit, &stream, portion).expect(rt, "memory");
-    same(rt, line, &found, &want);
+    same(rt, line, &cut(rt, alloc, limit, &stream, portion), &want);
 }
 
 #[test]
@@ -181,12 +220,26 @@ fn cuts_alike_in_any_portions(rt: HostRuntime) {
 /// Asserts that the only piece of a stream of `size` bytes has them all, or that there is this fault.
 fn holds_to(rt: &impl Abort, alloc: Global, size: usize, limit: u64, fault: Option<&str>) {
     let stream = vec![in alloc; b'x'; size].expect(rt, "memory");
-    for portion in [1, 4096, 100_000] {
-        let found = cut(alloc, limit, &stream, portion).expect(rt, "memory");
-        match fault {
-            Some(fault) => same(rt, fault, &found, fault.as_bytes()),
-            None => assert!(rt; found.len().checked_sub(1) == Some(size)),
-        }
+    is_held(rt, alloc, &stream, 1, limit, fault);
+    is_held(rt, alloc, &stream, 4096, limit, fault);
+    is_held(rt, alloc, &stream, 100_000, limit, fault);
+}
+
+/// Asserts that the only piece of a stream that comes in portions of this size has all its bytes, or that there is this fault.
+fn is_held(
+    rt: &impl Abort,
+    alloc: Global,
+    stream: &[u8],
+    portion: usize,
+    limit: u64,
+    fault: Option<&str>,
+)
+    requires { 0 < portion }
+{
+    let found = cut(rt, alloc, limit, stream, portion);
+    match fault {
+        Some(fault) => same(rt, fault, &found, fault.as_bytes()),
+        None => assert!(rt; found.len().checked_sub(1) == Some(stream.len())),
     }
 }
 
@@ -216,15 +269,20 @@ fn fed(rt: &impl Abort, alloc: Global, cutter: &mut Cutter, portion: &[u8]) -> V
 {
     match cutter.feed(portion) {
         Fed::More => Vec::new(alloc),
-        Fed::Piece(used) => {
-            let found = format!(in alloc; "{used} ").expect(rt, "memory");
-            let mut found = found.into_bytes();
-            found.extend_from_slice(cutter.piece()).expect(rt, "memory");
-            cutter.clear();
-            found
-        }
+        Fed::Piece(used) => taken(rt, alloc, cutter, used),
         Fed::Bad(fault) => fault.to_string(alloc).expect(rt, "memory").into_bytes(),
     }
+}
+
+/// Takes a piece out, and tells it behind how many bytes were used.
+fn taken(rt: &impl Abort, alloc: Global, cutter: &mut Cutter, used: usize) -> Vec<u8>
+    ensures { cutter.new.whole ≡ false }
+{
+    let mut found = used.to_string(alloc).expect(rt, "memory").into_bytes();
+    found.push(b' ').expect(rt, "memory");
+    found.extend_from_slice(cutter.piece()).expect(rt, "memory");
+    cutter.clear();
+    found
 }
 
 /// Feeds the portion on a line, and asserts what comes of it.
@@ -243,7 +301,7 @@ fn takes_up_to_the_end_of_a_piece(rt: HostRuntime) {
     for line in PORTIONS.lines() {
         takes(&rt, rt.alloc(), &mut cutter, line);
     }
-    assert_eq!(rt; cutter.end(), Fed::Bad(PieceFault::StreamLong));
+    assert!(rt; cutter.end() == Fed::Bad(PieceFault::StreamLong));
     cutter.clear();
     takes(&rt, rt.alloc(), &mut cutter, "⏎ => stream too long");
 }
@@ -255,17 +313,10 @@ fn lent(rt: &impl Abort, alloc: Global, cutter: &mut Cutter, portion: &[u8]) -> 
 {
     match cutter.cut(portion) {
         Cut::More => Vec::new(alloc),
-        Cut::Lent(used) => {
-            let found = format!(in alloc; "lent {used}").expect(rt, "memory");
-            found.into_bytes()
-        }
-        Cut::Piece(used) => {
-            let found = format!(in alloc; "{used} ").expect(rt, "memory");
-            let mut found = found.into_bytes();
-            found.extend_from_slice(cutter.piece()).expect(rt, "memory");
-            cutter.clear();
-            found
-        }
+        Cut::Lent(used) => format!(in alloc; "lent {used}")
+            .expect(rt, "memory")
+            .into_bytes(),
+        Cut::Piece(used) => taken(rt, alloc, cutter, used),
         Cut::Bad(fault) => fault.to_string(alloc).expect(rt, "memory").into_bytes(),
     }
 }
@@ -299,13 +350,18 @@ fn push_all(rt: &impl Abort, fields: &mut Fields, text: &str) {
     }
 }
 
+/// Asserts how many fields there are, and what they are.
+fn are(rt: &impl Abort, alloc: Global, fields: &Fields, count: usize, want: &[u8]) {
+    assert!(rt; fields.len() == count);
+    assert!(rt; fields.get(count).is_none());
+    same(rt, "fields", &barred(rt, alloc, fields), want);
+}
+
 #[test]
 fn keeps_each_field(rt: HostRuntime) {
     let mut fields = Fields::new(rt.alloc());
     push_all(&rt, &mut fields, "a,,bc");
-    assert_eq!(rt; fields.len(), 3);
-    same(&rt, "fields", &barred(&rt, rt.alloc(), &fields), b"|a||bc");
-    assert!(rt; fields.get(3).is_none());
+    are(&rt, rt.alloc(), &fields, 3, b"|a||bc");
 }
 
 #[test]
@@ -313,7 +369,7 @@ fn is_used_again(rt: HostRuntime) {
     let mut fields = Fields::new(rt.alloc());
     push_all(&rt, &mut fields, "a");
     fields.clear();
-    assert_eq!(rt; fields.len(), 0);
+    are(&rt, rt.alloc(), &fields, 0, b"");
     push_all(&rt, &mut fields, "b");
-    same(&rt, "fields", &barred(&rt, rt.alloc(), &fields), b"|b");
+    are(&rt, rt.alloc(), &fields, 1, b"|b");
 }

@@ -1,8 +1,7 @@
 //! Texts of tables, and the bytes that they spell.
 
-ghost use Rattle.std.specs.Prelude.{◌<◌};
-
 use std::alloc::Global;
+use std::fmt::Debug;
 use std::process::Abort;
 
 /// Splits a case into its bytes and those that are expected for it, on the two sides of an arrow.
@@ -13,7 +12,13 @@ pub(crate) fn case(rt: &impl Abort, alloc: Global, line: &str) -> (Vec<u8>, Vec<
 
 /// Asserts that what was found for a line of a table is what is expected.
 pub(crate) fn same(rt: &impl Abort, line: &str, found: &[u8], want: &[u8]) {
-    assert_eq!(rt; found, want, "{line}");
+    assert!(rt; found == want, "{line}");
+}
+
+/// Asserts that what was found for a line of a table, as it is printed, is what is expected.
+pub(crate) fn shows<T: Debug>(rt: &impl Abort, alloc: Global, line: &str, found: &T, want: &[u8]) {
+    let found = format!(in alloc; "{found:?}").expect(rt, "memory");
+    same(rt, line, found.as_bytes(), want);
 }
 
 pub(crate) fn number(rt: &impl Abort, text: &str) -> i64 {
@@ -35,7 +40,7 @@ pub(crate) fn spelled(rt: &impl Abort, alloc: Global, text: &str) -> Vec<u8> {
 fn push_part(rt: &impl Abort, bytes: &mut Vec<u8>, part: &str) {
     let behind = match part.split_once('»') {
         Some((digits, behind)) => {
-            bytes.push(byte(rt, digits.as_bytes())).expect(rt, "memory");
+            bytes.push(byte(rt, digits)).expect(rt, "memory");
             behind
         }
         None => part,
@@ -45,19 +50,6 @@ fn push_part(rt: &impl Abort, bytes: &mut Vec<u8>, part: &str) {
         .expect(rt, "memory");
 }
 
-fn byte(rt: &impl Abort, digits: &[u8]) -> u8 {
-    match digits {
-        [high, low] => digit(rt, *high) * 16 + digit(rt, *low),
-        _ => panic!(rt; "no byte"),
-    }
-}
-
-fn digit(rt: &impl Abort, letter: u8) -> u8
-    ensures { result < 16 }
-{
-    match letter {
-        b'0'..=b'9' => letter - b'0',
-        b'a'..=b'f' => letter - b'a' + 10,
-        _ => panic!(rt; "no digit"),
-    }
+fn byte(rt: &impl Abort, digits: &str) -> u8 {
+    u8::from_str_radix(digits, 16).expect(rt, "a byte")
 }

@@ -2,7 +2,7 @@
 
 ghost use Rattle.std.specs.Prelude.{◌≡◌, codes};
 
-use crate::texts::{case, number, same};
+use crate::texts::{case, number, same, shows};
 use hj_base::{Memory, Share};
 use hj_value::{
     Column, ColumnType, Columns, Field, Row, Schema, SharedRow, Text, TextBytes, compare,
@@ -57,35 +57,44 @@ fn has(rt: &impl Abort, row: &Row, at: usize, word: &str) -> bool {
 /// Asserts that a row has these fields.
 fn has_all(rt: &impl Abort, row: &Row, fields: &str) {
     for (at, word) in fields.lines().enumerate() {
-        assert!(rt; has(rt, row, at, word), "at {at}");
+        assert!(rt; has(rt, row, at, word));
     }
+}
+
+/// Asserts that a row has those fields, and no other.
+fn keeps(rt: &impl Abort, row: &Row) {
+    assert!(rt; row.len() == 4);
+    assert!(rt; row.time() == 5);
+    has_all(rt, row, FIELDS);
+    assert!(rt; row.get(4).is_none());
 }
 
 #[test]
 fn keeps_fields(rt: HostRuntime) {
-    let row = row_of(&rt, rt.alloc(), FIELDS);
-    assert_eq!(rt; row.len(), 4);
-    assert_eq!(rt; row.time(), 5);
-    has_all(&rt, &row, FIELDS);
-    assert!(rt; row.get(4).is_none());
+    keeps(&rt, &row_of(&rt, rt.alloc(), FIELDS));
 }
 
 #[test]
 fn has_no_time_without_a_number(rt: HostRuntime) {
     let mut row = Row::new(rt.alloc());
-    assert_eq!(rt; row.time(), 0);
+    assert!(rt; row.time() == 0);
     row.push(text_field(&rt, b"7")).expect(&rt, "memory");
-    assert_eq!(rt; row.time(), 0);
+    assert!(rt; row.time() == 0);
+}
+
+/// Shares a row, and lets the first share go to another thread.
+fn second_share(rt: &impl Abort, alloc: Global, row: Row) -> SharedRow {
+    let first = SharedRow::new(alloc, row).expect(rt, "memory");
+    let second = first.share().expect(rt, "memory");
+    crosses(first);
+    second
 }
 
 #[test]
 fn shares_a_row(rt: HostRuntime) {
     let row = row_of(&rt, rt.alloc(), FIELDS);
-    let shared = SharedRow::new(rt.alloc(), row).expect(&rt, "memory");
-    let second = shared.share().expect(&rt, "memory");
-    crosses(shared);
-    assert_eq!(rt; second.row().len(), 4);
-    assert!(rt; has(&rt, second.row(), 1, "'a\u{fc}'"));
+    let shared = second_share(&rt, rt.alloc(), row);
+    keeps(&rt, shared.row());
     crosses(row_of(&rt, rt.alloc(), FIELDS));
 }
 
@@ -100,11 +109,16 @@ const ASCENDING: &str = "\
 'a'
 '\u{fc}'";
 
+/// Asserts the order of two fields.
+fn is_ordered(rt: &impl Abort, field: &Field<'_>, other: &Field<'_>, want: Ordering) {
+    assert!(rt; compare(field, other) == want);
+}
+
 /// Compares the field at a place of that table with each, and asserts their order.
 fn compares(rt: &impl Abort, at: usize, word: &str) {
-    let lower = field(rt, word);
+    let first = field(rt, word);
     for (other, word) in ASCENDING.lines().enumerate() {
-        assert_eq!(rt; compare(&lower, &field(rt, word)), at.cmp(&other));
+        is_ordered(rt, &first, &field(rt, word), at.cmp(&other));
     }
 }
 
@@ -140,9 +154,7 @@ const TEXTS: &str = "\
 
 fn reads(rt: &impl Abort, alloc: Global, line: &str) {
     let (text, want) = case(rt, alloc, line);
-    let read = read_int(&text);
-    let found = format!(in alloc; "{read:?}").expect(rt, "memory");
-    same(rt, line, found.as_bytes(), &want);
+    shows(rt, alloc, line, &read_int(&text), &want);
 }
 
 #[test]
@@ -161,9 +173,13 @@ const NUMBERS: &str = "\
 #[test]
 fn prints_numbers(rt: HostRuntime) {
     for line in NUMBERS.lines() {
-        let text = print_int(rt.alloc(), number(&rt, line)).expect(&rt, "memory");
-        same(&rt, line, text.bytes(), line.as_bytes());
+        prints(&rt, rt.alloc(), line);
     }
+}
+
+fn prints(rt: &impl Abort, alloc: Global, line: &str) {
+    let text = print_int(alloc, number(rt, line)).expect(rt, "memory");
+    same(rt, line, text.bytes(), line.as_bytes());
 }
 
 fn timed(alloc: Global, name: TextBytes) -> Result<Schema, Memory>
@@ -183,10 +199,10 @@ fn only_time(rt: &impl Abort, alloc: Global) -> Schema {
 }
 
 fn is_only_time(rt: &impl Abort, schema: &Schema) {
-    assert_eq!(rt; schema.columns.len(), 1);
+    assert!(rt; schema.columns.len() == 1);
     let first = schema.columns.get(0).expect(rt, "a column");
     same(rt, "the time", first.name.bytes(), b"ts");
-    assert_eq!(rt; first.kind, ColumnType::Int);
+    assert!(rt; first.kind == ColumnType::Int);
     assert!(rt; schema.columns.get(1).is_none());
 }
 

@@ -29,24 +29,31 @@ fn push_expiries(rt: &impl Abort, text: &mut String, numbers: &Numbers) {
 fn numbers_of(rt: &impl Abort, alloc: Global, text: &str) -> Numbers {
     let mut numbers = Numbers::new(alloc);
     for word in text.split(' ') {
-        let (side, no) = arrival(rt, word);
-        let row = (side, EventNo(no.unsigned_abs()));
-        numbers.push(row).expect(rt, "memory");
+        push_number(rt, &mut numbers, word);
     }
     numbers
 }
 
+fn push_number(rt: &impl Abort, numbers: &mut Numbers, word: &str) {
+    let (side, no) = arrival(rt, word);
+    let row = (side, EventNo(no.unsigned_abs()));
+    numbers.push(row).expect(rt, "memory");
+}
+
 #[test]
 fn numbers_in_their_order(rt: HostRuntime) {
-    let none = Numbers::new(rt.alloc());
-    assert_eq!(rt; none.len(), 0);
-    assert!(rt; none.get(0).is_none());
+    are(&rt, rt.alloc(), &Numbers::new(rt.alloc()), 0, b"");
     let numbers = numbers_of(&rt, rt.alloc(), "4R 9L 4R");
-    let mut text = String::new(rt.alloc());
-    push_expiries(&rt, &mut text, &numbers);
-    assert_eq!(rt; text.as_str(), "-4R -9L -4R ");
-    assert_eq!(rt; numbers.len(), 3);
-    assert!(rt; numbers.get(3).is_none());
+    are(&rt, rt.alloc(), &numbers, 3, b"-4R -9L -4R ");
+}
+
+/// Asserts how many rows there are, and what their expiries are.
+fn are(rt: &impl Abort, alloc: Global, numbers: &Numbers, count: usize, want: &[u8]) {
+    assert!(rt; numbers.len() == count);
+    assert!(rt; numbers.get(count).is_none());
+    let mut text = String::new(alloc);
+    push_expiries(rt, &mut text, numbers);
+    same(rt, "expiries", text.as_bytes(), want);
 }
 
 /// Appends the events of the arrival of this number: `+` and `-` for an arrival and an expiry, then the row's number
@@ -118,12 +125,15 @@ fn arrivals(rt: &impl Abort, alloc: Global, text: &str) -> Vec<(Side, i64)> {
 fn expires(rt: &impl Abort, alloc: Global, line: &str) {
     let (both, behind) = line.split_once(" | ").expect(rt, "a case");
     let (rows, want) = behind.split_once(" | ").expect(rt, "events");
+    let found = events_of(rt, alloc, both, rows);
+    same(rt, line, found.trim_end().as_bytes(), want.as_bytes());
+}
+
+/// Tells the events of these rows.
+fn events_of(rt: &impl Abort, alloc: Global, both: &str, rows: &str) -> String {
     let (left, right) = both.split_once(", ").expect(rt, "windows");
     let windows = (window(rt, left), window(rt, right));
-    let arrivals = arrivals(rt, alloc, rows);
-    let found = events(rt, alloc, windows, &arrivals);
-    let found = found.strip_suffix(' ').expect(rt, "a blank");
-    same(rt, line, found.as_bytes(), want.as_bytes());
+    events(rt, alloc, windows, &arrivals(rt, alloc, rows))
 }
 
 fn expires_all(rt: &impl Abort, alloc: Global, table: &str) {

@@ -1,10 +1,10 @@
 use Rattle.hj_base.specs.declared.outside.Role.TheVariants as role
 use Rattle.hj_part_samples.proofs.Roles.{left_is_other, right_is_other, same_phase, stays_open}
-use Rattle.hj_part_samples.proofs.outsides.fails_where_that_was_listed.Goals as goal
+use Rattle.hj_part_samples.proofs.outsides.fails_as_listed.Goals as goal
 
 pub fails_to_start-requires : goal.fails_to_start-requires
 fails_to_start-requires g c =
-    same_phase _ _ _ (c.starts.ensures.others role.Right right_is_other) c.failing-outside.ensures.right
+    same_phase _ _ _ (c.starts.ensures.others role.Right right_is_other) c.requires.right
 
 pub reads-requires-clause-open : goal.reads-requires-clause-open
 reads-requires-clause-open g c =
