@@ -7,6 +7,7 @@ pub mod OrderLaws
 pub mod LateLemmas
 pub mod PlaceLemmas
 pub mod DayLemmas
+pub mod SettlingLemmas
 pub mod WaitingLemmas
 pub mod TimedLemmas
 pub mod RowLemmas

@@ -10,6 +10,7 @@ pub mod Numbering
 pub mod Reads
 pub mod Roles
 pub mod Rows
+pub mod Settling
 pub mod Sides
 pub mod Silences
 pub mod Taking

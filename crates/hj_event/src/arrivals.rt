@@ -55,6 +55,24 @@ impl Rows {
                 self.head = Some(row);
                 Ok(())
             }
+            None => self.take_or_read(side, outside),
+        }
+    }
+
+    /// Takes the first row where no row comes after those that wait, else reads it.
+    #[inline(always)]
+    fn take_or_read<O: Outside>(&mut self, side: Side, outside: &mut O) -> Result<(), Stop>
+        requires in_step { IsInStep self.old.reading.ended (O.state outside.old (role_of side)) }
+        requires unknown { self.old.head ≡ None }
+        ensures looks { LooksAt result self.old self.new (O.state outside.old (role_of side)) (O.state outside.new (role_of side)) }
+        ensures others { ChangesOnly (role_of side) (O.state outside.old) (O.state outside.new) }
+        ensures names { (name : List ℕ) → O.under outside.new name ≡ O.under outside.old name }
+    {
+        match self.source.take_last() {
+            Some(row) => {
+                self.head = Some(row);
+                Ok(())
+            }
             None => self.read(side, outside),
         }
     }

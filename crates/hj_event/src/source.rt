@@ -103,6 +103,18 @@ impl Source {
         Ok(None)
     }
 
+    /// Takes the first row that waits, where no row comes after those that wait. None changes nothing that is seen. It stands apart,
+    /// so that what calls it has no registers to save for it.
+    #[inline(never)]
+    pub(crate) fn take_last(&mut self) -> Option<SharedRow>
+        ensures { TakesStraight (Ok result) self.old self.new }
+    {
+        match self.ahead {
+            Ahead::Unknown => None,
+            _ => self.waiting.take(),
+        }
+    }
+
     /// Reads the next bytes, once all that were read are looked at.
     fn fill<O: Outside>(&mut self, side: Side, outside: &mut O) -> Result<(), Stop>
         requires in_step { IsInStep false (O.state outside.old (role_of side)) }
