@@ -1,10 +1,10 @@
 -- Masks of blocks that lie one behind another.
-use Rattle.std.proofs.Common.{◌≡◌, ℕ, zero, suc, ◌+◌, ◌-◌, ◌*◌, ◌%◌, ◌^◌, ◌<◌, ◌≤◌, Bool, true, false, cond, leb, ◌&&◌, min, List, [], ◌∷◌, ◌++◌, get_or, length, take, drop, map, replicate, refl, sym, ap, ap₂, ◌∙◌, arith, w64}
+use Rattle.std.proofs.Common.{◌≡◌, ℕ, zero, suc, ◌+◌, ◌-◌, ◌*◌, ◌%◌, ◌^◌, ◌<◌, ◌≤◌, Bool, true, false, cond, leb, ◌&&◌, ◌==◌, min, List, [], ◌∷◌, ◌++◌, get_or, length, take, drop, map, replicate, refl, sym, ap, ap₂, ◌∙◌, arith, w64}
 use Rattle.std.specs.Simd.Lanes.{chunk, mask_l, top, zip2}
 use Rattle.std.specs.Int.{bit_at}
 use Rattle.std.specs.Prelude.{bit_and}
 use Rattle.std.proofs.lemmas.Bool.Decides.{nat_tests}
-use Rattle.std.proofs.lemmas.Nat.Bits.{bit_at_and}
+use Rattle.std.proofs.lemmas.Nat.Bits.{bit_at_and, same_from_bits}
 use Rattle.std.proofs.lemmas.Simd.{bit_mask_l, chunk-drop, get_or-chunk, length-chunk, mask_l-lt, mask_l-mod, tops_compared, zip2_splat_left}
 use Rattle.std.proofs.lemmas.List.{length-map, map-append}
 use Rattle.std.proofs.Math.Nat.{mul_assoc, two-pow-succ}
@@ -85,6 +85,19 @@ and_bits false false = refl
 pub bit_of_both : (a b : Bool) (m n k : ℕ) → bit_at m k ≡ cond a 1 0 → bit_at n k ≡ cond b 1 0 → bit_at (bit_and m n) k ≡ cond (a && b) 1 0
 bit_of_both a b m n k ea eb = bit_at_and m n k ∙ ap₂ min ea eb ∙ and_bits a b
 
+-- the bits that are in both masks of the same keys
+both_at : (p q : ℕ → Bool) (keys : List ℕ) (k : ℕ) → (get_or (map p keys) k false && get_or (map q keys) k false) ≡ get_or (map (λ key. p key && q key) keys) k false
+both_at p q [] k = refl
+both_at p q (key ∷ keys) zero = refl
+both_at p q (key ∷ keys) (suc k) = both_at p q keys k
+
+pub both_masks : (p q : ℕ → Bool) (keys : List ℕ) → bit_and (mask_l (map p keys)) (mask_l (map q keys)) ≡ mask_l (map (λ key. p key && q key) keys)
+both_masks p q keys =
+    same_from_bits (bit_and (mask_l (map p keys)) (mask_l (map q keys))) (mask_l (map (λ key. p key && q key) keys))
+    (λ k. bit_of_both (get_or (map p keys) k false) (get_or (map q keys) k false) (mask_l (map p keys)) (mask_l (map q keys)) k (bit_mask_l (map p keys) k) (bit_mask_l (map q keys) k)
+    ∙ ap (λ b. cond b 1 0) (both_at p q keys k)
+    ∙ sym (bit_mask_l (map (λ key. p key && q key) keys) k))
+
 -- a bit that tells of one bound alone, where the other bound is none
 pub only_low : (b : Bool) (x high : ℕ) (n : ℕ) → x < 2 ^ 64 → high ≡ 2 ^ 64 - 1 → n ≡ cond b 1 0 → n ≡ cond (b && leb x high) 1 0
 only_low true x high n small e h = grind (arith, nat_tests)
@@ -93,3 +106,7 @@ only_low false x high n small e h = h
 pub only_high : (low x : ℕ) (b : Bool) (n : ℕ) → low ≡ 0 → n ≡ cond b 1 0 → n ≡ cond (leb low x && b) 1 0
 only_high low x true n e h = grind (arith, nat_tests)
 only_high low x false n e h = grind (arith, nat_tests)
+
+-- a bit that tells of the one key of a range
+pub only_one : (low x high : ℕ) (n : ℕ) → low ≡ high → n ≡ cond (x == low) 1 0 → n ≡ cond (leb low x && leb x high) 1 0
+only_one low x high n e h = h ∙ ap (λ b. cond b 1 0) (grind (arith, nat_tests, e))
