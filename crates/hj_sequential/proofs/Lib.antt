@@ -1,0 +1,3 @@
+mod GivenPairs
+mod Listing
+mod Running
