@@ -86,6 +86,14 @@ impl<M> PlainLink<M> {
         self.rightwards.pop_front()
     }
 
+    /// Puts a message back in front of those under way to the right, where there is room: the one that was taken last.
+    pub fn put_back_right(&mut self, m: M)
+        requires { length self.old.rightwards < self.old.capacity }
+        ensures { self.new ≡ record self.old { rightwards = m ∷ self.old.rightwards } }
+    {
+        self.rightwards.push_front_reserved(m);
+    }
+
     /// Returns the first message under way to the right, which stays; None exactly if there is none.
     #[inline(always)]
     pub fn look_right(&self) -> Option<&M>
@@ -128,6 +136,14 @@ impl<M> PlainLink<M> {
         ensures empty { IsNone result ↔ (self.old.leftwards ≡ []) }
     {
         self.leftwards.pop_front()
+    }
+
+    /// Puts a message back in front of those under way to the left, where there is room: the one that was taken last.
+    pub fn put_back_left(&mut self, m: M)
+        requires { length self.old.leftwards < self.old.capacity }
+        ensures { self.new ≡ record self.old { leftwards = m ∷ self.old.leftwards } }
+    {
+        self.leftwards.push_front_reserved(m);
     }
 
     /// Returns the first message under way to the left, which stays; None exactly if there is none.
