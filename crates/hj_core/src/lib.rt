@@ -3,6 +3,7 @@
 #![tactic(auto)]
 
 mod at_home;
+mod cores;
 mod flight;
 mod flying;
 mod one_core;

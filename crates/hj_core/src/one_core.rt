@@ -7,6 +7,7 @@ ghost use Rattle.hj_core.specs.Ready.{IsReady};
 ghost use Rattle.hj_core.specs.Sent.{passed_on};
 
 use crate::at_home::{keep_at_home, remove_at_home, rest_at_home, settle_at_home, share_at_home};
+use crate::cores::Homes;
 use crate::flight::Flight;
 use crate::sends::when;
 use crate::{Prepared, Sends, Way};
@@ -25,7 +26,7 @@ pub struct Core<P, J: Join<P>, L: Store<P, J>, R: Store<P, J>> {
     closed_left: bool,
     closed_right: bool,
     place: CoreNo,
-    cores: u16,
+    homes: Homes,
 }
 
 impl<P, J: Join<P>, L: Store<P, J>, R: Store<P, J>> Model for Core<P, J, L, R> {
@@ -34,12 +35,12 @@ impl<P, J: Join<P>, L: Store<P, J>, R: Store<P, J>> Model for Core<P, J, L, R> {
 
     ghost Value = { Contents P J L R };
 
-    ghost view = { λ core. record { place = core.place.0; cores = core.cores; join = core.join; left = core.left; right = core.right; flight = core.flight; closed_left = core.closed_left; closed_right = core.closed_right } };
+    ghost view = { λ core. record { place = core.place.0; cores = core.homes; join = core.join; left = core.left; right = core.right; flight = core.flight; closed_left = core.closed_left; closed_right = core.closed_right } };
 
     ghost invariant = { λ core. record {
-      some : 0 < core.cores;
+      some : 0 < core.homes;
       suits : Suits L.suits R.suits core.join core.left core.right;
-      own : HoldsItsOwn core.place.0 core.cores (L.entries core.left) (R.entries core.right);
+      own : HoldsItsOwn core.place.0 core.homes (L.entries core.left) (R.entries core.right);
     } };
 }
 
@@ -80,7 +81,7 @@ impl<P: Share + Drop, J: Join<P> + Drop, L: Store<P, J> + Drop, R: Store<P, J> +
             closed_left: false,
             closed_right: false,
             place,
-            cores,
+            homes: Homes::new(cores),
         }
     }
 
@@ -219,7 +220,7 @@ impl<P: Share + Drop, J: Join<P> + Drop, L: Store<P, J> + Drop, R: Store<P, J> +
     fn is_home(&self, no: EventNo) -> bool
         ensures { result ≡ is_home self.now.place self.now.cores no.0 }
     {
-        no.0 % u64::from(self.cores) == u64::from(self.place.0)
+        self.homes.is_home(self.place, no)
     }
 
     #[inline(always)]
@@ -233,14 +234,14 @@ impl<P: Share + Drop, J: Join<P> + Drop, L: Store<P, J> + Drop, R: Store<P, J> +
     fn is_last(&self) -> bool
         ensures { result ≡ is_last self.now.place self.now.cores }
     {
-        u32::from(self.place.0) + 1 == u32::from(self.cores)
+        u32::from(self.place.0) + 1 == u32::from(self.homes.cores())
     }
 
     #[inline(always)]
     fn has_right_neighbour(&self) -> bool
         ensures { result ≡ nat_lt (self.now.place + 1) self.now.cores }
     {
-        u32::from(self.place.0) + 1 < u32::from(self.cores)
+        u32::from(self.place.0) + 1 < u32::from(self.homes.cores())
     }
 
     /// Settles a left row, if it rests here.
@@ -316,8 +317,8 @@ impl<P: Share + Drop, J: Join<P> + Drop, L: Store<P, J> + Drop, R: Store<P, J> +
         ensures unchanged { OnErr result (state_of L.entries R.entries self.new ≡ state_of L.entries R.entries self.old) }
         ensures kept { KeepsPlace self.old self.new }
     {
-        let at_rest = self.right.probe(Side::Right, row, &self.join)?;
-        let partners = self.flight.add_partners(row, &self.join, at_rest)?;
+        let mut partners = self.right.probe(Side::Right, row, &self.join)?;
+        self.flight.add_partners(row, &self.join, &mut partners)?;
         let reported = row.share()?;
         let home = self.is_home(no);
         let last = self.is_last();
@@ -361,11 +362,11 @@ impl<P: Share + Drop, J: Join<P> + Drop, L: Store<P, J> + Drop, R: Store<P, J> +
         ensures prepared { IfOk result (IsPrepared (J.predicate self.new.join) self.new.place self.new.cores (state_of L.entries R.entries self.new)
             (L.has_place self.new.left) (R.has_place self.new.right) self.new.flight.room (LeftRow no row.now)) }
     {
-        let settled = self.right.probe(Side::Right, row, &self.join)?;
-        let partners = self.flight.add_partners(row, &self.join, settled)?;
+        let mut found = self.right.probe(Side::Right, row, &self.join)?;
+        self.flight.add_partners(row, &self.join, &mut found)?;
         let home = self.is_home(no);
         Ok(Prepared::Arrival {
-            partners,
+            partners: found,
             resting: share_at_home::<P, J, L>(&mut self.left, home, no, row)?,
             reported: row.share()?,
             flying: None,

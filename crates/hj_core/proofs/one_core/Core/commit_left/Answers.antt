@@ -17,7 +17,7 @@ invariant_of-self g c =
       some = c.self.invariant.some;
       suits = record { on_left = (c.rest_at_home.ensures.suits Left c.self.inside.join).1 c.self.invariant.suits.on_left; on_right = c.self.invariant.suits.on_right };
       own = record {
-        left = ready-home c.self.inside.place.0 c.self.inside.cores c.args.no.0 c.args._row.now _ c.is_last-last.result (is_home old.place old.cores c.args.no.0) c.in-Arrival.resting (g.L.Store.entries c.self.inside.left) (g.L.Store.entries c.rest_at_home.new.store)
+        left = ready-home c.self.inside.place.0 c.self.inside.homes c.args.no.0 c.args._row.now _ c.is_last-last.result (is_home old.place old.cores c.args.no.0) c.in-Arrival.resting (g.L.Store.entries c.self.inside.left) (g.L.Store.entries c.rest_at_home.new.store)
             (ap (λ (k : Contents g.row.P.Denot g.row.J.Denot g.row.L.Denot g.row.R.Denot). is_home k.place k.cores c.args.no.0) (sym c.self.view_is)) ready c.rest_at_home.ensures.entries c.self.invariant.own.left;
         right = c.self.invariant.own.right;
       };

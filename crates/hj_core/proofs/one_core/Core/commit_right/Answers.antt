@@ -17,7 +17,7 @@ invariant_of-self g c =
       some = c.self.invariant.some;
       suits = record { on_right = (c.rest_at_home.ensures.suits Right c.self.inside.join).1 c.self.invariant.suits.on_right; on_left = c.self.invariant.suits.on_left };
       own = record {
-        right = ready-home c.self.inside.place.0 c.self.inside.cores c.args.no.0 c.args._row.now _ c.is_first-first.result (is_home old.place old.cores c.args.no.0) c.in-Arrival.resting (g.R.Store.entries c.self.inside.right) (g.R.Store.entries c.rest_at_home.new.store)
+        right = ready-home c.self.inside.place.0 c.self.inside.homes c.args.no.0 c.args._row.now _ c.is_first-first.result (is_home old.place old.cores c.args.no.0) c.in-Arrival.resting (g.R.Store.entries c.self.inside.right) (g.R.Store.entries c.rest_at_home.new.store)
             (ap (λ (k : Contents g.row.P.Denot g.row.J.Denot g.row.L.Denot g.row.R.Denot). is_home k.place k.cores c.args.no.0) (sym c.self.view_is)) ready c.rest_at_home.ensures.entries c.self.invariant.own.right;
         left = c.self.invariant.own.left;
       };
