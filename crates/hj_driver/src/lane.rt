@@ -158,11 +158,10 @@ impl Lane {
         requires { IsAt self.old.arrivals no.0 at }
         ensures { self.new ≡ record self.old { arrivals = filter_map (after_part no.0 part) self.old.arrivals } }
     {
-        match self.arrivals[at].after(part) {
-            Some(arrival) => self.arrivals[at] = arrival,
-            None => {
-                take_out(&mut self.arrivals, at);
-            }
+        let arrival = &mut self.arrivals[at];
+        match arrival.after(part) {
+            Some(after) => *arrival = after,
+            None => take_out(&mut self.arrivals, at),
         }
     }
 
