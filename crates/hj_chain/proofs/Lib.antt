@@ -55,6 +55,7 @@ pub mod Stepping
 pub mod Stuck
 pub mod Sweeping
 pub mod Swept
+pub mod Taking
 pub mod Trying
 pub mod Totals
 pub mod Turning

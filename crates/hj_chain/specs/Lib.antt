@@ -9,3 +9,4 @@ pub mod Reports
 pub mod Serial
 pub mod Steps
 pub mod Sweep
+pub mod Taken

@@ -58,6 +58,15 @@ abbrev pub take_in : {M : Type 0} → Side → ℕ → List (Queues M) → List 
 take_in Left place links = changed_at place take_rightwards links
 take_in Right place links = changed_at (place + 1) take_leftwards links
 
+-- a message in front of those that come in there, where there is room for it
+abbrev pub put_back : {M : Type 0} → Side → ℕ → M → List (Queues M) → List (Queues M)
+put_back Left place message links = changed_at place (λ link. record link { rightwards = message ∷ link.rightwards }) links
+put_back Right place message links = changed_at (place + 1) (λ link. record link { leftwards = message ∷ link.leftwards }) links
+
+abbrev pub HasRoomBack : {M : Type 0} → Side → ℕ → List (Queues M) → Type 0
+HasRoomBack Left place links = length (link_at links place).rightwards < (link_at links place).capacity
+HasRoomBack Right place links = length (link_at links (place + 1)).leftwards < (link_at links (place + 1)).capacity
+
 -- what that core puts on its left and on its right
 abbrev pub send_out : {M : Type 0} → ℕ → List M → List M → List (Queues M) → List (Queues M)
 send_out place to_left to_right links = changed_at (place + 1) (put_rightwards to_right) (changed_at place (put_leftwards to_left) links)

@@ -6,7 +6,7 @@ ghost use Rattle.hj_msg.specs.declared.message.Msg.TheVariants.{R as LeftRow, S 
 ghost use Rattle.hj_core.specs.Sent.{passed_on};
 ghost use Rattle.hj_queue.specs.Queues.{no_messages};
 ghost use Rattle.hj_chain.specs.Chain.{first};
-ghost use Rattle.hj_chain.specs.Links.{link_at, changed_at, put_leftwards, put_rightwards, at_port, HasRoomAt, incoming as incoming_of, put_in, send_out, take_out, take_in};
+ghost use Rattle.hj_chain.specs.Links.{link_at, changed_at, put_leftwards, put_rightwards, at_port, HasRoomAt, incoming as incoming_of, put_in, put_back, send_out, take_out, take_in, HasRoomBack};
 
 use hj_base::{EventNo, Memory, Side};
 use hj_core::Way;
@@ -94,6 +94,19 @@ impl<P: Drop> Links<P> {
         }
     }
 
+    /// Puts a message back that was taken last at an end of a core.
+    #[cold]
+    pub fn put_back(&mut self, core: usize, end: Side, msg: Msg<P>)
+        requires in_range { core + 1 < length self.old }
+        requires room { HasRoomBack end core self.old }
+        ensures { self.new ≡ put_back end core msg self.old }
+    {
+        match end {
+            Side::Left => self.links[core].put_back_right(msg),
+            Side::Right => self.links[core + 1].put_back_left(msg),
+        }
+    }
+
     /// Puts a message on a link to the right.
     #[inline(always)]
     pub fn put_right(&mut self, at: usize, msg: Msg<P>)
@@ -160,34 +173,19 @@ impl<P: Drop> Links<P> {
         }
     }
 
-    /// Takes the first message that comes in at an end of a core of this place, and puts it on the link on its way. There is one.
-    // Each way takes the message itself, so that the way isn't asked for again behind the taking.
+    /// Puts a message that passed through a core of this place on the link on its way.
     #[inline(always)]
-    pub fn carry(&mut self, place: usize, end: Side, way: Way)
+    pub fn carry(&mut self, place: usize, way: Way, msg: Msg<P>)
         requires small { place < 2 ^ 16 }
         requires in_range { place + 1 < length self.old }
-        requires some { (msg : Msg P) × first (incoming_of end place self.old) ≡ Some msg }
-        requires room_left { length (link_at (take_in end place self.old) place).leftwards + 1 ≤ (link_at (take_in end place self.old) place).capacity }
-        requires room_right { (msg : Msg P) → first (incoming_of end place self.old) ≡ Some msg
-            → length (link_at (take_in end place self.old) (place + 1)).rightwards + length (passed_on way msg).right ≤ (link_at (take_in end place self.old) (place + 1)).capacity }
-        ensures { (msg : Msg P) → first (incoming_of end place self.old) ≡ Some msg → self.new ≡ send_out place (passed_on way msg).left (passed_on way msg).right (take_in end place self.old) }
+        requires room_left { length (link_at self.old place).leftwards + 1 ≤ (link_at self.old place).capacity }
+        requires room_right { length (link_at self.old (place + 1)).rightwards + length (passed_on way msg).right ≤ (link_at self.old (place + 1)).capacity }
+        ensures { self.new ≡ send_out place (passed_on way msg).left (passed_on way msg).right self.old }
     {
         match way {
-            Way::Left => {
-                let Some(msg) = self.take_in(place, end) else {
-                    unreachable!()
-                };
-                self.put_left(place, msg);
-            }
-            Way::Right => {
-                let Some(msg) = self.take_in(place, end) else {
-                    unreachable!()
-                };
-                self.put_right(place + 1, msg);
-            }
-            Way::Nowhere => {
-                self.take_in(place, end);
-            }
+            Way::Left => self.put_left(place, msg),
+            Way::Right => self.put_right(place + 1, msg),
+            Way::Nowhere => {}
         }
     }
 

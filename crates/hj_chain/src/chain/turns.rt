@@ -1,10 +1,8 @@
-ghost use Rattle.std.specs.Prelude.{◌≡◌, ◌==◌, ◌<◌, false, length, Some, OnOk, OnErr};
-ghost use Rattle.hj_msg.specs.declared.message.Msg.{Msg};
+ghost use Rattle.std.specs.Prelude.{◌≡◌, ◌<◌, length, true, OnOk, OnErr};
 ghost use Rattle.hj_msg.specs.declared.message.Msg.TheVariants.{R as LeftRow, S as RightRow};
-ghost use Rattle.hj_chain.specs.Chain.{FeedAnswer, capacity, first};
-ghost use Rattle.hj_chain.specs.Links.{incoming};
-ghost use Rattle.hj_chain.specs.Reports.{queue_at};
+ghost use Rattle.hj_chain.specs.Chain.{Contents, FeedAnswer};
 ghost use Rattle.hj_chain.specs.Steps.{IsGoing, StepsTo};
+ghost use Rattle.hj_chain.specs.Taken.{HasTaken, TurnsTo};
 
 use super::Chain;
 use crate::{Actor, NotNow, Stepped};
@@ -32,6 +30,7 @@ impl<P: Share + Drop, J: Join<P> + Drop, L: Store<P, J> + Drop, R: Store<P, J> +
     }
 
     /// Lets a core that is there handle the first message that comes in at one of its ends, as `turn` does.
+    // The message is taken before its core looks at it, so that its place is found once. Where there is no memory for it, it is put back.
     #[inline(always)]
     pub(super) fn turn_there<G: Gate>(
         &mut self,
@@ -46,121 +45,138 @@ impl<P: Share + Drop, J: Join<P> + Drop, L: Store<P, J> + Drop, R: Store<P, J> +
         ensures others { self.new ≡ record self.old { state = self.new.state } }
     {
         let place = usize::from(core.0);
-        let Some(msg) = self.links.incoming(place, end) else {
+        if self.links.incoming(place, end).is_none() {
             return Stepped::NotEnabled(NotNow::Empty);
-        };
+        }
         if self.reports.is_queue_full(place) {
             return Stepped::NotEnabled(NotNow::ReportsFull);
         }
-        gate.pass(core, made);
-        let Some(way) = self.cores[place].pass(msg) else {
-            match msg {
-                Msg::R { .. } => return stepped(self.handle_left_row(core, end)),
-                Msg::S { .. } => return stepped(self.handle_right_row(core, end)),
-                _ => return stepped(self.handle(core, end)),
-            }
-        };
-        self.links.carry(place, end, way);
-        Stepped::Did
-    }
-
-    /// Lets a core handle the left row that comes in first at one of its ends; its reports aren't full.
-    // Called, so that the sweep over the actors stays small.
-    #[inline(never)]
-    fn handle_left_row(&mut self, core: CoreNo, end: Side) -> Result<(), Memory>
-        requires going { IsGoing J.predicate self.old }
-        requires within { core.0 < length self.old.state.cores }
-        requires room { (length (queue_at self.old.state.reports core.0) == capacity self.old.state.driver.flight) ≡ false }
-        requires row { (no : EventNo) × (row : P) × first (incoming end core.0 self.old.state.links) ≡ Some (LeftRow no row) }
-        ensures did { OnOk result ((answer : FeedAnswer P) → StepsTo (J.predicate self.old.join) (Actor.Core core end) answer self.old.state Stepped.Did self.new.state) }
-        ensures memory { OnErr result ((answer : FeedAnswer P) → StepsTo (J.predicate self.old.join) (Actor.Core core end) answer self.old.state Stepped.Memory self.new.state) }
-        ensures others { self.new ≡ record self.old { state = self.new.state } }
-    {
-        let place = usize::from(core.0);
-        let Some(msg) = self.links.incoming(place, end) else {
-            unreachable!()
-        };
-        let Msg::R { no, row } = msg else {
-            unreachable!()
-        };
-        let no = *no;
-        let Ok(report) = self.cores[place].handle_left(no, row) else {
-            self.over = true;
-            return Err(Memory);
-        };
         let Some(msg) = self.links.take_in(place, end) else {
             unreachable!()
         };
-        let Msg::R { row, .. } = msg else {
-            unreachable!()
+        gate.pass(core, made);
+        self.handle_taken(core, end, msg)
+    }
+
+    /// Lets a core handle a message that was taken at one of its ends, which mostly passes through it.
+    #[inline(always)]
+    fn handle_taken(&mut self, core: CoreNo, end: Side, msg: Msg<P>) -> Stepped
+        requires taken { (before : Contents P J) × HasTaken J.predicate core end msg before self.old }
+        ensures step { TurnsTo J.predicate core end msg self.old result self.new }
+        ensures others { self.new ≡ record self.old { state = self.new.state } }
+    {
+        let place = usize::from(core.0);
+        let Some(way) = self.cores[place].pass(&msg) else {
+            return stepped(self.handle_whole(core, end, msg));
+        };
+        self.links.carry(place, way, msg);
+        Stepped::Did
+    }
+
+    /// Lets a core handle a message that was taken at one of its ends, and that doesn't only pass through it.
+    #[inline(always)]
+    fn handle_whole(&mut self, core: CoreNo, end: Side, msg: Msg<P>) -> Result<(), Memory>
+        requires taken { (before : Contents P J) × HasTaken J.predicate core end msg before self.old }
+        ensures did { OnOk result (TurnsTo J.predicate core end msg self.old Stepped.Did self.new) }
+        ensures memory { OnErr result (TurnsTo J.predicate core end msg self.old Stepped.Memory self.new) }
+        ensures others { self.new ≡ record self.old { state = self.new.state } }
+    {
+        match msg {
+            Msg::R { no, row } => self.handle_left_row(core, end, no, row),
+            Msg::S { no, row } => self.handle_right_row(core, end, no, row),
+            msg => self.handle_other(core, end, msg),
+        }
+    }
+
+    /// Lets a core handle a message that was taken at one of its ends, and that is no row.
+    // Only here is the message laid down in memory, to be handed over.
+    #[inline(always)]
+    fn handle_other(&mut self, core: CoreNo, end: Side, msg: Msg<P>) -> Result<(), Memory>
+        requires taken { (before : Contents P J) × HasTaken J.predicate core end msg before self.old }
+        ensures did { OnOk result (TurnsTo J.predicate core end msg self.old Stepped.Did self.new) }
+        ensures memory { OnErr result (TurnsTo J.predicate core end msg self.old Stepped.Memory self.new) }
+        ensures others { self.new ≡ record self.old { state = self.new.state } }
+    {
+        self.handle(core, end, msg)
+    }
+
+    /// Lets a core handle a left row that was taken at one of its ends.
+    // Called, so that the sweep over the actors stays small.
+    #[inline(never)]
+    fn handle_left_row(
+        &mut self,
+        core: CoreNo,
+        end: Side,
+        no: EventNo,
+        row: P,
+    ) -> Result<(), Memory>
+        requires taken { (before : Contents P J) × HasTaken J.predicate core end (LeftRow no row) before self.old }
+        ensures did { OnOk result (TurnsTo J.predicate core end (LeftRow no row) self.old Stepped.Did self.new) }
+        ensures memory { OnErr result (TurnsTo J.predicate core end (LeftRow no row) self.old Stepped.Memory self.new) }
+        ensures others { self.new ≡ record self.old { state = self.new.state } }
+    {
+        let place = usize::from(core.0);
+        let Ok(report) = self.cores[place].handle_left(no, &row) else {
+            self.give_up(core, end, Msg::R { no, row });
+            return Err(Memory);
         };
         self.links.send_left_row(place, self.cores.len(), no, row);
         self.reports.put(place, Some(report));
         Ok(())
     }
 
-    /// Lets a core handle the right row that comes in first at one of its ends; its reports aren't full.
+    /// Lets a core handle a right row that was taken at one of its ends.
     // Called, so that the sweep over the actors stays small.
     #[inline(never)]
-    fn handle_right_row(&mut self, core: CoreNo, end: Side) -> Result<(), Memory>
-        requires going { IsGoing J.predicate self.old }
-        requires within { core.0 < length self.old.state.cores }
-        requires room { (length (queue_at self.old.state.reports core.0) == capacity self.old.state.driver.flight) ≡ false }
-        requires row { (no : EventNo) × (row : P) × first (incoming end core.0 self.old.state.links) ≡ Some (RightRow no row) }
-        ensures did { OnOk result ((answer : FeedAnswer P) → StepsTo (J.predicate self.old.join) (Actor.Core core end) answer self.old.state Stepped.Did self.new.state) }
-        ensures memory { OnErr result ((answer : FeedAnswer P) → StepsTo (J.predicate self.old.join) (Actor.Core core end) answer self.old.state Stepped.Memory self.new.state) }
+    fn handle_right_row(
+        &mut self,
+        core: CoreNo,
+        end: Side,
+        no: EventNo,
+        row: P,
+    ) -> Result<(), Memory>
+        requires taken { (before : Contents P J) × HasTaken J.predicate core end (RightRow no row) before self.old }
+        ensures did { OnOk result (TurnsTo J.predicate core end (RightRow no row) self.old Stepped.Did self.new) }
+        ensures memory { OnErr result (TurnsTo J.predicate core end (RightRow no row) self.old Stepped.Memory self.new) }
         ensures others { self.new ≡ record self.old { state = self.new.state } }
     {
         let place = usize::from(core.0);
-        let Some(msg) = self.links.incoming(place, end) else {
-            unreachable!()
-        };
-        let Msg::S { no, row } = msg else {
-            unreachable!()
-        };
-        let no = *no;
-        let Ok(report) = self.cores[place].handle_right(no, row) else {
-            self.over = true;
+        let Ok(report) = self.cores[place].handle_right(no, &row) else {
+            self.give_up(core, end, Msg::S { no, row });
             return Err(Memory);
-        };
-        let Some(msg) = self.links.take_in(place, end) else {
-            unreachable!()
-        };
-        let Msg::S { row, .. } = msg else {
-            unreachable!()
         };
         self.links.send_right_row(place, self.cores.len(), no, row);
         self.reports.put(place, Some(report));
         Ok(())
     }
 
-    /// Lets a core handle the message that comes in first at one of its ends, whatever it is; its reports aren't full.
+    /// Lets a core handle a message that was taken at one of its ends, whatever it is.
     // Called, so that the sweep over the actors stays small.
     #[inline(never)]
-    fn handle(&mut self, core: CoreNo, end: Side) -> Result<(), Memory>
-        requires going { IsGoing J.predicate self.old }
-        requires within { core.0 < length self.old.state.cores }
-        requires room { (length (queue_at self.old.state.reports core.0) == capacity self.old.state.driver.flight) ≡ false }
-        requires some { (message : Msg P) × first (incoming end core.0 self.old.state.links) ≡ Some message }
-        ensures did { OnOk result ((answer : FeedAnswer P) → StepsTo (J.predicate self.old.join) (Actor.Core core end) answer self.old.state Stepped.Did self.new.state) }
-        ensures memory { OnErr result ((answer : FeedAnswer P) → StepsTo (J.predicate self.old.join) (Actor.Core core end) answer self.old.state Stepped.Memory self.new.state) }
+    fn handle(&mut self, core: CoreNo, end: Side, msg: Msg<P>) -> Result<(), Memory>
+        requires taken { (before : Contents P J) × HasTaken J.predicate core end msg before self.old }
+        ensures did { OnOk result (TurnsTo J.predicate core end msg self.old Stepped.Did self.new) }
+        ensures memory { OnErr result (TurnsTo J.predicate core end msg self.old Stepped.Memory self.new) }
         ensures others { self.new ≡ record self.old { state = self.new.state } }
     {
         let place = usize::from(core.0);
-        let Some(msg) = self.links.incoming(place, end) else {
-            unreachable!()
-        };
-        let core = &mut self.cores[place];
-        let Ok(entry) = core.handle(msg) else {
-            self.over = true;
+        let Ok(entry) = self.cores[place].handle(&msg) else {
+            self.give_up(core, end, msg);
             return Err(Memory);
-        };
-        let Some(msg) = self.links.take_in(place, end) else {
-            unreachable!()
         };
         self.links.send_on(place, self.cores.len(), msg);
         self.reports.put(place, entry);
         Ok(())
+    }
+
+    /// Ends the chain where there is no memory for the step of a core that took a message: the message is put back.
+    #[cold]
+    fn give_up(&mut self, core: CoreNo, end: Side, msg: Msg<P>)
+        requires taken { (before : Contents P J) × HasTaken J.predicate core end msg before self.old }
+        ensures { (before : Contents P J) → HasTaken J.predicate core end msg before self.old → self.new ≡ record before { state = record before.state { over = true } } }
+    {
+        self.links.put_back(usize::from(core.0), end, msg);
+        self.over = true;
     }
 }
 
