@@ -11,6 +11,7 @@ use hj_chain::{Chain, Chooser};
 use hj_eval::{QueryJoin, ReadyQuery};
 use hj_msg::{Drain, Feed, Fin, Store};
 use hj_query::Query;
+use hj_sequential::SequentialJoin;
 use hj_stores::{ChainStores, PlannedStores, planned_stores};
 use hj_value::SharedRow;
 use std::alloc::Global;
@@ -21,11 +22,11 @@ pub struct SerialPlan<'g, G> {
     pub size: ChainSize,
     /// The order of the steps.
     pub chooser: Chooser,
-    /// Is passed before each step of a core.
+    /// Is passed before each step of a core. One core alone makes a step for each event.
     pub gate: &'g G,
 }
 
-/// Runs a new chain between a feed that gave no event yet and a drain.
+/// Runs a join between a feed that gave no event yet and a drain.
 pub(crate) fn run_chain<F: Feed<SharedRow>, D: Drain<SharedRow>, G: Gate>(
     alloc: Global,
     query: &Query,
@@ -42,8 +43,8 @@ pub(crate) fn run_chain<F: Feed<SharedRow>, D: Drain<SharedRow>, G: Gate>(
     }
 }
 
-/// Runs a new chain, with stores of the kind that the query's condition asks for. Where memory runs out before there is a
-/// chain, neither the feed nor the drain was asked.
+/// Runs a join, with stores of the kind that the query's condition asks for. Where memory runs out before it begins, neither the
+/// feed nor the drain was asked.
 fn run_planned<F: Feed<SharedRow>, D: Drain<SharedRow>, G: Gate>(
     alloc: Global,
     query: &Query,
@@ -64,8 +65,68 @@ fn run_planned<F: Feed<SharedRow>, D: Drain<SharedRow>, G: Gate>(
     }
 }
 
-/// Runs a new chain over these stores.
+/// Runs the join over these stores: sequentially where there is one core and no other order of steps to play, else by a new chain.
 fn run_over<
+    'r,
+    'q,
+    S: Store<SharedRow, QueryJoin<'r>> + Drop,
+    F: Feed<SharedRow>,
+    D: Drain<SharedRow>,
+    G: Gate,
+>(
+    alloc: Global,
+    query: &'r ReadyQuery<'q>,
+    plan: &SerialPlan<'_, G>,
+    stores: ChainStores<S>,
+    feed: &mut F,
+    drain: &mut D,
+) -> Result<Fin, Memory>
+    requires fresh { IsFresh (F.state feed.old) }
+    requires stores { AreReady S.entries S.suits query.now plan.now.size.cores stores }
+    ensures runs { IfOk result (λ fin. RunsJoin F.gives F.state D.takes (holds query.now) fin feed.old feed.new drain.old drain.new) }
+    ensures refused { OnErr result ((feed.new ≡ feed.old) × (drain.new ≡ drain.old)) }
+{
+    if plan.size.cores == 1 && matches!(plan.chooser, Chooser::InTurn) {
+        return Ok(run_sequential(query, stores, feed, drain, plan.gate));
+    }
+    run_chained(alloc, query, plan, stores, feed, drain)
+}
+
+/// Runs the sequential join over the only store of each stream.
+// Called, as is the run of a chain, so that neither loop is compiled with the other one's.
+#[inline(never)]
+fn run_sequential<
+    'r,
+    'q,
+    S: Store<SharedRow, QueryJoin<'r>> + Drop,
+    F: Feed<SharedRow>,
+    D: Drain<SharedRow>,
+    G: Gate,
+>(
+    query: &'r ReadyQuery<'q>,
+    mut stores: ChainStores<S>,
+    feed: &mut F,
+    drain: &mut D,
+    gate: &G,
+) -> Fin
+    requires fresh { IsFresh (F.state feed.old) }
+    requires stores { AreReady S.entries S.suits query.now 1 stores }
+    ensures { RunsJoin F.gives F.state D.takes (holds query.now) result feed.old feed.new drain.old drain.new }
+{
+    let (Some(left), Some(right)) = (stores.left.pop(), stores.right.pop()) else {
+        unreachable!()
+    };
+    let mut join = SequentialJoin {
+        join: QueryJoin::new(query),
+        left,
+        right,
+    };
+    join.run(feed, drain, gate)
+}
+
+/// Runs a new chain over these stores.
+#[inline(never)]
+fn run_chained<
     'r,
     'q,
     S: Store<SharedRow, QueryJoin<'r>> + Drop,

@@ -16,7 +16,8 @@ use std::alloc::Global;
 /// Joins the streams Left and Right of `outside` under a query, and writes the line of each pair to `out`: each pair of the
 /// sequential sliding-window join (Kang, Naughton and Viglas, ICDE 2003) over the streams' numbered events once, in its order.
 /// At most `limit` events are numbered. The rows pass along the serial chain that `plan` says, whose cores have two stores each, of a
-/// kind that suits the query's condition. Either stream is read only as far as its next row. `Outcome` says why the join ended.
+/// kind that suits the query's condition; where it says one core, and the steps in turn, they go through such stores alone. Either
+/// stream is read only as far as its next row. `Outcome` says why the join ended.
 pub fn join_serial<O: Outside, K: Sink, G: Gate>(
     alloc: Global,
     query: &Query,

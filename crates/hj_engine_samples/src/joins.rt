@@ -1,7 +1,12 @@
 //! Joins of two streams, serial and on threads.
 use crate::runs::{run, run_all};
 use hj_base::{CoreNo, Gate};
+use std::alloc::Global;
+use std::process::Abort;
+use std::sync::Wait;
 use std::sync::atomic::{AtomicU64, Ordering};
+use std::thread::Threads;
+use std::time::Clock;
 
 /// Rows at 1, 3, .. and at 2, 4, .., of which each is joined with the one before it and the one after it.
 const NEIGHBOURS: &str = "\
@@ -52,7 +57,7 @@ const CONDITIONS: &str = "\
 
 #[test]
 fn joins_by_each_kind_of_condition(rt: HostRuntime) {
-    run_all(&rt, rt.alloc(), "serial 2 32", CONDITIONS);
+    run_all(&rt, rt.alloc(), "serial 1 32, serial 2 32", CONDITIONS);
 }
 
 /// Two left rows and the right one between them, which matches both.
@@ -78,15 +83,28 @@ impl Gate for CountingGate {
     }
 }
 
-#[test]
-fn passes_the_gate_before_each_step_of_a_core(rt: HostRuntime) {
+/// Tells how often the two cores of a way pass the gate in the join of three rows.
+fn passes<R: Abort + Threads + Wait + Clock + Sync>(
+    rt: &R,
+    alloc: Global,
+    way: &str,
+) -> (u64, u64) {
     let gate = CountingGate {
         first: AtomicU64::new(0),
         second: AtomicU64::new(0),
     };
-    run(&rt, rt.alloc(), "serial 2 32", THREE_ROWS, &gate);
-    assert_eq!(rt; gate.first.load(Ordering::SeqCst), 7);
-    assert_eq!(rt; gate.second.load(Ordering::SeqCst), 7);
+    run(rt, alloc, way, THREE_ROWS, &gate);
+    (
+        gate.first.load(Ordering::SeqCst),
+        gate.second.load(Ordering::SeqCst),
+    )
+}
+
+/// Shows that each of two cores makes a step for each message, and one core alone one for each event.
+#[test]
+fn passes_the_gate_before_each_step_of_a_core(rt: HostRuntime) {
+    assert_eq!(rt; passes(&rt, rt.alloc(), "serial 2 32"), (7, 7));
+    assert_eq!(rt; passes(&rt, rt.alloc(), "serial 1 32"), (3, 0));
 }
 
 #[test]
