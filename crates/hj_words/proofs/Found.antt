@@ -1,5 +1,5 @@
 -- The arguments of each command, and what is found among them.
-use Rattle.std.proofs.Common.{◌≡◌, ◌&&◌, ℕ, suc, Bool, true, false, not, List, [], ◌∷◌, ◌++◌, map, Some, None, refl, sym, ap, true≢false}
+use Rattle.std.proofs.Common.{◌≡◌, ◌∙◌, ◌&&◌, ℕ, suc, Bool, true, false, not, List, [], ◌∷◌, ◌++◌, map, Option, Some, None, refl, sym, ap, true≢false}
 use Rattle.std.specs.List.{list_all, list_any}
 use Rattle.std.specs.Str.{bytes_eq}
 use Rattle.std.proofs.lemmas.Slice.Eq.{bytes_eq-Decides}
@@ -19,27 +19,19 @@ use Rattle.hj_words.proofs.Commands.{Finds, Places, option_arg, positional_arg, 
 abbrev pub options_then : List Text → List Rule → List Rule
 options_then options behind = map option_arg options ++ behind
 
-long_found : (options : List Text) (behind : List Rule) (name : Text) → is_among name options ≡ true → arg_by_long (options_then options behind) name ≡ Some (option_arg name)
-long_found [] behind name e = absurd (true≢false (sym e))
-long_found (o ∷ options) behind name e = go (bytes_eq o name) refl (long_found options behind name)
+-- an option is found by its name, by a look that stops at an option of this name and goes on behind any other
+option_found : (look : List Rule → Text → Option Rule) → ((o : Text) (rest : List Rule) (name : Text) → bytes_eq o name ≡ true → look (option_arg o ∷ rest) name ≡ Some (option_arg o))
+    → ((o : Text) (rest : List Rule) (name : Text) → bytes_eq o name ≡ false → look (option_arg o ∷ rest) name ≡ look rest name) → (options : List Text) (behind : List Rule) (name : Text)
+    → is_among name options ≡ true → look (options_then options behind) name ≡ Some (option_arg name)
+option_found look stops goes [] behind name e = absurd (true≢false (sym e))
+option_found look stops goes (o ∷ options) behind name e = go (bytes_eq o name) refl (option_found look stops goes options behind name)
   where
-    go : (b : Bool) → bytes_eq o name ≡ b → (is_among name options ≡ true → arg_by_long (options_then options behind) name ≡ Some (option_arg name))
-        → arg_by_long (options_then (o ∷ options) behind) name ≡ Some (option_arg name)
-    go true is more = rw is (ap (λ n. Some (option_arg n)) ((bytes_eq-Decides o name).0 is))
+    go : (b : Bool) → bytes_eq o name ≡ b → (is_among name options ≡ true → look (options_then options behind) name ≡ Some (option_arg name))
+        → look (options_then (o ∷ options) behind) name ≡ Some (option_arg name)
+    go true is more = stops o (options_then options behind) name is ∙ ap (λ n. Some (option_arg n)) ((bytes_eq-Decides o name).0 is)
     go false is more =
         let rest : is_among name options ≡ true = rw is at e in
-        rw is (more rest)
-
-id_found : (options : List Text) (behind : List Rule) (name : Text) → is_among name options ≡ true → arg_by_id (options_then options behind) name ≡ Some (option_arg name)
-id_found [] behind name e = absurd (true≢false (sym e))
-id_found (o ∷ options) behind name e = go (bytes_eq o name) refl (id_found options behind name)
-  where
-    go : (b : Bool) → bytes_eq o name ≡ b → (is_among name options ≡ true → arg_by_id (options_then options behind) name ≡ Some (option_arg name))
-        → arg_by_id (options_then (o ∷ options) behind) name ≡ Some (option_arg name)
-    go true is more = rw is (ap (λ n. Some (option_arg n)) ((bytes_eq-Decides o name).0 is))
-    go false is more =
-        let rest : is_among name options ≡ true = rw is at e in
-        rw is (more rest)
+        goes o (options_then options behind) name is ∙ more rest
 
 long_unknown : (options : List Text) (behind : List Rule) (name : Text) → arg_by_long behind name ≡ None → is_among name options ≡ false
     → arg_by_long (options_then options behind) name ≡ None
@@ -86,8 +78,8 @@ none_missing (o ∷ options) place names rows = none_missing options place names
 
 finds : (options names : List Text) → Finds options (args_of options names)
 finds options names = record {
-  long = long_found options (positional_args 1 names);
-  by_id = id_found options (positional_args 1 names);
+  long = option_found arg_by_long (λ o rest name is. rw is refl) (λ o rest name is. rw is refl) options (positional_args 1 names);
+  by_id = option_found arg_by_id (λ o rest name is. rw is refl) (λ o rest name is. rw is refl) options (positional_args 1 names);
   unknown = λ name e. long_unknown options (positional_args 1 names) name (no_long 1 names name) e;
   short = no_short options 1 names;
   defaults = no_defaults options 1 names;

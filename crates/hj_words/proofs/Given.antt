@@ -26,7 +26,8 @@ use Rattle.clap.specs.declared.error.kind.ErrorKind.TheVariants.{OutOfMemory}
 use Rattle.clap.specs.declared.parser.matches.ArgMatches.{ArgMatches}
 use Rattle.clap.proofs.WalkLemmas.{first_value-rows}
 use Rattle.clap.proofs.FaultLemmas.{leaf_fault}
-use Rattle.hj_words.specs.Arguments.{Accepts, Carries, Refuses, bare_app, command_app, option_rule, positional_rule}
+use Rattle.hj_words.specs.Arguments.{Accepts, Carries, Refuses, bare_app, command_app, rule_at}
+use Rattle.hj_words.specs.declared.arguments.Place.TheVariants as place
 use Rattle.hj_words.specs.Values.{Text, Value, given, once, text_of, values_of}
 use Rattle.hj_words.proofs.Commands.{Finds, Places, top_of}
 use Rattle.hj_words.proofs.Law.{AreTexts, Agrees, agrees, at, is_accepted}
@@ -118,10 +119,10 @@ one_more rule names i none old new whole within is whole_is =
     front = rw (add-one, drop-cons names i none) refl
 
 -- a command is built from a bare one, by options and then by words by their place
-pub built_up : (name : Text) (options names : List Text) (bare optioned whole : App) → bare ≡ bare_app name → optioned ≡ fold with_rule bare (map option_rule options)
-    → whole ≡ fold with_rule optioned (map positional_rule names) → whole ≡ command_app name options names
+pub built_up : (name : Text) (options names : List Text) (bare optioned whole : App) → bare ≡ bare_app name → optioned ≡ fold with_rule bare (map (rule_at place.Free) options)
+    → whole ≡ fold with_rule optioned (map (rule_at place.InTurn) names) → whole ≡ command_app name options names
 built_up name options names bare optioned whole is_bare is_optioned is_whole =
-    is_whole ∙ ap (λ app. fold with_rule app (map positional_rule names)) (is_optioned ∙ ap (λ app. fold with_rule app (map option_rule options)) is_bare)
+    is_whole ∙ ap (λ app. fold with_rule app (map (rule_at place.InTurn) names)) (is_optioned ∙ ap (λ app. fold with_rule app (map (rule_at place.Free) options)) is_bare)
 
 pub accepted : (actual app : App) (words : List Text) (m : ArgMatches) → actual ≡ app → (is_simple_and_free actual ≡ true → fault_of actual words ≡ []) → HasMatchesOf actual words m → Accepts app words m
 accepted actual app words m is kinds has = subst (λ a. Accepts a words m) is (record { no_fault = kinds; has_matches = has })

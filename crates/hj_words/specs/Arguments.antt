@@ -7,6 +7,8 @@ use Rattle.clap.specs.Words.{App, Rule, first_value, found_of, new_rule}
 use Rattle.clap.specs.declared.builder.action.ArgAction.TheVariants.{Set}
 use Rattle.clap.specs.declared.parser.matches.ArgMatches.{ArgMatches}
 use Rattle.hj_words.specs.Values.{Text, Value, given, text_of}
+use Rattle.hj_words.specs.declared.arguments.Place.{Place}
+use Rattle.hj_words.specs.declared.arguments.Place.TheVariants as place
 
 -- the matches give each name the text that the words give it
 pub record Carries (options names words : List Text) (matches : ArgMatches) : Type 0 where
@@ -14,13 +16,10 @@ pub record Carries (options names words : List Text) (matches : ArgMatches) : Ty
   pub are_given : given options names words ≡ Some values
   pub texts : (name : Text) → first_value (found_of matches) name ≡ text_of name values
 
--- `--name VALUE` or `--name=VALUE`
-abbrev pub option_rule : Text → Rule
-option_rule name = record (new_rule name) { long = Some name; action = Some Set }
-
--- a word by its place
-abbrev pub positional_rule : Text → Rule
-positional_rule name = record (new_rule name) { action = Some Set }
+-- the argument of a name: `--name VALUE` or `--name=VALUE`, or a word by its place
+abbrev pub rule_at : Place → Text → Rule
+rule_at place.Free name = record (new_rule name) { long = Some name; action = Some Set }
+rule_at place.InTurn name = record (new_rule name) { action = Some Set }
 
 -- a command that reads every word, and has no word of its own
 abbrev pub bare_app : Text → App
@@ -32,7 +31,7 @@ bare_app name = record {
 -- the command with these options, and these names for words by their place
 abbrev pub command_app : Text → List Text → List Text → App
 command_app name options names =
-    fold with_rule (fold with_rule (bare_app name) (map option_rule options)) (map positional_rule names)
+    fold with_rule (fold with_rule (bare_app name) (map (rule_at place.Free) options)) (map (rule_at place.InTurn) names)
 
 -- a command refuses none of the words, and these are their matches
 pub record Accepts (app : App) (words : List Text) (matches : ArgMatches) : Type 0 where

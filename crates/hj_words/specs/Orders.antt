@@ -3,6 +3,9 @@ use Rattle.std.specs.Prelude.{ℕ, Bool, not, ◌&&◌, ◌==◌, List, [], ◌�
 use Rattle.std.specs.Str.{all_ascii_digits, bytes_eq}
 use Rattle.std.specs.Str.Parse.{digits_value}
 use Rattle.hj_words.specs.Values.{Text, Value, given, text_of}
+use Rattle.hj_words.specs.Verbs.{names_of, options_of}
+use Rattle.hj_words.specs.declared.verb.Verb.{Verb}
+use Rattle.hj_words.specs.declared.verb.Verb.TheVariants as verb
 use Rattle.hj_words.specs.declared.order.Order.{Order}
 use Rattle.hj_words.specs.declared.names.JoinNames.{JoinNames}
 use Rattle.hj_words.specs.declared.numbers.JoinNumbers.{JoinNumbers}
@@ -77,12 +80,15 @@ join_numbers fewest cores threads flight limit schedule =
     (number_or 4 fewest 64 threads))
     (number_or 4 1 64 cores)
 
+-- the numbers that the words give a join with these texts for its threads, of which it has at least this many, and for its schedule
+abbrev pub numbers_among : ℕ → Option Text → Option Text → List Value → Option JoinNumbers
+numbers_among fewest threads schedule values =
+    join_numbers fewest (text_of (codes "cores") values) threads (text_of (codes "flight") values)
+    (text_of (codes "max-events") values) schedule
+
 -- the numbers that the words give the options of `join`
-abbrev pub numbers_among : List Value → Option JoinNumbers
-numbers_among values =
-    join_numbers 0 (text_of (codes "cores") values) (text_of (codes "threads") values)
-    (text_of (codes "flight") values) (text_of (codes "max-events") values)
-    (text_of (codes "schedule") values)
+abbrev pub all_numbers : List Value → Option JoinNumbers
+all_numbers values = numbers_among 0 (text_of (codes "threads") values) (text_of (codes "schedule") values) values
 
 -- the names of these texts, of a join's query and of its streams
 unfoldable pub names_in : Option Text → Option Text → Option Text → Option JoinNames
@@ -106,7 +112,7 @@ order_with make numbers names = option_and_then (λ numbers. option_map (λ name
 abbrev pub join_of : List Value → Option Order
 join_of values =
     order_with (λ numbers names. Join numbers.setup numbers.limit numbers.schedule names.query names.left names.right)
-    (numbers_among values) (names_among values)
+    (all_numbers values) (names_among values)
 
 -- `check QUERY`
 abbrev pub check_of : List Value → Option Order
@@ -134,8 +140,7 @@ gen_of values = gen_order (text_of (codes "n") values) (text_of (codes "keys") v
 abbrev pub raw_of : List Value → Option Order
 raw_of values =
     order_with (λ numbers names. Raw numbers.setup numbers.limit names.query names.left names.right)
-    (join_numbers 1 (text_of (codes "cores") values) (text_of (codes "threads") values)
-    (text_of (codes "flight") values) (text_of (codes "max-events") values) None)
+    (numbers_among 1 (text_of (codes "threads") values) None values)
     (names_among values)
 
 -- `trace [--cores N] [--flight N] [--max-events N] [--schedule SEED] QUERY LEFT RIGHT`, whose numbers are those of `join` on no
@@ -144,9 +149,7 @@ abbrev pub trace_of : List Value → Option Order
 trace_of values =
     order_with (λ numbers names.
     Trace numbers.setup.cores numbers.setup.flight numbers.limit numbers.schedule names.query names.left names.right)
-    (join_numbers 0 (text_of (codes "cores") values) (Some (codes "0"))
-    (text_of (codes "flight") values) (text_of (codes "max-events") values)
-    (text_of (codes "schedule") values))
+    (numbers_among 0 (Some (codes "0")) (text_of (codes "schedule") values) values)
     (names_among values)
 
 -- `verify [--cores N] [--flight N] [--max-events N] QUERY LEFT RIGHT TRACE OUTPUT`, whose numbers are those of `join` on no threads
@@ -156,9 +159,7 @@ verify_of values =
     option_and_then (λ output.
     order_with (λ numbers names.
     Verify numbers.setup.cores numbers.setup.flight numbers.limit names.query names.left names.right trace output)
-    (join_numbers 0 (text_of (codes "cores") values) (Some (codes "0"))
-    (text_of (codes "flight") values) (text_of (codes "max-events") values) None)
-    (names_among values))
+    (numbers_among 0 (Some (codes "0")) None values) (names_among values))
     (name_in (text_of (codes "output") values)))
     (name_in (text_of (codes "trace") values))
 
@@ -170,79 +171,35 @@ twice_of values =
     option_and_then (λ third.
     order_with (λ numbers names.
     Twice numbers.setup numbers.limit numbers.schedule names.query names.left names.right second third)
-    (numbers_among values) (names_among values))
+    (all_numbers values) (names_among values))
     (name_in (text_of (codes "third") values)))
     (name_in (text_of (codes "second") values))
 
-abbrev pub no_options : List Text
-no_options = []
-
-abbrev pub equi_names : List Text
-equi_names = codes "w" ∷ codes "left" ∷ codes "right" ∷ []
-
-abbrev pub join_options : List Text
-join_options = codes "cores" ∷ codes "threads" ∷ codes "flight" ∷ codes "max-events"
-    ∷ codes "schedule" ∷ []
-
-abbrev pub join_names : List Text
-join_names = codes "query" ∷ codes "left" ∷ codes "right" ∷ []
-
-abbrev pub check_names : List Text
-check_names = codes "query" ∷ []
-
-abbrev pub gen_names : List Text
-gen_names = codes "n" ∷ codes "keys" ∷ codes "seed" ∷ codes "w" ∷ []
-
-abbrev pub raw_options : List Text
-raw_options = codes "cores" ∷ codes "threads" ∷ codes "flight" ∷ codes "max-events" ∷ []
-
-abbrev pub trace_options : List Text
-trace_options = codes "cores" ∷ codes "flight" ∷ codes "max-events" ∷ codes "schedule" ∷ []
-
-abbrev pub verify_options : List Text
-verify_options = codes "cores" ∷ codes "flight" ∷ codes "max-events" ∷ []
-
-abbrev pub verify_names : List Text
-verify_names = codes "query" ∷ codes "left" ∷ codes "right" ∷ codes "trace" ∷ codes "output" ∷ []
-
-abbrev pub twice_names : List Text
-twice_names = codes "query" ∷ codes "left" ∷ codes "right" ∷ codes "second" ∷ codes "third" ∷ []
+-- the order that the values of a command's words give
+abbrev pub order_among : Verb → List Value → Option Order
+order_among verb.Equi values = equi_of values
+order_among verb.Join values = join_of values
+order_among verb.Check values = check_of values
+order_among verb.Gen values = gen_of values
+order_among verb.Raw values = raw_of values
+order_among verb.Trace values = trace_of values
+order_among verb.Verify values = verify_of values
+order_among verb.Twice values = twice_of values
 
 -- The order that the words behind a command spell, if they spell one.
-abbrev pub equi_spelled : List Text → Option Order
-equi_spelled words = option_and_then equi_of (given no_options equi_names words)
-
-abbrev pub join_spelled : List Text → Option Order
-join_spelled words = option_and_then join_of (given join_options join_names words)
-
-abbrev pub check_spelled : List Text → Option Order
-check_spelled words = option_and_then check_of (given no_options check_names words)
-
-abbrev pub gen_spelled : List Text → Option Order
-gen_spelled words = option_and_then gen_of (given no_options gen_names words)
-
-abbrev pub raw_spelled : List Text → Option Order
-raw_spelled words = option_and_then raw_of (given raw_options join_names words)
-
-abbrev pub trace_spelled : List Text → Option Order
-trace_spelled words = option_and_then trace_of (given trace_options join_names words)
-
-abbrev pub verify_spelled : List Text → Option Order
-verify_spelled words = option_and_then verify_of (given verify_options verify_names words)
-
-abbrev pub twice_spelled : List Text → Option Order
-twice_spelled words = option_and_then twice_of (given join_options twice_names words)
+abbrev pub spelled : Verb → List Text → Option Order
+spelled of words = option_and_then (order_among of) (given (options_of of) (names_of of) words)
 
 -- The order that the words spell, if they spell one.
 abbrev pub order_of : List Text → Option Order
 order_of [] = None
 order_of (command ∷ words) =
-    if bytes_eq command (codes "equi") then equi_spelled words
-    else if bytes_eq command (codes "join") then join_spelled words
-    else if bytes_eq command (codes "check") then check_spelled words
-    else if bytes_eq command (codes "gen") then gen_spelled words
-    else if bytes_eq command (codes "raw") then raw_spelled words
-    else if bytes_eq command (codes "trace") then trace_spelled words
-    else if bytes_eq command (codes "verify") then verify_spelled words
-    else if bytes_eq command (codes "twice") then twice_spelled words
+    if bytes_eq command (codes "equi") then spelled verb.Equi words
+    else if bytes_eq command (codes "join") then spelled verb.Join words
+    else if bytes_eq command (codes "check") then spelled verb.Check words
+    else if bytes_eq command (codes "gen") then spelled verb.Gen words
+    else if bytes_eq command (codes "raw") then spelled verb.Raw words
+    else if bytes_eq command (codes "trace") then spelled verb.Trace words
+    else if bytes_eq command (codes "verify") then spelled verb.Verify words
+    else if bytes_eq command (codes "twice") then spelled verb.Twice words
     else None

@@ -1,8 +1,6 @@
 -- The words of each command.
-use Rattle.std.specs.Prelude.{List, codes}
+use Rattle.std.specs.Prelude.{List, [], ◌∷◌, codes}
 use Rattle.hj_words.specs.Values.{Text}
-use Rattle.hj_words.specs.Orders.{no_options, equi_names, join_options, join_names, check_names, gen_names}
-use Rattle.hj_words.specs.Orders.{raw_options, trace_options, verify_options, verify_names, twice_names}
 use Rattle.hj_words.specs.declared.verb.Verb.{Verb}
 use Rattle.hj_words.specs.declared.verb.Verb.TheVariants as verb
 
@@ -17,24 +15,30 @@ title_of verb.Trace = codes "trace"
 title_of verb.Verify = codes "verify"
 title_of verb.Twice = codes "twice"
 
+abbrev pub join_options : List Text
+join_options = codes "cores" ∷ codes "threads" ∷ codes "flight" ∷ codes "max-events" ∷ codes "schedule" ∷ []
+
+abbrev pub join_names : List Text
+join_names = codes "query" ∷ codes "left" ∷ codes "right" ∷ []
+
 -- its options
 abbrev pub options_of : Verb → List Text
-options_of verb.Equi = no_options
+options_of verb.Equi = []
 options_of verb.Join = join_options
-options_of verb.Check = no_options
-options_of verb.Gen = no_options
-options_of verb.Raw = raw_options
-options_of verb.Trace = trace_options
-options_of verb.Verify = verify_options
+options_of verb.Check = []
+options_of verb.Gen = []
+options_of verb.Raw = codes "cores" ∷ codes "threads" ∷ codes "flight" ∷ codes "max-events" ∷ []
+options_of verb.Trace = codes "cores" ∷ codes "flight" ∷ codes "max-events" ∷ codes "schedule" ∷ []
+options_of verb.Verify = codes "cores" ∷ codes "flight" ∷ codes "max-events" ∷ []
 options_of verb.Twice = join_options
 
 -- the names of its words by their place
 abbrev pub names_of : Verb → List Text
-names_of verb.Equi = equi_names
+names_of verb.Equi = codes "w" ∷ codes "left" ∷ codes "right" ∷ []
 names_of verb.Join = join_names
-names_of verb.Check = check_names
-names_of verb.Gen = gen_names
+names_of verb.Check = codes "query" ∷ []
+names_of verb.Gen = codes "n" ∷ codes "keys" ∷ codes "seed" ∷ codes "w" ∷ []
 names_of verb.Raw = join_names
 names_of verb.Trace = join_names
-names_of verb.Verify = verify_names
-names_of verb.Twice = twice_names
+names_of verb.Verify = codes "query" ∷ codes "left" ∷ codes "right" ∷ codes "trace" ∷ codes "output" ∷ []
+names_of verb.Twice = codes "query" ∷ codes "left" ∷ codes "right" ∷ codes "second" ∷ codes "third" ∷ []

@@ -3,7 +3,7 @@ ghost use Rattle.std.specs.Prelude.{◌≡◌, IfOk, IfErr, None, false, map, st
 ghost use Rattle.std.specs.List.{fold};
 ghost use Rattle.clap.specs.Simple.{with_rule};
 ghost use Rattle.clap.specs.Words.{app_of, rule_of};
-ghost use Rattle.hj_words.specs.Arguments.{Accepts, Carries, Refuses, bare_app, command_app, option_rule, positional_rule};
+ghost use Rattle.hj_words.specs.Arguments.{Accepts, Carries, Refuses, bare_app, command_app, rule_at};
 ghost use Rattle.hj_words.specs.Values.{given};
 ghost use Rattle.hj_words.specs.Verbs.{names_of, options_of};
 
@@ -11,6 +11,15 @@ use crate::order::Usage;
 use crate::verb::Verb;
 use clap::{Arg, ArgAction, ArgMatches, Command};
 use std::alloc::{AllocError, Global};
+
+/// Where a value stands among the words.
+#[derive(Clone, Copy)]
+enum Place {
+    /// Anywhere, behind its name: `--name VALUE` or `--name=VALUE`.
+    Free,
+    /// In its turn among the words without a name.
+    InTurn,
+}
 
 /// Reads the values of the words after a command.
 pub fn values_after<'a>(
@@ -39,37 +48,23 @@ fn matches<'a>(
         → Refuses (command_app name.entry.now (map (λ o. o.now) options.now) (map (λ n. n.now) names.now))
         (map string_bytes words.entry.now)) }
 {
-    let command = with_options(alloc, bare(alloc, name), options)?;
-    let command = with_positionals(alloc, command, names)?;
+    let command = with_args(alloc, bare(alloc, name), Place::Free, options)?;
+    let command = with_args(alloc, command, Place::InTurn, names)?;
     Ok(command.try_get_matches_from(words)?)
 }
 
-/// Adds these options to a command, after its arguments.
-fn with_options<'a>(
+/// Adds arguments with these names to a command, after its own.
+fn with_args<'a>(
     alloc: Global,
     mut command: Command<'a>,
+    place: Place,
     names: &[&'a str],
 ) -> Result<Command<'a>, AllocError>
     ensures { IfOk result (λ new. app_of new
-        ≡ fold with_rule (app_of command.entry) (map option_rule (map (λ n. n.now) names.now))) }
+        ≡ fold with_rule (app_of command.entry) (map (rule_at place) (map (λ n. n.now) names.now))) }
 {
     for name in names {
-        command = command.arg(option(alloc, name))?;
-    }
-    Ok(command)
-}
-
-/// Adds these words by their place to a command, after its arguments.
-fn with_positionals<'a>(
-    alloc: Global,
-    mut command: Command<'a>,
-    names: &[&'a str],
-) -> Result<Command<'a>, AllocError>
-    ensures { IfOk result (λ new. app_of new
-        ≡ fold with_rule (app_of command.entry) (map positional_rule (map (λ n. n.now) names.now))) }
-{
-    for name in names {
-        command = command.arg(positional(alloc, name))?;
+        command = command.arg(argument(alloc, place, name))?;
     }
     Ok(command)
 }
@@ -83,18 +78,14 @@ fn bare<'a>(alloc: Global, name: &'a str) -> Command<'a>
         .disable_help_flag(true)
 }
 
-/// Makes an option, `--name VALUE` or `--name=VALUE`.
-fn option<'a>(alloc: Global, name: &'a str) -> Arg<'a>
-    ensures rule { rule_of result ≡ option_rule name.entry.now }
+/// Makes the argument of a name.
+fn argument<'a>(alloc: Global, place: Place, name: &'a str) -> Arg<'a>
+    ensures rule { rule_of result ≡ rule_at place name.entry.now }
     ensures local { result.global ≡ false }
 {
-    Arg::new(alloc, name).long(name).action(ArgAction::Set)
-}
-
-/// Makes a word by its place.
-fn positional<'a>(alloc: Global, name: &'a str) -> Arg<'a>
-    ensures rule { rule_of result ≡ positional_rule name.entry.now }
-    ensures local { result.global ≡ false }
-{
-    Arg::new(alloc, name).action(ArgAction::Set)
+    let argument = Arg::new(alloc, name).action(ArgAction::Set);
+    match place {
+        Place::Free => argument.long(name),
+        Place::InTurn => argument,
+    }
 }

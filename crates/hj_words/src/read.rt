@@ -1,11 +1,11 @@
 ghost use Rattle.std.specs.Prelude.{◌≡◌, IfOk, IfErr, IfSome, Some, None, map, option_map, string_bytes};
-ghost use Rattle.hj_words.specs.Orders.{order_of, equi_spelled, join_spelled, check_spelled, gen_spelled, gen_order};
-ghost use Rattle.hj_words.specs.Orders.{raw_spelled, trace_spelled, verify_spelled, twice_spelled};
+ghost use Rattle.hj_words.specs.Orders.{gen_order, order_of, spelled};
 ghost use Rattle.hj_words.specs.Ranges.{IsInRange};
+ghost use Rattle.hj_words.specs.Reading.{Reads};
 
 use crate::arguments::values_after;
 use crate::names::{named, names_among};
-use crate::numbers::{join_numbers, numbers_among};
+use crate::numbers::{all_numbers, numbers_among};
 use crate::order::{Order, Usage};
 use crate::values::number;
 use crate::verb::Verb;
@@ -37,9 +37,7 @@ pub fn read_words(alloc: Global, words: &[String]) -> Result<Order, Usage>
 
 /// Reads the order of the words after `equi`.
 fn read_equi(alloc: Global, words: &[String]) -> Result<Order, Usage>
-    ensures ok { IfOk result (λ order. equi_spelled (map string_bytes words.now) ≡ Some order) }
-    ensures ranges { IfOk result IsInRange }
-    ensures err { IfErr result (λ fault. fault ≡ Usage.Words → equi_spelled (map string_bytes words.now) ≡ None) }
+    ensures { Reads (spelled Verb.Equi (map string_bytes words.now)) result }
 {
     let matches = values_after(alloc, Verb::Equi, words)?;
     let w = number(matches.get_str("w"), 1, MOST_ROWS).ok_or(Usage::Words)?;
@@ -54,12 +52,10 @@ fn read_equi(alloc: Global, words: &[String]) -> Result<Order, Usage>
 
 /// Reads the order of the words after `join`.
 fn read_join(alloc: Global, words: &[String]) -> Result<Order, Usage>
-    ensures ok { IfOk result (λ order. join_spelled (map string_bytes words.now) ≡ Some order) }
-    ensures ranges { IfOk result IsInRange }
-    ensures err { IfErr result (λ fault. fault ≡ Usage.Words → join_spelled (map string_bytes words.now) ≡ None) }
+    ensures { Reads (spelled Verb.Join (map string_bytes words.now)) result }
 {
     let matches = values_after(alloc, Verb::Join, words)?;
-    let numbers = numbers_among(&matches).ok_or(Usage::Words)?;
+    let numbers = all_numbers(&matches).ok_or(Usage::Words)?;
     let names = names_among(alloc, &matches)?;
     Ok(Order::Join {
         setup: numbers.setup,
@@ -73,9 +69,7 @@ fn read_join(alloc: Global, words: &[String]) -> Result<Order, Usage>
 
 /// Reads the order of the words after `check`.
 fn read_check(alloc: Global, words: &[String]) -> Result<Order, Usage>
-    ensures ok { IfOk result (λ order. check_spelled (map string_bytes words.now) ≡ Some order) }
-    ensures ranges { IfOk result IsInRange }
-    ensures err { IfErr result (λ fault. fault ≡ Usage.Words → check_spelled (map string_bytes words.now) ≡ None) }
+    ensures { Reads (spelled Verb.Check (map string_bytes words.now)) result }
 {
     let matches = values_after(alloc, Verb::Check, words)?;
     let query = named(alloc, matches.get_str("query"))?;
@@ -84,9 +78,7 @@ fn read_check(alloc: Global, words: &[String]) -> Result<Order, Usage>
 
 /// Reads the order of the words after `gen`.
 fn read_gen(alloc: Global, words: &[String]) -> Result<Order, Usage>
-    ensures ok { IfOk result (λ order. gen_spelled (map string_bytes words.now) ≡ Some order) }
-    ensures ranges { IfOk result IsInRange }
-    ensures err { IfErr result (λ fault. fault ≡ Usage.Words → gen_spelled (map string_bytes words.now) ≡ None) }
+    ensures { Reads (spelled Verb.Gen (map string_bytes words.now)) result }
 {
     let matches = values_after(alloc, Verb::Gen, words)?;
     gen_order(
@@ -124,20 +116,10 @@ fn gen_order(
 
 /// Reads the order of the words after `raw`.
 fn read_raw(alloc: Global, words: &[String]) -> Result<Order, Usage>
-    ensures ok { IfOk result (λ order. raw_spelled (map string_bytes words.now) ≡ Some order) }
-    ensures ranges { IfOk result IsInRange }
-    ensures err { IfErr result (λ fault. fault ≡ Usage.Words → raw_spelled (map string_bytes words.now) ≡ None) }
+    ensures { Reads (spelled Verb.Raw (map string_bytes words.now)) result }
 {
     let matches = values_after(alloc, Verb::Raw, words)?;
-    let numbers = join_numbers(
-        1,
-        matches.get_str("cores"),
-        matches.get_str("threads"),
-        matches.get_str("flight"),
-        matches.get_str("max-events"),
-        None,
-    )
-    .ok_or(Usage::Words)?;
+    let numbers = numbers_among(&matches, 1, matches.get_str("threads"), None).ok_or(Usage::Words)?;
     let names = names_among(alloc, &matches)?;
     Ok(Order::Raw {
         setup: numbers.setup,
@@ -150,20 +132,12 @@ fn read_raw(alloc: Global, words: &[String]) -> Result<Order, Usage>
 
 /// Reads the order of the words after `trace`.
 fn read_trace(alloc: Global, words: &[String]) -> Result<Order, Usage>
-    ensures ok { IfOk result (λ order. trace_spelled (map string_bytes words.now) ≡ Some order) }
-    ensures ranges { IfOk result IsInRange }
-    ensures err { IfErr result (λ fault. fault ≡ Usage.Words → trace_spelled (map string_bytes words.now) ≡ None) }
+    ensures { Reads (spelled Verb.Trace (map string_bytes words.now)) result }
 {
     let matches = values_after(alloc, Verb::Trace, words)?;
-    let numbers = join_numbers(
-        0,
-        matches.get_str("cores"),
-        Some("0"),
-        matches.get_str("flight"),
-        matches.get_str("max-events"),
-        matches.get_str("schedule"),
-    )
-    .ok_or(Usage::Words)?;
+    let numbers = numbers_among(&matches, 0, Some("0"), matches.get_str("schedule")).ok_or(
+        Usage::Words,
+    )?;
     let names = names_among(alloc, &matches)?;
     Ok(Order::Trace {
         cores: numbers.setup.cores,
@@ -178,22 +152,12 @@ fn read_trace(alloc: Global, words: &[String]) -> Result<Order, Usage>
 
 /// Reads the order of the words after `verify`.
 fn read_verify(alloc: Global, words: &[String]) -> Result<Order, Usage>
-    ensures ok { IfOk result (λ order. verify_spelled (map string_bytes words.now) ≡ Some order) }
-    ensures ranges { IfOk result IsInRange }
-    ensures err { IfErr result (λ fault. fault ≡ Usage.Words → verify_spelled (map string_bytes words.now) ≡ None) }
+    ensures { Reads (spelled Verb.Verify (map string_bytes words.now)) result }
 {
     let matches = values_after(alloc, Verb::Verify, words)?;
     let trace = named(alloc, matches.get_str("trace"))?;
     let output = named(alloc, matches.get_str("output"))?;
-    let numbers = join_numbers(
-        0,
-        matches.get_str("cores"),
-        Some("0"),
-        matches.get_str("flight"),
-        matches.get_str("max-events"),
-        None,
-    )
-    .ok_or(Usage::Words)?;
+    let numbers = numbers_among(&matches, 0, Some("0"), None).ok_or(Usage::Words)?;
     let names = names_among(alloc, &matches)?;
     Ok(Order::Verify {
         cores: numbers.setup.cores,
@@ -209,14 +173,12 @@ fn read_verify(alloc: Global, words: &[String]) -> Result<Order, Usage>
 
 /// Reads the order of the words after `twice`.
 fn read_twice(alloc: Global, words: &[String]) -> Result<Order, Usage>
-    ensures ok { IfOk result (λ order. twice_spelled (map string_bytes words.now) ≡ Some order) }
-    ensures ranges { IfOk result IsInRange }
-    ensures err { IfErr result (λ fault. fault ≡ Usage.Words → twice_spelled (map string_bytes words.now) ≡ None) }
+    ensures { Reads (spelled Verb.Twice (map string_bytes words.now)) result }
 {
     let matches = values_after(alloc, Verb::Twice, words)?;
     let second = named(alloc, matches.get_str("second"))?;
     let third = named(alloc, matches.get_str("third"))?;
-    let numbers = numbers_among(&matches).ok_or(Usage::Words)?;
+    let numbers = all_numbers(&matches).ok_or(Usage::Words)?;
     let names = names_among(alloc, &matches)?;
     Ok(Order::Twice {
         setup: numbers.setup,
