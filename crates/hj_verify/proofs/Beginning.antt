@@ -113,7 +113,7 @@ module _ {O : Type 0} {outside : OutsideGhosts O} (query : Parts) (n flight limi
     trace = fresh role.Trace;
     output = fresh role.Output;
     checks =
-        by_memory query n flight (feeding from) (feeding from) (fresh role.Trace) (fresh role.Output) fed_none (none_yet (feeding from) unasked.going)
+        by_memory query n flight (feeding from) (feeding from) (fresh role.Trace) (fresh role.Output) fed_none
         [] (none_used role.Trace (roles_of from role.Trace) (roles_of from role.Trace) refl) [] (none_used role.Output (roles_of from role.Output) (roles_of from role.Output) refl)
         (streams_go no_memory from.feed.ended still_going (λ of stream. memory_apart of));
   }

@@ -13,10 +13,6 @@ use Rattle.hj_verify.specs.Output.{Agrees, ComparesOn, Counts, DiffersBehind}
 use Rattle.hj_verify.specs.Reading.{GivesUp}
 use Rattle.hj_verify.proofs.Using.{further}
 
-parts_further : (missing more : List ℕ) (stream : StreamState) → PartsFrom missing stream → PartsFrom (missing ++ more) stream
-parts_further [] more stream parts = absurd parts
-parts_further (byte ∷ later) more stream parts = parts
-
 -- a stream that goes on with another byte than the next one of these, or has ended, parts from them whatever follows
 part_behind : (missing : List ℕ) (stream : StreamState) (later : List ℕ) → (stream.ended ≡ true → later ≡ []) → PartsFrom missing stream → Part (stream.unused ++ later) missing
 part_behind [] stream later none parts = absurd parts
@@ -41,17 +37,6 @@ module _ (text expected : List ℕ) (start : StreamState) (before : RoleState) (
 
   text_same : old.differs ≡ false → text ≡ agrees.same
   text_same same = agrees.text_is ∙ (ap (λ (l : List ℕ). agrees.same ++ l) (none_missing same) ∙ append-nil agrees.same)
-
-  -- an output that differs isn't read on
-  pub agrees_apart : old.differs ≡ true → Agrees (text ++ expected) start before old (mid old.stream.role)
-  agrees_apart differs = record {
-    same = agrees.same;
-    missing = agrees.missing ++ expected;
-    text_is = ap (λ (l : List ℕ). l ++ expected) agrees.text_is ∙ append_assoc agrees.same agrees.missing expected;
-    uses = agrees.uses;
-    counted = agrees.counted;
-    ends = subst (λ (b : Bool). MatchBool b (PartsFrom (agrees.missing ++ expected) old.stream) (agrees.missing ++ expected ≡ [])) (sym differs) (parts_further agrees.missing expected old.stream (apart differs));
-  }
 
   -- one part more was compared
   pub agrees_on : old.differs ≡ false → (new : OutputCheck) (now : Role → RoleState) (same missing : List ℕ) → expected ≡ same ++ missing → Uses false same old.stream (mid old.stream.role) new.stream (now old.stream.role)

@@ -65,3 +65,21 @@ module _ {O : Type 0} {outside : OutsideGhosts O} (old from : AlwaysReady O outs
         open_output (outside.state from.feed.outside.now) (outside.state last.outside.now) trace output used kept.are_open
         (subst (λ (of : Role). ChangesOnly of (outside.state from.feed.outside.now) (outside.state last.outside.now)) (sym kept.are_open.output_role) beside.others) same read;
   }
+
+-- ---- a line, from its start on
+
+module _ {O : Type 0} {outside : OutsideGhosts O} (old : AlwaysReady O outside) (chain : Contents Row Parts) (trace output : StreamState) (goes : GoesWith holds chain (state_of {O = O} {outside = outside} old)) (are_open : AreOpen (roles_of {O = O} {outside = outside} old) trace output)
+    (new : EventFeed O outside) (beside : ReadsBeside {O = O} {outside = outside} role.Trace old.feed new) (used : StreamState) (same : used.role ≡ trace.role) (read : IsReadOf used (outside.state new.outside.now used.role)) where
+  -- its actor was read
+  abbrev pub kept_maker : Kept {O = O} {outside = outside} old (over new) chain used output
+  kept_maker = kept_trace {O = O} {outside = outside} old old chain trace output (record { same = outside_same old; goes = goes; are_open = are_open }) new beside used same read
+
+  module _ (to : AlwaysReady O outside) (asked : (answers : List (Given Row)) × GoesOverAnswers (gives {O = O} {outside = outside}) (over new) answers to) (made : Contents Row Parts) (goes_on : GoesWith holds made (state_of {O = O} {outside = outside} to)) where
+    -- its step was made
+    abbrev pub kept_made : Kept {O = O} {outside = outside} old to made used output
+    kept_made = kept_step {O = O} {outside = outside} old (over new) chain used output kept_maker to asked made goes_on
+
+    -- its rest was read
+    abbrev pub kept_rest : (last : EventFeed O outside) → ReadsBeside {O = O} {outside = outside} role.Trace to.feed last → (behind : StreamState) → behind.role ≡ used.role → IsReadOf behind (outside.state last.outside.now behind.role)
+        → Kept {O = O} {outside = outside} old (over last) made behind output
+    kept_rest last beside_last behind same_last read_last = kept_trace {O = O} {outside = outside} old to made used output kept_made last beside_last behind same_last read_last

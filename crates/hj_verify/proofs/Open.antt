@@ -48,12 +48,6 @@ module _ (before now : Role → RoleState) where
     pub in_step_beside : (ended : Bool) (stream : Role) → (IsStream of → ⊥) → IsStream stream → IsInStep ended (before stream) → IsInStep ended (now stream)
     in_step_beside ended stream isnt stands step = subst (λ (s : RoleState). IsInStep ended s) (sym (others_stay stream (λ e. isnt (subst IsStream e stands)))) step
 
-pub trace_apart : (trace output : StreamState) (roles : Role → RoleState) → AreOpen roles trace output → IsStream trace.role → ⊥
-trace_apart trace output roles are_open is = subst IsStream are_open.trace_role is
-
-pub output_apart : (trace output : StreamState) (roles : Role → RoleState) → AreOpen roles trace output → IsStream output.role → ⊥
-output_apart trace output roles are_open is = subst IsStream are_open.output_role is
-
 -- the output stays open while the trace is read
 pub goes_apart : (of : Role) (output : StreamState) (before now : Role → RoleState) → ChangesOnly of before now → output.role ≡ role.Output → of ≢ role.Output → GoesWith output (before output.role) → GoesWith output (now output.role)
 goes_apart of output before now changes is apart goes = goes_still before now output (changes output.role (λ e. apart (sym e ∙ is))) goes

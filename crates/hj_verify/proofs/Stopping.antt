@@ -49,7 +49,7 @@ output_isnt_trace e = let wrong : role.Output ≡ role.Trace = e in cc
 
 -- ---- the events failed, or memory ran out
 
-module _ (query : Parts) (n flight : ℕ) (start now : Feeding) (trace output : StreamState) (fed : Fed start now) (streams : FailsOfStreams now.ended)
+module _ (query : Parts) (n flight : ℕ) (start now : Feeding) (trace output : StreamState) (fed : Fed start now)
     (lines : List ℕ) (trace_used : Uses false lines (fresh role.Trace) (start.roles role.Trace) trace (now.roles trace.role))
     (same : List ℕ) (output_used : Uses false same (fresh role.Output) (start.roles role.Output) output (now.roles output.role)) where
   pub by_memory : ((of : Role) → IsStream of → (now.ended ≡ Some (outcome.SourceFault of)) ↔ (no_memory ≡ fault_of of)) → Concludes no_memory query n flight start now trace output
@@ -61,6 +61,9 @@ module _ (query : Parts) (n flight : ℕ) (start now : Feeding) (trace output : 
     says = λ more t o may ends also. tt;
   }
 
+module _ (query : Parts) (n flight : ℕ) (start now : Feeding) (trace output : StreamState) (fed : Fed start now) (streams : FailsOfStreams now.ended)
+    (lines : List ℕ) (trace_used : Uses false lines (fresh role.Trace) (start.roles role.Trace) trace (now.roles trace.role))
+    (same : List ℕ) (output_used : Uses false same (fresh role.Output) (start.roles role.Output) output (now.roles output.role)) where
   by_stream : (of : Role) → now.ended ≡ Some (outcome.SourceFault of) → Concludes (fault_of of) query n flight start now trace output
   by_stream of is =
       let here = streams of is in
@@ -82,7 +85,7 @@ module _ (query : Parts) (n flight : ℕ) (start now : Feeding) (trace output : 
   by_end outcome.SinkFault is failed = absurd (true≢false (sym failed))
   by_end outcome.TooMany is failed = absurd (true≢false (sym failed))
   by_end outcome.Memory is failed =
-      by_memory (λ of stream. (λ e. absurd (let wrong : Some outcome.Memory ≡ Some (outcome.SourceFault of) = sym is ∙ e in cc), λ e. absurd (memory_apart of e)))
+      by_memory query n flight start now trace output fed lines trace_used same output_used (λ of stream. (λ e. absurd (let wrong : Some outcome.Memory ≡ Some (outcome.SourceFault of) = sym is ∙ e in cc), λ e. absurd (memory_apart of e)))
 
   pub feed_fails : (judged : Verdict) → FailsSo now.ended judged → Concludes judged query n flight start now trace output
   feed_fails judged fails =
@@ -90,10 +93,32 @@ module _ (query : Parts) (n flight : ℕ) (start now : Feeding) (trace output : 
 
   given_up : (judged : Verdict) (b : Bool) → has_failed now.ended ≡ b → MatchBool b (FailsSo now.ended judged) (judged ≡ no_memory) → Concludes judged query n flight start now trace output
   given_up judged true is so = feed_fails judged so
-  given_up judged false is so = subst (λ (v : Verdict). Concludes v query n flight start now trace output) (sym so) (by_memory (streams_go no_memory now.ended is (λ of stream. memory_apart of)))
+  given_up judged false is so = subst (λ (v : Verdict). Concludes v query n flight start now trace output) (sym so) (by_memory query n flight start now trace output fed lines trace_used same output_used (streams_go no_memory now.ended is (λ of stream. memory_apart of)))
 
   pub feed_given_up : (judged : Verdict) → IsGivenUp now.ended judged → Concludes judged query n flight start now trace output
   feed_given_up judged so = given_up judged (has_failed now.ended) refl so
+
+-- ---- one of the two that are compared was read
+
+-- the other one stays as it was
+used_still : (of : Role) (bytes : List ℕ) (before : RoleState) (stream : StreamState) (old new : Role → RoleState) → new of ≡ old of → Uses false bytes (fresh of) before stream (old stream.role)
+    → Uses false bytes (fresh of) before stream (new stream.role)
+used_still of bytes before stream old new same uses =
+    let stays : new stream.role ≡ old stream.role = ap new uses.role ∙ (same ∙ sym (ap old uses.role)) in
+    subst (λ (s : RoleState). Uses false bytes (fresh of) before stream s) (sym stays) uses
+
+-- who gives up saw a read fail, or memory run out
+gave_up : (of : Role) (before : RoleState) (used : StreamState) (now : RoleState) (Claim : Verdict → Type 0)
+    → ((bytes : List ℕ) → Uses true bytes (fresh of) before used now → Claim (fault_of of)) → ((bytes : List ℕ) → Uses false bytes (fresh of) before used now → Claim no_memory)
+    → (judged : Verdict) → GivesUp judged of (fresh of) before used now → Claim judged
+gave_up of before used now Claim failed memory (verdict.Accepted events) gives = absurd gives
+gave_up of before used now Claim failed memory (verdict.Refused found) gives = absurd gives
+gave_up of before used now Claim failed memory (verdict.Ended (outcome.Done events)) gives = absurd gives
+gave_up of before used now Claim failed memory (verdict.Ended (outcome.Bad side at why)) gives = absurd gives
+gave_up of before used now Claim failed memory (verdict.Ended (outcome.SourceFault found)) gives = subst (λ (r : Role). Claim (fault_of r)) (sym gives.0) (failed gives.1 gives.2)
+gave_up of before used now Claim failed memory (verdict.Ended outcome.SinkFault) gives = absurd gives
+gave_up of before used now Claim failed memory (verdict.Ended outcome.TooMany) gives = absurd gives
+gave_up of before used now Claim failed memory (verdict.Ended outcome.Memory) gives = memory gives.0 gives.1
 
 -- ---- the trace was read
 
@@ -101,37 +126,24 @@ module _ (query : Parts) (n flight : ℕ) (start now : Feeding) (fed : Fed start
     (output : StreamState) (same : List ℕ) (output_used : Uses false same (fresh role.Output) (start.roles role.Output) output (now.roles output.role))
     (roles : Role → RoleState) (changes : ChangesOnly role.Trace now.roles roles) where
   output_after : Uses false same (fresh role.Output) (start.roles role.Output) output (roles output.role)
-  output_after =
-      let stays : roles output.role ≡ now.roles output.role = ap roles output_used.role ∙ (changes role.Output output_isnt_trace ∙ sym (ap now.roles output_used.role)) in
-      subst (λ (s : RoleState). Uses false same (fresh role.Output) (start.roles role.Output) output s) (sym stays) output_used
+  output_after = used_still role.Output same (start.roles role.Output) output now.roles roles (changes role.Output output_isnt_trace) output_used
 
   abbrev pub fed_there : Fed start (record now { roles = roles })
   fed_there = fed_read start now role.Trace roles fed tt (λ e. e) changes
 
   -- a read of it failed, or memory ran out
   pub trace_gives_up : (judged : Verdict) (used : StreamState) → GivesUp judged role.Trace (fresh role.Trace) (start.roles role.Trace) used (roles used.role) → Concludes judged query n flight start (record now { roles = roles }) used output
-  trace_gives_up (verdict.Accepted events) used gives = absurd gives
-  trace_gives_up (verdict.Refused found) used gives = absurd gives
-  trace_gives_up (verdict.Ended (outcome.Done events)) used gives = absurd gives
-  trace_gives_up (verdict.Ended (outcome.Bad side at why)) used gives = absurd gives
-  trace_gives_up (verdict.Ended (outcome.SourceFault found)) used gives =
-      subst (λ (of : Role). Concludes (fault_of of) query n flight start (record now { roles = roles }) used output) (sym gives.0)
-      (record {
+  trace_gives_up judged used gives =
+      gave_up role.Trace (start.roles role.Trace) used (roles used.role) (λ (v : Verdict). Concludes v query n flight start (record now { roles = roles }) used output)
+      (λ bytes uses. record {
         fed = fed_there;
         streams = streams_go (fault_of role.Trace) now.ended going (λ of is. not_stream role.Trace of (λ e. e) is);
-        trace_read = read_failed role.Trace (start.roles role.Trace) used (roles used.role) gives.1 gives.2;
+        trace_read = read_failed role.Trace (start.roles role.Trace) used (roles used.role) bytes uses;
         output_read = read_on (fault_of role.Trace) role.Output (start.roles role.Output) output (roles output.role) (other_role role.Trace role.Output trace_isnt_output) same output_after;
         says = λ more t o may ends also. tt;
       })
-  trace_gives_up (verdict.Ended outcome.SinkFault) used gives = absurd gives
-  trace_gives_up (verdict.Ended outcome.TooMany) used gives = absurd gives
-  trace_gives_up (verdict.Ended outcome.Memory) used gives = record {
-    fed = fed_there;
-    streams = streams_go no_memory now.ended going (λ of is. memory_apart of);
-    trace_read = read_on no_memory role.Trace (start.roles role.Trace) used (roles used.role) (memory_apart role.Trace) gives.0 gives.1;
-    output_read = read_on no_memory role.Output (start.roles role.Output) output (roles output.role) (memory_apart role.Output) same output_after;
-    says = λ more t o may ends also. tt;
-  }
+      (λ bytes uses. by_memory query n flight start (record now { roles = roles }) used output fed_there bytes uses same output_after (streams_go no_memory now.ended going (λ of is. memory_apart of)))
+      judged gives
 
   -- something is wrong with it, whatever events come behind those that came
   pub trace_refused : (found : TraceFault) (used : StreamState) (bytes : List ℕ) → Uses false bytes (fresh role.Trace) (start.roles role.Trace) used (roles used.role)
@@ -230,34 +242,21 @@ module _ (query : Parts) (n flight : ℕ) (start now : Feeding) (fed : Fed start
     (trace : StreamState) (lines : List ℕ) (trace_used : Uses false lines (fresh role.Trace) (start.roles role.Trace) trace (now.roles trace.role))
     (roles : Role → RoleState) (changes : ChangesOnly role.Output now.roles roles) where
   trace_after : Uses false lines (fresh role.Trace) (start.roles role.Trace) trace (roles trace.role)
-  trace_after =
-      let stays : roles trace.role ≡ now.roles trace.role = ap roles trace_used.role ∙ (changes role.Trace trace_isnt_output ∙ sym (ap now.roles trace_used.role)) in
-      subst (λ (s : RoleState). Uses false lines (fresh role.Trace) (start.roles role.Trace) trace s) (sym stays) trace_used
+  trace_after = used_still role.Trace lines (start.roles role.Trace) trace now.roles roles (changes role.Trace trace_isnt_output) trace_used
 
   abbrev pub fed_here : Fed start (record now { roles = roles })
   fed_here = fed_read start now role.Output roles fed tt (λ e. e) changes
 
   -- a read of it failed, or memory ran out
   pub output_gives_up : (judged : Verdict) (used : StreamState) → GivesUp judged role.Output (fresh role.Output) (start.roles role.Output) used (roles used.role) → Concludes judged query n flight start (record now { roles = roles }) trace used
-  output_gives_up (verdict.Accepted events) used gives = absurd gives
-  output_gives_up (verdict.Refused found) used gives = absurd gives
-  output_gives_up (verdict.Ended (outcome.Done events)) used gives = absurd gives
-  output_gives_up (verdict.Ended (outcome.Bad side at why)) used gives = absurd gives
-  output_gives_up (verdict.Ended (outcome.SourceFault found)) used gives =
-      subst (λ (of : Role). Concludes (fault_of of) query n flight start (record now { roles = roles }) trace used) (sym gives.0)
-      (record {
+  output_gives_up judged used gives =
+      gave_up role.Output (start.roles role.Output) used (roles used.role) (λ (v : Verdict). Concludes v query n flight start (record now { roles = roles }) trace used)
+      (λ bytes uses. record {
         fed = fed_here;
         streams = streams_go (fault_of role.Output) now.ended going (λ of is. not_stream role.Output of (λ e. e) is);
         trace_read = read_on (fault_of role.Output) role.Trace (start.roles role.Trace) trace (roles trace.role) (other_role role.Output role.Trace output_isnt_trace) lines trace_after;
-        output_read = read_failed role.Output (start.roles role.Output) used (roles used.role) gives.1 gives.2;
+        output_read = read_failed role.Output (start.roles role.Output) used (roles used.role) bytes uses;
         says = λ more t o may ends also. tt;
       })
-  output_gives_up (verdict.Ended outcome.SinkFault) used gives = absurd gives
-  output_gives_up (verdict.Ended outcome.TooMany) used gives = absurd gives
-  output_gives_up (verdict.Ended outcome.Memory) used gives = record {
-    fed = fed_here;
-    streams = streams_go no_memory now.ended going (λ of is. memory_apart of);
-    trace_read = read_on no_memory role.Trace (start.roles role.Trace) trace (roles trace.role) (memory_apart role.Trace) lines trace_after;
-    output_read = read_on no_memory role.Output (start.roles role.Output) used (roles used.role) (memory_apart role.Output) gives.0 gives.1;
-    says = λ more t o may ends also. tt;
-  }
+      (λ bytes uses. by_memory query n flight start (record now { roles = roles }) trace used fed_here lines trace_after bytes uses (streams_go no_memory now.ended going (λ of is. memory_apart of)))
+      judged gives

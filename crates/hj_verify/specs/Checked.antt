@@ -115,14 +115,17 @@ pub record FailsSo (ended : Option Outcome) (judged : Verdict) : Type 0 where
 
 -- Whatever events come behind these, none where they have ended, the steps of this schedule can be made over all of them, lead to
 -- this chain, and have this text.
-pub record LeadTo (query : Parts) (n flight : ℕ) (events : Events) (ended : Bool) (schedule : List Actor) (chain : ChainState (List Field)) (text : List ℕ) : Type 0 where
-  pub played_is : (more : Events) → (ended ≡ true → more ≡ []) → played (holds query) schedule (at_start n flight (events ++ more)) ≡ record { chain = chain; coming = more }
+pub record LeadTo (query : Parts) (n flight : ℕ) (events : Events) (ended : Bool) (schedule : List Actor) (chain : ChainState (List Field))
+    (text : List ℕ) : Type 0 where
+  pub played_is : (more : Events) → (ended ≡ true → more ≡ [])
+      → played (holds query) schedule (at_start n flight (events ++ more)) ≡ record { chain = chain; coming = more }
   pub enabled : (more : Events) → (ended ≡ true → more ≡ []) → AreEnabled (holds query) schedule (at_start n flight (events ++ more))
   pub text_is : (more : Events) → (ended ≡ true → more ≡ []) → trace_text (holds query) schedule (at_start n flight (events ++ more)) ≡ text
 
 -- A check has come to the line of this number: the trace has the lines of the steps that were made, and nothing is known to be
 -- wrong with them, and the output was compared with the lines of the pairs that were given.
-pub record Checking (query : Parts) (n flight : ℕ) (start : Feeding) (number : ℕ) (chain : Contents (List Field) Parts) (now : Feeding) (trace : StreamState) (output : OutputCheck) : Type 0 where
+pub record Checking (query : Parts) (n flight : ℕ) (start : Feeding) (number : ℕ) (chain : Contents (List Field) Parts) (now : Feeding)
+    (trace : StreamState) (output : OutputCheck) : Type 0 where
   pub join : chain.join ≡ query
   pub limit : ℕ
   pub begun : IsBegun query limit start
@@ -170,7 +173,8 @@ pub record Concludes (judged : Verdict) (query : Parts) (n flight : ℕ) (start 
       → IsWrongBy judged query n flight (events_in fed.answers ++ more) (trace_read.uses.came ++ t) (output_read.uses.came ++ o)
 
 -- The line of this number is right, and a check has come to the next one; or it ended there.
-abbrev pub ChecksLine : Result (Unit {0}) Verdict → Parts → (n flight : ℕ) → Feeding → ℕ → Contents (List Field) Parts → Feeding → StreamState → OutputCheck → Type 0
+abbrev pub ChecksLine : Result (Unit {0}) Verdict → Parts → (n flight : ℕ) → Feeding → ℕ → Contents (List Field) Parts → Feeding
+    → StreamState → OutputCheck → Type 0
 ChecksLine (Ok went) query n flight start number chain now trace output = Checking query n flight start (number + 1) chain now trace output
 ChecksLine (Err judged) query n flight start number chain now trace output = Concludes judged query n flight start now trace output.stream
 
@@ -182,8 +186,10 @@ pub record AllIsRight (query : Parts) (n flight : ℕ) (start now : Feeding) (tr
   pub ended : now.ended ≢ None
   pub lines : List ℕ
   pub trace_is : IsWhole lines (fresh role.Trace) (start.roles role.Trace) trace (now.roles trace.role)
-  pub output_is : IsWhole (text_of query (events_in fed.answers)) (fresh role.Output) (start.roles role.Output) output (now.roles output.role)
-  pub right : IsRight (holds query) n flight (events_in fed.answers) lines (text_of query (events_in fed.answers)) (text_of query (events_in fed.answers))
+  pub output_is : IsWhole (text_of query (events_in fed.answers)) (fresh role.Output) (start.roles role.Output) output
+      (now.roles output.role)
+  pub right : IsRight (holds query) n flight (events_in fed.answers) lines (text_of query (events_in fed.answers))
+      (text_of query (events_in fed.answers))
 
 -- All is right, or the check ended with a verdict.
 abbrev pub ChecksAll : Result (Unit {0}) Verdict → Parts → (n flight : ℕ) → Feeding → Feeding → StreamState → StreamState → Type 0

@@ -20,12 +20,14 @@ use Rattle.hj_verify.specs.Output.{Agrees}
 use Rattle.hj_verify.specs.Reading.{GivesUp}
 
 -- A chain stands for this schedule and these events, emits these pairs, and gave so many of them.
-pub record HasGiven (chain : Contents (List Field) Parts) (schedule : List Actor) (events : List (Event (List Field))) (given : ℕ) (pairs : List (Pair (List Field))) : Type 0 where
+pub record HasGiven (chain : Contents (List Field) Parts) (schedule : List Actor) (events : List (Event (List Field))) (given : ℕ)
+    (pairs : List (Pair (List Field))) : Type 0 where
   pub stands : StandsFor holds chain schedule events given
   pub emits : emitted (collected_of stands.reached) ≡ pairs
 
 -- All pairs that are due were given, and the output was compared with their lines.
-pub record GaveDue (chain : Contents (List Field) Parts) (schedule : List Actor) (events : List (Event (List Field))) (pairs : List (Pair (List Field)))
+pub record GaveDue (chain : Contents (List Field) Parts) (schedule : List Actor) (events : List (Event (List Field)))
+    (pairs : List (Pair (List Field)))
     (start : StreamState) (before : RoleState) (output : OutputCheck) (now : RoleState) : Type 0 where
   pub given : ℕ
   pub has : HasGiven chain schedule events given pairs
@@ -33,6 +35,7 @@ pub record GaveDue (chain : Contents (List Field) Parts) (schedule : List Actor)
   pub agrees : Agrees (text (take given pairs)) start before output now
 
 -- That was done, or given up.
-abbrev pub ChecksDue : Result (Unit {0}) Verdict → Contents (List Field) Parts → List Actor → List (Event (List Field)) → List (Pair (List Field)) → StreamState → RoleState → OutputCheck → RoleState → Type 0
+abbrev pub ChecksDue : Result (Unit {0}) Verdict → Contents (List Field) Parts → List Actor → List (Event (List Field))
+    → List (Pair (List Field)) → StreamState → RoleState → OutputCheck → RoleState → Type 0
 ChecksDue (Ok went) chain schedule events pairs start before output now = GaveDue chain schedule events pairs start before output now
 ChecksDue (Err judged) chain schedule events pairs start before output now = GivesUp judged role.Output start before output.stream now

@@ -38,13 +38,15 @@ module _ {O : Type 0} {outside : OutsideGhosts O} where
     pub going : has_failed to.feed.ended ≡ false
 
   -- The actor of the line of this number isn't enabled, and nothing was done.
-  pub record IsDisabled (at number : ℕ) (actor : Actor) (old new : Contents (List Field) Parts) (from to : AlwaysReady O outside) : Type 0 where
+  pub record IsDisabled (at number : ℕ) (actor : Actor) (old new : Contents (List Field) Parts)
+      (from to : AlwaysReady O outside) : Type 0 where
     pub at_is : at ≡ number
     pub disabled : cause old.state actor ≢ None
     pub chain : new ≡ old
     pub feed : to ≡ from
 
-  abbrev pub MakesStep : Result (Unit {0}) Verdict → ℕ → Actor → Contents (List Field) Parts → Contents (List Field) Parts → AlwaysReady O outside → AlwaysReady O outside → List ℕ → Type 0
+  abbrev pub MakesStep : Result (Unit {0}) Verdict → ℕ → Actor → Contents (List Field) Parts → Contents (List Field) Parts
+      → AlwaysReady O outside → AlwaysReady O outside → List ℕ → Type 0
   MakesStep (Ok went) number actor old new from to line = Made actor old new from to line
   MakesStep (Err (verdict.Refused (fault.NotEnabled at))) number actor old new from to line = IsDisabled at number actor old new from to
   MakesStep (Err judged) number actor old new from to line = IsGivenUp to.feed.ended judged

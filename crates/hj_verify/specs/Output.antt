@@ -32,7 +32,8 @@ ComparesOn (Ok went) text start before check now = Agrees text start before chec
 ComparesOn (Err judged) text start before check now = GivesUp judged role.Output start before check.stream now
 
 -- Behind the bytes that were used, whatever follows those that wait, the output and the text differ.
-pub record DiffersBehind (at : ℕ) (text : List ℕ) (start : StreamState) (before : RoleState) (stream : StreamState) (now : RoleState) : Type 0 where
+pub record DiffersBehind (at : ℕ) (text : List ℕ) (start : StreamState) (before : RoleState) (stream : StreamState)
+    (now : RoleState) : Type 0 where
   pub bytes : List ℕ
   pub uses : Uses false bytes start before stream now
   pub differ : (later : List ℕ) → (stream.ended ≡ true → later ≡ []) → DifferAt at (bytes ++ (stream.unused ++ later)) text

@@ -21,7 +21,8 @@ GivesUp (verdict.Accepted events) of old before new now = ⊥
 GivesUp (verdict.Refused fault) of old before new now = ⊥
 GivesUp (verdict.Ended (outcome.Done events)) of old before new now = ⊥
 GivesUp (verdict.Ended (outcome.Bad side at found)) of old before new now = ⊥
-GivesUp (verdict.Ended (outcome.SourceFault found)) of old before new now = (found ≡ of) × (bytes : List ℕ) × Uses true bytes old before new now
+GivesUp (verdict.Ended (outcome.SourceFault found)) of old before new now =
+    (found ≡ of) × (bytes : List ℕ) × Uses true bytes old before new now
 GivesUp (verdict.Ended outcome.SinkFault) of old before new now = ⊥
 GivesUp (verdict.Ended outcome.TooMany) of old before new now = ⊥
 GivesUp (verdict.Ended outcome.Memory) of old before new now = (bytes : List ℕ) × Uses false bytes old before new now

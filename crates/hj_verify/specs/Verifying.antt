@@ -22,7 +22,8 @@ use Rattle.hj_verify.specs.Reading.{fault_of}
 -- This is wrong with a trace and an output of a query's join of these events, on a chain of so many cores with at most so many events
 -- outstanding.
 abbrev pub IsWrong : TraceFault → Parts → (cores flight : ℕ) → Numbered → (trace output : List ℕ) → Type 0
-IsWrong fault query cores flight all trace output = Stands (holds query) fault cores flight all.events trace output (text_of query all.events)
+IsWrong fault query cores flight all trace output =
+    Stands (holds query) fault cores flight all.events trace output (text_of query all.events)
 
 -- The trace spells a whole run over these events, the output is the text of their join, and nothing is wrong.
 pub record AreRight (query : Parts) (cores flight : ℕ) (all : Numbered) (trace output : List ℕ) : Type 0 where
@@ -31,13 +32,16 @@ pub record AreRight (query : Parts) (cores flight : ℕ) (all : Numbered) (trace
 
 -- What a verdict says of a trace and an output, over these events.
 abbrev pub Judges : Verdict → Parts → (cores flight : ℕ) → Numbered → (trace output : List ℕ) → Type 0
-Judges (verdict.Accepted events) query cores flight all trace output = (all.ending ≡ clean) × (length all.events ≡ events) × AreRight query cores flight all trace output
+Judges (verdict.Accepted events) query cores flight all trace output =
+    (all.ending ≡ clean) × (length all.events ≡ events) × AreRight query cores flight all trace output
 Judges (verdict.Refused fault) query cores flight all trace output = IsWrong fault query cores flight all trace output
 Judges (verdict.Ended (outcome.Done events)) query cores flight all trace output = ⊥
-Judges (verdict.Ended (outcome.Bad side at found)) query cores flight all trace output = (all.ending ≡ bad side at found) × AreRight query cores flight all trace output
+Judges (verdict.Ended (outcome.Bad side at found)) query cores flight all trace output =
+    (all.ending ≡ bad side at found) × AreRight query cores flight all trace output
 Judges (verdict.Ended (outcome.SourceFault of)) query cores flight all trace output = IsChecked of
 Judges (verdict.Ended outcome.SinkFault) query cores flight all trace output = ⊥
-Judges (verdict.Ended outcome.TooMany) query cores flight all trace output = (all.ending ≡ too_many) × AreRight query cores flight all trace output
+Judges (verdict.Ended outcome.TooMany) query cores flight all trace output =
+    (all.ending ≡ too_many) × AreRight query cores flight all trace output
 Judges (verdict.Ended outcome.Memory) query cores flight all trace output = Unit {0}
 
 -- A trace and an output were checked: these bytes were read of the four roles, and whatever comes after them, the verdict is right. A
@@ -52,5 +56,7 @@ pub record Verifies (judged : Verdict) (query : Parts) (cores flight limit : ℕ
   pub trace_failed : (trace.failed ≡ true) ↔ (judged ≡ fault_of role.Trace)
   pub output_failed : (output.failed ≡ true) ↔ (judged ≡ fault_of role.Output)
   pub others : ChangesOnlyChecked before now
-  pub judges : (l r : Stream) (t o : List ℕ) → Follows left.failed left.ended l → Follows right.failed right.ended r → (trace.ended ≡ true → t ≡ []) → (output.ended ≡ true → o ≡ [])
-      → Judges judged query cores flight (events_of query (in_front left.bytes l) (in_front right.bytes r) limit) (trace.bytes ++ t) (output.bytes ++ o)
+  pub judges : (l r : Stream) (t o : List ℕ) → Follows left.failed left.ended l → Follows right.failed right.ended r
+      → (trace.ended ≡ true → t ≡ []) → (output.ended ≡ true → o ≡ [])
+      → Judges judged query cores flight (events_of query (in_front left.bytes l) (in_front right.bytes r) limit) (trace.bytes ++ t)
+      (output.bytes ++ o)

@@ -1,3 +1,5 @@
+#![tactic(auto, using(crate::proofs::Open::others_stay, crate::proofs::Open::in_step_beside))]
+
 ghost use Rattle.std.specs.Prelude.{◌≡◌, ℕ, List, false, take};
 ghost use Rattle.hj_base.specs.Outside.{RoleState};
 ghost use Rattle.hj_base.specs.declared.outside.Role.TheVariants as role;
@@ -38,7 +40,8 @@ pub(crate) fn next_maker<O: Outside>(
     ensures beside { ReadsBeside role.Trace feed.old feed.new }
     ensures role { trace.new.role ≡ trace.old.role }
     ensures read { IsReadOf trace.new (O.state feed.new.outside.now trace.new.role) }
-    ensures reads { (text : List ℕ) (start : StreamState) (before : RoleState) → Uses false text start before trace.old (O.state feed.old.outside.now trace.old.role)
+    ensures reads { (text : List ℕ) (start : StreamState) (before : RoleState)
+        → Uses false text start before trace.old (O.state feed.old.outside.now trace.old.role)
         → ReadsMaker result number text start before trace.new (O.state feed.new.outside.now trace.new.role) }
 {
     read_maker(trace, number, feed.outside)
@@ -56,7 +59,8 @@ pub(crate) fn next_rest<O: Outside>(
     ensures beside { ReadsBeside role.Trace feed.old feed.new }
     ensures role { trace.new.role ≡ trace.old.role }
     ensures read { IsReadOf trace.new (O.state feed.new.outside.now trace.new.role) }
-    ensures reads { (text : List ℕ) (start : StreamState) (before : RoleState) → Uses false text start before trace.old (O.state feed.old.outside.now trace.old.role)
+    ensures reads { (text : List ℕ) (start : StreamState) (before : RoleState)
+        → Uses false text start before trace.old (O.state feed.old.outside.now trace.old.role)
         → ReadsRest result expected.now number text start before trace.new (O.state feed.new.outside.now trace.new.role) }
 {
     read_rest(trace, expected, number, feed.outside)
@@ -71,7 +75,8 @@ pub(crate) fn trace_end<O: Outside>(
     requires of { trace.old.role ≡ role.Trace }
     requires goes { IsReadOf trace.old (O.state feed.old.outside.now trace.old.role) }
     ensures beside { ReadsBeside role.Trace feed.old feed.new }
-    ensures reads { (text : List ℕ) (start : StreamState) (before : RoleState) → Uses false text start before trace.old (O.state feed.old.outside.now trace.old.role)
+    ensures reads { (text : List ℕ) (start : StreamState) (before : RoleState)
+        → Uses false text start before trace.old (O.state feed.old.outside.now trace.old.role)
         → EndsTrace result number text start before trace.new (O.state feed.new.outside.now trace.new.role) }
 {
     read_end(trace, number, feed.outside)
@@ -93,8 +98,10 @@ pub(crate) fn next_pairs<'r, S: Store<SharedRow, QueryJoin<'r>> + Drop, O: Outsi
     ensures beside { ReadsBeside role.Output feed.old feed.new }
     ensures role { output.new.stream.role ≡ output.old.stream.role }
     ensures read { IsReadOf output.new.stream (O.state feed.new.outside.now output.new.stream.role) }
-    ensures checks { (schedule : List Actors) (events : List (Event (List Field))) (given : ℕ) (pairs : List (Pair (List Field))) (start : StreamState) (before : RoleState)
-        → HasGiven chain.old schedule events given pairs → Agrees (lines_of (take given pairs)) start before output.old (O.state feed.old.outside.now output.old.stream.role)
+    ensures checks { (schedule : List Actors) (events : List (Event (List Field))) (given : ℕ) (pairs : List (Pair (List Field)))
+        (start : StreamState) (before : RoleState)
+        → HasGiven chain.old schedule events given pairs
+        → Agrees (lines_of (take given pairs)) start before output.old (O.state feed.old.outside.now output.old.stream.role)
         → ChecksDue result chain.new schedule events pairs start before output.new (O.state feed.new.outside.now output.new.stream.role) }
 {
     check_due(chain, output, line, feed.outside)
@@ -108,7 +115,8 @@ pub(crate) fn output_end<O: Outside>(
     requires of { output.old.stream.role ≡ role.Output }
     requires goes { IsReadOf output.old.stream (O.state feed.old.outside.now output.old.stream.role) }
     ensures beside { ReadsBeside role.Output feed.old feed.new }
-    ensures ends { (text : List ℕ) (start : StreamState) (before : RoleState) → Agrees text start before output.old (O.state feed.old.outside.now output.old.stream.role)
+    ensures ends { (text : List ℕ) (start : StreamState) (before : RoleState)
+        → Agrees text start before output.old (O.state feed.old.outside.now output.old.stream.role)
         → EndsOutput result text start before output.new.stream (O.state feed.new.outside.now output.new.stream.role) }
 {
     output.end(feed.outside)

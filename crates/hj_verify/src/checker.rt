@@ -78,7 +78,8 @@ fn verify_feed<O: Outside>(
     requires trace { IsInStep false (roles_of feed.old role.Trace) }
     requires output { IsInStep false (roles_of feed.old role.Output) }
     ensures outside { SameOutside feed.old feed.new }
-    ensures verifies { (limit : ℕ) → IsUnasked query.now limit feed.old.feed → Verifies result query.now size.cores size.flight limit (roles_of feed.old) (roles_of feed.new) }
+    ensures verifies { (limit : ℕ) → IsUnasked query.now limit feed.old.feed
+        → Verifies result query.now size.cores size.flight limit (roles_of feed.old) (roles_of feed.new) }
 {
     match check_planned(alloc, query, size, feed) {
         Ok(()) => judge_ended(feed),

@@ -35,7 +35,8 @@ fn make_step<'r, S: Store<SharedRow, QueryJoin<'r>> + Drop, O: Outside>(
     requires { GoesWith holds chain.old (state_of feed.old) }
     ensures asked { (answers : List (Given (List Field))) × GoesOverAnswers gives feed.old answers feed.new }
     ensures makes { MakesStep result number actor chain.old chain.new feed.old feed.new line.new.items }
-    ensures answers { IfOk result (λ _. was_asked actor chain.old.state.next true stepped.Did ≡ true → IfSome chain.new.state.next (λ given. Answers given (state_of feed.old) (state_of feed.new))) }
+    ensures answers { IfOk result (λ _. was_asked actor chain.old.state.next true stepped.Did ≡ true
+        → IfSome chain.new.state.next (λ given. Answers given (state_of feed.old) (state_of feed.new))) }
     ensures join { chain.new.join ≡ chain.old.join }
     ensures goes { GoesWith holds chain.new (state_of feed.new) }
 {
@@ -95,7 +96,8 @@ pub(crate) fn check_line<'r, S: Store<SharedRow, QueryJoin<'r>> + Drop, O: Outsi
     ensures goes { GoesWith holds chain.new (state_of feed.new) }
     ensures are_open { AreOpen (roles_of feed.new) trace.new output.new.stream }
     ensures fewer { IfOk result (λ _. steps_left chain.new.state (state_of feed.new) < steps_left chain.old.state (state_of feed.old)) }
-    ensures checks { (query : Parts) (n flight : ℕ) (start : Feeding) → Checking query n flight start number chain.old (feeding feed.old) trace.old output.old
+    ensures checks { (query : Parts) (n flight : ℕ) (start : Feeding)
+        → Checking query n flight start number chain.old (feeding feed.old) trace.old output.old
         → (IsDone chain.old.state → ⊥) → ChecksLine result query n flight start number chain.new (feeding feed.new) trace.new output.new }
 {
     let actor = next_maker(trace, number, &mut feed.feed)?;

@@ -32,7 +32,8 @@ pub(crate) fn check_lines<'r, S: Store<SharedRow, QueryJoin<'r>> + Drop, O: Outs
     requires goes { GoesWith holds chain.old (state_of feed.old) }
     requires are_open { AreOpen (roles_of feed.old) trace.old output.old.stream }
     ensures outside { SameOutside feed.old feed.new }
-    ensures checks { (query : Parts) (n flight : ℕ) (start : Feeding) → Checking query n flight start 1 chain.old (feeding feed.old) trace.old output.old
+    ensures checks { (query : Parts) (n flight : ℕ) (start : Feeding)
+        → Checking query n flight start 1 chain.old (feeding feed.old) trace.old output.old
         → ChecksAll result query n flight start (feeding feed.new) trace.new output.new.stream }
 {
     let mut number = 1;
@@ -66,7 +67,8 @@ fn check_ends<'r, S: Store<SharedRow, QueryJoin<'r>> + Drop, O: Outside>(
     requires goes { GoesWith holds chain.old (state_of feed.old) }
     requires are_open { AreOpen (roles_of feed.old) trace.old output.old.stream }
     ensures outside { SameOutside feed.old feed.new }
-    ensures checks { (query : Parts) (n flight : ℕ) (start : Feeding) → Checking query n flight start number chain.old (feeding feed.old) trace.old output.old
+    ensures checks { (query : Parts) (n flight : ℕ) (start : Feeding)
+        → Checking query n flight start number chain.old (feeding feed.old) trace.old output.old
         → IsDone chain.old.state → ChecksAll result query n flight start (feeding feed.new) trace.new output.new.stream }
 {
     next_pairs(chain, output, line, &mut feed.feed)?;

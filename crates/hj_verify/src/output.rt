@@ -43,7 +43,8 @@ impl OutputCheck {
         requires { IsReadOf self.old.stream (O.state outside.old self.old.stream.role) }
         ensures role { self.new.stream.role ≡ self.old.stream.role }
         ensures read { IsReadOf self.new.stream (O.state outside.new self.new.stream.role) }
-        ensures compares { (text : List ℕ) (start : StreamState) (before : RoleState) → Agrees text start before self.old (O.state outside.old self.old.stream.role)
+        ensures compares { (text : List ℕ) (start : StreamState) (before : RoleState)
+            → Agrees text start before self.old (O.state outside.old self.old.stream.role)
             → ComparesOn result (text ++ expected.now) start before self.new (O.state outside.new self.new.stream.role) }
         ensures others { ChangesOnly self.old.stream.role (O.state outside.old) (O.state outside.new) }
         ensures names { (name : List ℕ) → O.under outside.new name ≡ O.under outside.old name }
@@ -75,7 +76,8 @@ impl OutputCheck {
     /// Compares the end of the output with that of the text.
     pub(crate) fn end<O: Outside>(&mut self, outside: &mut O) -> Result<(), Verdict>
         requires { IsReadOf self.old.stream (O.state outside.old self.old.stream.role) }
-        ensures ends { (text : List ℕ) (start : StreamState) (before : RoleState) → Agrees text start before self.old (O.state outside.old self.old.stream.role)
+        ensures ends { (text : List ℕ) (start : StreamState) (before : RoleState)
+            → Agrees text start before self.old (O.state outside.old self.old.stream.role)
             → EndsOutput result text start before self.new.stream (O.state outside.new self.new.stream.role) }
         ensures others { ChangesOnly self.old.stream.role (O.state outside.old) (O.state outside.new) }
         ensures names { (name : List ℕ) → O.under outside.new name ≡ O.under outside.old name }

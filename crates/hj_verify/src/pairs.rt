@@ -35,8 +35,10 @@ pub(crate) fn check_due<'r, S: Store<SharedRow, QueryJoin<'r>> + Drop, O: Outsid
     ensures goes { (feed : FeedState) → GoesWith holds chain.old feed → GoesWith holds chain.new feed }
     ensures role { output.new.stream.role ≡ output.old.stream.role }
     ensures read { IsReadOf output.new.stream (O.state outside.new output.new.stream.role) }
-    ensures checks { (schedule : List Actors) (events : List (Event (List Field))) (given : ℕ) (pairs : List (Pairs (List Field))) (start : StreamState) (before : RoleState)
-        → HasGiven chain.old schedule events given pairs → Agrees (lines_of (take given pairs)) start before output.old (O.state outside.old output.old.stream.role)
+    ensures checks { (schedule : List Actors) (events : List (Event (List Field))) (given : ℕ) (pairs : List (Pairs (List Field)))
+        (start : StreamState) (before : RoleState)
+        → HasGiven chain.old schedule events given pairs
+        → Agrees (lines_of (take given pairs)) start before output.old (O.state outside.old output.old.stream.role)
         → ChecksDue result chain.new schedule events pairs start before output.new (O.state outside.new output.new.stream.role) }
     ensures others { ChangesOnly output.old.stream.role (O.state outside.old) (O.state outside.new) }
     ensures names { (name : List ℕ) → O.under outside.new name ≡ O.under outside.old name }
@@ -57,7 +59,8 @@ fn check_pair<O: Outside>(
     requires { IsReadOf output.old.stream (O.state outside.old output.old.stream.role) }
     ensures role { output.new.stream.role ≡ output.old.stream.role }
     ensures read { IsReadOf output.new.stream (O.state outside.new output.new.stream.role) }
-    ensures compares { (text : List ℕ) (start : StreamState) (before : RoleState) → Agrees text start before output.old (O.state outside.old output.old.stream.role)
+    ensures compares { (text : List ℕ) (start : StreamState) (before : RoleState)
+        → Agrees text start before output.old (O.state outside.old output.old.stream.role)
         → ComparesOn result (text ++ pair_line pair.now) start before output.new (O.state outside.new output.new.stream.role) }
     ensures others { ChangesOnly output.old.stream.role (O.state outside.old) (O.state outside.new) }
     ensures names { (name : List ℕ) → O.under outside.new name ≡ O.under outside.old name }

@@ -22,7 +22,8 @@ pub(crate) fn read_maker<O: Outside>(
     requires { IsReadOf trace.old (O.state outside.old trace.old.role) }
     ensures role { trace.new.role ≡ trace.old.role }
     ensures read { IsReadOf trace.new (O.state outside.new trace.new.role) }
-    ensures reads { (text : List ℕ) (start : StreamState) (before : RoleState) → Uses false text start before trace.old (O.state outside.old trace.old.role)
+    ensures reads { (text : List ℕ) (start : StreamState) (before : RoleState)
+        → Uses false text start before trace.old (O.state outside.old trace.old.role)
         → ReadsMaker result number text start before trace.new (O.state outside.new trace.new.role) }
     ensures others { ChangesOnly trace.old.role (O.state outside.old) (O.state outside.new) }
     ensures names { (name : List ℕ) → O.under outside.new name ≡ O.under outside.old name }
@@ -49,7 +50,8 @@ pub(crate) fn read_rest<O: Outside>(
     requires { IsReadOf trace.old (O.state outside.old trace.old.role) }
     ensures role { trace.new.role ≡ trace.old.role }
     ensures read { IsReadOf trace.new (O.state outside.new trace.new.role) }
-    ensures reads { (text : List ℕ) (start : StreamState) (before : RoleState) → Uses false text start before trace.old (O.state outside.old trace.old.role)
+    ensures reads { (text : List ℕ) (start : StreamState) (before : RoleState)
+        → Uses false text start before trace.old (O.state outside.old trace.old.role)
         → ReadsRest result expected.now number text start before trace.new (O.state outside.new trace.new.role) }
     ensures others { ChangesOnly trace.old.role (O.state outside.old) (O.state outside.new) }
     ensures names { (name : List ℕ) → O.under outside.new name ≡ O.under outside.old name }
@@ -68,7 +70,8 @@ pub(crate) fn read_end<O: Outside>(
     outside: &mut O,
 ) -> Result<(), Verdict>
     requires { IsReadOf trace.old (O.state outside.old trace.old.role) }
-    ensures reads { (text : List ℕ) (start : StreamState) (before : RoleState) → Uses false text start before trace.old (O.state outside.old trace.old.role)
+    ensures reads { (text : List ℕ) (start : StreamState) (before : RoleState)
+        → Uses false text start before trace.old (O.state outside.old trace.old.role)
         → EndsTrace result number text start before trace.new (O.state outside.new trace.new.role) }
     ensures others { ChangesOnly trace.old.role (O.state outside.old) (O.state outside.new) }
     ensures names { (name : List ℕ) → O.under outside.new name ≡ O.under outside.old name }

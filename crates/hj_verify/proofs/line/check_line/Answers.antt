@@ -8,15 +8,14 @@ use Rattle.hj_trace.specs.Stream.{Uses}
 use Rattle.hj_verify.specs.Checked.{fresh}
 use Rattle.hj_verify.specs.Lines.{ReadsRest}
 use Rattle.hj_verify.proofs.FeedBeside.{over, state_beside}
-use Rattle.hj_verify.proofs.Kept.{kept_first, kept_output, kept_step, kept_trace}
+use Rattle.hj_verify.proofs.Kept.{kept_made, kept_maker, kept_output, kept_rest}
 use Rattle.hj_verify.proofs.LineSteps.{due_fewer, due_line, line_fewer, maker_still, maker_stops, maker_there, rest_stops, rest_there, step_stops}
 use Rattle.hj_verify.proofs.Made.{if_ok}
 use Rattle.hj_verify.proofs.line.check_line.Goals as goal
 
 pub returns-in_err-actor : goal.returns-in_err-actor
 returns-in_err-actor g c =
-    let kept_0 = kept_first {O = g.row.O.Denot} {outside = g.O.Outside} c.args.feed.now c.args.chain.now c.args.trace.now c.args.output.now.stream c.requires.goes c.requires.are_open in
-    let kept_1 = kept_trace {O = g.row.O.Denot} {outside = g.O.Outside} c.args.feed.now c.args.feed.now c.args.chain.now c.args.trace.now c.args.output.now.stream kept_0 c.next_maker.new.feed c.next_maker.ensures.beside c.next_maker.new.trace c.next_maker.ensures.role c.next_maker.ensures.read in
+    let kept_1 = kept_maker {O = g.row.O.Denot} {outside = g.O.Outside} c.args.feed.now c.args.chain.now c.args.trace.now c.args.output.now.stream c.requires.goes c.requires.are_open c.next_maker.new.feed c.next_maker.ensures.beside c.next_maker.new.trace c.next_maker.ensures.role c.next_maker.ensures.read in
     let p = err_from_is_err_and c.from_residual.result c.from_residual.ensures.1 in
     rw (p.1, p.2)
     (record {
@@ -30,15 +29,12 @@ returns-in_err-actor g c =
 
 pub make_step-requires : goal.make_step-requires
 make_step-requires g c κs =
-    let kept_0 = kept_first {O = g.row.O.Denot} {outside = g.O.Outside} c.args.feed.now c.args.chain.now c.args.trace.now c.args.output.now.stream c.requires.goes c.requires.are_open in
-    let kept_1 = kept_trace {O = g.row.O.Denot} {outside = g.O.Outside} c.args.feed.now c.args.feed.now c.args.chain.now c.args.trace.now c.args.output.now.stream kept_0 c.next_maker.new.feed c.next_maker.ensures.beside c.next_maker.new.trace c.next_maker.ensures.role c.next_maker.ensures.read in
+    let kept_1 = kept_maker {O = g.row.O.Denot} {outside = g.O.Outside} c.args.feed.now c.args.chain.now c.args.trace.now c.args.output.now.stream c.requires.goes c.requires.are_open c.next_maker.new.feed c.next_maker.ensures.beside c.next_maker.new.trace c.next_maker.ensures.role c.next_maker.ensures.read in
     ((refl, tt), kept_1.goes)
 
 pub returns-in_err-make_step : goal.returns-in_err-make_step
 returns-in_err-make_step g c =
-    let kept_0 = kept_first {O = g.row.O.Denot} {outside = g.O.Outside} c.args.feed.now c.args.chain.now c.args.trace.now c.args.output.now.stream c.requires.goes c.requires.are_open in
-    let kept_1 = kept_trace {O = g.row.O.Denot} {outside = g.O.Outside} c.args.feed.now c.args.feed.now c.args.chain.now c.args.trace.now c.args.output.now.stream kept_0 c.next_maker.new.feed c.next_maker.ensures.beside c.next_maker.new.trace c.next_maker.ensures.role c.next_maker.ensures.read in
-    let kept_2 = kept_step {O = g.row.O.Denot} {outside = g.O.Outside} c.args.feed.now (over c.next_maker.new.feed) c.args.chain.now c.next_maker.new.trace c.args.output.now.stream kept_1 c.make_step.new.feed c.make_step.ensures.asked c.make_step.new.chain c.make_step.ensures.goes in
+    let kept_2 = kept_made {O = g.row.O.Denot} {outside = g.O.Outside} c.args.feed.now c.args.chain.now c.args.trace.now c.args.output.now.stream c.requires.goes c.requires.are_open c.next_maker.new.feed c.next_maker.ensures.beside c.next_maker.new.trace c.next_maker.ensures.role c.next_maker.ensures.read c.make_step.new.feed c.make_step.ensures.asked c.make_step.new.chain c.make_step.ensures.goes in
     let p = err_from_is_err_and c.from_residual-in_err-make_step.result c.from_residual-in_err-make_step.ensures.1 in
     rw (p.1, p.2)
     (record {
@@ -53,17 +49,12 @@ returns-in_err-make_step g c =
 
 pub next_rest-requires : goal.next_rest-requires
 next_rest-requires g c =
-    let kept_0 = kept_first {O = g.row.O.Denot} {outside = g.O.Outside} c.args.feed.now c.args.chain.now c.args.trace.now c.args.output.now.stream c.requires.goes c.requires.are_open in
-    let kept_1 = kept_trace {O = g.row.O.Denot} {outside = g.O.Outside} c.args.feed.now c.args.feed.now c.args.chain.now c.args.trace.now c.args.output.now.stream kept_0 c.next_maker.new.feed c.next_maker.ensures.beside c.next_maker.new.trace c.next_maker.ensures.role c.next_maker.ensures.read in
-    let kept_2 = kept_step {O = g.row.O.Denot} {outside = g.O.Outside} c.args.feed.now (over c.next_maker.new.feed) c.args.chain.now c.next_maker.new.trace c.args.output.now.stream kept_1 c.make_step.new.feed c.make_step.ensures.asked c.make_step.new.chain c.make_step.ensures.goes in
+    let kept_2 = kept_made {O = g.row.O.Denot} {outside = g.O.Outside} c.args.feed.now c.args.chain.now c.args.trace.now c.args.output.now.stream c.requires.goes c.requires.are_open c.next_maker.new.feed c.next_maker.ensures.beside c.next_maker.new.trace c.next_maker.ensures.role c.next_maker.ensures.read c.make_step.new.feed c.make_step.ensures.asked c.make_step.new.chain c.make_step.ensures.goes in
     record { of = kept_2.are_open.trace_role; goes = kept_2.are_open.trace_open }
 
 pub returns-in_err-next_rest : goal.returns-in_err-next_rest
 returns-in_err-next_rest g c =
-    let kept_0 = kept_first {O = g.row.O.Denot} {outside = g.O.Outside} c.args.feed.now c.args.chain.now c.args.trace.now c.args.output.now.stream c.requires.goes c.requires.are_open in
-    let kept_1 = kept_trace {O = g.row.O.Denot} {outside = g.O.Outside} c.args.feed.now c.args.feed.now c.args.chain.now c.args.trace.now c.args.output.now.stream kept_0 c.next_maker.new.feed c.next_maker.ensures.beside c.next_maker.new.trace c.next_maker.ensures.role c.next_maker.ensures.read in
-    let kept_2 = kept_step {O = g.row.O.Denot} {outside = g.O.Outside} c.args.feed.now (over c.next_maker.new.feed) c.args.chain.now c.next_maker.new.trace c.args.output.now.stream kept_1 c.make_step.new.feed c.make_step.ensures.asked c.make_step.new.chain c.make_step.ensures.goes in
-    let kept_3 = kept_trace {O = g.row.O.Denot} {outside = g.O.Outside} c.args.feed.now c.make_step.new.feed c.make_step.new.chain c.next_maker.new.trace c.args.output.now.stream kept_2 c.next_rest.new.feed c.next_rest.ensures.beside c.next_rest.new.trace c.next_rest.ensures.role c.next_rest.ensures.read in
+    let kept_3 = kept_rest {O = g.row.O.Denot} {outside = g.O.Outside} c.args.feed.now c.args.chain.now c.args.trace.now c.args.output.now.stream c.requires.goes c.requires.are_open c.next_maker.new.feed c.next_maker.ensures.beside c.next_maker.new.trace c.next_maker.ensures.role c.next_maker.ensures.read c.make_step.new.feed c.make_step.ensures.asked c.make_step.new.chain c.make_step.ensures.goes c.next_rest.new.feed c.next_rest.ensures.beside c.next_rest.new.trace c.next_rest.ensures.role c.next_rest.ensures.read in
     let p = err_from_is_err_and c.from_residual-in_err-next_rest.result c.from_residual-in_err-next_rest.ensures.1 in
     rw (p.1, p.2)
     (record {
@@ -82,18 +73,13 @@ returns-in_err-next_rest g c =
 
 pub next_pairs-requires : goal.next_pairs-requires
 next_pairs-requires g c κs =
-    let kept_0 = kept_first {O = g.row.O.Denot} {outside = g.O.Outside} c.args.feed.now c.args.chain.now c.args.trace.now c.args.output.now.stream c.requires.goes c.requires.are_open in
-    let kept_1 = kept_trace {O = g.row.O.Denot} {outside = g.O.Outside} c.args.feed.now c.args.feed.now c.args.chain.now c.args.trace.now c.args.output.now.stream kept_0 c.next_maker.new.feed c.next_maker.ensures.beside c.next_maker.new.trace c.next_maker.ensures.role c.next_maker.ensures.read in
-    let kept_2 = kept_step {O = g.row.O.Denot} {outside = g.O.Outside} c.args.feed.now (over c.next_maker.new.feed) c.args.chain.now c.next_maker.new.trace c.args.output.now.stream kept_1 c.make_step.new.feed c.make_step.ensures.asked c.make_step.new.chain c.make_step.ensures.goes in
-    let kept_3 = kept_trace {O = g.row.O.Denot} {outside = g.O.Outside} c.args.feed.now c.make_step.new.feed c.make_step.new.chain c.next_maker.new.trace c.args.output.now.stream kept_2 c.next_rest.new.feed c.next_rest.ensures.beside c.next_rest.new.trace c.next_rest.ensures.role c.next_rest.ensures.read in
+    let kept_3 = kept_rest {O = g.row.O.Denot} {outside = g.O.Outside} c.args.feed.now c.args.chain.now c.args.trace.now c.args.output.now.stream c.requires.goes c.requires.are_open c.next_maker.new.feed c.next_maker.ensures.beside c.next_maker.new.trace c.next_maker.ensures.role c.next_maker.ensures.read c.make_step.new.feed c.make_step.ensures.asked c.make_step.new.chain c.make_step.ensures.goes c.next_rest.new.feed c.next_rest.ensures.beside c.next_rest.new.trace c.next_rest.ensures.role c.next_rest.ensures.read in
     ((refl, tt), ((_, kept_3.goes), (kept_3.are_open.output_role, kept_3.are_open.output_open)))
 
 pub returns-in-Collect : goal.returns-in-Collect
 returns-in-Collect g c =
-    let kept_0 = kept_first {O = g.row.O.Denot} {outside = g.O.Outside} c.args.feed.now c.args.chain.now c.args.trace.now c.args.output.now.stream c.requires.goes c.requires.are_open in
-    let kept_1 = kept_trace {O = g.row.O.Denot} {outside = g.O.Outside} c.args.feed.now c.args.feed.now c.args.chain.now c.args.trace.now c.args.output.now.stream kept_0 c.next_maker.new.feed c.next_maker.ensures.beside c.next_maker.new.trace c.next_maker.ensures.role c.next_maker.ensures.read in
-    let kept_2 = kept_step {O = g.row.O.Denot} {outside = g.O.Outside} c.args.feed.now (over c.next_maker.new.feed) c.args.chain.now c.next_maker.new.trace c.args.output.now.stream kept_1 c.make_step.new.feed c.make_step.ensures.asked c.make_step.new.chain c.make_step.ensures.goes in
-    let kept_3 = kept_trace {O = g.row.O.Denot} {outside = g.O.Outside} c.args.feed.now c.make_step.new.feed c.make_step.new.chain c.next_maker.new.trace c.args.output.now.stream kept_2 c.next_rest.new.feed c.next_rest.ensures.beside c.next_rest.new.trace c.next_rest.ensures.role c.next_rest.ensures.read in
+    let kept_1 = kept_maker {O = g.row.O.Denot} {outside = g.O.Outside} c.args.feed.now c.args.chain.now c.args.trace.now c.args.output.now.stream c.requires.goes c.requires.are_open c.next_maker.new.feed c.next_maker.ensures.beside c.next_maker.new.trace c.next_maker.ensures.role c.next_maker.ensures.read in
+    let kept_3 = kept_rest {O = g.row.O.Denot} {outside = g.O.Outside} c.args.feed.now c.args.chain.now c.args.trace.now c.args.output.now.stream c.requires.goes c.requires.are_open c.next_maker.new.feed c.next_maker.ensures.beside c.next_maker.new.trace c.next_maker.ensures.role c.next_maker.ensures.read c.make_step.new.feed c.make_step.ensures.asked c.make_step.new.chain c.make_step.ensures.goes c.next_rest.new.feed c.next_rest.ensures.beside c.next_rest.new.trace c.next_rest.ensures.role c.next_rest.ensures.read in
     let kept_4 = kept_output {O = g.row.O.Denot} {outside = g.O.Outside} c.args.feed.now (over c.next_rest.new.feed) c.make_step.new.chain c.next_rest.new.trace c.args.output.now.stream kept_3 c.next_pairs.new.feed c.next_pairs.ensures.beside c.next_pairs.new.chain c.next_pairs.ensures.goes c.next_pairs.new.output.stream c.next_pairs.ensures.role c.next_pairs.ensures.read in
     record {
       outside = kept_4.same;
@@ -115,10 +101,8 @@ returns-in-Collect g c =
 
 pub returns-in_default : goal.returns-in_default
 returns-in_default g c =
-    let kept_0 = kept_first {O = g.row.O.Denot} {outside = g.O.Outside} c.args.feed.now c.args.chain.now c.args.trace.now c.args.output.now.stream c.requires.goes c.requires.are_open in
-    let kept_1 = kept_trace {O = g.row.O.Denot} {outside = g.O.Outside} c.args.feed.now c.args.feed.now c.args.chain.now c.args.trace.now c.args.output.now.stream kept_0 c.next_maker.new.feed c.next_maker.ensures.beside c.next_maker.new.trace c.next_maker.ensures.role c.next_maker.ensures.read in
-    let kept_2 = kept_step {O = g.row.O.Denot} {outside = g.O.Outside} c.args.feed.now (over c.next_maker.new.feed) c.args.chain.now c.next_maker.new.trace c.args.output.now.stream kept_1 c.make_step.new.feed c.make_step.ensures.asked c.make_step.new.chain c.make_step.ensures.goes in
-    let kept_3 = kept_trace {O = g.row.O.Denot} {outside = g.O.Outside} c.args.feed.now c.make_step.new.feed c.make_step.new.chain c.next_maker.new.trace c.args.output.now.stream kept_2 c.next_rest.new.feed c.next_rest.ensures.beside c.next_rest.new.trace c.next_rest.ensures.role c.next_rest.ensures.read in
+    let kept_1 = kept_maker {O = g.row.O.Denot} {outside = g.O.Outside} c.args.feed.now c.args.chain.now c.args.trace.now c.args.output.now.stream c.requires.goes c.requires.are_open c.next_maker.new.feed c.next_maker.ensures.beside c.next_maker.new.trace c.next_maker.ensures.role c.next_maker.ensures.read in
+    let kept_3 = kept_rest {O = g.row.O.Denot} {outside = g.O.Outside} c.args.feed.now c.args.chain.now c.args.trace.now c.args.output.now.stream c.requires.goes c.requires.are_open c.next_maker.new.feed c.next_maker.ensures.beside c.next_maker.new.trace c.next_maker.ensures.role c.next_maker.ensures.read c.make_step.new.feed c.make_step.ensures.asked c.make_step.new.chain c.make_step.ensures.goes c.next_rest.new.feed c.next_rest.ensures.beside c.next_rest.new.trace c.next_rest.ensures.role c.next_rest.ensures.read in
     record {
       outside = kept_3.same;
       goes = kept_3.goes;
