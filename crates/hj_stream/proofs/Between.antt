@@ -1,7 +1,6 @@
 -- A run between the feed of two streams and the drain of a sink, as the code has them: what it leaves as it was, and how its join ends.
-use Rattle.std.proofs.Common.{◌≡◌, ◌≢◌, ◌-◌, List, ℕ, true, false, is_some, length, ap, sym, subst, subst₂, ◌∙◌}
+use Rattle.std.proofs.Common.{◌≡◌, ◌≢◌, ◌-◌, List, ℕ, true, is_some, ap, sym, subst₂}
 use Rattle.hj_base.specs.declared.outside.Outside.{Ghosts as OutsideGhosts}
-use Rattle.hj_base.specs.declared.outside.Role.TheVariants as role
 use Rattle.hj_base.specs.declared.sink.Sink.{Ghosts as SinkGhosts}
 use Rattle.hj_value.specs.declared.field.Field.{Field}
 use Rattle.hj_msg.specs.declared.drain.Drained.{Drained}
@@ -14,7 +13,6 @@ use Rattle.hj_msg.specs.Feed.{Answers, FeedState, events_in, numbering_of}
 use Rattle.hj_msg.specs.RunsJoin.{RunsJoin}
 use Rattle.hj_query.specs.Parts.{Parts}
 use Rattle.hj_eval.specs.Holds.{holds}
-use Rattle.hj_event.specs.Roles.{IsInStep}
 use Rattle.hj_stream.specs.declared.drain.LineDrain.{LineDrain}
 use Rattle.hj_stream.specs.declared.feed.EventFeed.{EventFeed}
 use Rattle.hj_stream.specs.declared.line.PairLine.{Ghosts as LineGhosts}
@@ -31,6 +29,7 @@ use Rattle.hj_stream.proofs.Drained.{Draining, kept_by_all}
 use Rattle.hj_stream.proofs.Fed.{kept_all}
 use Rattle.hj_stream.proofs.Joining.{joins_none}
 use Rattle.hj_stream.proofs.Over.{JoinsOver, has_stopped, joins_over, was_refused}
+use Rattle.hj_stream.proofs.Unread.{IsUnread, reads_none}
 
 module _ {O K L : Type 0} (outside : OutsideGhosts O) (sink : SinkGhosts K) (lines : LineGhosts L) where
   abbrev Feed : Type 0
@@ -65,20 +64,14 @@ module _ {O K L : Type 0} (outside : OutsideGhosts O) (sink : SinkGhosts K) (lin
     abbrev line : Line
     line = line_by unfilled
 
-    left : IsInStep false (outside.state from.outside.now role.Left)
-    left = subst (λ ended. IsInStep ended (outside.state from.outside.now role.Left)) unasked.merger.left from.left
-
-    right : IsInStep false (outside.state from.outside.now role.Right)
-    right = subst (λ ended. IsInStep ended (outside.state from.outside.now role.Right)) unasked.merger.right from.right
-
-    none : from.events ≡ 0
-    none = sym from.counted ∙ ap length unasked.given
+    start : IsUnread from
+    start = reads_none query limit from unasked
 
     -- memory ran out before either was asked
     pub joins_nothing : (to : Feed) (filled : Drain) → to ≡ from → filled ≡ unfilled → JoinsBy line outcome.Memory query limit (view from).roles (view to).roles (seen unfilled).told (seen filled).told
     joins_nothing to filled not_asked not_filled =
         subst₂ (λ (f : Feed) (d : Drain). JoinsBy line outcome.Memory query limit (view from).roles (view f).roles (seen unfilled).told (seen d).told) (sym not_asked) (sym not_filled)
-        (joins_none line query limit (view from).roles (seen unfilled).told left right)
+        (joins_none line query limit (view from).roles (seen unfilled).told start.left start.right)
 
     module _ (to : Feed) (filled : Drain) (ended : Fin) (ran : RunsJoin gives state takes (holds query) ended from to unfilled filled) where
       pub same_outside : to.outside.ghost_name ≡ from.outside.ghost_name
@@ -91,12 +84,12 @@ module _ {O K L : Type 0} (outside : OutsideGhosts O) (sink : SinkGhosts K) (lin
       names name = kept_all gives (λ f. outside.under f.outside.now name) (λ old answer new given. given.1 name) ran.answers from to ran.feed
 
       pub stopped : ended ≡ fin.Done → is_some to.ended ≡ true
-      stopped = has_stopped gives state takes view line_by seen (λ old answer new given. given.2) (λ old pair answer new took. ap (λ l. lines.line l.now) took.1) (λ old pair answer new took. took.2) query limit from to unfilled filled unasked.merger none unasked.going left right ended ran
+      stopped = has_stopped gives state takes view line_by seen (λ old answer new given. given.2) (λ old pair answer new took. ap (λ l. lines.line l.now) took.1) (λ old pair answer new took. took.2) query limit from to unfilled filled unasked.merger start.none unasked.going start.left start.right ended ran
 
       pub refused : ended ≡ fin.Refused → filled.last ≢ sent.Whole
-      refused = was_refused gives state takes view line_by seen (λ old answer new given. given.2) (λ old pair answer new took. ap (λ l. lines.line l.now) took.1) (λ old pair answer new took. took.2) query limit from to unfilled filled unasked.merger none unasked.going left right ended ran
+      refused = was_refused gives state takes view line_by seen (λ old answer new given. given.2) (λ old pair answer new took. ap (λ l. lines.line l.now) took.1) (λ old pair answer new took. took.2) query limit from to unfilled filled unasked.merger start.none unasked.going start.left start.right ended ran
 
       -- the outcome that is made of such an end is that of the join
       pub over : (made : Outcome) → EndsAs ended to.ended filled.last made
           → JoinsOver line made ended query limit (view from).roles (view to).roles (seen unfilled).told (seen filled).told (events_in ran.answers) (pairs_in ran.taken) × CountsSinkFault made (seen unfilled).faults (seen filled).faults
-      over made so = joins_over gives state takes view line_by seen (λ old answer new given. given.2) (λ old pair answer new took. ap (λ l. lines.line l.now) took.1) (λ old pair answer new took. took.2) query limit from to unfilled filled unasked.merger none unasked.going left right ended made ran so
+      over made so = joins_over gives state takes view line_by seen (λ old answer new given. given.2) (λ old pair answer new took. ap (λ l. lines.line l.now) took.1) (λ old pair answer new took. took.2) query limit from to unfilled filled unasked.merger start.none unasked.going start.left start.right ended made ran so

@@ -41,21 +41,44 @@ front_sent sent.Whole bytes old new apart sends = absurd (apart refl)
 front_sent sent.Failed bytes old new apart sends = sends
 front_sent sent.Memory bytes old new apart sends = sends
 
+-- ---- one line
+
+pub line_kept : (bytes : List ℕ) (answer : Drained) (old new : Draining) → TakesLine bytes answer new.last old.told new.told old.faults new.faults → answer ≡ Kept → Appends old.told new.told bytes × (new.faults ≡ old.faults)
+line_kept bytes answer old new taken is =
+    let whole = kept_whole new.last (sym taken.answered ∙ is) in (
+      subst (λ (last : Sent). Sends last bytes old.told new.told) whole taken.sends,
+      subst (λ (last : Sent). CountsFaults last old.faults new.faults) whole taken.faults,
+    )
+
+pub line_refused : (bytes : List ℕ) (answer : Drained) (old new : Draining) → TakesLine bytes answer new.last old.told new.told old.faults new.faults → answer ≡ Refused → SendsFront (bytes ++ []) old new
+line_refused bytes answer old new taken is =
+    let apart = refused_apart new.last (sym taken.answered ∙ is) in
+    record {
+      sends = subst (λ text. AppendsFront text old.told new.told) (sym (append-nil bytes)) (front_sent new.last bytes old.told new.told apart taken.sends);
+      faults = taken.faults;
+      refused = apart;
+    }
+
+-- a line was kept, and then a prefix of the text behind it was sent
+pub line_before : (bytes behind : List ℕ) (old between new : Draining) → Appends old.told between.told bytes × (between.faults ≡ old.faults) → SendsFront behind between new → SendsFront (bytes ++ behind) old new
+line_before bytes behind old between new first rest = record {
+  sends = record {
+    grown = bytes ++ rest.sends.grown;
+    written = Appends-trans old.told between.told new.told bytes rest.sends.grown first.0 rest.sends.written;
+    front = record { rest = rest.sends.front.rest; is = ap (λ l. bytes ++ l) rest.sends.front.is ∙ sym (append_assoc bytes rest.sends.grown rest.sends.front.rest) };
+  };
+  faults = subst (λ n. CountsFaults new.last n new.faults) first.1 rest.faults;
+  refused = rest.refused;
+}
+
+-- ---- the lines of pairs
+
 module _ {D : Type 0} (takes : D → Pair (List Field) → Drained → D → Type 0) (line : D → Line) (view : D → Draining) (same : (old : D) (pair : Pair (List Field)) (answer : Drained) (new : D) → takes old pair answer new → line new ≡ line old)
     (each : (old : D) (pair : Pair (List Field)) (answer : Drained) (new : D) → takes old pair answer new → TakesLine (line old pair) answer (view new).last (view old).told (view new).told (view old).faults (view new).faults) where
-  -- a pair that was kept
-  one_kept : (old : D) (pair : Pair (List Field)) (answer : Drained) (new : D) → takes old pair answer new → answer ≡ Kept → Appends (view old).told (view new).told (line old pair) × ((view new).faults ≡ (view old).faults)
-  one_kept old pair answer new taken is =
-      let sent_so = each old pair answer new taken in
-      let whole = kept_whole (view new).last (sym sent_so.answered ∙ is) in (
-        subst (λ (last : Sent). Sends last (line old pair) (view old).told (view new).told) whole sent_so.sends,
-        subst (λ (last : Sent). CountsFaults last (view old).faults (view new).faults) whole sent_so.faults,
-      )
-
   pub all_kept : (taken : List (Drainage (List Field))) (from to : D) → TakesAll takes from taken to → AreKept taken → Appends (view from).told (view to).told (text_by (line from) (pairs_in taken)) × ((view to).faults ≡ (view from).faults)
   all_kept [] from to all kept = subst (λ (d : D). Appends (view from).told (view d).told [] × ((view d).faults ≡ (view from).faults)) (sym all) (Appends-nil (view from).told, refl)
   all_kept (one ∷ later) from to all kept =
-      let first = one_kept from one.pair one.answer all.0 all.1 (cc) in
+      let first = line_kept (line from one.pair) one.answer (view from) (view all.0) (each from one.pair one.answer all.0 all.1) (cc) in
       let rest = all_kept later all.0 to all.2 (cc) in
       let written : Appends (view all.0).told (view to).told (text_by (line from) (pairs_in later)) =
       subst (λ (l : Line). Appends (view all.0).told (view to).told (text_by l (pairs_in later))) (same from one.pair one.answer all.0 all.1) rest.0 in
@@ -65,31 +88,15 @@ module _ {D : Type 0} (takes : D → Pair (List Field) → Drained → D → Typ
   last_refused zero [] from to all answers = absurd (let wrong : [] ≡ Refused ∷ [] = answers in cc)
   last_refused (suc kept) [] from to all answers = absurd (let wrong : [] ≡ Kept ∷ (replicate kept Kept ++ Refused ∷ []) = answers in cc)
   last_refused zero (one ∷ []) from to all answers =
-      let sent_so = each from one.pair one.answer all.0 all.1 in
       let refused : one.answer ≡ Refused = cc in
-      let apart = refused_apart (view all.0).last (sym sent_so.answered ∙ refused) in
-      let sends = front_sent (view all.0).last (line from one.pair) (view from).told (view all.0).told apart sent_so.sends in
       subst (λ (d : D). SendsFront (text_by (line from) (one.pair ∷ [])) (view from) (view d)) (sym all.2)
-      (record {
-        sends = subst (λ bytes. AppendsFront bytes (view from).told (view all.0).told) (sym (append-nil (line from one.pair))) sends;
-        faults = sent_so.faults;
-        refused = apart;
-      })
+      (line_refused (line from one.pair) one.answer (view from) (view all.0) (each from one.pair one.answer all.0 all.1) refused)
   last_refused zero (one ∷ other ∷ later) from to all answers = absurd (let wrong : one.answer ∷ other.answer ∷ map (λ o. o.answer) later ≡ Refused ∷ [] = answers in cc)
   last_refused (suc kept) (one ∷ later) from to all answers =
-      let first = one_kept from one.pair one.answer all.0 all.1 (cc) in
+      let first = line_kept (line from one.pair) one.answer (view from) (view all.0) (each from one.pair one.answer all.0 all.1) (cc) in
       let rest : SendsFront (text_by (line from) (pairs_in later)) (view all.0) (view to) =
       subst (λ (l : Line). SendsFront (text_by l (pairs_in later)) (view all.0) (view to)) (same from one.pair one.answer all.0 all.1) (last_refused kept later all.0 to all.2 (cc)) in
-      let bytes = line from one.pair in
-      record {
-        sends = record {
-          grown = bytes ++ rest.sends.grown;
-          written = Appends-trans (view from).told (view all.0).told (view to).told bytes rest.sends.grown first.0 rest.sends.written;
-          front = record { rest = rest.sends.front.rest; is = ap (λ l. bytes ++ l) rest.sends.front.is ∙ sym (append_assoc bytes rest.sends.grown rest.sends.front.rest) };
-        };
-        faults = subst (λ n. CountsFaults (view to).last n (view to).faults) first.1 rest.faults;
-        refused = rest.refused;
-      }
+      line_before (line from one.pair) (text_by (line from) (pairs_in later)) (view from) (view all.0) (view to) first rest
 
 -- what every pair keeps, all keep
 pub kept_by_all : {P D X : Type 0} (takes : D → Pair P → Drained → D → Type 0) (of : D → X) → ((old : D) (pair : Pair P) (answer : Drained) (new : D) → takes old pair answer new → of new ≡ of old) → (taken : List (Drainage P)) (from to : D)

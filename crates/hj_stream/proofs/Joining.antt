@@ -14,6 +14,7 @@ use Rattle.hj_msg.specs.declared.event.Pair.{Pair}
 use Rattle.hj_msg.specs.Kang.{kang, kang_from, windows_after}
 use Rattle.hj_msg.proofs.Windows.{join_of_both}
 use Rattle.hj_query.specs.Parts.{Parts}
+use Rattle.hj_record.specs.Pieces.{Stream}
 use Rattle.hj_eval.specs.Holds.{holds}
 use Rattle.hj_event.specs.declared.merger.Next.{Next}
 use Rattle.hj_event.specs.declared.merger.Next.TheVariants as next
@@ -32,7 +33,7 @@ use Rattle.hj_output.specs.declared.output.Sent.TheVariants as sent
 use Rattle.hj_stream.specs.Draining.{refusal_of}
 use Rattle.hj_stream.specs.Feeding.{outcome_by}
 use Rattle.hj_stream.specs.JoinText.{JoinResult, Line, joined_by, joined_text, text_by}
-use Rattle.hj_stream.specs.Joining.{CountsSinkFault, FailsOn, WritesText, AreEnded, JoinsBy}
+use Rattle.hj_stream.specs.Joining.{CountsSinkFault, FailsOn, WritesText, AreEnded, JoinsBy, JoinsTo}
 use Rattle.hj_output.specs.Output.{CountsFaults}
 use Rattle.hj_stream.proofs.Prefixes.{IsPrefix-trans}
 
@@ -139,8 +140,9 @@ pub front_of_all : (line : Line) (query : Parts) (events : List (Event (List Fie
 front_of_all line query events all others grown is front = IsPrefix-trans grown (joined_text line query events) (joined_text line query all.events) front (begins_text line query events all others is)
 
 -- memory ran out before anything was read
-pub joins_none : (line : Line) (query : Parts) (limit : ℕ) (now : Role → RoleState) (sink : Option (List ℕ)) → IsInStep false (now role.Left) → IsInStep false (now role.Right) → JoinsBy line outcome.Memory query limit now now sink sink
-joins_none line query limit now sink left right = record {
+pub none_joined : (joined : Parts → Stream → Stream → ℕ → JoinResult) (query : Parts) (limit : ℕ) (now : Role → RoleState) (sink : Option (List ℕ)) → IsInStep false (now role.Left) → IsInStep false (now role.Right)
+    → JoinsTo joined outcome.Memory query limit now now sink sink
+none_joined joined query limit now sink left right = record {
   left_bytes = [];
   right_bytes = [];
   left_failed = false;
@@ -153,9 +155,12 @@ joins_none line query limit now sink left right = record {
   others = λ of not_left not_right. refl;
   grown = [];
   written = Appends-nil sink;
-  text = λ l r l_follows r_follows. record { rest = (joined_by line query (in_front [] l) (in_front [] r) limit).text; is = refl };
+  text = λ l r l_follows r_follows. record { rest = (joined query (in_front [] l) (in_front [] r) limit).text; is = refl };
   ends = tt;
 }
+
+pub joins_none : (line : Line) (query : Parts) (limit : ℕ) (now : Role → RoleState) (sink : Option (List ℕ)) → IsInStep false (now role.Left) → IsInStep false (now role.Right) → JoinsBy line outcome.Memory query limit now now sink sink
+joins_none line = none_joined (joined_by line)
 
 pub counts_refusal : (last : Sent) (old new : ℕ) → CountsFaults last old new → CountsSinkFault (refusal_of last) old new
 counts_refusal sent.Whole old new counts = counts

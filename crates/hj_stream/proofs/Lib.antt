@@ -10,4 +10,5 @@ pub mod RawBetween
 pub mod RawDrained
 pub mod RawOver
 pub mod Reading
+pub mod Unread
 pub mod Walks

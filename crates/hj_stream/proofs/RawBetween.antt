@@ -1,8 +1,7 @@
 -- A run between the feed of two streams and the drain of raw items to a sink, as the code has them: what it leaves as it was, and how
 -- its join ends.
-use Rattle.std.proofs.Common.{◌≡◌, ◌≢◌, ◌-◌, List, [], ℕ, true, false, is_some, length, refl, ap, sym, subst, subst₂, ◌∙◌}
+use Rattle.std.proofs.Common.{◌≡◌, ◌≢◌, ◌-◌, List, [], ℕ, true, false, is_some, sym, subst₂}
 use Rattle.std.specs.declared.option.Option.{Option}
-use Rattle.std.proofs.KnownBytes.{Appends-nil}
 use Rattle.hj_base.specs.declared.outside.Outside.{Ghosts as OutsideGhosts}
 use Rattle.hj_base.specs.declared.outside.Role.{Role}
 use Rattle.hj_base.specs.declared.outside.Role.TheVariants as role
@@ -16,7 +15,6 @@ use Rattle.hj_msg.specs.declared.fin.Fin.TheVariants as fin
 use Rattle.hj_msg.specs.Feed.{Answers, FeedState, GoesOverAnswers, events_in, numbering_of}
 use Rattle.hj_query.specs.Parts.{Parts}
 use Rattle.hj_event.specs.Roles.{IsInStep}
-use Rattle.hj_event.proofs.RoleLemmas.{not_read}
 use Rattle.hj_output.specs.declared.output.Sent.TheVariants as sent
 use Rattle.hj_raw.specs.Drain.{Offer, TakesItems}
 use Rattle.hj_raw.specs.Ending.{EndsRaw}
@@ -31,33 +29,17 @@ use Rattle.hj_stream.specs.Ending.{EndsAs}
 use Rattle.hj_stream.specs.Ends.{IsUnasked}
 use Rattle.hj_stream.specs.Feeding.{Feeding, Gives}
 use Rattle.hj_stream.specs.Joining.{CountsSinkFault}
-use Rattle.hj_stream.specs.RawJoining.{JoinsRaw}
+use Rattle.hj_stream.specs.RawJoining.{JoinsRaw, result_with}
 use Rattle.hj_stream.proofs.Drained.{Draining}
 use Rattle.hj_stream.proofs.Fed.{kept_all}
+use Rattle.hj_stream.proofs.Joining.{none_joined}
 use Rattle.hj_stream.proofs.RawDrained.{kept_by_items}
 use Rattle.hj_stream.proofs.RawOver.{JoinsRawOver, raw_over, raw_refused, raw_stopped}
+use Rattle.hj_stream.proofs.Unread.{IsUnread, reads_none}
 
 -- nothing was read and nothing written
 pub raw_joins_none : (query : Parts) (limit : ℕ) (now : Role → RoleState) (told : Option (List ℕ)) → IsInStep false (now role.Left) → IsInStep false (now role.Right) → JoinsRaw outcome.Memory query limit now now told told
-raw_joins_none query limit now told left right = record {
-  text = [];
-  joins = record {
-    left_bytes = [];
-    right_bytes = [];
-    left_failed = false;
-    right_failed = false;
-    left_ended = false;
-    right_ended = false;
-    left = not_read false (now role.Left) left;
-    right = not_read false (now role.Right) right;
-    failed = refl;
-    others = λ of not_left not_right. refl;
-    grown = [];
-    written = Appends-nil told;
-    text = λ l r l_follows r_follows. record { rest = []; is = refl };
-    ends = tt;
-  };
-}
+raw_joins_none query limit now told left right = record { text = []; joins = none_joined (result_with []) query limit now told left right }
 
 module _ {O K : Type 0} (outside : OutsideGhosts O) (sink : SinkGhosts K) where
   abbrev Feed : Type 0
@@ -86,20 +68,14 @@ module _ {O K : Type 0} (outside : OutsideGhosts O) (sink : SinkGhosts K) where
 
   -- The feed gave no event yet.
   module _ (query : Parts) (limit : ℕ) (from : Feed) (unfilled : Drain) (unasked : IsUnasked query limit from) where
-    left : IsInStep false (outside.state from.outside.now role.Left)
-    left = subst (λ ended. IsInStep ended (outside.state from.outside.now role.Left)) unasked.merger.left from.left
-
-    right : IsInStep false (outside.state from.outside.now role.Right)
-    right = subst (λ ended. IsInStep ended (outside.state from.outside.now role.Right)) unasked.merger.right from.right
-
-    none : from.events ≡ 0
-    none = sym from.counted ∙ ap length unasked.given
+    start : IsUnread from
+    start = reads_none query limit from unasked
 
     -- memory ran out before either was asked
     pub raw_nothing : (to : Feed) (filled : Drain) → to ≡ from → filled ≡ unfilled → JoinsRaw outcome.Memory query limit (view from).roles (view to).roles (seen unfilled).told (seen filled).told
     raw_nothing to filled not_asked not_filled =
         subst₂ (λ (f : Feed) (d : Drain). JoinsRaw outcome.Memory query limit (view from).roles (view f).roles (seen unfilled).told (seen d).told) (sym not_asked) (sym not_filled)
-        (raw_joins_none query limit (view from).roles (seen unfilled).told left right)
+        (raw_joins_none query limit (view from).roles (seen unfilled).told start.left start.right)
 
     module _ (to : Feed) (filled : Drain) (answers : List (Given (List Field))) (feed : GoesOverAnswers gives from answers to) (offers : List (Offer (List Field))) (drain : TakesItems takes unfilled offers filled) where
       pub raw_same_outside : to.outside.ghost_name ≡ from.outside.ghost_name
@@ -116,9 +92,9 @@ module _ {O K : Type 0} (outside : OutsideGhosts O) (sink : SinkGhosts K) where
         raw_has_stopped = raw_stopped ended (state to).stopped offers items ends
 
         pub raw_was_refused : ended ≡ fin.Refused → filled.last ≢ sent.Whole
-        raw_was_refused = raw_refused gives takes view seen (λ old answer new given. given.2) (λ old item answer new took. took.1) query limit from to unfilled filled unasked.merger none unasked.going left right answers feed offers drain items (state to).stopped ended ends
+        raw_was_refused = raw_refused gives takes view seen (λ old answer new given. given.2) (λ old item answer new took. took.1) query limit from to unfilled filled unasked.merger start.none unasked.going start.left start.right answers feed offers drain items (state to).stopped ended ends
 
         -- the outcome that is made of such an end is that of the join
         pub raw_join : (made : Outcome) → EndsAs ended to.ended filled.last made
             → JoinsRawOver (raw_text items) made ended query limit (view from).roles (view to).roles (seen unfilled).told (seen filled).told (events_in answers) × CountsSinkFault made (seen unfilled).faults (seen filled).faults
-        raw_join made so = raw_over gives takes view seen (λ old answer new given. given.2) (λ old item answer new took. took.1) query limit from to unfilled filled unasked.merger none unasked.going left right answers feed offers drain items (state to).stopped ended made ends so
+        raw_join made so = raw_over gives takes view seen (λ old answer new given. given.2) (λ old item answer new took. took.1) query limit from to unfilled filled unasked.merger start.none unasked.going start.left start.right answers feed offers drain items (state to).stopped ended made ends so

@@ -24,7 +24,8 @@ names_live numbering (Quiet at side) = true
 -- whether these events may come one after another, after this numbering
 abbrev pub may_come : {P : Type 0} → Numbering → List (Event P) → Bool
 may_come numbering [] = true
-may_come numbering (event ∷ events) = (number event == numbering.next && names_live numbering event) && may_come (numbering_after numbering event) events
+may_come numbering (event ∷ events) =
+    (number event == numbering.next && names_live numbering event) && may_come (numbering_after numbering event) events
 
 -- These events may come after the others, and are no more with them than the limit.
 pub record MayComeBehind {P : Type 0} (limit : ℕ) (given later : List (Event P)) : Type 0 where

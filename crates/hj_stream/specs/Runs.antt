@@ -23,7 +23,8 @@ EndsRun outcome.SinkFault end whole = end ≡ fin.Refused
 EndsRun outcome.Memory end whole = Unit {0}
 EndsRun made end whole = (end ≡ fin.Done) × whole
 
-module _ {joined : Parts → Stream → Stream → ℕ → JoinResult} {ended : Outcome} {query : Parts} {limit : ℕ} {before now : Role → RoleState} {old new : Option (List ℕ)} where
+module _ {joined : Parts → Stream → Stream → ℕ → JoinResult} {ended : Outcome} {query : Parts} {limit : ℕ}
+    {before now : Role → RoleState} {old new : Option (List ℕ)} where
   -- Whatever comes after the bytes that a join read, this holds of the events of its streams.
   abbrev pub OfEvents : JoinsTo joined ended query limit before now old new → (List (Event (List Field)) → Type 0) → Type 0
   OfEvents joins so = (l r : Stream) → Follows joins.left_failed joins.left_ended l → Follows joins.right_failed joins.right_ended r

@@ -73,13 +73,15 @@ impl<K: Sink, L: PairLine> Drain<SharedRow> for LineDrain<'_, K, L> {
     ghost use Rattle.hj_stream.specs.Draining.{TakesLine};
 
     ghost takes = { λ old pair answer new. (new.out.ghost_name ≡ old.out.ghost_name) × (new.lines ≡ old.lines)
-        × TakesLine (L.line old.lines.now pair) answer new.last (K.told old.out.now) (K.told new.out.now) (K.faults old.out.now) (K.faults new.out.now) };
+        × TakesLine (L.line old.lines.now pair) answer new.last (K.told old.out.now) (K.told new.out.now)
+        (K.faults old.out.now) (K.faults new.out.now) };
 
     ghost refusals = { λ d. d.refused };
 
     fn pair(&mut self, pair: Pair<SharedRow>) -> Drained
         ensures takes { (self.new.out.ghost_name ≡ self.old.out.ghost_name) × (self.new.lines ≡ self.old.lines)
-            × TakesLine (L.line self.old.lines.now pair) result self.new.last (K.told self.old.out.now) (K.told self.new.out.now) (K.faults self.old.out.now) (K.faults self.new.out.now) }
+            × TakesLine (L.line self.old.lines.now pair) result self.new.last (K.told self.old.out.now) (K.told self.new.out.now)
+            (K.faults self.old.out.now) (K.faults self.new.out.now) }
         ensures refusals { CountsRefused result self.old.refused self.new.refused }
     {
         self.last = self.send(&pair);

@@ -96,13 +96,15 @@ impl<K: Sink> RawDrain<SharedRow> for RawLineDrain<'_, K> {
     ghost use Rattle.hj_stream.specs.Draining.{TakesLine};
 
     ghost takes = { λ old item answer new. (new.out.ghost_name ≡ old.out.ghost_name)
-        × TakesLine (item_text item) answer new.last (K.told old.out.now) (K.told new.out.now) (K.faults old.out.now) (K.faults new.out.now) };
+        × TakesLine (item_text item) answer new.last (K.told old.out.now) (K.told new.out.now)
+        (K.faults old.out.now) (K.faults new.out.now) };
 
     ghost refusals = { λ d. d.refused };
 
     fn pair(&mut self, pair: Pair<SharedRow>) -> Drained
         ensures takes { (self.new.out.ghost_name ≡ self.old.out.ghost_name)
-            × TakesLine (pair_text pair) result self.new.last (K.told self.old.out.now) (K.told self.new.out.now) (K.faults self.old.out.now) (K.faults self.new.out.now) }
+            × TakesLine (pair_text pair) result self.new.last (K.told self.old.out.now) (K.told self.new.out.now)
+            (K.faults self.old.out.now) (K.faults self.new.out.now) }
         ensures refusals { CountsRefused result self.old.refused self.new.refused }
     {
         let sent = self.send_pair(&pair);
@@ -111,7 +113,8 @@ impl<K: Sink> RawDrain<SharedRow> for RawLineDrain<'_, K> {
 
     fn mark(&mut self, mark: Mark) -> Drained
         ensures takes { (self.new.out.ghost_name ≡ self.old.out.ghost_name)
-            × TakesLine (mark_text (meaning mark)) result self.new.last (K.told self.old.out.now) (K.told self.new.out.now) (K.faults self.old.out.now) (K.faults self.new.out.now) }
+            × TakesLine (mark_text (meaning mark)) result self.new.last (K.told self.old.out.now) (K.told self.new.out.now)
+            (K.faults self.old.out.now) (K.faults self.new.out.now) }
         ensures refusals { CountsRefused result self.old.refused self.new.refused }
     {
         let sent = self.send_mark(mark);
