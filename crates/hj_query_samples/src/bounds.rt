@@ -1,7 +1,9 @@
 //! How large the numbers of a query may be, how deep its condition, how many its columns, and how long its text.
 
 use crate::queries::{HEAD, WHOLE, judge, judge_all};
+use crate::texts::{joined, repeated};
 use std::alloc::Global;
+use std::fmt::Write;
 use std::process::Abort;
 
 const SPANS: &str = "\
@@ -49,10 +51,9 @@ fn nested(
     count: usize,
     condition: &str,
 ) -> String {
-    let open = open.repeat(alloc, count).expect(rt, "memory");
-    let close = close.repeat(alloc, count).expect(rt, "memory");
-    let text = [&open, condition, &close].concat(alloc);
-    text.expect(rt, "memory")
+    let open = repeated(rt, alloc, open, count);
+    let close = repeated(rt, alloc, close, count);
+    joined(rt, alloc, &[&open, condition, &close])
 }
 
 /// Judges a condition that stands inside the openings of a line.
@@ -103,8 +104,8 @@ fn judge_long(
     back: &str,
     want: &str,
 ) {
-    let front = front.concat(alloc).expect(rt, "memory");
-    let middle = part.repeat(alloc, count).expect(rt, "memory");
+    let front = joined(rt, alloc, front);
+    let middle = repeated(rt, alloc, part, count);
     judge(rt, alloc, &[&front, &middle, back], want);
 }
 
@@ -127,12 +128,9 @@ fn length_is_no_depth(rt: HostRuntime) {
 
 /// Makes `count` columns of a schema after its word.
 fn columns_behind(rt: &impl Abort, alloc: Global, word: &str, count: usize) -> String {
-    let mut text = [word, " (ts int"].concat(alloc).expect(rt, "memory");
+    let mut text = joined(rt, alloc, &[word, " (ts int"]);
     for number in 1..count {
-        let digits = number.to_string(alloc).expect(rt, "memory");
-        text.push_str(", c").expect(rt, "memory");
-        text.push_str(&digits).expect(rt, "memory");
-        text.push_str(" text").expect(rt, "memory");
+        write!(text, ", c{number} text").expect(rt, "memory");
     }
     text
 }

@@ -1,4 +1,4 @@
-use crate::texts::{long_text, query_of};
+use crate::texts::{joined, long_text, query};
 use hj_query::{QueryText, print};
 use std::alloc::Global;
 use std::process::Abort;
@@ -8,22 +8,26 @@ const HEAD: &str =
 
 /// Returns the canonical text of the query that a text spells.
 fn printed(rt: &impl Abort, alloc: Global, text: &str) -> QueryText {
-    let query = query_of(rt, alloc, &[text]);
-    print(alloc, &query).expect(rt, "memory")
+    print(alloc, &query(rt, alloc, text)).expect(rt, "memory")
 }
 
 /// Prints the query that a text spells.
 fn prints(rt: &impl Abort, alloc: Global, text: &str, canonical: &str) {
     let found = printed(rt, alloc, text);
-    assert_eq!(rt; found.bytes(), canonical.as_bytes(), "of {text}");
+    assert!(rt; found.bytes() == canonical.as_bytes(), "of {text}");
+}
+
+/// Prints the query that a text spells, and the query that the canonical text spells.
+fn prints_both(rt: &impl Abort, alloc: Global, text: &str, canonical: &str) {
+    prints(rt, alloc, text, canonical);
+    prints(rt, alloc, canonical, canonical);
 }
 
 /// Prints the query with a condition, and the query that the canonical text spells.
 fn prints_condition(rt: &impl Abort, alloc: Global, condition: &str, canonical: &str) {
-    let text = [HEAD, condition].concat(alloc).expect(rt, "memory");
-    let want = [HEAD, canonical, "\n"].concat(alloc).expect(rt, "memory");
-    prints(rt, alloc, &text, &want);
-    prints(rt, alloc, &want, &want);
+    let text = joined(rt, alloc, &[HEAD, condition]);
+    let want = joined(rt, alloc, &[HEAD, canonical, "\n"]);
+    prints_both(rt, alloc, &text, &want);
 }
 
 /// Conditions, and how each is printed.
@@ -99,11 +103,9 @@ slack 4611686018427387904 quiet 1000000 | slack 4611686018427387904/quiet 100000
 /// Prints the query with settings, and the query that the canonical text spells.
 fn prints_settings(rt: &impl Abort, alloc: Global, settings: &str, lines: &str) {
     let lines = lines.replace(alloc, '/', "\n").expect(rt, "memory");
-    let text = [NAMED, settings, " on l.slack = r.quiet"].concat(alloc);
-    let text = text.expect(rt, "memory");
-    let want = [NAMED, &lines].concat(alloc).expect(rt, "memory");
-    prints(rt, alloc, &text, &want);
-    prints(rt, alloc, &want, &want);
+    let text = joined(rt, alloc, &[NAMED, settings, " on l.slack = r.quiet"]);
+    let want = joined(rt, alloc, &[NAMED, &lines]);
+    prints_both(rt, alloc, &text, &want);
 }
 
 #[test]
@@ -122,8 +124,8 @@ fn is_printed(rt: &impl Abort, alloc: Global, text: &str, want: &str) {
 
 /// Prints a condition of one comparison and `count` more, each after a word.
 fn prints_long(rt: &impl Abort, alloc: Global, word: &str, count: usize) {
-    let dense = [word, "''=''"].concat(alloc).expect(rt, "memory");
-    let spaced = [" ", word, " '' = ''"].concat(alloc).expect(rt, "memory");
+    let dense = joined(rt, alloc, &[word, "''=''"]);
+    let spaced = joined(rt, alloc, &[" ", word, " '' = ''"]);
     let head = "left(ts int)right(ts int)window left rows 1 window right rows 1 on''=''";
     let lines =
         "left (ts int)\nright (ts int)\nwindow left rows 1\nwindow right rows 1\non '' = ''";

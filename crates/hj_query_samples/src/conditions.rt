@@ -1,3 +1,4 @@
+use crate::texts;
 use crate::texts::{long_text, query_of};
 use hj_eval::{ReadyQuery, StorePlan, holds, plan};
 use hj_query::Query;
@@ -77,7 +78,7 @@ fn holds_of(rt: &impl Abort, alloc: Global, query: &Query, left: &str, right: &s
 
 /// Holds what was found for a line of a table to what is wanted.
 fn same(rt: &impl Abort, line: &str, found: bool, want: bool) {
-    assert_eq!(rt; found, want, "{line}");
+    assert!(rt; found == want, "{line}");
 }
 
 /// Compares the numbers of a pair by a condition, which holds in these orders.
@@ -85,7 +86,7 @@ fn compares(rt: &impl Abort, alloc: Global, query: &Query, orders: &str, pair: &
     let (left, behind) = pair.split_once(' ').expect(rt, "an order");
     let (order, right) = behind.split_once(' ').expect(rt, "a right number");
     let found = holds_of(rt, alloc, query, left, right);
-    assert_eq!(rt; found, orders.contains(order), "{orders} at {pair}");
+    same(rt, pair, found, orders.contains(order));
 }
 
 /// Compares each pair by a condition.
@@ -265,7 +266,7 @@ fn told(rt: &impl Abort, alloc: Global, plan: StorePlan) -> String {
 fn plans(rt: &impl Abort, alloc: Global, line: &str) {
     let (condition, want) = line.split_once(" | ").expect(rt, "a case");
     let found = plan(&query(rt, alloc, condition));
-    assert_eq!(rt; told(rt, alloc, found).as_str(), want, "{condition}");
+    texts::same(rt, condition, &told(rt, alloc, found), want);
 }
 
 #[test]

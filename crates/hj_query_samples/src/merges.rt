@@ -4,7 +4,7 @@ ghost use Rattle.hj_base.specs.Outside.{unbegun, IsOpen, ChangesOnly};
 ghost use Rattle.hj_base.specs.declared.outside.Role.TheVariants as role;
 ghost use Rattle.hj_event.specs.Roles.{IsInStep};
 
-use crate::texts::query_of;
+use crate::texts::{query_of, same};
 use hj_base::{Got, MemOutside, Opened, Outside, Role};
 use hj_event::{Merger, Next};
 use hj_msg::Event;
@@ -98,13 +98,22 @@ fn contents(rt: &impl Abort, alloc: Global, case: &Case<'_>, chunk: usize) -> Me
 }
 
 /// Makes one read of a role fail, the first one being 1.
-fn fails(rt: &impl Abort, outside: &mut MemOutside, failing: Role, nth: u64)
-    requires first { 1 ≤ nth }
-    requires last { nth ≤ 9 }
+fn fails_once(rt: &impl Abort, outside: &mut MemOutside, failing: Role, nth: u64)
     ensures left { (role_at outside.new role.Left).phase ≡ (role_at outside.old role.Left).phase }
     ensures right { (role_at outside.new role.Right).phase ≡ (role_at outside.old role.Right).phase }
 {
+    assert!(rt; 1 <= nth && nth <= 9);
     outside.fail_read(failing, nth).expect(rt, "memory");
+}
+
+/// Makes the read fail that is named, if one is.
+fn fails(rt: &impl Abort, outside: &mut MemOutside, failing: Option<(Role, u64)>)
+    ensures left { (role_at outside.new role.Left).phase ≡ (role_at outside.old role.Left).phase }
+    ensures right { (role_at outside.new role.Right).phase ≡ (role_at outside.old role.Right).phase }
+{
+    if let Some((role, nth)) = failing {
+        fails_once(rt, outside, role, nth);
+    }
 }
 
 /// Starts a role, which is ready.
@@ -168,8 +177,32 @@ fn puts(rt: &impl Abort, text: &mut String, answer: Next) -> bool {
     over
 }
 
-/// Returns what a merger of a case answers, up to its last answer, and that one again.
-fn merged<O: Outside>(
+/// Returns how many reads of the left role, which is open, give four bytes.
+fn fours_left<O: Outside>(outside: &mut O) -> u64
+    requires { IsOpen (O.state outside.old role.Left).phase }
+{
+    let mut buf = [0; 16];
+    let mut fours = 0u64;
+    for _ in 0..20 {
+        if matches!(outside.read(Role::Left, &mut buf), Got::Bytes(4)) {
+            fours = fours.saturating_add(1);
+        }
+    }
+    fours
+}
+
+/// Asks a merger that has read nothing for its first answer.
+fn asks_once<O: Outside>(rt: &impl Abort, merger: &mut Merger, outside: &mut O)
+    requires left { IsInStep merger.old.sides.left.reading.ended (O.state outside.old role.Left) }
+    requires right { IsInStep merger.old.sides.right.reading.ended (O.state outside.old role.Right) }
+    ensures { IsOpen (O.state outside.new role.Left).phase }
+{
+    assert!(rt; !merger.is_ready());
+    let _ = answer_of(merger, outside);
+}
+
+/// Asks a merger that has read nothing for its first answer, and returns how many left rows are left to be read.
+fn rows_left<O: Outside>(
     rt: &impl Abort,
     alloc: Global,
     merger: &mut Merger,
@@ -178,10 +211,47 @@ fn merged<O: Outside>(
     requires left { IsInStep merger.old.sides.left.reading.ended (O.state outside.old role.Left) }
     requires right { IsInStep merger.old.sides.right.reading.ended (O.state outside.old role.Right) }
 {
+    asks_once(rt, merger, outside);
+    fours_left(outside).to_string(alloc).expect(rt, "memory")
+}
+
+/// What is asked of a merger: its answers; whether it is ready for each, and its answers; or the first one alone.
+#[derive(Clone, Copy, PartialEq, Eq)]
+enum Ask {
+    Answers,
+    ReadyAnswers,
+    First,
+}
+
+/// Adds to a text whether a merger is ready for its next answer.
+fn puts_ready(rt: &impl Abort, text: &mut String, merger: &Merger) {
+    let word = if merger.is_ready() { "ready " } else { "asks " };
+    text.push_str(word).expect(rt, "memory");
+}
+
+/// Adds to a text whether a merger is ready, if that is asked.
+fn puts_asked(rt: &impl Abort, text: &mut String, merger: &Merger, ask: Ask) {
+    if ask == Ask::ReadyAnswers {
+        puts_ready(rt, text, merger);
+    }
+}
+
+/// Returns what a merger of a case answers, up to its last answer, and that one again.
+fn merged<O: Outside>(
+    rt: &impl Abort,
+    alloc: Global,
+    merger: &mut Merger,
+    outside: &mut O,
+    ask: Ask,
+) -> String
+    requires left { IsInStep merger.old.sides.left.reading.ended (O.state outside.old role.Left) }
+    requires right { IsInStep merger.old.sides.right.reading.ended (O.state outside.old role.Right) }
+{
     let mut text = String::new(alloc);
     let mut over = false;
     for _ in 0..12 {
         let again = over;
+        puts_asked(rt, &mut text, merger, ask);
         over = puts(rt, &mut text, answer_of(merger, outside));
         if again {
             break;
@@ -190,36 +260,63 @@ fn merged<O: Outside>(
     text
 }
 
-/// Holds a text, but for the blanks at its end, to what is wanted.
-fn same(rt: &impl Abort, text: &str, want: &str) {
-    assert_eq!(rt; text.trim_end(), want);
+/// Holds what a merger answers to what is wanted of it. Of the first answer it is wanted how many left rows are left to be read.
+fn answers<O: Outside>(
+    rt: &impl Abort,
+    alloc: Global,
+    merger: &mut Merger,
+    outside: &mut O,
+    ask: Ask,
+    want: &str,
+)
+    requires left { IsInStep merger.old.sides.left.reading.ended (O.state outside.old role.Left) }
+    requires right { IsInStep merger.old.sides.right.reading.ended (O.state outside.old role.Right) }
+{
+    let text = if ask == Ask::First {
+        rows_left(rt, alloc, merger, outside)
+    } else {
+        merged(rt, alloc, merger, outside, ask)
+    };
+    same(rt, want, text.trim_end(), want);
 }
 
-/// Holds what a merger of a case answers to what is wanted.
-fn answers<O: Outside>(rt: &impl Abort, alloc: Global, case: &Case<'_>, outside: &mut O, want: &str)
+/// Makes a merger of a case, and holds what it answers to what is wanted.
+fn asks<O: Outside>(rt: &impl Abort, alloc: Global, case: &Case<'_>, outside: &mut O, ask: Ask)
     requires left { (O.state outside.old role.Left).phase ≡ unbegun }
     requires right { (O.state outside.old role.Right).phase ≡ unbegun }
 {
     let mut merger = begun(rt, alloc, case, outside);
-    let text = merged(rt, alloc, &mut merger, outside);
-    same(rt, &text, want);
+    answers(rt, alloc, &mut merger, outside, ask, case.want);
 }
 
-/// Merges the streams of a case, of which a read gives at most `chunk` bytes.
-fn merges(rt: &impl Abort, alloc: Global, case: &Case<'_>, chunk: usize)
+/// Merges the streams of a case, of which a read gives at most `chunk` bytes, and one fails, if it is named.
+fn run(
+    rt: &impl Abort,
+    alloc: Global,
+    case: &Case<'_>,
+    chunk: usize,
+    failing: Option<(Role, u64)>,
+    ask: Ask,
+)
     requires { 1 ≤ chunk }
 {
     let mut outside = contents(rt, alloc, case, chunk);
-    answers(rt, alloc, case, &mut outside, case.want);
+    fails(rt, &mut outside, failing);
+    asks(rt, alloc, case, &mut outside, ask);
 }
 
-/// Merges the streams of each case, read in small, middling and large portions.
+/// Merges the streams of a line, read in small, middling and large portions.
+fn merges(rt: &impl Abort, alloc: Global, line: &str) {
+    let case = case_of(rt, alloc, line);
+    run(rt, alloc, &case, 1, None, Ask::Answers);
+    run(rt, alloc, &case, 3, None, Ask::Answers);
+    run(rt, alloc, &case, 4_096, None, Ask::Answers);
+}
+
+/// Merges the streams of each case.
 fn merges_all(rt: &impl Abort, alloc: Global, cases: &str) {
     for line in cases.lines() {
-        let case = case_of(rt, alloc, line);
-        for chunk in [1, 3, 4_096] {
-            merges(rt, alloc, &case, chunk);
-        }
+        merges(rt, alloc, line);
     }
 }
 
@@ -253,48 +350,20 @@ ready Left 2: 3; ready Left 3: 5; asks Left 4: 9; ready done; ready done;
 window left rows 9 window right rows 9 slack 2 | 100 | 5,7/4,7/x/ |  | asks Left 0: 4; ready Left 1: 5; \
 ready Left record 3: 1 fields; ready Left record 3: 1 fields;";
 
-/// Adds to a text whether a merger is ready.
-fn puts_ready(rt: &impl Abort, text: &mut String, ready: bool) {
-    let word = if ready { "ready " } else { "asks " };
-    text.push_str(word).expect(rt, "memory");
-}
-
-/// Returns what a merger of a case answers, as `merged` has it, and before each answer whether it is ready for it.
-fn told<O: Outside>(rt: &impl Abort, alloc: Global, merger: &mut Merger, outside: &mut O) -> String
-    requires left { IsInStep merger.old.sides.left.reading.ended (O.state outside.old role.Left) }
-    requires right { IsInStep merger.old.sides.right.reading.ended (O.state outside.old role.Right) }
+/// Merges the streams of a line, of which a read gives at most `chunk` bytes, and looks when the merger is ready.
+fn tells(rt: &impl Abort, alloc: Global, line: &str, chunk: usize)
+    requires { 1 ≤ chunk }
 {
-    let mut text = String::new(alloc);
-    let mut over = false;
-    for _ in 0..12 {
-        let again = over;
-        puts_ready(rt, &mut text, merger.is_ready());
-        over = puts(rt, &mut text, answer_of(merger, outside));
-        if again {
-            break;
-        }
-    }
-    text
+    let case = case_of(rt, alloc, line);
+    run(rt, alloc, &case, chunk, None, Ask::ReadyAnswers);
 }
 
-/// Holds what a merger of a case answers, and when it is ready, to what is wanted.
-fn tells<O: Outside>(rt: &impl Abort, alloc: Global, case: &Case<'_>, outside: &mut O)
-    requires left { (O.state outside.old role.Left).phase ≡ unbegun }
-    requires right { (O.state outside.old role.Right).phase ≡ unbegun }
-{
-    let mut merger = begun(rt, alloc, case, outside);
-    let text = told(rt, alloc, &mut merger, outside);
-    same(rt, &text, case.want);
-}
-
-/// Merges the streams of each case, of which a read gives at most `chunk` bytes.
+/// Merges the streams of each case so.
 fn tells_all(rt: &impl Abort, alloc: Global, cases: &str, chunk: usize)
     requires { 1 ≤ chunk }
 {
     for line in cases.lines() {
-        let case = case_of(rt, alloc, line);
-        let mut outside = contents(rt, alloc, &case, chunk);
-        tells(rt, alloc, &case, &mut outside);
+        tells(rt, alloc, line, chunk);
     }
 }
 
@@ -304,79 +373,54 @@ fn is_ready_where_the_first_row_is_sure(rt: HostRuntime) {
     tells_all(&rt, rt.alloc(), READY_AT_ONCE, 4_096);
 }
 
-const TWO_A_SIDE: &str =
-    "window left rows 9 window right rows 9 | 100 | 1,7/2,7/ | 0,7/5,7/ | what was read before a failed read";
+/// The role of which a read fails, which read that is, and a case.
+const FAILED_READS: &str = "\
+Left 1 | window left rows 9 window right rows 9 | 100 | 1,7/2,7/ | 0,7/5,7/ | Left failed; Left failed;
+Right 2 | window left rows 9 window right rows 9 | 100 | 1,7/2,7/ | 0,7/5,7/ | Right 0: 0; Right failed; Right failed;
+Left 3 | window left rows 9 window right rows 9 | 100 | 1,7/2,7/ | 0,7/5,7/ | \
+Right 0: 0; Left 1: 1; Left 2: 2; Left failed; Left failed;
+Left 3 | window left rows 9 window right rows 9 slack 2 | 100 | 1,7/4,7/2,7/ | 0,7/ | \
+Right 0: 0; Left 1: 1; Left failed; Left failed;";
 
-/// The left row of the time 4 isn't sure before its third read.
-const LATE_ON_THE_LEFT: &str =
-    "window left rows 9 window right rows 9 slack 2 | 100 | 1,7/4,7/2,7/ | 0,7/ | what was sure before a failed read";
-
-/// Merges the streams of a case, of which a read gives four bytes, where one read of a role fails.
-fn fails_to_read(rt: &impl Abort, alloc: Global, line: &str, role: Role, nth: u64, want: &str)
-    requires first { 1 ≤ nth }
-    requires last { nth ≤ 9 }
-{
-    let case = case_of(rt, alloc, line);
-    let mut outside = contents(rt, alloc, &case, 4);
-    fails(rt, &mut outside, role, nth);
-    answers(rt, alloc, &case, &mut outside, want);
+fn role_of(rt: &impl Abort, word: &str) -> Role {
+    match word {
+        "Left" => Role::Left,
+        "Right" => Role::Right,
+        _ => panic!(rt; "no side: {word}"),
+    }
 }
 
+/// Reads which read of which role fails.
+fn failing_of(rt: &impl Abort, text: &str) -> (Role, u64) {
+    let (role, nth) = text.split_once(' ').expect(rt, "a number");
+    (role_of(rt, role), nth.parse::<u64>().expect(rt, "a number"))
+}
+
+/// Merges the streams of a line, of which a read gives four bytes, where one read of a role fails.
+fn fails_to_read(rt: &impl Abort, alloc: Global, line: &str) {
+    let (failing, case) = line.split_once(" | ").expect(rt, "a case");
+    let failing = failing_of(rt, failing);
+    let case = case_of(rt, alloc, case);
+    run(rt, alloc, &case, 4, Some(failing), Ask::Answers);
+}
+
+// A left row of the time 4 that may be late isn't sure before its third read.
 #[test]
 fn gives_what_was_read_before_a_failed_read(rt: HostRuntime) {
-    let want = "Left failed; Left failed;";
-    fails_to_read(&rt, rt.alloc(), TWO_A_SIDE, Role::Left, 1, want);
-    let want = "Right 0: 0; Right failed; Right failed;";
-    fails_to_read(&rt, rt.alloc(), TWO_A_SIDE, Role::Right, 2, want);
-    let want = "Right 0: 0; Left 1: 1; Left 2: 2; Left failed; Left failed;";
-    fails_to_read(&rt, rt.alloc(), TWO_A_SIDE, Role::Left, 3, want);
-    let want = "Right 0: 0; Left 1: 1; Left failed; Left failed;";
-    fails_to_read(&rt, rt.alloc(), LATE_ON_THE_LEFT, Role::Left, 3, want);
+    for line in FAILED_READS.lines() {
+        fails_to_read(&rt, rt.alloc(), line);
+    }
 }
 
 const TEN_A_SIDE: &str =
     "window left rows 9 window right rows 9 | 100 | 1,7/1,7/1,7/1,7/1,7/1,7/1,7/1,7/1,7/1,7/ \
-    | 2,7/2,7/2,7/2,7/2,7/2,7/2,7/2,7/2,7/2,7/ | what is read";
+    | 2,7/2,7/2,7/2,7/2,7/2,7/2,7/2,7/2,7/2,7/ | 9";
 
-/// Returns how many reads of the left role, which is open, give four bytes.
-fn fours_left<O: Outside>(outside: &mut O) -> u64
-    requires { IsOpen (O.state outside.old role.Left).phase }
-{
-    let mut buf = [0; 16];
-    let mut fours = 0u64;
-    for _ in 0..20 {
-        if matches!(outside.read(Role::Left, &mut buf), Got::Bytes(4)) {
-            fours = fours.saturating_add(1);
-        }
-    }
-    fours
-}
-
-/// Asks a merger that has read nothing for its first answer.
-fn asks_once<O: Outside>(rt: &impl Abort, merger: &mut Merger, outside: &mut O)
-    requires left { IsInStep merger.old.sides.left.reading.ended (O.state outside.old role.Left) }
-    requires right { IsInStep merger.old.sides.right.reading.ended (O.state outside.old role.Right) }
-    ensures { IsOpen (O.state outside.new role.Left).phase }
-{
-    assert!(rt; !merger.is_ready());
-    let _ = answer_of(merger, outside);
-}
-
-/// Asks a merger of a case, of which a read gives one row, for its first answer: of the ten left rows it has read one.
-fn reads_behind<O: Outside>(rt: &impl Abort, alloc: Global, case: &Case<'_>, outside: &mut O)
-    requires left { (O.state outside.old role.Left).phase ≡ unbegun }
-    requires right { (O.state outside.old role.Right).phase ≡ unbegun }
-{
-    let mut merger = begun(rt, alloc, case, outside);
-    asks_once(rt, &mut merger, outside);
-    assert_eq!(rt; fours_left(outside), 9);
-}
-
+/// Where a read gives one row, a merger has read one of the ten left rows for its first answer.
 #[test]
 fn reads_no_more_than_the_heads(rt: HostRuntime) {
     let case = case_of(&rt, rt.alloc(), TEN_A_SIDE);
-    let mut outside = contents(&rt, rt.alloc(), &case, 4);
-    reads_behind(&rt, rt.alloc(), &case, &mut outside);
+    run(&rt, rt.alloc(), &case, 4, None, Ask::First);
 }
 
 /// Adds an event to a text.

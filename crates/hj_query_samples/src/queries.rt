@@ -1,5 +1,6 @@
 //! Which texts are queries, and the first fault of each other one.
 
+use crate::texts::{joined, same};
 use hj_query::parse;
 use std::alloc::Global;
 use std::process::Abort;
@@ -28,17 +29,20 @@ fn judgement(rt: &impl Abort, alloc: Global, text: &[u8]) -> String {
 
 /// Judges the text that is these parts, one after the other.
 pub(crate) fn judge(rt: &impl Abort, alloc: Global, parts: &[&str], want: &str) {
-    let text = parts.concat(alloc).expect(rt, "memory");
-    let found = judgement(rt, alloc, text.as_bytes());
-    assert_eq!(rt; found.as_str(), want, "of {text}");
+    let text = joined(rt, alloc, parts);
+    same(rt, &text, &judgement(rt, alloc, text.as_bytes()), want);
 }
 
 /// Judges each text of a table after a beginning. A line of a table is a text and, after a bar, what it is.
 pub(crate) fn judge_all(rt: &impl Abort, alloc: Global, front: &str, table: &str) {
     for line in table.lines() {
-        let (text, want) = line.split_once(" | ").expect(rt, "a case");
-        judge(rt, alloc, &[front, text], want);
+        judge_line(rt, alloc, front, line);
     }
+}
+
+fn judge_line(rt: &impl Abort, alloc: Global, front: &str, line: &str) {
+    let (text, want) = line.split_once(" | ").expect(rt, "a case");
+    judge(rt, alloc, &[front, text], want);
 }
 
 /// What each beginning of the whole text is, by its length.
@@ -93,8 +97,7 @@ fn judge_front(rt: &impl Abort, alloc: Global, line: &str) {
     let (length, want) = line.split_once(" | ").expect(rt, "a case");
     let length = length.parse::<usize>().expect(rt, "a length");
     let front = WHOLE.as_bytes().get(..length).expect(rt, "a front");
-    let found = judgement(rt, alloc, front);
-    assert_eq!(rt; found.as_str(), want, "at {length}");
+    same(rt, line, &judgement(rt, alloc, front), want);
 }
 
 #[test]
