@@ -1,5 +1,5 @@
 -- A crew whose outlet gives pairs in order: a run on threads.
-use Rattle.std.proofs.Common.{◌≡◌, ℕ, Bool, false, List, [], All, refl, sym, subst}
+use Rattle.std.proofs.Common.{◌≡◌, ℕ, Bool, false, List, [], All, Result, Ok, Err, IfOk, refl, sym, subst}
 use Rattle.hj_base.specs.Journals.{IsPrefix}
 use Rattle.hj_msg.specs.declared.drain.Drained.{Drained}
 use Rattle.hj_msg.specs.declared.drain.Drained.TheVariants.{Kept}
@@ -69,3 +69,10 @@ module _ {P F D : Type 0} (gives : F → Given P → F → Type 0) (state : F �
     ends = ends-join _ crew.run (lists_of cores crew.taken) crew.reports (state to).stopped crew.over now given.pairs given.released ran.ended given.answered (λ done. (crew.complete done, crew.done done));
     complete = crew.complete;
   }
+
+module _ {P F D E : Type 0} (gives : F → Given P → F → Type 0) (state : F → FeedState) (takes : D → Pair P → Drained → D → Type 0) (matches : P → P → Bool) (cores in_flight : ℕ) (from to : F) (begun now : InOrder P D) (unfilled : D) (drain : begun.drain ≡ unfilled) where
+  -- the same of a run that may have been refused
+  pub ran-in_order : (made : Result (RanSeen P) E) → GivesInOrder takes begun cores [] false Kept begun → IfOk made (RunsCrew gives state (GivesInOrder takes) rests-in_order matches cores in_flight from to begun now)
+      → IfOk made (RunsOnThreads gives state takes matches cores in_flight from to unfilled now.drain)
+  ran-in_order (Ok ran) unused crew = runs-in_order gives state takes matches cores in_flight from to begun now ran crew unused unfilled drain
+  ran-in_order (Err error) unused none = tt

@@ -9,6 +9,7 @@ pub mod Linking
 pub mod MadeTeams
 pub mod Manning
 pub mod RawRuns
+pub mod Refusing
 pub mod Running
 pub mod Staying
 pub mod Teaming

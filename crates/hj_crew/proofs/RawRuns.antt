@@ -1,5 +1,5 @@
 -- A crew whose outlet gives raw items.
-use Rattle.std.proofs.Common.{◌≡◌, ℕ, zero, suc, ◌<◌, ◌≤◌, ◌==◌, Bool, true, false, inl, inr, List, [], ◌∷◌, ◌++◌, length, map, filter, get_or, Contains, refl, ap, sym, ◌∙◌, subst, append-nil, arith}
+use Rattle.std.proofs.Common.{◌≡◌, ℕ, zero, suc, ◌<◌, ◌≤◌, ◌==◌, Bool, true, false, inl, inr, Result, Ok, Err, IfOk, List, [], ◌∷◌, ◌++◌, length, map, filter, get_or, Contains, refl, ap, sym, ◌∙◌, subst, append-nil, arith}
 use Rattle.std.proofs.lemmas.Bool.{cases_lt}
 use Rattle.std.proofs.lemmas.Bool.Decides.{nat_tests}
 use Rattle.std.proofs.lemmas.List.{length-map}
@@ -106,3 +106,10 @@ module _ {P D : Type 0} (takes : D → Item P → Drained → D → Type 0) wher
       tells_all = λ done.
           subst (λ (n : ℕ). TellsAll matches events (raw_items n crew.taken)) crew.queues (tells_all (run_of matches events ran) crew.run crew.taken of_run (crew.complete done) all_reports);
     }
+
+  module _ {F E : Type 0} (gives : F → Given P → F → Type 0) (state : F → FeedState) (matches : P → P → Bool) (cores in_flight : ℕ) (from to : F) (begun now : Raw P D) (unfilled : D) (drain : begun.drain ≡ unfilled) where
+    -- the same of a run that may have been refused
+    pub ran-raw : (made : Result (RanSeen P) E) → GivesRaw takes begun cores [] false Kept begun → IfOk made (RunsCrew gives state (GivesRaw takes) rests-raw matches cores in_flight from to begun now)
+        → IfOk made (RunsRaw gives state takes matches cores in_flight from to unfilled now.drain)
+    ran-raw (Ok ran) unused crew = runs-raw gives state matches cores in_flight from to begun now ran crew unused unfilled drain
+    ran-raw (Err error) unused none = tt

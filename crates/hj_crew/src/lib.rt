@@ -4,6 +4,7 @@
 mod bell;
 mod closing;
 mod deal;
+mod drains;
 mod drive;
 mod ends;
 mod levels;
@@ -13,13 +14,12 @@ mod making;
 mod pause;
 mod plan;
 mod ran;
-mod raw_run;
 mod room;
 mod run;
 mod team;
 mod turners;
 
+pub use drains::{run_raw, run_threads};
 pub use plan::{CrewPlan, CrewSize, Stores};
 pub use ran::Ran;
-pub use raw_run::run_raw;
-pub use run::run_threads;
+pub use run::run_between;

@@ -7,7 +7,6 @@ ghost use Rattle.hj_desk.specs.Caller.{Ends};
 ghost use Rattle.hj_desk.specs.Desk.{Stands};
 ghost use Rattle.hj_crew.specs.Begun.{CanStart, HasHalted, HasRun, IsManned};
 ghost use Rattle.hj_crew.specs.RunsCrew.{RunsCrew};
-ghost use Rattle.hj_crew.specs.Ran.{RunsOnThreads};
 ghost use Rattle.hj_crew.specs.Room.{IsRoomFor, IsRoomOf};
 ghost use Rattle.hj_crew.specs.Stores.{AreReadyOn};
 ghost use Rattle.hj_crew.specs.Teams.{TeamStays};
@@ -23,8 +22,8 @@ use crate::room::Room;
 use crate::team::{Signals, Team};
 use crate::turners::{Choice, Turners};
 use hj_base::{Gate, Memory, Share};
-use hj_desk::{Caller, InOrder, Outlet};
-use hj_msg::{Drain, Feed, Fin, Join, Store};
+use hj_desk::{Caller, Outlet};
+use hj_msg::{Feed, Fin, Join, Store};
 use std::alloc::Global;
 use std::sync::Wait;
 use std::sync::atomic::AtomicBool;
@@ -32,36 +31,27 @@ use std::thread;
 use std::thread::{Scope, Threads};
 use std::time::Clock;
 
-/// Runs a chain of cores between a feed and a drain, on threads. The calling thread drives the
-/// chain at its two ends, and as many threads as the plan says, no more than there are cores, turn its
-/// cores. The calling thread stands for as many of them as the plan says. Where a thread can't be
-/// started, the calling thread turns its cores too.
+/// Runs a chain of cores between a feed and an outlet, on threads, as `run_threads` does, but whatever becomes of the reports is the
+/// outlet's.
 ///
-/// - `alloc` gives the memory.
-/// - `plan` says how large the chain is, what starts the threads, and what is passed before each turn of a core.
-/// - `join` says which rows match. Each core gets a share of it.
-/// - `stores` are for the rows of each stream. The caller makes them for this join. They are empty.
-/// - `feed` gives the events, in the order of their numbers. It hasn't given one yet.
-/// - `drain` gets the pairs, one at a time, in the order of the sequential join of these events.
+/// - `alloc`, `plan`, `join`, `stores` and `feed` are those of `run_threads`.
+/// - `outlet` gets the reports, in the order in which the calling thread takes them. It wasn't given one yet.
 ///
-/// The feed and the drain come back with every answer.
+/// The feed and the outlet come back with every answer.
 ///
-/// - `Ok` has the run: its links, from left to right, and the queues of the cores' reports, whose
-///   journals tell what was put and taken at them, and how it ended. With `Done` the feed has
-///   stopped, and the drain kept all pairs of the join. With `Refused` the drain refused the last
-///   pair that it got. With `Memory` memory ran out within the run, in whichever thread. With these
-///   two the drain got the first pairs of the join, and kept all but the refused one.
-/// - `Err(Memory)`: memory ran out for what is made before the first thread starts. No thread was
-///   started, the feed gave no event, and the drain got no pair.
+/// - `Ok` has the run. The outlet gave what is due of the reports that this run took. With `Done` the feed has stopped, each core's end
+///   was reported, and nothing more is due.
+/// - `Err(Memory)`: memory ran out for what is made before the first thread starts. No thread was started, the feed gave no event, and
+///   the outlet got no report.
 ///
 /// Every thread that was started has ended when the call returns. No clause says that it returns.
-pub fn run_threads<
+pub fn run_between<
     P: Share + Send + Drop,
     J: Join<P> + Send + Drop,
     L: Store<P, J> + Send + Drop,
     R: Store<P, J> + Send + Drop,
     F: Feed<P> + Drop,
-    D: Drain<P> + Drop,
+    O: Outlet<P> + Drop,
     G: Gate + Sync,
     T: Threads + Wait + Clock + Sync,
 >(
@@ -70,28 +60,27 @@ pub fn run_threads<
     join: &J,
     stores: Stores<L, R>,
     feed: F,
-    drain: D,
-) -> (Result<Ran<P>, Memory>, F, D)
+    outlet: O,
+) -> (Result<Ran<P>, Memory>, F, O)
     requires left { AreReadyOn L.entries L.suits Left join.now plan.now.size.chain.cores stores.left.items }
     requires right { AreReadyOn R.entries R.suits Right join.now plan.now.size.chain.cores stores.right.items }
     requires fresh { IsFresh (F.state feed) }
-    ensures runs { IfOk result.0 (RunsOnThreads F.gives F.state D.takes (J.predicate join.now)
-        plan.now.size.chain.cores plan.now.size.chain.flight feed result.1 drain result.2) }
-    ensures memory { OnErr result.0 ((result.1 ≡ feed) × (result.2 ≡ drain)) }
+    ensures runs { IfOk result.0 (RunsCrew F.gives F.state O.gave O.rests (J.predicate join.now)
+        plan.now.size.chain.cores plan.now.size.chain.flight feed result.1 outlet result.2) }
+    ensures memory { OnErr result.0 ((result.1 ≡ feed) × (result.2 ≡ outlet)) }
 {
     let Ok(crew) = Crew::new(alloc, plan.size, join, stores) else {
-        return (Err(Memory), feed, drain);
+        return (Err(Memory), feed, outlet);
     };
     let Ok(room) = Room::new(alloc, plan.size.chain.cores) else {
-        return (Err(Memory), feed, drain);
+        return (Err(Memory), feed, outlet);
     };
-    let outlet = InOrder::new(alloc, drain);
     let (ran, feed, outlet) = run_and_close(plan, crew, room, feed, outlet);
-    (Ok(ran), feed, outlet.drain)
+    (Ok(ran), feed, outlet)
 }
 
 /// Lets the crew of a chain run until the run has ended, and closes it.
-pub(crate) fn run_and_close<
+fn run_and_close<
     P: Share + Send + Drop,
     J: Join<P> + Send + Drop,
     L: Store<P, J> + Send + Drop,

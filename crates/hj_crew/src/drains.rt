@@ -1,0 +1,116 @@
+//! Runs of a chain on threads that end in a drain.
+ghost use Rattle.std.specs.Prelude.{◌≡◌, IfOk, OnErr};
+ghost use Rattle.hj_base.specs.declared.numbers.Side.TheVariants.{Left, Right};
+ghost use Rattle.hj_msg.specs.Feed.{IsFresh};
+ghost use Rattle.hj_crew.specs.Ran.{RunsOnThreads};
+ghost use Rattle.hj_crew.specs.RanRaw.{RunsRaw};
+ghost use Rattle.hj_crew.specs.Stores.{AreReadyOn};
+
+use crate::plan::{CrewPlan, Stores};
+use crate::ran::Ran;
+use crate::run::run_between;
+use hj_base::{Gate, Memory, Share};
+use hj_desk::{InOrder, Raw};
+use hj_msg::{Drain, Feed, Join, Store};
+use hj_raw::RawDrain;
+use std::alloc::Global;
+use std::sync::Wait;
+use std::thread::Threads;
+use std::time::Clock;
+
+/// Runs a chain of cores between a feed and a drain, on threads. The calling thread drives the
+/// chain at its two ends, and as many threads as the plan says, no more than there are cores, turn its
+/// cores. The calling thread stands for as many of them as the plan says. Where a thread can't be
+/// started, the calling thread turns its cores too.
+///
+/// - `alloc` gives the memory.
+/// - `plan` says how large the chain is, what starts the threads, and what is passed before each turn of a core.
+/// - `join` says which rows match. Each core gets a share of it.
+/// - `stores` are for the rows of each stream. The caller makes them for this join. They are empty.
+/// - `feed` gives the events, in the order of their numbers. It hasn't given one yet.
+/// - `drain` gets the pairs, one at a time, in the order of the sequential join of these events.
+///
+/// The feed and the drain come back with every answer.
+///
+/// - `Ok` has the run: its links, from left to right, and the queues of the cores' reports, whose
+///   journals tell what was put and taken at them, and how it ended. With `Done` the feed has
+///   stopped, and the drain kept all pairs of the join. With `Refused` the drain refused the last
+///   pair that it got. With `Memory` memory ran out within the run, in whichever thread. With these
+///   two the drain got the first pairs of the join, and kept all but the refused one.
+/// - `Err(Memory)`: memory ran out for what is made before the first thread starts. No thread was
+///   started, the feed gave no event, and the drain got no pair.
+///
+/// Every thread that was started has ended when the call returns. No clause says that it returns.
+pub fn run_threads<
+    P: Share + Send + Drop,
+    J: Join<P> + Send + Drop,
+    L: Store<P, J> + Send + Drop,
+    R: Store<P, J> + Send + Drop,
+    F: Feed<P> + Drop,
+    D: Drain<P> + Drop,
+    G: Gate + Sync,
+    T: Threads + Wait + Clock + Sync,
+>(
+    alloc: Global,
+    plan: &CrewPlan<'_, T, G>,
+    join: &J,
+    stores: Stores<L, R>,
+    feed: F,
+    drain: D,
+) -> (Result<Ran<P>, Memory>, F, D)
+    requires left { AreReadyOn L.entries L.suits Left join.now plan.now.size.chain.cores stores.left.items }
+    requires right { AreReadyOn R.entries R.suits Right join.now plan.now.size.chain.cores stores.right.items }
+    requires fresh { IsFresh (F.state feed) }
+    ensures runs { IfOk result.0 (RunsOnThreads F.gives F.state D.takes (J.predicate join.now)
+        plan.now.size.chain.cores plan.now.size.chain.flight feed result.1 drain result.2) }
+    ensures memory { OnErr result.0 ((result.1 ≡ feed) × (result.2 ≡ drain)) }
+{
+    let outlet = InOrder::new(alloc, drain);
+    let (ran, feed, outlet) = run_between(alloc, plan, join, stores, feed, outlet);
+    (ran, feed, outlet.drain)
+}
+
+/// Runs a chain of cores between a feed and a drain, on threads, as `run_threads` does, but gives the pairs as they are met, in
+/// whatever order the cores' reports were taken, and between them the marks that tell what is complete.
+///
+/// - `alloc`, `plan`, `join`, `stores` and `feed` are those of `run_threads`.
+/// - `drain` gets the raw items of the reports: of each its pairs, by ascending partner, and then the mark up to which all pairs have
+///   come, if it is there and isn't what it was before.
+///
+/// The feed and the drain come back with every answer.
+///
+/// - `Ok` has the run. With `Done` the feed has stopped, and the drain kept all items, the last of which is the mark past every number.
+///   With `Refused` the drain refused the last item that it got. With `Memory` memory ran out within the run. With these two the drain
+///   got the first items, and kept all but the refused one.
+/// - `Err(Memory)`: memory ran out for what is made before the first thread starts. No thread was started, the feed gave no event, and
+///   the drain got no item.
+///
+/// Every thread that was started has ended when the call returns. No clause says that it returns.
+pub fn run_raw<
+    P: Share + Send + Drop,
+    J: Join<P> + Send + Drop,
+    L: Store<P, J> + Send + Drop,
+    R: Store<P, J> + Send + Drop,
+    F: Feed<P> + Drop,
+    D: RawDrain<P> + Drop,
+    G: Gate + Sync,
+    T: Threads + Wait + Clock + Sync,
+>(
+    alloc: Global,
+    plan: &CrewPlan<'_, T, G>,
+    join: &J,
+    stores: Stores<L, R>,
+    feed: F,
+    drain: D,
+) -> (Result<Ran<P>, Memory>, F, D)
+    requires left { AreReadyOn L.entries L.suits Left join.now plan.now.size.chain.cores stores.left.items }
+    requires right { AreReadyOn R.entries R.suits Right join.now plan.now.size.chain.cores stores.right.items }
+    requires fresh { IsFresh (F.state feed) }
+    ensures runs { IfOk result.0 (RunsRaw F.gives F.state D.takes (J.predicate join.now)
+        plan.now.size.chain.cores plan.now.size.chain.flight feed result.1 drain result.2) }
+    ensures memory { OnErr result.0 ((result.1 ≡ feed) × (result.2 ≡ drain)) }
+{
+    let outlet = Raw::new(alloc, drain);
+    let (ran, feed, outlet) = run_between(alloc, plan, join, stores, feed, outlet);
+    (ran, feed, outlet.drain)
+}
