@@ -2,13 +2,17 @@ ghost use Rattle.std.specs.Prelude.{◌≡◌, IfOk, OnErr};
 ghost use Rattle.hj_msg.specs.Feed.{IsFresh};
 ghost use Rattle.hj_eval.specs.Holds.{holds};
 ghost use Rattle.hj_crew.specs.Ran.{RunsOnThreads};
+ghost use Rattle.hj_crew.specs.RanRaw.{RunsRaw};
+ghost use Rattle.hj_crew.specs.RunsCrew.{RunsCrew};
 ghost use Rattle.hj_stores.specs.Stores.{AreReady};
 
 use hj_base::{Gate, Memory};
-use hj_crew::{CrewPlan, Ran, Stores, run_threads};
+use hj_crew::{CrewPlan, Ran, Stores, run_between};
+use hj_desk::{InOrder, Outlet, Raw};
 use hj_eval::{QueryJoin, ReadyQuery};
 use hj_msg::{Drain, Feed, Join, Store};
 use hj_query::Query;
+use hj_raw::RawDrain;
 use hj_stores::{ChainStores, PlannedStores, planned_stores};
 use hj_value::SharedRow;
 use std::alloc::Global;
@@ -16,9 +20,9 @@ use std::sync::Wait;
 use std::thread::Threads;
 use std::time::Clock;
 
-/// Runs a new chain on threads, with stores of the kind that the query's condition asks for, between a feed that gave no event
-/// yet and a drain. Both are handed back. Where memory runs out before a thread is started, neither was asked.
-pub(crate) fn run_crew<
+/// Runs a new chain on threads under a query, between a feed that gave no event yet and a drain of pairs. Both are handed back. Where
+/// memory runs out before a thread is started, neither was asked.
+pub(crate) fn run_in_order<
     T: Threads + Wait + Clock + Sync,
     F: Feed<SharedRow> + Drop,
     D: Drain<SharedRow> + Drop,
@@ -34,18 +38,63 @@ pub(crate) fn run_crew<
     ensures runs { IfOk result.0 (RunsOnThreads F.gives F.state D.takes (holds query.now) plan.now.size.chain.cores plan.now.size.chain.flight feed result.1 drain result.2) }
     ensures refused { OnErr result.0 ((result.1 ≡ feed) × (result.2 ≡ drain)) }
 {
+    let outlet = InOrder::new(alloc, drain);
+    let (ran, feed, outlet) = run_crew(alloc, query, plan, feed, outlet);
+    (ran, feed, outlet.drain)
+}
+
+/// Does the same with a drain of raw items.
+pub(crate) fn run_raw<
+    T: Threads + Wait + Clock + Sync,
+    F: Feed<SharedRow> + Drop,
+    D: RawDrain<SharedRow> + Drop,
+    G: Gate + Sync,
+>(
+    alloc: Global,
+    query: &Query,
+    plan: &CrewPlan<'_, T, G>,
+    feed: F,
+    drain: D,
+) -> (Result<Ran<SharedRow>, Memory>, F, D)
+    requires { IsFresh (F.state feed) }
+    ensures runs { IfOk result.0 (RunsRaw F.gives F.state D.takes (holds query.now) plan.now.size.chain.cores plan.now.size.chain.flight feed result.1 drain result.2) }
+    ensures refused { OnErr result.0 ((result.1 ≡ feed) × (result.2 ≡ drain)) }
+{
+    let outlet = Raw::new(alloc, drain);
+    let (ran, feed, outlet) = run_crew(alloc, query, plan, feed, outlet);
+    (ran, feed, outlet.drain)
+}
+
+/// Runs a new chain on threads, with stores of the kind that the query's condition asks for, between a feed that gave no event
+/// yet and an outlet.
+fn run_crew<
+    T: Threads + Wait + Clock + Sync,
+    F: Feed<SharedRow> + Drop,
+    O: Outlet<SharedRow> + Drop,
+    G: Gate + Sync,
+>(
+    alloc: Global,
+    query: &Query,
+    plan: &CrewPlan<'_, T, G>,
+    feed: F,
+    outlet: O,
+) -> (Result<Ran<SharedRow>, Memory>, F, O)
+    requires { IsFresh (F.state feed) }
+    ensures runs { IfOk result.0 (RunsCrew F.gives F.state O.gave O.rests (holds query.now) plan.now.size.chain.cores plan.now.size.chain.flight feed result.1 outlet result.2) }
+    ensures refused { OnErr result.0 ((result.1 ≡ feed) × (result.2 ≡ outlet)) }
+{
     let Ok(stores) = planned_stores(alloc, query, plan.size.chain.cores) else {
-        return (Err(Memory), feed, drain);
+        return (Err(Memory), feed, outlet);
     };
     let Ok(ready) = ReadyQuery::new(alloc, query) else {
-        return (Err(Memory), feed, drain);
+        return (Err(Memory), feed, outlet);
     };
     let join = QueryJoin::new(&ready);
     match stores {
-        PlannedStores::Hash(stores) => run_light(alloc, plan, &join, stores, feed, drain),
-        PlannedStores::Ordered(stores) => run_light(alloc, plan, &join, stores, feed, drain),
-        PlannedStores::Columns(stores) => run_over(alloc, plan, &join, stores, feed, drain),
-        PlannedStores::List(stores) => run_over(alloc, plan, &join, stores, feed, drain),
+        PlannedStores::Hash(stores) => run_light(alloc, plan, &join, stores, feed, outlet),
+        PlannedStores::Ordered(stores) => run_light(alloc, plan, &join, stores, feed, outlet),
+        PlannedStores::Columns(stores) => run_over(alloc, plan, &join, stores, feed, outlet),
+        PlannedStores::List(stores) => run_over(alloc, plan, &join, stores, feed, outlet),
     }
 }
 
@@ -55,7 +104,7 @@ fn run_light<
     S: Store<SharedRow, J> + Send + Drop,
     T: Threads + Wait + Clock + Sync,
     F: Feed<SharedRow> + Drop,
-    D: Drain<SharedRow> + Drop,
+    O: Outlet<SharedRow> + Drop,
     G: Gate + Sync,
 >(
     alloc: Global,
@@ -63,14 +112,14 @@ fn run_light<
     join: &J,
     stores: ChainStores<S>,
     feed: F,
-    drain: D,
-) -> (Result<Ran<SharedRow>, Memory>, F, D)
+    outlet: O,
+) -> (Result<Ran<SharedRow>, Memory>, F, O)
     requires fresh { IsFresh (F.state feed) }
     requires stores { AreReady S.entries S.suits join.now plan.now.size.chain.cores stores }
-    ensures runs { IfOk result.0 (RunsOnThreads F.gives F.state D.takes (J.predicate join.now) plan.now.size.chain.cores plan.now.size.chain.flight feed result.1 drain result.2) }
-    ensures refused { OnErr result.0 ((result.1 ≡ feed) × (result.2 ≡ drain)) }
+    ensures runs { IfOk result.0 (RunsCrew F.gives F.state O.gave O.rests (J.predicate join.now) plan.now.size.chain.cores plan.now.size.chain.flight feed result.1 outlet result.2) }
+    ensures refused { OnErr result.0 ((result.1 ≡ feed) × (result.2 ≡ outlet)) }
 {
-    run_over(alloc, &plan.for_light_cores(), join, stores, feed, drain)
+    run_over(alloc, &plan.for_light_cores(), join, stores, feed, outlet)
 }
 
 /// Runs a new chain on threads over these stores, which may be probed by the join.
@@ -79,7 +128,7 @@ fn run_over<
     S: Store<SharedRow, J> + Send + Drop,
     T: Threads + Wait + Clock + Sync,
     F: Feed<SharedRow> + Drop,
-    D: Drain<SharedRow> + Drop,
+    O: Outlet<SharedRow> + Drop,
     G: Gate + Sync,
 >(
     alloc: Global,
@@ -87,16 +136,16 @@ fn run_over<
     join: &J,
     stores: ChainStores<S>,
     feed: F,
-    drain: D,
-) -> (Result<Ran<SharedRow>, Memory>, F, D)
+    outlet: O,
+) -> (Result<Ran<SharedRow>, Memory>, F, O)
     requires fresh { IsFresh (F.state feed) }
     requires stores { AreReady S.entries S.suits join.now plan.now.size.chain.cores stores }
-    ensures runs { IfOk result.0 (RunsOnThreads F.gives F.state D.takes (J.predicate join.now) plan.now.size.chain.cores plan.now.size.chain.flight feed result.1 drain result.2) }
-    ensures refused { OnErr result.0 ((result.1 ≡ feed) × (result.2 ≡ drain)) }
+    ensures runs { IfOk result.0 (RunsCrew F.gives F.state O.gave O.rests (J.predicate join.now) plan.now.size.chain.cores plan.now.size.chain.flight feed result.1 outlet result.2) }
+    ensures refused { OnErr result.0 ((result.1 ≡ feed) × (result.2 ≡ outlet)) }
 {
     let stores = Stores {
         left: stores.left,
         right: stores.right,
     };
-    run_threads(alloc, plan, join, stores, feed, drain)
+    run_between(alloc, plan, join, stores, feed, outlet)
 }

@@ -4,7 +4,6 @@
 mod crew;
 mod lines;
 mod raw;
-mod raw_crew;
 mod run;
 mod serial;
 mod threads;

@@ -7,7 +7,7 @@ ghost use Rattle.hj_stream.specs.Joining.{CountsSinkFault};
 ghost use Rattle.hj_stream.specs.RawJoining.{JoinsRaw};
 ghost use Rattle.hj_engine.specs.ShowingRaw.{ShowsRaw};
 
-use crate::raw_crew::run_raw_crew;
+use crate::crew::run_raw;
 use hj_base::{Gate, Memory, Outside, Sink};
 use hj_crew::{CrewPlan, Ran};
 use hj_event::Merger;
@@ -118,7 +118,7 @@ fn join_feed<'f, 'd, T: Threads + Wait + Clock + Sync, O: Outside, K: Sink, G: G
     ensures faults { CountsSinkFault result.ended (K.faults drain.entry.out.now) (K.faults result.drain.out.now) }
     ensures names { (name : List ℕ) → O.under result.feed.outside.now name ≡ O.under feed.entry.outside.now name }
 {
-    let (result, feed, drain) = run_raw_crew(alloc, query, plan, feed, drain);
+    let (result, feed, drain) = run_raw(alloc, query, plan, feed, drain);
     match result {
         Ok(made) => {
             let ended = raw_outcome_of(made.fin(), &feed, &drain);

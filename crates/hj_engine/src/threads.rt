@@ -6,7 +6,7 @@ ghost use Rattle.hj_stream.specs.Ends.{IsUnasked};
 ghost use Rattle.hj_stream.specs.Joining.{CountsSinkFault, Joins, JoinsBy};
 ghost use Rattle.hj_engine.specs.Showing.{ShowsJoin, ShowsJoinBy};
 
-use crate::crew::run_crew;
+use crate::crew::run_in_order;
 use crate::lines::LineJoin;
 use hj_base::{Gate, Memory, Outside, Sink};
 use hj_crew::{CrewPlan, Ran};
@@ -150,7 +150,7 @@ fn join_feed<
     ensures faults { CountsSinkFault result.ended (K.faults drain.entry.out.now) (K.faults result.drain.out.now) }
     ensures names { (name : List ℕ) → O.under result.feed.outside.now name ≡ O.under feed.entry.outside.now name }
 {
-    let (result, feed, drain) = run_crew(alloc, query, plan, feed, drain);
+    let (result, feed, drain) = run_in_order(alloc, query, plan, feed, drain);
     match result {
         Ok(made) => {
             let ended = outcome_of(made.fin(), &feed, &drain);

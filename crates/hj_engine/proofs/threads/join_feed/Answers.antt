@@ -7,44 +7,44 @@ use Rattle.hj_engine.proofs.threads.join_feed.Goals as goal
 
 pub outcome_of-ended-requires-clause-refused : goal.outcome_of-ended-requires-clause-refused
 outcome_of-ended-requires-clause-refused g c =
-    let runs = rw c.in-Ok.is at c.run_crew-result.ensures.runs in
-    λ is. refused g.O.Outside g.K.Sink g.L.PairLine c.args.query.now c.requires.unasked.0 c.args.feed c.args.drain c.requires.unasked.1 c.run_crew-result.result.1 c.run_crew-result.result.2 c.in-Ok.made.ended (as_join c.args.query.now runs) (sym c.fin.ensures ∙ is)
+    let runs = rw c.in-Ok.is at c.run_in_order-result.ensures.runs in
+    λ is. refused g.O.Outside g.K.Sink g.L.PairLine c.args.query.now c.requires.unasked.0 c.args.feed c.args.drain c.requires.unasked.1 c.run_in_order-result.result.1 c.run_in_order-result.result.2 c.in-Ok.made.ended (as_join c.args.query.now runs) (sym c.fin.ensures ∙ is)
 
 pub returns-in-Ok-clause-same_outside : goal.returns-in-Ok-clause-same_outside
 returns-in-Ok-clause-same_outside g c =
-    let runs = rw c.in-Ok.is at c.run_crew-result.ensures.runs in
-    same_outside g.O.Outside g.K.Sink g.L.PairLine c.args.query.now c.requires.unasked.0 c.args.feed c.args.drain c.requires.unasked.1 c.run_crew-result.result.1 c.run_crew-result.result.2 c.in-Ok.made.ended (as_join c.args.query.now runs)
+    let runs = rw c.in-Ok.is at c.run_in_order-result.ensures.runs in
+    same_outside g.O.Outside g.K.Sink g.L.PairLine c.args.query.now c.requires.unasked.0 c.args.feed c.args.drain c.requires.unasked.1 c.run_in_order-result.result.1 c.run_in_order-result.result.2 c.in-Ok.made.ended (as_join c.args.query.now runs)
 
 pub returns-in-Ok-clause-same_out : goal.returns-in-Ok-clause-same_out
 returns-in-Ok-clause-same_out g c =
-    let runs = rw c.in-Ok.is at c.run_crew-result.ensures.runs in
-    same_out g.O.Outside g.K.Sink g.L.PairLine c.args.query.now c.requires.unasked.0 c.args.feed c.args.drain c.requires.unasked.1 c.run_crew-result.result.1 c.run_crew-result.result.2 c.in-Ok.made.ended (as_join c.args.query.now runs)
+    let runs = rw c.in-Ok.is at c.run_in_order-result.ensures.runs in
+    same_out g.O.Outside g.K.Sink g.L.PairLine c.args.query.now c.requires.unasked.0 c.args.feed c.args.drain c.requires.unasked.1 c.run_in_order-result.result.1 c.run_in_order-result.result.2 c.in-Ok.made.ended (as_join c.args.query.now runs)
 
 pub returns-in-Ok-clause-joins : goal.returns-in-Ok-clause-joins
 returns-in-Ok-clause-joins g c = λ limit unasked.
-    let runs = rw c.in-Ok.is at c.run_crew-result.ensures.runs in
+    let runs = rw c.in-Ok.is at c.run_in_order-result.ensures.runs in
     let so = rw c.fin.ensures at c.outcome_of-ended.ensures in
     let joined =
-    over g.O.Outside g.K.Sink g.L.PairLine c.args.query.now limit c.args.feed c.args.drain unasked c.run_crew-result.result.1 c.run_crew-result.result.2 c.in-Ok.made.ended (as_join c.args.query.now runs) c.outcome_of-ended.result so in
+    over g.O.Outside g.K.Sink g.L.PairLine c.args.query.now limit c.args.feed c.args.drain unasked c.run_in_order-result.result.1 c.run_in_order-result.result.2 c.in-Ok.made.ended (as_join c.args.query.now runs) c.outcome_of-ended.result so in
     (joined.0.joins, shows c.args.query.now runs joined.0)
 
 pub returns-in-Ok-clause-faults : goal.returns-in-Ok-clause-faults
 returns-in-Ok-clause-faults g c =
-    let runs = rw c.in-Ok.is at c.run_crew-result.ensures.runs in
+    let runs = rw c.in-Ok.is at c.run_in_order-result.ensures.runs in
     let so = rw c.fin.ensures at c.outcome_of-ended.ensures in
-    (over g.O.Outside g.K.Sink g.L.PairLine c.args.query.now c.requires.unasked.0 c.args.feed c.args.drain c.requires.unasked.1 c.run_crew-result.result.1 c.run_crew-result.result.2 c.in-Ok.made.ended (as_join c.args.query.now runs) c.outcome_of-ended.result so).1
+    (over g.O.Outside g.K.Sink g.L.PairLine c.args.query.now c.requires.unasked.0 c.args.feed c.args.drain c.requires.unasked.1 c.run_in_order-result.result.1 c.run_in_order-result.result.2 c.in-Ok.made.ended (as_join c.args.query.now runs) c.outcome_of-ended.result so).1
 
 pub returns-in-Ok-clause-names : goal.returns-in-Ok-clause-names
 returns-in-Ok-clause-names g c =
-    let runs = rw c.in-Ok.is at c.run_crew-result.ensures.runs in
-    names g.O.Outside g.K.Sink g.L.PairLine c.args.query.now c.requires.unasked.0 c.args.feed c.args.drain c.requires.unasked.1 c.run_crew-result.result.1 c.run_crew-result.result.2 c.in-Ok.made.ended (as_join c.args.query.now runs)
+    let runs = rw c.in-Ok.is at c.run_in_order-result.ensures.runs in
+    names g.O.Outside g.K.Sink g.L.PairLine c.args.query.now c.requires.unasked.0 c.args.feed c.args.drain c.requires.unasked.1 c.run_in_order-result.result.1 c.run_in_order-result.result.2 c.in-Ok.made.ended (as_join c.args.query.now runs)
 
 pub returns-in-Err-clause-joins : goal.returns-in-Err-clause-joins
 returns-in-Err-clause-joins g c = λ limit unasked.
-    let kept = rw c.in-Err.is at c.run_crew-result.ensures.refused in
-    (joins_nothing g.O.Outside g.K.Sink g.L.PairLine c.args.query.now limit c.args.feed c.args.drain unasked c.run_crew-result.result.1 c.run_crew-result.result.2 kept.0 kept.1, tt)
+    let kept = rw c.in-Err.is at c.run_in_order-result.ensures.refused in
+    (joins_nothing g.O.Outside g.K.Sink g.L.PairLine c.args.query.now limit c.args.feed c.args.drain unasked c.run_in_order-result.result.1 c.run_in_order-result.result.2 kept.0 kept.1, tt)
 
 pub returns-in-Err-clause-untouched : goal.returns-in-Err-clause-untouched
 returns-in-Err-clause-untouched g c =
-    let kept = rw c.in-Err.is at c.run_crew-result.ensures.refused in
+    let kept = rw c.in-Err.is at c.run_in_order-result.ensures.refused in
     (ap (λ (f : EventFeed g.row.O.Denot g.O.Outside). g.O.Outside.state f.outside.now) kept.0, ap (λ (d : LineDrain g.row.K.Denot g.row.L.Denot). g.K.Sink.told d.out.now) kept.1)
