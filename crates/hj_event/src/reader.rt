@@ -185,17 +185,6 @@ impl Reader {
         }
     }
 
-    /// Goes on to the end of the next piece in the bytes that were read.
-    #[inline(always)]
-    pub(crate) fn advance(&mut self) -> Result<Found, Stop>
-        ensures { Advances result self.old self.new }
-    {
-        match self.take_line()? {
-            Some(row) => Ok(Found::Row(row)),
-            None => self.cut(),
-        }
-    }
-
     /// Takes the row of the next line, if that is in the form in which most are, and not too late: while its end is looked for,
     /// its fields are read. None changes nothing that is seen.
     #[inline(always)]

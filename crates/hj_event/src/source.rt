@@ -237,7 +237,27 @@ impl Source {
         if is_known(&self.next, &self.ahead) {
             return Ok(false);
         }
-        match self.reader.advance() {
+        let Some(row) = self.reader.take_line()? else {
+            return self.read_other();
+        };
+        self.waiting.put(row)?;
+        self.next = take_sure(&self.reader, &mut self.waiting);
+        Ok(false)
+    }
+
+    /// Reads the row of the next piece as `read_row` does, whatever form it is in.
+    // Called, so that what is mostly done is short enough to be compiled into the loop over rows.
+    #[inline(never)]
+    fn read_other(&mut self) -> Result<bool, Memory>
+        requires late { self.old.reading.slack ≢ 0 }
+        requires going { self.old.stop ≡ None }
+        ensures goes_on { GoesOn (found_by result) self.old self.new }
+        ensures slack { self.new.reading.slack ≡ self.old.reading.slack }
+    {
+        if is_known(&self.next, &self.ahead) {
+            return Ok(false);
+        }
+        match self.reader.cut() {
             Ok(Found::Row(row)) => {
                 self.waiting.put(row)?;
                 self.next = take_sure(&self.reader, &mut self.waiting);
