@@ -5,10 +5,12 @@ ghost use Rattle.hj_msg.specs.Feed.{FeedState};
 ghost use Rattle.hj_chain_samples.specs.TwoRows.{all_match, other_side, rows_given};
 ghost use Rattle.hj_chain.specs.Steps.{GoesWith};
 
+use crate::last_pair::{numbers, room_for};
+use crate::lines::{halves, shows};
 use crate::rows::{Cross, Row, stores};
 use hj_base::{CoreNo, EventNo, Gate, Share, Side};
 use hj_chain::{Actor, Chain, Chooser, Stepped};
-use hj_msg::{Drain, Drained, Event, Feed, Fin, Given, Join, Pair, Store};
+use hj_msg::{Event, Feed, Fin, Given, Join, Store};
 use hj_rows::ListStore;
 use std::alloc::Global;
 use std::cell::Cell;
@@ -124,7 +126,23 @@ fn actor(rt: &impl Abort, text: &str) -> Actor {
     }
 }
 
-/// Makes the steps of a table. A line is an actor, and the answer of its step.
+/// Makes the step of a line, which is an actor, and the answer of its step.
+fn step<
+    P: Share + Drop,
+    J: Join<P> + Drop,
+    L: Store<P, J> + Drop,
+    R: Store<P, J> + Drop,
+    F: Feed<P>,
+>(rt: &impl Abort, alloc: Global, chain: &mut Chain<P, J, L, R>, feed: &mut F, line: &str)
+    requires { GoesWith J.predicate chain.old (F.state feed.old) }
+    ensures { GoesWith J.predicate chain.new (F.state feed.new) }
+{
+    let (name, want) = halves(rt, line);
+    let found = chain.step(actor(rt, name), feed);
+    shows(rt, alloc, line, &found, want);
+}
+
+/// Makes the steps of a table.
 pub(crate) fn step_all<
     P: Share + Drop,
     J: Join<P> + Drop,
@@ -135,11 +153,8 @@ pub(crate) fn step_all<
     requires { GoesWith J.predicate chain.old (F.state feed.old) }
     ensures { GoesWith J.predicate chain.new (F.state feed.new) }
 {
-    for step in steps.lines() {
-        let (name, want) = step.split_once(": ").expect(rt, "an answer");
-        let found = chain.step(actor(rt, name), feed);
-        let found = format!(in alloc; "{found:?}").expect(rt, "memory");
-        assert_eq!(rt; found.as_str(), want, "at {name}");
+    for line in steps.lines() {
+        step(rt, alloc, chain, feed, line);
     }
 }
 
@@ -168,13 +183,8 @@ fn run_rounds(
     ensures { GoesWith all_match chain.new (rows_given feed.new.first feed.new.given feed.new.stopped) }
 {
     for _round in 0..rounds {
-        assert_eq!(rt; chain.run(schedule, feed), Stepped::Did);
+        assert!(rt; chain.run(schedule, feed) == Stepped::Did);
     }
-}
-
-/// Returns the numbers of the left row and of the right one.
-fn numbers(pair: Option<Pair<Row>>) -> Option<(u64, u64)> {
-    pair.map(|pair| (pair.left_no.0, pair.right_no.0))
 }
 
 /// Returns the numbers of the pair that is given next.
@@ -191,7 +201,7 @@ fn gives_none(rt: &impl Abort, chain: &mut RowChain)
     ensures { (feed : FeedState) → GoesWith all_match chain.old feed → GoesWith all_match chain.new feed }
 {
     assert!(rt; !chain.done());
-    assert_eq!(rt; next_pair(chain), None);
+    assert!(rt; next_pair(chain).is_none());
 }
 
 /// Holds a chain to be done, with this pair alone to be given.
@@ -199,8 +209,8 @@ fn gives_last(rt: &impl Abort, chain: &mut RowChain, pair: (u64, u64))
     requires { (feed : FeedState) × GoesWith all_match chain.old feed }
 {
     assert!(rt; chain.done());
-    assert_eq!(rt; next_pair(chain), Some(pair));
-    assert_eq!(rt; next_pair(chain), None);
+    assert!(rt; next_pair(chain) == Some(pair));
+    assert!(rt; next_pair(chain).is_none());
 }
 
 /// After six steps AckS 1 and EndS 1 are on their way to the right, EndR 0 and S 1 to the left.
@@ -239,14 +249,13 @@ const REST: [Actor; 17] = [
     Actor::Collect(CoreNo(1)),
 ];
 
-#[test]
-fn rows_meet_in_flight(rt: HostRuntime) {
-    let mut feed = from(Side::Left);
-    let mut chain = chain_of(&rt, rt.alloc(), 2, 2, &mut feed);
-    step_all(&rt, rt.alloc(), &mut chain, &mut feed, IN_FLIGHT);
-    gives_none(&rt, &mut chain);
-    run_rounds(&rt, &mut chain, &mut feed, &REST, 1);
-    gives_last(&rt, &mut chain, (0, 1));
+fn meet_in_flight(rt: &impl Abort, alloc: Global, chain: &mut RowChain, feed: &mut TwoRows)
+    requires { GoesWith all_match chain.old (rows_given feed.old.first feed.old.given feed.old.stopped) }
+{
+    step_all(rt, alloc, chain, feed, IN_FLIGHT);
+    gives_none(rt, chain);
+    run_rounds(rt, chain, feed, &REST, 1);
+    gives_last(rt, chain, (0, 1));
 }
 
 const AT_REST: &str = "\
@@ -264,16 +273,15 @@ collect 1: Did
 collect 1: Did
 collect 1: NotEnabled(Empty)";
 
-#[test]
-fn rows_meet_at_rest(rt: HostRuntime) {
-    let mut feed = from(Side::Right);
-    let mut chain = chain_of(&rt, rt.alloc(), 2, 2, &mut feed);
-    step_all(&rt, rt.alloc(), &mut chain, &mut feed, AT_REST);
+fn meet_at_rest(rt: &impl Abort, alloc: Global, chain: &mut RowChain, feed: &mut TwoRows)
+    requires { GoesWith all_match chain.old (rows_given feed.old.first feed.old.given feed.old.stopped) }
+{
+    step_all(rt, alloc, chain, feed, AT_REST);
     // The pair was met, and is beyond the punctuation: no core reported a right row from 1 on.
-    gives_none(&rt, &mut chain);
+    gives_none(rt, chain);
     // Two rows can't take more steps than there are in so many rounds.
-    run_rounds(&rt, &mut chain, &mut feed, &EACH, 36);
-    gives_last(&rt, &mut chain, (1, 0));
+    run_rounds(rt, chain, feed, &EACH, 36);
+    gives_last(rt, chain, (1, 0));
 }
 
 const CAUSES: &str = "\
@@ -301,13 +309,6 @@ port_right: Did
 admit: Did
 admit: NotEnabled(Closed)";
 
-#[test]
-fn causes_in_their_order(rt: HostRuntime) {
-    let mut feed = from(Side::Left);
-    let mut chain = chain_of(&rt, rt.alloc(), 2, 1, &mut feed);
-    step_all(&rt, rt.alloc(), &mut chain, &mut feed, CAUSES);
-}
-
 const LATE_EVENT: &str = "\
 admit: Did
 admit: Did
@@ -316,53 +317,6 @@ admit: Did
 right 1: Did
 admit: Did
 admit: NotEnabled(Drains(2))";
-
-#[test]
-fn a_late_event_is_asked_for(rt: HostRuntime) {
-    let mut feed = late_from(Side::Left);
-    let mut chain = chain_of(&rt, rt.alloc(), 2, 2, &mut feed);
-    step_all(&rt, rt.alloc(), &mut chain, &mut feed, LATE_EVENT);
-}
-
-/// Keeps the numbers of as many pairs as there is room for: of the last one, with how many there were.
-#[derive(Drop)]
-pub(crate) struct LastPair {
-    last: Option<(u64, u64)>,
-    kept: u64,
-    room: u64,
-    refused: u64,
-}
-
-impl Drain<Row> for LastPair {
-    ghost use Rattle.hj_msg.specs.Drain.{CountsRefused};
-
-    ghost takes = { λ old pair answer new. Unit {0} };
-
-    ghost refusals = { λ d. d.refused };
-
-    fn pair(&mut self, pair: Pair<Row>) -> Drained
-        ensures takes { Unit {0} }
-        ensures refusals { CountsRefused result self.old.refused self.new.refused }
-    {
-        if self.kept >= self.room {
-            self.refused = self.refused.saturating_add(1);
-            return Drained::Refused;
-        }
-        self.last = numbers(Some(pair));
-        self.kept += 1;
-        Drained::Kept
-    }
-}
-
-/// Makes a list of no pairs yet, with room for this many.
-pub(crate) fn room_for(room: u64) -> LastPair {
-    LastPair {
-        last: None,
-        kept: 0,
-        room,
-        refused: 0,
-    }
-}
 
 /// Counts the steps of each of two cores, and keeps how many steps there were before the first of them.
 #[derive(Drop)]
@@ -392,28 +346,115 @@ fn no_steps() -> Counts {
 
 /// Shows that the rows meet once, whatever the rule: one takes 2 + 1 steps of the cores where it is a left one, and 1
 /// + 3 where it is a right one, and the closes 2 + 2.
-fn runs_serially(rt: &impl Abort, alloc: Global, rows: TwoRows, chooser: Chooser, pair: (u64, u64))
-    requires { rows.given ≡ 0 }
+fn runs_serially(
+    rt: &impl Abort,
+    chain: &mut RowChain,
+    feed: &mut TwoRows,
+    chooser: Chooser,
+    pair: (u64, u64),
+)
+    requires { GoesWith all_match chain.old (rows_given feed.old.first feed.old.given feed.old.stopped) }
 {
-    let mut feed = rows;
-    let mut chain = chain_of(rt, alloc, 2, 2, &mut feed);
     let mut drain = room_for(1);
     let gate = no_steps();
-    let fin = chain.run_serial(chooser, &mut feed, &mut drain, &gate);
-    assert_eq!(rt; fin, Fin::Done);
-    assert_eq!(rt; (drain.last, drain.kept), (Some(pair), 1));
-    assert_eq!(rt; (gate.left.get(), gate.right.get()), (5, 6));
+    let fin = chain.run_serial(chooser, feed, &mut drain, &gate);
+    assert!(rt; fin == Fin::Done);
+    assert!(rt; drain.last == Some(pair));
+    assert!(rt; drain.kept == 1);
+    assert!(rt; gate.left.get() == 5);
+    assert!(rt; gate.right.get() == 6);
     assert!(rt; chain.done());
+}
+
+/// Shows that a run in turn puts the first row before any step of a core.
+fn puts_first(rt: &impl Abort, chain: &mut RowChain, feed: &mut TwoRows)
+    requires { GoesWith all_match chain.old (rows_given feed.old.first feed.old.given feed.old.stopped) }
+{
+    let mut drain = room_for(1);
+    let gate = no_steps();
+    chain.run_serial(Chooser::InTurn, feed, &mut drain, &gate);
+    assert!(rt; gate.before.get() == Some(1));
+}
+
+/// Runs the chain with no room for the pair.
+fn is_refused(rt: &impl Abort, chain: &mut RowChain, feed: &mut TwoRows)
+    requires { GoesWith all_match chain.old (rows_given feed.old.first feed.old.given feed.old.stopped) }
+{
+    let mut drain = room_for(0);
+    let fin = chain.run_serial(Chooser::InTurn, feed, &mut drain, &no_steps());
+    assert!(rt; fin == Fin::Refused);
+    assert!(rt; drain.refused == 1);
+}
+
+/// What is looked at of a chain.
+#[derive(Clone, Copy)]
+enum Look {
+    MeetInFlight,
+    MeetAtRest,
+    Steps(&'static str),
+    RunsSerially(Chooser, (u64, u64)),
+    PutsFirst,
+    IsRefused,
+}
+
+fn looks(rt: &impl Abort, alloc: Global, chain: &mut RowChain, feed: &mut TwoRows, look: Look)
+    requires { GoesWith all_match chain.old (rows_given feed.old.first feed.old.given feed.old.stopped) }
+{
+    match look {
+        Look::MeetInFlight => meet_in_flight(rt, alloc, chain, feed),
+        Look::MeetAtRest => meet_at_rest(rt, alloc, chain, feed),
+        Look::Steps(steps) => step_all(rt, alloc, chain, feed, steps),
+        Look::RunsSerially(chooser, pair) => runs_serially(rt, chain, feed, chooser, pair),
+        Look::PutsFirst => puts_first(rt, chain, feed),
+        Look::IsRefused => is_refused(rt, chain, feed),
+    }
+}
+
+/// Makes a chain of two cores before two rows, and looks at it.
+fn run(rt: &impl Abort, alloc: Global, rows: TwoRows, flight: u16, look: Look)
+    requires flight { (1 ≤ flight) × (flight ≤ 256) }
+    requires fresh { rows.given ≡ 0 }
+{
+    let mut feed = rows;
+    let mut chain = chain_of(rt, alloc, 2, flight, &mut feed);
+    looks(rt, alloc, &mut chain, &mut feed, look);
+}
+
+#[test]
+fn rows_meet_in_flight(rt: HostRuntime) {
+    run(&rt, rt.alloc(), from(Side::Left), 2, Look::MeetInFlight);
+}
+
+#[test]
+fn rows_meet_at_rest(rt: HostRuntime) {
+    run(&rt, rt.alloc(), from(Side::Right), 2, Look::MeetAtRest);
+}
+
+#[test]
+fn causes_in_their_order(rt: HostRuntime) {
+    run(&rt, rt.alloc(), from(Side::Left), 1, Look::Steps(CAUSES));
+}
+
+#[test]
+fn a_late_event_is_asked_for(rt: HostRuntime) {
+    let rows = late_from(Side::Left);
+    run(&rt, rt.alloc(), rows, 2, Look::Steps(LATE_EVENT));
+}
+
+fn serial(rt: &impl Abort, alloc: Global, rows: TwoRows, chooser: Chooser, pair: (u64, u64))
+    requires { rows.given ≡ 0 }
+{
+    run(rt, alloc, rows, 2, Look::RunsSerially(chooser, pair));
 }
 
 #[test]
 fn serial_runs(rt: HostRuntime) {
     let alloc = rt.alloc();
-    runs_serially(&rt, alloc, from(Side::Left), Chooser::InTurn, (0, 1));
-    runs_serially(&rt, alloc, from(Side::Right), Chooser::InTurn, (1, 0));
-    runs_serially(&rt, alloc, late_from(Side::Right), Chooser::InTurn, (1, 0));
-    runs_serially(&rt, alloc, from(Side::Left), Chooser::Seeded(1), (0, 1));
-    runs_serially(
+    serial(&rt, alloc, from(Side::Left), Chooser::InTurn, (0, 1));
+    serial(&rt, alloc, from(Side::Right), Chooser::InTurn, (1, 0));
+    serial(&rt, alloc, late_from(Side::Right), Chooser::InTurn, (1, 0));
+    serial(&rt, alloc, from(Side::Left), Chooser::Seeded(1), (0, 1));
+    serial(
         &rt,
         alloc,
         late_from(Side::Left),
@@ -424,20 +465,10 @@ fn serial_runs(rt: HostRuntime) {
 
 #[test]
 fn in_turn_from_the_put_on(rt: HostRuntime) {
-    let mut feed = from(Side::Left);
-    let mut chain = chain_of(&rt, rt.alloc(), 2, 2, &mut feed);
-    let mut drain = room_for(1);
-    let gate = no_steps();
-    chain.run_serial(Chooser::InTurn, &mut feed, &mut drain, &gate);
-    assert_eq!(rt; gate.before.get(), Some(1));
+    run(&rt, rt.alloc(), from(Side::Left), 2, Look::PutsFirst);
 }
 
 #[test]
 fn a_refused_pair_ends_the_run(rt: HostRuntime) {
-    let mut feed = from(Side::Left);
-    let mut chain = chain_of(&rt, rt.alloc(), 2, 2, &mut feed);
-    let mut drain = room_for(0);
-    let fin = chain.run_serial(Chooser::InTurn, &mut feed, &mut drain, &no_steps());
-    assert_eq!(rt; fin, Fin::Refused);
-    assert_eq!(rt; drain.refused, 1);
+    run(&rt, rt.alloc(), from(Side::Left), 2, Look::IsRefused);
 }

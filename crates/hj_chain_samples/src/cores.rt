@@ -1,5 +1,6 @@
 ghost use Rattle.std.specs.Prelude.{◌<◌};
 
+use crate::lines::{halves, same};
 use crate::rows::{Cross, Row, message, sent};
 use hj_base::{CoreNo, Memory};
 use hj_core::Core;
@@ -35,15 +36,20 @@ fn handled(alloc: Global, core: &mut RowCore, msg: Msg<Row>) -> Result<String, M
     Ok(text)
 }
 
+/// Handles the message of a line, and looks what is sent and reported for it.
+fn handles(rt: &impl Abort, alloc: Global, core: &mut RowCore, line: &str) {
+    let (msg, want) = halves(rt, line);
+    let found = handled(alloc, core, message(rt, msg)).expect(rt, "memory");
+    same(rt, line, &found, want);
+}
+
 /// Makes a core of two that handled messages: a line is a message, and what it sent and reported for it.
 fn run(rt: &impl Abort, alloc: Global, place: u16, steps: &str) -> RowCore
     requires { place < 2 }
 {
     let mut core = core_at(place, alloc);
-    for step in steps.lines() {
-        let (msg, want) = step.split_once(": ").expect(rt, "an answer");
-        let found = handled(alloc, &mut core, message(rt, msg)).expect(rt, "memory");
-        assert_eq!(rt; found.as_str(), want, "at {msg}");
+    for line in steps.lines() {
+        handles(rt, alloc, &mut core, line);
     }
     core
 }
@@ -100,7 +106,7 @@ fn right_row_comes_first(rt: HostRuntime) {
     run(&rt, rt.alloc(), 1, RIGHT_FIRST_AT_1);
     let core = run(&rt, rt.alloc(), 0, RIGHT_FIRST_AT_0);
     assert!(rt; core.ended());
-    assert_eq!(rt; core.place(), CoreNo(0));
+    assert!(rt; core.place() == CoreNo(0));
 }
 
 /// Shows that a core goes to another thread where its rows, its join and its stores do.

@@ -2,9 +2,12 @@
 
 ghost use Rattle.std.specs.Prelude.{◌≡◌};
 
+use crate::lines::shows;
 use hj_base::{EventNo, Side};
 use hj_driver::{Admitted, Closing, Driver, Why};
 use hj_msg::{Event, Msg};
+use std::alloc::Global;
+use std::process::Abort;
 use std::test::Fail;
 
 fn arrival(no: u64, side: Side) -> Event<u64>
@@ -34,72 +37,82 @@ fn left_row() -> Msg<u64> {
     }
 }
 
-/// Returns whether the first row is put.
-fn is_put(answer: &Admitted<u64>) -> bool {
-    matches!(
-        answer,
-        Admitted::Send(
-            Side::Left,
-            Msg::R {
-                no: EventNo(0),
-                row: 7
-            }
-        )
-    )
+/// Holds an answer for an event, as it is printed, to what is wanted.
+fn answers(rt: &impl Abort, alloc: Global, answer: &Admitted<u64>, want: &str) {
+    shows(rt, alloc, "an event", answer, want);
 }
 
-/// Returns whether the right row waits for the one event under way.
-fn is_held(answer: &Admitted<u64>) -> bool {
-    matches!(
-        answer,
-        Admitted::Wait(
-            Why::Flight(1),
-            Event::Arrive {
-                no: EventNo(1),
-                side: Side::Right,
-                row: 7
-            }
-        )
-    )
+/// Holds the number of events under way to what is wanted.
+fn has(rt: &impl Abort, driver: &Driver, outstanding: u32) {
+    assert!(rt; driver.outstanding() == outstanding);
 }
+
+/// Holds an event to wait for this cause, or for none.
+fn waits(rt: &impl Abort, driver: &Driver, event: &Event<u64>, cause: Option<Why>) {
+    assert!(rt; driver.waits(event) == cause);
+}
+
+/// Holds an answer for a close to what is wanted.
+fn closes(rt: &impl Abort, answer: Closing, want: Closing) {
+    assert!(rt; answer == want);
+}
+
+const PUT: &str = "Send(Left, R { no: EventNo(0), row: 7 })";
+
+/// The right row waits for the one event under way.
+const HELD: &str = "Wait(Flight(1), Arrive { no: EventNo(1), side: Right, row: 7 })";
+
+const LATE: &str = "Wait(Closed, Arrive { no: EventNo(1), side: Right, row: 7 })";
 
 #[test]
 fn one_event_at_a_time(rt: HostRuntime) -> Result<(), Fail> {
     let mut driver = Driver::new(rt.alloc(), 2, 1)?;
     let first = driver.admit(arrival(0, Side::Left));
-    assert!(rt; is_put(&first));
+    answers(&rt, rt.alloc(), &first, PUT);
     let second = driver.admit(arrival(1, Side::Right));
-    assert!(rt; is_held(&second));
+    answers(&rt, rt.alloc(), &second, HELD);
     driver.took(Side::Right, &left_row());
-    assert_eq!(rt; driver.outstanding(), 1);
+    has(&rt, &driver, 1);
     driver.took::<u64>(Side::Left, &Msg::EndR(EventNo(0)));
-    assert_eq!(rt; driver.outstanding(), 0);
-    assert_eq!(rt; driver.close(), Closing::Send);
-    assert_eq!(rt; driver.close(), Closing::Already);
+    has(&rt, &driver, 0);
+    closes(&rt, driver.close(), Closing::Send);
+    closes(&rt, driver.close(), Closing::Already);
     let late = driver.admit(arrival(1, Side::Right));
-    assert!(rt; matches!(late, Admitted::Wait(Why::Closed, _)));
+    answers(&rt, rt.alloc(), &late, LATE);
+    finishes(&rt, &mut driver);
+    Ok(())
+}
+
+/// Takes both closes.
+fn finishes(rt: &impl Abort, driver: &mut Driver) {
     driver.took::<u64>(Side::Right, &Msg::CloseL);
     assert!(rt; !driver.finished());
     driver.took::<u64>(Side::Left, &Msg::CloseR);
     assert!(rt; driver.finished());
-    Ok(())
 }
+
+const EARLY: &str =
+    "Wait(NotMarked(EventNo(0)), Expire { no: EventNo(1), side: Left, of: EventNo(0) })";
+
+const GONE: &str = "Send(Right, ExpR(EventNo(0)))";
 
 #[test]
 fn an_expiry_waits_for_its_row(rt: HostRuntime) -> Result<(), Fail> {
     let mut driver = Driver::new(rt.alloc(), 2, 2)?;
     let first = driver.admit(arrival(0, Side::Left));
-    assert!(rt; is_put(&first));
-    assert_eq!(rt;
-        driver.waits(&expiry_of_0()),
-        Some(Why::NotMarked(EventNo(0)))
+    answers(&rt, rt.alloc(), &first, PUT);
+    waits(
+        &rt,
+        &driver,
+        &expiry_of_0(),
+        Some(Why::NotMarked(EventNo(0))),
     );
     let early = driver.admit(expiry_of_0());
-    assert!(rt; matches!(early, Admitted::Wait(Why::NotMarked(EventNo(0)), _)));
+    answers(&rt, rt.alloc(), &early, EARLY);
     driver.took(Side::Right, &left_row());
-    assert_eq!(rt; driver.waits(&expiry_of_0()), None);
+    waits(&rt, &driver, &expiry_of_0(), None);
     let then = driver.admit(expiry_of_0());
-    assert!(rt; matches!(then, Admitted::Send(Side::Right, Msg::ExpR(EventNo(0)))));
-    assert_eq!(rt; driver.close(), Closing::Wait(2));
+    answers(&rt, rt.alloc(), &then, GONE);
+    closes(&rt, driver.close(), Closing::Wait(2));
     Ok(())
 }

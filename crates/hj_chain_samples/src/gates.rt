@@ -4,7 +4,8 @@ ghost use Rattle.std.specs.Prelude.{◌≤◌};
 ghost use Rattle.hj_chain_samples.specs.TwoRows.{all_match, rows_given};
 ghost use Rattle.hj_chain.specs.Steps.{GoesWith};
 
-use crate::chains::{RowChain, TwoRows, chain_of, from, room_for};
+use crate::chains::{RowChain, TwoRows, chain_of, from};
+use crate::last_pair::room_for;
 use hj_base::{CoreNo, Gate, Lcg, Side};
 use hj_chain::{Actor, Chooser, Stepped};
 use hj_msg::Fin;
@@ -44,7 +45,7 @@ fn note_steps(
             return;
         };
         note(rt, steps, actor, made);
-        assert_eq!(rt; chain.step(actor, feed), Stepped::Did);
+        assert!(rt; chain.step(actor, feed) == Stepped::Did);
     }
     panic!(rt; "no end after 100 steps");
 }
@@ -92,8 +93,8 @@ fn runs_so(rt: &impl Abort, alloc: Global, seed: u64, flight: u16, steps: &[(Cor
     let mut chain = chain_of(rt, alloc, 3, flight, &mut feed);
     let mut drain = room_for(1);
     let fin = chain.run_serial(Chooser::Seeded(seed), &mut feed, &mut drain, &gate);
-    assert_eq!(rt; fin, Fin::Done);
-    assert_eq!(rt; gate.passes.get(), steps.len());
+    assert!(rt; fin == Fin::Done);
+    assert!(rt; gate.passes.get() == steps.len());
     assert!(rt; !gate.astray.get());
 }
 

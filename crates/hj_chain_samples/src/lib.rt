@@ -13,6 +13,10 @@ mod drivers;
 #[cfg(test)]
 mod gates;
 #[cfg(test)]
+mod last_pair;
+#[cfg(test)]
+mod lines;
+#[cfg(test)]
 mod links;
 #[cfg(test)]
 mod list_stores;
@@ -28,6 +32,8 @@ mod released;
 mod rows;
 #[cfg(test)]
 mod silence;
+#[cfg(test)]
+mod sizes;
 #[cfg(test)]
 mod stores;
 #[cfg(test)]

@@ -2,13 +2,13 @@
 
 ghost use Rattle.std.specs.Prelude.{◌≡◌, ◌/◌, nat_eq};
 
+use crate::lines::{halves, number, numbers_of, same, shows, words};
 use crate::rows::{Row, sent};
 use hj_base::{EventNo, Memory, Share, Side};
 use hj_msg::{Join, Store};
 use hj_rows::ListStore;
 use std::alloc::Global;
 use std::process::Abort;
-use std::test::Fail;
 
 /// Joins a left row with each right row of which it is a part in ten.
 #[derive(Drop)]
@@ -28,16 +28,10 @@ impl Join<Row> for Tenth {
     }
 }
 
-fn insert<S: Store<Row, Tenth>>(
-    store: &mut S,
-    no: u64,
-    row: u64,
-    settled: bool,
-) -> Result<(), Memory> {
+fn insert<S: Store<Row, Tenth>>(rt: &impl Abort, store: &mut S, no: u64, row: u64, settled: bool) {
     let row = Row(row);
-    store.reserve(EventNo(no), &row)?;
+    store.reserve(EventNo(no), &row).expect(rt, "memory");
     store.insert(EventNo(no), row, settled);
-    Ok(())
 }
 
 fn settle<S: Store<Row, Tenth>>(store: &mut S, no: u64) -> bool {
@@ -50,51 +44,35 @@ fn remove<S: Store<Row, Tenth>>(store: &mut S, no: u64) -> bool {
 
 /// Returns the numbers of the rows of a side that a row finds.
 fn found<S: Store<Row, Tenth>>(
+    rt: &impl Abort,
     alloc: Global,
     store: &S,
     side: Side,
     row: u64,
-) -> Result<Vec<u64>, Memory>
+) -> String
     requires { (join : _) → S.suits store.now side join }
 {
-    let partners = store.probe(side, &Row(row), &Tenth)?;
-    let mut numbers = Vec::new(alloc);
-    for at in 0..partners.len() {
-        if let Some(partner) = partners.get(at) {
-            numbers.push(partner.no.0)?;
-        }
-    }
-    Ok(numbers)
+    let partners = store.probe(side, &Row(row), &Tenth).expect(rt, "memory");
+    numbers_of(rt, alloc, &partners)
 }
 
-fn number(rt: &impl Abort, text: &str) -> u64 {
-    text.parse::<u64>().expect(rt, "a number")
-}
-
-fn answers(rt: &impl Abort, step: &str, answer: bool, want: &str) {
-    let want = want.parse::<bool>().expect(rt, "an answer");
-    assert_eq!(rt; answer, want, "{step}");
-}
-
-/// Shows that a row finds right rows with these numbers.
-fn finds(rt: &impl Abort, alloc: Global, store: &ListStore<Row>, row: u64, want: &str) {
-    let numbers = found(alloc, store, Side::Right, row).expect(rt, "memory");
-    let numbers = format!(in alloc; "{numbers:?}").expect(rt, "memory");
-    assert_eq!(rt; numbers.as_str(), want, "find {row}");
+/// Shows that a row finds rows of a side with these numbers.
+fn finds(rt: &impl Abort, alloc: Global, store: &ListStore<Row>, side: Side, row: u64, want: &str) {
+    same(rt, "a row", &found(rt, alloc, store, side, row), want);
 }
 
 /// Makes a step: a row comes under a number, settled or not; or a number is settled or removed, where the store has it; or a row
 /// finds right rows.
 fn run_step(rt: &impl Abort, alloc: Global, store: &mut ListStore<Row>, step: &str) {
-    let (call, want) = step.split_once(": ").expect(rt, "an answer");
-    let (name, what) = call.split_once(' ').expect(rt, "a call");
+    let (call, want) = halves(rt, step);
+    let (name, what) = words(rt, call);
     let what = number(rt, what);
     match name {
-        "settled" => insert(store, what, number(rt, want), true).expect(rt, "memory"),
-        "unsettled" => insert(store, what, number(rt, want), false).expect(rt, "memory"),
-        "settle" => answers(rt, step, settle(store, what), want),
-        "remove" => answers(rt, step, remove(store, what), want),
-        "find" => finds(rt, alloc, store, what, want),
+        "settled" => insert(rt, store, what, number(rt, want), true),
+        "unsettled" => insert(rt, store, what, number(rt, want), false),
+        "settle" => shows(rt, alloc, step, &settle(store, what), want),
+        "remove" => shows(rt, alloc, step, &remove(store, what), want),
+        "find" => finds(rt, alloc, store, Side::Right, what, want),
         _ => panic!(rt; "no step: {step}"),
     }
 }
@@ -128,29 +106,30 @@ fn rows_settle_and_are_replaced_in_place(rt: HostRuntime) {
     }
 }
 
-#[test]
-fn rows_stay_through_sweeps(rt: HostRuntime) -> Result<(), Fail> {
-    let mut store = ListStore::new(rt.alloc());
+/// Puts forty rows in, each being its own number.
+fn insert_forty(rt: &impl Abort, store: &mut ListStore<Row>) {
     for no in 0..40 {
-        insert(&mut store, no, no, true)?;
+        insert(rt, store, no, no, true);
     }
+}
+
+/// Removes all of forty rows but three.
+fn remove_most(rt: &impl Abort, store: &mut ListStore<Row>) {
     for no in 0..40 {
         let kept = no == 12 || no == 17 || no == 33;
-        assert!(rt; kept || remove(&mut store, no));
+        assert!(rt; kept || remove(store, no));
     }
-    assert_eq!(rt;
-        found(rt.alloc(), &store, Side::Right, 1)?.as_slice(),
-        [12, 17].as_slice()
-    );
-    assert_eq!(rt;
-        found(rt.alloc(), &store, Side::Right, 3)?.as_slice(),
-        [33].as_slice()
-    );
-    assert_eq!(rt;
-        found(rt.alloc(), &store, Side::Left, 129)?.as_slice(),
-        [12].as_slice()
-    );
-    Ok(())
+}
+
+#[test]
+fn rows_stay_through_sweeps(rt: HostRuntime) {
+    let alloc = rt.alloc();
+    let mut store = ListStore::new(alloc);
+    insert_forty(&rt, &mut store);
+    remove_most(&rt, &mut store);
+    finds(&rt, alloc, &store, Side::Right, 1, "[12, 17]");
+    finds(&rt, alloc, &store, Side::Right, 3, "[33]");
+    finds(&rt, alloc, &store, Side::Left, 129, "[12]");
 }
 
 /// Shows that a store goes to another thread where its rows do.
@@ -159,12 +138,8 @@ fn sent_store<P: Send>(store: ListStore<P>) -> ListStore<P> {
 }
 
 #[test]
-fn stores_are_sent(rt: HostRuntime) -> Result<(), Fail> {
+fn stores_are_sent(rt: HostRuntime) {
     let mut store = sent_store(ListStore::new(rt.alloc()));
-    insert(&mut store, 5, 51, true)?;
-    assert_eq!(rt;
-        found(rt.alloc(), &store, Side::Right, 5)?.as_slice(),
-        [5].as_slice()
-    );
-    Ok(())
+    insert(&rt, &mut store, 5, 51, true);
+    finds(&rt, rt.alloc(), &store, Side::Right, 5, "[5]");
 }

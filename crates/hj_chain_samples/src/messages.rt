@@ -1,5 +1,6 @@
 //! Partners, messages and reports, and the laws that can be called.
 
+use crate::lines::shows;
 use crate::rows::sent;
 use hj_base::EventNo;
 use hj_msg::{
@@ -7,26 +8,37 @@ use hj_msg::{
     punctuation_never_overtakes, rows_cross_in_one_order, small_logs, small_meetings, small_run,
     small_steps,
 };
-use std::test::Fail;
+use std::process::Abort;
+
+/// Puts a partner behind the others.
+fn push(rt: &impl Abort, partners: &mut Partners<u64>, no: u64, row: u64) {
+    let partner = Partner {
+        no: EventNo(no),
+        row,
+    };
+    partners.push(partner).expect(rt, "memory");
+}
+
+/// Holds the partner at a place to be this one.
+fn stands(rt: &impl Abort, partners: &Partners<u64>, at: usize, no: u64, row: u64) {
+    let partner = partners.get(at).expect(rt, "a partner");
+    assert!(rt; partner.no.0 == no);
+    assert!(rt; partner.row == row);
+}
 
 #[test]
-fn partners_in_their_order(rt: HostRuntime) -> Result<(), Fail> {
+fn partners_in_their_order(rt: HostRuntime) {
     let mut partners = Partners::new(rt.alloc());
-    assert_eq!(rt; partners.len(), 0);
+    assert!(rt; partners.len() == 0);
     assert!(rt; partners.get(0).is_none());
-    for (no, row) in [(4, 40u64), (1, 10), (4, 41)] {
-        partners.push(Partner {
-            no: EventNo(no),
-            row,
-        })?;
-    }
-    assert_eq!(rt; partners.len(), 3);
-    for (at, no, row) in [(0, 4, 40), (1, 1, 10), (2, 4, 41)] {
-        let found = partners.get(at).map(|partner| (partner.no.0, partner.row));
-        assert_eq!(rt; found, Some((no, row)), "at {at}");
-    }
+    push(&rt, &mut partners, 4, 40);
+    push(&rt, &mut partners, 1, 10);
+    push(&rt, &mut partners, 4, 41);
+    assert!(rt; partners.len() == 3);
+    stands(&rt, &partners, 0, 4, 40);
+    stands(&rt, &partners, 1, 1, 10);
+    stands(&rt, &partners, 2, 4, 41);
     assert!(rt; partners.get(3).is_none());
-    Ok(())
 }
 
 /// Messages and reports go to another thread where their rows do.
@@ -41,16 +53,14 @@ fn messages_and_reports_are_sent(rt: HostRuntime) {
         row: 7u64,
     };
     let (message, report) = sent_between_cores(message, Report::Ended);
-    assert!(rt;
-        matches!(
-            message,
-            Msg::R {
-                no: EventNo(3),
-                row: 7
-            }
-        )
+    shows(
+        &rt,
+        rt.alloc(),
+        "R 3 7",
+        &message,
+        "R { no: EventNo(3), row: 7 }",
     );
-    assert!(rt; matches!(report, Report::Ended));
+    shows(&rt, rt.alloc(), "ended", &report, "Ended");
 }
 
 #[test]

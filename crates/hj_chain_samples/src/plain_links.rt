@@ -1,10 +1,10 @@
 //! Links on one thread.
 
+use crate::lines::{halves, shows};
 use crate::rows::sent;
 use hj_queue::{Full, PlainLink};
 use std::alloc::Global;
 use std::process::Abort;
-use std::test::Fail;
 
 /// Returns the message that a put hands back, if it does.
 fn refused(answer: Result<(), Full<char>>) -> Option<char> {
@@ -46,12 +46,10 @@ fn called(rt: &impl Abort, link: &mut PlainLink<char>, name: &str, message: char
 
 /// Makes the call of a line.
 fn answers(rt: &impl Abort, alloc: Global, link: &mut PlainLink<char>, line: &str) {
-    let (call, want) = line.split_once(": ").expect(rt, "an answer");
+    let (call, want) = halves(rt, line);
     let (name, message) = call.split_once(' ').unwrap_or((call, "-"));
     let message = message.chars().next().expect(rt, "a message");
-    let found = called(rt, link, name, message);
-    let found = format!(in alloc; "{found:?}").expect(rt, "memory");
-    assert_eq!(rt; found.as_str(), want, "{line}");
+    shows(rt, alloc, line, &called(rt, link, name, message), want);
 }
 
 #[test]
@@ -68,11 +66,10 @@ fn sent_between_threads<M: Send>(link: PlainLink<M>, refused: Full<M>) -> (Plain
 }
 
 #[test]
-fn links_are_sent(rt: HostRuntime) -> Result<(), Fail> {
-    let mut link = PlainLink::new(rt.alloc(), 2)?;
+fn links_are_sent(rt: HostRuntime) {
+    let mut link = PlainLink::new(rt.alloc(), 2).expect(&rt, "memory");
     let _ = link.put_right(7u64);
     let (mut link, Full(message)) = sent_between_threads(link, Full(8));
-    assert_eq!(rt; link.take_right(), Some(7));
-    assert_eq!(rt; message, 8);
-    Ok(())
+    assert!(rt; link.take_right() == Some(7));
+    assert!(rt; message == 8);
 }

@@ -96,7 +96,7 @@ fn worker_between(
 /// Calls a worker, which answers that memory ran out.
 fn runs_out(rt: &impl Abort, worker: &mut RefusingWorker) {
     assert!(rt; !worker.spent());
-    assert_eq!(rt; worker.turn(&OpenGate), Turn::NoMemory);
+    assert!(rt; worker.turn(&OpenGate) == Turn::NoMemory);
 }
 
 /// Holds the reports to have one that memory ran out, and no other.
@@ -105,18 +105,29 @@ fn has_no_memory_alone(rt: &impl Abort, reports: &mut Receiver<Report<Row>>) {
     assert!(rt; reports.take(0).is_none());
 }
 
+/// Puts a row, for which the worker has no place: nothing comes of it at either end.
+fn finds_no_place(
+    rt: &impl Abort,
+    worker: &mut RefusingWorker,
+    left: &mut LeftEnd<Msg<Row>>,
+    right: &mut RightEnd<Msg<Row>>,
+    reports: &mut Receiver<Report<Row>>,
+) {
+    assert!(rt; left.put(0, message(rt, "R 0 7")).is_ok());
+    runs_out(rt, worker);
+    has_no_memory_alone(rt, reports);
+    assert!(rt; left.take(0).is_none());
+    assert!(rt; right.take(0).is_none());
+    runs_out(rt, worker);
+}
+
 #[test]
 fn a_worker_without_a_place_answers_no_memory(rt: HostRuntime) {
     let (mut left, at_left) = duplex(rt.alloc(), 4).expect(&rt, "memory");
     let (at_right, mut right) = duplex(rt.alloc(), 4).expect(&rt, "memory");
     let (sender, mut reports) = one_way(rt.alloc(), 4).expect(&rt, "memory");
     let mut worker = worker_between(rt.alloc(), at_left, at_right, sender);
-    assert!(rt; left.put(0, message(&rt, "R 0 7")).is_ok());
-    runs_out(&rt, &mut worker);
-    has_no_memory_alone(&rt, &mut reports);
-    assert!(rt; left.take(0).is_none());
-    assert!(rt; right.take(0).is_none());
-    runs_out(&rt, &mut worker);
+    finds_no_place(&rt, &mut worker, &mut left, &mut right, &mut reports);
 }
 
 /// Makes a chain of two cores with such stores, before a feed of two rows that has given none.
@@ -155,6 +166,6 @@ fn a_chain_without_a_place_is_over(rt: HostRuntime) {
     let mut feed = from(Side::Left);
     let mut chain = two_cores(&rt, rt.alloc(), &mut feed);
     step_all(&rt, rt.alloc(), &mut chain, &mut feed, NO_PLACE);
-    assert_eq!(rt; chain.enabled(), 0);
+    assert!(rt; chain.enabled() == 0);
     assert!(rt; chain.pair().is_none());
 }

@@ -1,5 +1,6 @@
 //! Pairs in their order.
 
+use crate::lines::{halves, number, shows, words};
 use hj_base::EventNo;
 use hj_collect::Mark;
 use hj_msg::Pair;
@@ -7,13 +8,9 @@ use hj_order::Ordered;
 use std::alloc::Global;
 use std::process::Abort;
 
-fn number(rt: &impl Abort, text: &str) -> u64 {
-    text.parse::<u64>().expect(rt, "a number")
-}
-
 /// Makes a left row and a right one, each row being its own number.
 fn pair_of(rt: &impl Abort, text: &str) -> Pair<u64> {
-    let (left, right) = text.split_once(' ').expect(rt, "a right row");
+    let (left, right) = words(rt, text);
     let (left, right) = (number(rt, left), number(rt, right));
     Pair {
         left_no: EventNo(left),
@@ -52,23 +49,30 @@ fn mark(rt: &impl Abort, text: &str) -> Mark {
     }
 }
 
+/// Returns the rows of a pair.
+fn rows_of(pair: Option<Pair<u64>>) -> Option<(u64, u64)> {
+    let pair = pair?;
+    Some((pair.left, pair.right))
+}
+
 /// Lets the pair of a line out.
 fn releases(rt: &impl Abort, alloc: Global, ordered: &mut Ordered<u64>, line: &str) {
-    let (up_to, want) = line.split_once(": ").expect(rt, "a pair");
-    let pair = ordered.release(mark(rt, up_to));
-    let rows = pair.map(|pair| (pair.left, pair.right));
-    let found = format!(in alloc; "{rows:?}").expect(rt, "memory");
-    assert_eq!(rt; found.as_str(), want, "{line}");
+    let (up_to, want) = halves(rt, line);
+    let rows = rows_of(ordered.release(mark(rt, up_to)));
+    shows(rt, alloc, line, &rows, want);
+}
+
+/// Adds some pairs.
+fn adds(rt: &impl Abort, alloc: Global, ordered: &mut Ordered<u64>, pairs: &str) {
+    ordered.add(pairs_of(rt, alloc, pairs)).expect(rt, "memory");
 }
 
 #[test]
 fn pairs_come_by_their_numbers(rt: HostRuntime) {
     let mut ordered = Ordered::new(rt.alloc());
     assert!(rt; ordered.release(Mark::All).is_none());
-    for pairs in ["7 2, 3 4, 9 8", "0 7, 6 5, 1 4"] {
-        let pairs = pairs_of(&rt, rt.alloc(), pairs);
-        ordered.add(pairs).expect(&rt, "memory");
-    }
+    adds(&rt, rt.alloc(), &mut ordered, "7 2, 3 4, 9 8");
+    adds(&rt, rt.alloc(), &mut ordered, "0 7, 6 5, 1 4");
     for line in RELEASED.lines() {
         releases(&rt, rt.alloc(), &mut ordered, line);
     }

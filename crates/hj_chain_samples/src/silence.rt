@@ -7,8 +7,9 @@ ghost use Rattle.hj_chain_samples.specs.TwoRows.{all_match};
 
 use crate::chains::{RowChain, next_pair, step_all};
 use crate::rows::{Cross, Row, stores};
+use crate::sizes::sizes;
 use crate::threads::SlowCore;
-use hj_base::{ChainSize, CoreNo, EventNo, Gate, Memory, OpenGate, Side};
+use hj_base::{CoreNo, EventNo, Gate, OpenGate, Side};
 use hj_chain::{Actor, Chain, Chooser, Stepped};
 use hj_crew::{CrewPlan, CrewSize, Stores, run_threads};
 use hj_msg::{Drain, Drained, Event, Feed, Fin, Given, Pair};
@@ -16,7 +17,6 @@ use std::alloc::Global;
 use std::cell::Cell;
 use std::process::Abort;
 use std::sync::Wait;
-use std::test::Fail;
 use std::thread::Threads;
 use std::time::Clock;
 
@@ -172,18 +172,19 @@ fn put_quiet(rt: &impl Abort, chain: &mut RowChain, feed: &mut SilentSide<'_>)
     requires { GoesWith all_match chain.old (silence_given feed.old.given feed.old.stopped) }
     ensures { GoesWith all_match chain.new (silence_given feed.new.given feed.new.stopped) }
 {
-    assert_eq!(rt; chain.step(Actor::Admit, feed), Stepped::Did);
+    assert!(rt; chain.step(Actor::Admit, feed) == Stepped::Did);
     handle_all(chain, feed);
-    assert_eq!(rt; (chain.enabled(), chain.nth(0)), (1, Some(Actor::Admit)));
+    assert!(rt; chain.enabled() == 1);
+    assert!(rt; chain.nth(0) == Some(Actor::Admit));
 }
 
 /// Holds a chain to give the pairs of the left rows 1 and 2 with the right row 0 next, and no other.
 fn gives_two(rt: &impl Abort, chain: &mut RowChain)
     requires { (feed : FeedState) × GoesWith all_match chain.old feed }
 {
-    assert_eq!(rt; next_pair(chain), Some((1, 0)));
-    assert_eq!(rt; next_pair(chain), Some((2, 0)));
-    assert_eq!(rt; next_pair(chain), None);
+    assert!(rt; next_pair(chain) == Some((1, 0)));
+    assert!(rt; next_pair(chain) == Some((2, 0)));
+    assert!(rt; next_pair(chain).is_none());
 }
 
 #[test]
@@ -193,7 +194,7 @@ fn a_quiet_event_lets_pairs_out(rt: HostRuntime) {
     let mut chain = two_cores(&rt, rt.alloc(), &mut feed);
     step_all(&rt, rt.alloc(), &mut chain, &mut feed, THREE_ROWS);
     handle_all(&mut chain, &mut feed);
-    assert_eq!(rt; next_pair(&mut chain), None);
+    assert!(rt; next_pair(&mut chain).is_none());
     put_quiet(&rt, &mut chain, &mut feed);
     gives_two(&rt, &mut chain);
 }
@@ -205,7 +206,9 @@ fn runs_serially(rt: &impl Abort, alloc: Global, chooser: Chooser) {
     let mut chain = two_cores(rt, alloc, &mut feed);
     let mut drain = CountedPairs { pairs: &pairs };
     let fin = chain.run_serial(chooser, &mut feed, &mut drain, &OpenGate);
-    assert_eq!(rt; (fin, pairs.get(), feed.early), (Fin::Done, 4, 0));
+    assert!(rt; fin == Fin::Done);
+    assert!(rt; pairs.get() == 4);
+    assert!(rt; feed.early == 0);
 }
 
 #[test]
@@ -215,12 +218,12 @@ fn pairs_come_before_the_feed_is_asked(rt: HostRuntime) {
 }
 
 /// Runs the same on threads.
-fn runs_on_threads<T: Abort + Threads + Wait + Clock + Sync, G: Gate + Sync>(
+fn run_on_threads<T: Abort + Threads + Wait + Clock + Sync, G: Gate + Sync>(
     rt: &T,
     alloc: Global,
     size: CrewSize,
     gate: &G,
-) -> Result<(), Memory> {
+) {
     let pairs = Cell::new(0);
     let plan = CrewPlan {
         rt,
@@ -230,27 +233,30 @@ fn runs_on_threads<T: Abort + Threads + Wait + Clock + Sync, G: Gate + Sync>(
         gate,
     };
     let stores = Stores {
-        left: stores(alloc, size.chain.cores)?,
-        right: stores(alloc, size.chain.cores)?,
+        left: stores(alloc, size.chain.cores).expect(rt, "memory"),
+        right: stores(alloc, size.chain.cores).expect(rt, "memory"),
     };
     let feed = SilentSide::new(&pairs);
     let drain = CountedPairs { pairs: &pairs };
     let (ran, feed, _drain) = run_threads(alloc, &plan, &Cross, stores, feed, drain);
-    assert_eq!(rt; (ran?.fin(), pairs.get(), feed.early), (Fin::Done, 4, 0));
-    Ok(())
+    assert!(rt; ran.expect(rt, "memory").fin() == Fin::Done);
+    assert!(rt; pairs.get() == 4);
+    assert!(rt; feed.early == 0);
+}
+
+/// Runs it with the gate open, and with one core held up now and then.
+fn count_on_threads<T: Abort + Threads + Wait + Clock + Sync>(
+    rt: &T,
+    alloc: Global,
+    size: CrewSize,
+) {
+    run_on_threads(rt, alloc, size, &OpenGate);
+    run_on_threads(rt, alloc, size, &SlowCore(size.chain.cores / 2));
 }
 
 #[test]
-fn quiet_events_are_counted_on_threads(rt: HostRuntime) -> Result<(), Fail> {
-    for cores in [1, 2, 3, 8] {
-        for threads in 1..4 {
-            let size = CrewSize {
-                chain: ChainSize { cores, flight: 32 },
-                threads,
-            };
-            runs_on_threads(&rt, rt.alloc(), size, &OpenGate)?;
-            runs_on_threads(&rt, rt.alloc(), size, &SlowCore(cores / 2))?;
-        }
+fn quiet_events_are_counted_on_threads(rt: HostRuntime) {
+    for size in &sizes(&rt, rt.alloc(), "1 2 3 8", "1 2 3", "32") {
+        count_on_threads(&rt, rt.alloc(), *size);
     }
-    Ok(())
 }

@@ -1,6 +1,7 @@
 ghost use Rattle.std.specs.Prelude.{◌≡◌};
 ghost use Rattle.hj_base.specs.declared.numbers.Side.TheVariants as sides;
 
+use crate::lines::{halves, numbers_of, same, shows, words};
 use crate::rows::sent;
 use hj_base::{EventNo, Side};
 use hj_columns::ColumnStore;
@@ -81,12 +82,22 @@ fn found<'q, S: Store<SharedRow, QueryJoin<'q>>>(
     requires { S.suits store.now sides.Left join.now }
 {
     let partners = store.probe(Side::Left, against, join).expect(rt, "memory");
-    let mut numbers = Vec::new(alloc);
-    for at in 0..partners.len() {
-        let partner = partners.get(at).expect(rt, "a partner");
-        numbers.push(partner.no.0).expect(rt, "memory");
-    }
-    format!(in alloc; "{numbers:?}").expect(rt, "memory")
+    numbers_of(rt, alloc, &partners)
+}
+
+/// Holds the left rows that a right row of this value finds to be those of these numbers.
+fn finds<'q, S: Store<SharedRow, QueryJoin<'q>>>(
+    rt: &impl Abort,
+    alloc: Global,
+    store: &S,
+    join: &QueryJoin<'q>,
+    value: &str,
+    want: &str,
+)
+    requires { S.suits store.now sides.Left join.now }
+{
+    let found = found(rt, alloc, store, join, &row(rt, alloc, value));
+    same(rt, value, &found, want);
 }
 
 /// Makes a step: a row comes with its value, settled or not; or a number of a left row is settled or removed, where the store has
@@ -101,26 +112,18 @@ fn run_step<'q, S: Store<SharedRow, QueryJoin<'q>>>(
     requires { S.suits store.old sides.Left join.now }
     ensures { S.suits store.new sides.Left join.now }
 {
-    let (call, want) = step.split_once(": ").expect(rt, "an answer");
-    let (name, what) = call.split_once(' ').expect(rt, "a call");
+    let (call, want) = halves(rt, step);
+    let (name, what) = words(rt, call);
     match name {
         "settled" | "unsettled" => {
             let row = row(rt, alloc, want);
             insert(rt, store, join, number(rt, what), row, name == "settled");
         }
-        "settle" => answers(rt, step, store.settle(number(rt, what)), want),
-        "remove" => answers(rt, step, store.remove(number(rt, what)), want),
-        "find" => {
-            let found = found(rt, alloc, store, join, &row(rt, alloc, what));
-            assert_eq!(rt; found.as_str(), want, "{step}");
-        }
+        "settle" => shows(rt, alloc, step, &store.settle(number(rt, what)), want),
+        "remove" => shows(rt, alloc, step, &store.remove(number(rt, what)), want),
+        "find" => finds(rt, alloc, store, join, what, want),
         _ => panic!(rt; "no step: {step}"),
     }
-}
-
-fn answers(rt: &impl Abort, step: &str, found: bool, want: &str) {
-    let want = want.parse::<bool>().expect(rt, "an answer");
-    assert_eq!(rt; found, want, "{step}");
 }
 
 fn run<'q, S: Store<SharedRow, QueryJoin<'q>>>(
@@ -247,6 +250,11 @@ fn run_list(rt: &impl Abort, alloc: Global, text: &str, steps: &str) {
     run(rt, alloc, &mut store, &join, steps);
 }
 
+fn run_both(rt: &impl Abort, alloc: Global, text: &str, steps: &str) {
+    run_columns(rt, alloc, text, steps);
+    run_list(rt, alloc, text, steps);
+}
+
 const OF_SUMS: &str =
     "left (ts int, k int) right (ts int, k int) window left rows 1 window right rows 1 \
     on l.k < r.k and 100 >= l.k + r.k";
@@ -321,17 +329,11 @@ find 7: []";
 
 #[test]
 fn columns_find_what_a_list_finds(rt: HostRuntime) {
-    let alloc = rt.alloc();
-    for (text, steps) in [
-        (OF_NUMBERS, EQUAL_NUMBERS),
-        (OF_TEXTS, EQUAL_TEXTS),
-        (OF_NEAR_NUMBERS, NEAR_NUMBERS),
-        (OF_SUMS, SUMS),
-        (OF_FAR_SUM, FAR_SUM),
-        (OF_FAR_NUMBERS, FAR_NUMBERS),
-        (OF_NAMES, NAMES),
-    ] {
-        run_columns(&rt, alloc, text, steps);
-        run_list(&rt, alloc, text, steps);
-    }
+    run_both(&rt, rt.alloc(), OF_NUMBERS, EQUAL_NUMBERS);
+    run_both(&rt, rt.alloc(), OF_TEXTS, EQUAL_TEXTS);
+    run_both(&rt, rt.alloc(), OF_NEAR_NUMBERS, NEAR_NUMBERS);
+    run_both(&rt, rt.alloc(), OF_SUMS, SUMS);
+    run_both(&rt, rt.alloc(), OF_FAR_SUM, FAR_SUM);
+    run_both(&rt, rt.alloc(), OF_FAR_NUMBERS, FAR_NUMBERS);
+    run_both(&rt, rt.alloc(), OF_NAMES, NAMES);
 }

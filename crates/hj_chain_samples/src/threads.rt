@@ -1,9 +1,11 @@
-ghost use Rattle.std.specs.Prelude.{◌≡◌, ◌≤◌, None};
+//! Runs of a chain on threads.
+ghost use Rattle.std.specs.Prelude.{◌≡◌, None};
 ghost use Rattle.hj_base.specs.declared.numbers.Side.TheVariants.{Left, Right};
 ghost use Rattle.hj_chain_samples.specs.Rounds.{rounds_given};
 
 use crate::rows::{Cross, Row, UNSHARED, stores};
-use hj_base::{ChainSize, CoreNo, EventNo, Gate, Memory, OpenGate, Side};
+use crate::sizes::sizes;
+use hj_base::{CoreNo, EventNo, Gate, OpenGate, Side};
 use hj_crew::{CrewPlan, CrewSize, Stores, run_threads};
 use hj_msg::{Drain, Drained, Event, Feed, Fin, Given, Pair};
 use std::alloc::Global;
@@ -11,7 +13,6 @@ use std::hint::spin_loop;
 use std::process::Abort;
 use std::sync::Wait;
 use std::sync::atomic::{AtomicBool, AtomicU64, Ordering};
-use std::test::Fail;
 use std::thread::Threads;
 use std::time::Clock;
 
@@ -154,27 +155,50 @@ impl Gate for SlowCore {
     }
 }
 
-/// Runs rounds on threads, with a drain that spins so often at each pair.
-fn run<T: Threads + Wait + Clock + Sync, G: Gate + Sync>(
+/// What came of a run on threads: how it ended, whether the feed was asked for all, and what the drain counted.
+#[derive(Clone, Copy)]
+struct Came {
+    fin: Fin,
+    stopped: bool,
+    pairs: u64,
+    astray: u64,
+}
+
+/// Runs rounds on threads, of which the calling thread turns so many teams, with a drain that spins so often at each pair.
+fn run<T: Abort + Threads + Wait + Clock + Sync, G: Gate + Sync>(
+    rt: &T,
     alloc: Global,
-    plan: &CrewPlan<'_, T, G>,
+    size: CrewSize,
+    kept: u16,
     rounds: Rounds,
     spins: u32,
-) -> Result<(Fin, Rounds, InTurn), Memory>
+    gate: &G,
+) -> Came
     requires fresh { (rounds.given ≡ 0) × (rounds.left ≡ None) × (rounds.right ≡ None) }
 {
-    let size = plan.size;
+    let plan = CrewPlan {
+        rt,
+        size,
+        kept,
+        takes_back: false,
+        gate,
+    };
     let stores = Stores {
-        left: stores(alloc, size.chain.cores)?,
-        right: stores(alloc, size.chain.cores)?,
+        left: stores(alloc, size.chain.cores).expect(rt, "memory"),
+        right: stores(alloc, size.chain.cores).expect(rt, "memory"),
     };
     let drain = InTurn {
         spins,
         pairs: 0,
         astray: 0,
     };
-    let (ran, feed, drain) = run_threads(alloc, plan, &Cross, stores, rounds, drain);
-    Ok((ran?.fin(), feed, drain))
+    let (ran, feed, drain) = run_threads(alloc, &plan, &Cross, stores, rounds, drain);
+    Came {
+        fin: ran.expect(rt, "memory").fin(),
+        stopped: feed.stopped,
+        pairs: drain.pairs,
+        astray: drain.astray,
+    }
 }
 
 /// Runs this many events of rounds on threads, and looks whether each pair came in its turn.
@@ -185,103 +209,72 @@ fn run_whole<T: Abort + Threads + Wait + Clock + Sync, G: Gate + Sync>(
     rounds: Rounds,
     spins: u32,
     gate: &G,
-) -> Result<(), Memory>
+)
     requires fresh { (rounds.given ≡ 0) × (rounds.left ≡ None) × (rounds.right ≡ None) }
 {
     let pairs = rounds.most / 4;
-    let plan = CrewPlan {
-        rt,
-        size,
-        kept: size.kept(rt),
-        takes_back: false,
-        gate,
-    };
-    let (fin, feed, drain) = run(alloc, &plan, rounds, spins)?;
-    assert_eq!(rt; fin, Fin::Done);
-    assert!(rt; feed.stopped);
-    assert_eq!(rt; (drain.pairs, drain.astray), (pairs, 0));
-    Ok(())
+    let came = run(rt, alloc, size, size.kept(rt), rounds, spins, gate);
+    assert!(rt; came.fin == Fin::Done);
+    assert!(rt; came.stopped);
+    assert!(rt; came.pairs == pairs);
+    assert!(rt; came.astray == 0);
+}
+
+/// Runs a hundred rounds whose answers are there, and ten whose answers are asked for while a core is slow.
+fn come_in_turn<T: Abort + Threads + Wait + Clock + Sync>(rt: &T, alloc: Global, size: CrewSize) {
+    let ready = Rounds::new(400, true, 7);
+    run_whole(rt, alloc, size, ready, 0, &OpenGate);
+    let asked = Rounds::new(40, false, 7);
+    run_whole(rt, alloc, size, asked, 0, &SlowCore(size.chain.cores / 2));
+}
+
+/// Does so for chains of these numbers of cores, on one to eight threads.
+fn all_come_in_turn<T: Abort + Threads + Wait + Clock + Sync>(rt: &T, alloc: Global, cores: &str) {
+    for size in &sizes(rt, alloc, cores, "1 2 3 4 5 6 7 8", "32") {
+        come_in_turn(rt, alloc, *size);
+    }
 }
 
 #[test]
-fn pairs_come_in_turn(rt: HostRuntime) -> Result<(), Fail> {
-    for cores in [1, 2, 3, 4, 64] {
-        for threads in 1..9 {
-            let size = CrewSize {
-                chain: ChainSize { cores, flight: 32 },
-                threads,
-            };
-            run_whole(
-                &rt,
-                rt.alloc(),
-                size,
-                Rounds::new(400, true, 7),
-                0,
-                &OpenGate,
-            )?;
-            run_whole(
-                &rt,
-                rt.alloc(),
-                size,
-                Rounds::new(40, false, 7),
-                0,
-                &SlowCore(cores / 2),
-            )?;
-        }
-    }
-    Ok(())
+fn pairs_come_in_turn(rt: HostRuntime) {
+    all_come_in_turn(&rt, rt.alloc(), "1 2 3 4");
+}
+
+#[test]
+fn pairs_come_in_turn_from_many_cores(rt: HostRuntime) {
+    all_come_in_turn(&rt, rt.alloc(), "64");
+}
+
+/// Runs ten rounds, where the calling thread is slow if two events are under way at most.
+fn wake<T: Abort + Threads + Wait + Clock + Sync>(rt: &T, alloc: Global, size: CrewSize) {
+    let spins = if size.chain.flight == 2 { 10_000 } else { 0 };
+    let rounds = Rounds::new(40, true, 7);
+    run_whole(rt, alloc, size, rounds, spins, &OpenGate);
 }
 
 /// Threads sleep and are woken at every size of a run, also while the calling thread is slow. A test that hangs fails by its limit.
 #[test]
-fn threads_wake_each_other(rt: HostRuntime) -> Result<(), Fail> {
-    for cores in [1, 4, 64] {
-        for threads in 1..5 {
-            for flight in [1, 2, 32, 256] {
-                let size = CrewSize {
-                    chain: ChainSize { cores, flight },
-                    threads,
-                };
-                let spins = if flight == 2 { 10_000 } else { 0 };
-                run_whole(
-                    &rt,
-                    rt.alloc(),
-                    size,
-                    Rounds::new(40, true, 7),
-                    spins,
-                    &OpenGate,
-                )?;
-            }
-        }
+fn threads_wake_each_other(rt: HostRuntime) {
+    for size in &sizes(&rt, rt.alloc(), "1 4 64", "1 2 3 4", "1 2 32 256") {
+        wake(&rt, rt.alloc(), *size);
     }
-    Ok(())
 }
 
-/// Shows that memory runs out at the first row, and every thread comes back.
+/// Runs rounds of rows that can't be shared: memory runs out at the first row.
+fn run_out<T: Abort + Threads + Wait + Clock + Sync>(rt: &T, alloc: Global, size: CrewSize) {
+    let rounds = Rounds::new(400, true, UNSHARED);
+    let came = run(rt, alloc, size, size.threads / 2, rounds, 0, &OpenGate);
+    assert!(rt; came.fin == Fin::Memory);
+    assert!(rt; came.pairs == 0);
+    assert!(rt; came.astray == 0);
+}
+
+/// Shows that every thread comes back where memory runs out.
 #[test]
-fn threads_come_back_for_want_of_memory(rt: HostRuntime) -> Result<(), Fail> {
-    for cores in [1, 4, 64] {
-        for threads in 1..5 {
-            for flight in [1, 32] {
-                let size = CrewSize {
-                    chain: ChainSize { cores, flight },
-                    threads,
-                };
-                let plan = CrewPlan {
-                    rt: &rt,
-                    size,
-                    kept: threads / 2,
-                    takes_back: false,
-                    gate: &OpenGate,
-                };
-                let rounds = Rounds::new(400, true, UNSHARED);
-                let (fin, _, drain) = run(rt.alloc(), &plan, rounds, 0)?;
-                assert_eq!(&rt; fin, Fin::Memory);
-                assert_eq!(&rt; (drain.pairs, drain.astray), (0, 0));
-            }
-        }
+fn threads_come_back_for_want_of_memory(rt: HostRuntime) {
+    for size in &sizes(&rt, rt.alloc(), "1 4 64", "1 2 3 4", "1 32") {
+        run_out(&rt, rt.alloc(), *size);
     }
-    Ok(())
 }
 
 /// Counts the turns of three cores, and notes whether each was told how many its core had before.
@@ -304,20 +297,12 @@ impl Gate for CountedTurns {
 }
 
 /// Runs ten rounds over three cores: the gate is told each turn of a core with the number of turns that the core had before.
-fn tells_each_turn<T: Abort + Threads + Wait + Clock + Sync>(rt: &T, alloc: Global, threads: u16)
-    requires { 1 ≤ threads }
-{
+fn tell_each_turn<T: Abort + Threads + Wait + Clock + Sync>(rt: &T, alloc: Global, size: CrewSize) {
     let gate = CountedTurns {
         turns: [AtomicU64::new(0), AtomicU64::new(0), AtomicU64::new(0)],
         astray: AtomicBool::new(false),
     };
-    let chain = ChainSize {
-        cores: 3,
-        flight: 32,
-    };
-    let size = CrewSize { chain, threads };
-    let rounds = Rounds::new(40, true, 7);
-    run_whole(rt, alloc, size, rounds, 0, &gate).expect(rt, "memory");
+    run_whole(rt, alloc, size, Rounds::new(40, true, 7), 0, &gate);
     assert!(rt; !gate.astray.load(Ordering::SeqCst));
     for turns in &gate.turns {
         // A turn takes one message, and each core gets those of all forty events.
@@ -327,6 +312,7 @@ fn tells_each_turn<T: Abort + Threads + Wait + Clock + Sync>(rt: &T, alloc: Glob
 
 #[test]
 fn the_gate_is_told_the_turns_of_each_core(rt: HostRuntime) {
-    tells_each_turn(&rt, rt.alloc(), 1);
-    tells_each_turn(&rt, rt.alloc(), 3);
+    for size in &sizes(&rt, rt.alloc(), "3", "1 3", "32") {
+        tell_each_turn(&rt, rt.alloc(), *size);
+    }
 }

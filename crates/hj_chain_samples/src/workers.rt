@@ -1,16 +1,16 @@
 ghost use Rattle.std.specs.Prelude.{◌<◌, ◌≤◌};
 
+use crate::lines::{halves, same, told};
 use crate::rows::{Cross, Row, message, sent};
-use hj_base::{CoreNo, Gate, Memory, OpenGate};
+use hj_base::{CoreNo, Gate, OpenGate};
 use hj_core::Core;
-use hj_link::{LeftEnd, Receiver, RightEnd, duplex, one_way};
+use hj_link::{Full, LeftEnd, Receiver, RightEnd, duplex, one_way};
 use hj_msg::{Join, Msg, Report, Store};
 use hj_rows::ListStore;
-use hj_worker::{Parts, Worker};
-use std::alloc::{AllocError, Global};
+use hj_worker::Worker;
+use std::alloc::Global;
 use std::cell::Cell;
 use std::process::Abort;
-use std::test::Fail;
 
 type RowWorker = Worker<Row, Cross, ListStore<Row>, ListStore<Row>>;
 
@@ -23,12 +23,12 @@ struct Bench {
     reports: Receiver<Report<Row>>,
 }
 
-fn set_up(alloc: Global, capacity: usize) -> Result<Bench, Memory>
+fn set_up(rt: &impl Abort, alloc: Global, capacity: usize) -> Bench
     requires { (0 < capacity) × (capacity ≤ 514) }
 {
-    let (left, at_left) = duplex(alloc, capacity)?;
-    let (at_right, right) = duplex(alloc, capacity)?;
-    let (sender, reports) = one_way(alloc, capacity)?;
+    let (left, at_left) = duplex(alloc, capacity).expect(rt, "memory");
+    let (at_right, right) = duplex(alloc, capacity).expect(rt, "memory");
+    let (sender, reports) = one_way(alloc, capacity).expect(rt, "memory");
     let core = Core::new(
         Cross,
         ListStore::new(alloc),
@@ -37,52 +37,57 @@ fn set_up(alloc: Global, capacity: usize) -> Result<Bench, Memory>
         2,
         alloc,
     );
-    Ok(Bench {
+    Bench {
         worker: Worker::new(core, at_left, at_right, sender),
         left,
         right,
         reports,
-    })
+    }
 }
 
 /// Makes a step at a worker: a message comes on the link to the left or on that to the right, the worker is called, or what is
 /// at the other end of a link, or of the reports, is taken. Answers what came of it.
 fn made(rt: &impl Abort, alloc: Global, bench: &mut Bench, step: &str, what: &str) -> String {
-    let text = match step {
-        "from left" => told(alloc, bench.left.put(0, message(rt, what)).is_ok(), what),
-        "from right" => told(alloc, bench.right.put(0, message(rt, what)).is_ok(), what),
+    match step {
+        "from left" => comes(rt, alloc, bench.left.put(0, message(rt, what)), what),
+        "from right" => comes(rt, alloc, bench.right.put(0, message(rt, what)), what),
         "turn" => turned(rt, alloc, bench),
-        "to left" => format!(in alloc; "{:?}", bench.left.take(0)),
-        "to right" => format!(in alloc; "{:?}", bench.right.take(0)),
-        "reports" => format!(in alloc; "{:?}", bench.reports.take(0)),
+        "to left" => told(rt, alloc, &bench.left.take(0)),
+        "to right" => told(rt, alloc, &bench.right.take(0)),
+        "reports" => told(rt, alloc, &bench.reports.take(0)),
         _ => panic!(rt; "no step: {step}"),
-    };
-    text.expect(rt, "memory")
+    }
 }
 
 /// Returns the message that was put, where there was room for it.
-fn told(alloc: Global, put: bool, msg: &str) -> Result<String, AllocError> {
-    String::from_str(alloc, if put { msg } else { "no room" })
+fn comes(rt: &impl Abort, alloc: Global, put: Result<(), Full<Msg<Row>>>, msg: &str) -> String {
+    let text = if put.is_ok() { msg } else { "no room" };
+    String::from_str(alloc, text).expect(rt, "memory")
 }
 
 /// Tells what the worker answers its call.
-fn turned(rt: &impl Abort, alloc: Global, bench: &mut Bench) -> Result<String, AllocError> {
+fn turned(rt: &impl Abort, alloc: Global, bench: &mut Bench) -> String {
     assert!(rt; !bench.worker.spent());
-    format!(in alloc; "{:?}", bench.worker.turn(&OpenGate))
+    told(rt, alloc, &bench.worker.turn(&OpenGate))
 }
 
-/// Makes the steps at a worker over links with so much room, and hands its ends back. A line is a step, and what comes or is
-/// wanted.
-fn run(rt: &impl Abort, alloc: Global, capacity: usize, steps: &str) -> Parts<Row>
+/// Makes the step of a line, and looks what comes of it.
+fn makes(rt: &impl Abort, alloc: Global, bench: &mut Bench, line: &str) {
+    let (step, what) = halves(rt, line);
+    let found = made(rt, alloc, bench, step, what);
+    same(rt, line, &found, what);
+}
+
+/// Makes the steps at a worker over links with so much room, and returns the place of its core once its parts are handed back. A
+/// line is a step, and what comes or is wanted.
+fn run(rt: &impl Abort, alloc: Global, capacity: usize, steps: &str) -> CoreNo
     requires { (0 < capacity) × (capacity ≤ 514) }
 {
-    let mut bench = set_up(alloc, capacity).expect(rt, "memory");
+    let mut bench = set_up(rt, alloc, capacity);
     for line in steps.lines() {
-        let (step, what) = line.split_once(": ").expect(rt, "a step");
-        let found = made(rt, alloc, &mut bench, step, what);
-        assert_eq!(rt; found.as_str(), what, "{step}");
+        makes(rt, alloc, &mut bench, line);
     }
-    bench.worker.parts()
+    bench.worker.parts().place
 }
 
 /// The row 3 is taken, and nothing of it can be put before what was put of row 1 is taken.
@@ -106,8 +111,8 @@ turn: Idle";
 
 #[test]
 fn full_places_block(rt: HostRuntime) {
-    let parts = run(&rt, rt.alloc(), 1, FULL_PLACES);
-    assert_eq!(rt; parts.place, CoreNo(1));
+    let place = run(&rt, rt.alloc(), 1, FULL_PLACES);
+    assert!(rt; place == CoreNo(1));
 }
 
 /// A right row comes first, and a left row meets it in flight.
@@ -190,20 +195,24 @@ impl Gate for NotingGate {
     }
 }
 
+/// Calls a worker, and looks what its gate was told: how many calls there were before.
+fn passes(rt: &impl Abort, worker: &mut RowWorker, gate: &NotingGate, call: u64) {
+    assert!(rt; !worker.spent());
+    worker.turn(gate);
+    assert!(rt; gate.last.get() == Some((CoreNo(1), call)));
+}
+
 #[test]
-fn passes_the_gate_in_each_call(rt: HostRuntime) -> Result<(), Fail> {
-    let mut bench = set_up(rt.alloc(), 1)?;
+fn passes_the_gate_in_each_call(rt: HostRuntime) {
+    let mut bench = set_up(&rt, rt.alloc(), 1);
     let gate = NotingGate {
         last: Cell::new(None),
         passes: Cell::new(0),
     };
-    for call in 0..3u64 {
-        assert!(rt; !bench.worker.spent());
-        bench.worker.turn(&gate);
-        assert_eq!(rt; gate.last.get(), Some((CoreNo(1), call)));
+    for call in 0..3 {
+        passes(&rt, &mut bench.worker, &gate, call);
     }
-    assert_eq!(rt; gate.passes.get(), 3);
-    Ok(())
+    assert!(rt; gate.passes.get() == 3);
 }
 
 /// Shows that a worker goes to another thread where its rows, its join and its stores do.
@@ -217,9 +226,8 @@ fn sent_worker<
 }
 
 #[test]
-fn workers_are_sent(rt: HostRuntime) -> Result<(), Fail> {
-    let Bench { worker, .. } = set_up(rt.alloc(), 1)?;
-    let worker = sent_worker(worker);
+fn workers_are_sent(rt: HostRuntime) {
+    let bench = set_up(&rt, rt.alloc(), 1);
+    let worker = sent_worker(bench.worker);
     assert!(rt; !worker.spent());
-    Ok(())
 }
