@@ -2,13 +2,11 @@
 use Rattle.std.proofs.Common.{◌≡◌, ℕ, zero, suc, ◌+◌, List, [], ◌∷◌, ◌++◌, map, take, length, slice_get, Some, refl, ap, sym, ◌∙◌, arith, append_assoc}
 use Rattle.hj_base.specs.declared.numbers.EventNo.{EventNo}
 use Rattle.hj_base.specs.declared.numbers.Side.{Side}
-use Rattle.hj_base.specs.declared.numbers.Side.TheVariants.{Left, Right}
 use Rattle.hj_msg.specs.declared.event.Pair.{Pair}
 use Rattle.hj_msg.specs.declared.message.Report.{Report}
 use Rattle.hj_msg.specs.declared.message.Report.TheVariants.{Handled}
 use Rattle.hj_msg.specs.declared.partner.Partner.{Partner}
-use Rattle.hj_msg.specs.Met.{pairs_of}
-use Rattle.hj_collect.specs.Pairs.{pair_of}
+use Rattle.hj_msg.specs.Met.{pair_of, pairs_of}
 
 -- one element more
 pub mapped_more : {X Y : Type 0} (f : X → Y) (xs : List X) (i : ℕ) (x : X) → slice_get xs i ≡ Some x → map f (take (i + 1) xs) ≡ map f (take i xs) ++ f x ∷ []
@@ -31,11 +29,7 @@ alone [] x one at = absurd (omega (arith, one))
 alone (y ∷ []) x one at = let same : y ≡ x = cc in ap (λ z. z ∷ []) same
 alone (y ∷ z ∷ zs) x one at = absurd (omega (arith, one))
 
-of_side : {P : Type 0} (side : Side) (at : EventNo) (row : P) (partner : Partner P) → pairs_of (Handled at side row (partner ∷ [])) ≡ pair_of side at row partner ∷ []
-of_side Left at row partner = refl
-of_side Right at row partner = refl
-
 pub only : {P : Type 0} (report : Report P) (side : Side) (at : EventNo) (row : P) (partners : List (Partner P)) (partner : Partner P) (pair : Pair P) → report ≡ Handled at side row partners → length partners ≡ 1
     → Some partner ≡ slice_get partners 0 → pair ≡ pair_of side at row partner → pairs_of report ≡ pair ∷ []
 only {P} report side at row partners partner pair is one first made =
-    ap (λ (r : Report P). pairs_of r) is ∙ ap (λ (ps : List (Partner P)). pairs_of (Handled at side row ps)) (alone partners partner one first) ∙ of_side side at row partner ∙ ap (λ (p : Pair P). p ∷ []) (sym made)
+    ap (λ (r : Report P). pairs_of r) is ∙ ap (λ (ps : List (Partner P)). pairs_of (Handled at side row ps)) (alone partners partner one first) ∙ ap (λ (p : Pair P). p ∷ []) (sym made)

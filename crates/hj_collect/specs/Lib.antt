@@ -1,6 +1,5 @@
 pub mod Collector
 pub mod Least
 pub mod Marks
-pub mod Pairs
 pub mod Reach
 pub mod StandsFor

@@ -1,9 +1,8 @@
 ghost use Rattle.std.specs.Prelude.{◌≡◌, ◌++◌, [], ◌∷◌, IfOk, IfSome, OnOk};
 ghost use Rattle.hj_msg.specs.Met.{pairs_of};
-ghost use Rattle.hj_collect.specs.Pairs.{pair_of};
 
-use hj_base::{EventNo, Memory, Share, Side};
-use hj_msg::{Pair, Partner, Report};
+use hj_base::{Memory, Share};
+use hj_msg::{Pair, Report};
 use std::alloc::Global;
 
 /// Makes the pairs of a report, each with rows of its own. Takes memory only if there are some.
@@ -40,7 +39,7 @@ pub(crate) fn push_pairs<P: Share + Drop>(
         let Some(partner) = partners.get(at) else {
             unreachable!()
         };
-        pairs.push(pair_of(*no, *side, row, partner)?)?;
+        pairs.push(Pair::of(*no, *side, row, partner)?)?;
     }
     Ok(())
 }
@@ -64,33 +63,5 @@ pub(crate) fn only_pair<P: Share + Drop>(report: &Report<P>) -> Result<Option<Pa
     let Some(partner) = partners.get(0) else {
         unreachable!()
     };
-    Ok(Some(pair_of(*no, *side, row, partner)?))
-}
-
-/// Makes the pair of a row of a side and of a partner.
-#[inline(always)]
-fn pair_of<P: Share + Drop>(
-    no: EventNo,
-    side: Side,
-    row: &P,
-    partner: &Partner<P>,
-) -> Result<Pair<P>, Memory>
-    ensures { IfOk result (λ pair. pair ≡ pair_of side no row.now partner.now) }
-{
-    let row = row.share()?;
-    let other = partner.row.share()?;
-    Ok(match side {
-        Side::Left => Pair {
-            left_no: no,
-            right_no: partner.no,
-            left: row,
-            right: other,
-        },
-        Side::Right => Pair {
-            left_no: partner.no,
-            right_no: no,
-            left: other,
-            right: row,
-        },
-    })
+    Ok(Some(Pair::of(*no, *side, row, partner)?))
 }

@@ -1,4 +1,8 @@
-use hj_base::{EventNo, Side};
+ghost use Rattle.std.specs.Prelude.{◌≡◌, IfOk};
+ghost use Rattle.hj_msg.specs.Met.{pair_of};
+
+use crate::Partner;
+use hj_base::{EventNo, Memory, Share, Side};
 
 /// Something that happens on the two streams, in one order over both: a row comes into the window of its side, or
 /// leaves it, or a side is told to be quiet.
@@ -31,4 +35,29 @@ pub struct Pair<P> {
     pub right_no: EventNo,
     pub left: P,
     pub right: P,
+}
+
+impl<P: Share + Drop> Pair<P> {
+    /// Makes the pair of a row of `side`, which arrived under this number, and of a partner that was found for it, with rows of its own.
+    #[inline(always)]
+    pub fn of(no: EventNo, side: Side, row: &P, partner: &Partner<P>) -> Result<Self, Memory>
+        ensures { IfOk result (λ pair. pair ≡ pair_of side no row.now partner.now) }
+    {
+        let row = row.share()?;
+        let other = partner.row.share()?;
+        Ok(match side {
+            Side::Left => Pair {
+                left_no: no,
+                right_no: partner.no,
+                left: row,
+                right: other,
+            },
+            Side::Right => Pair {
+                left_no: partner.no,
+                right_no: no,
+                left: other,
+                right: row,
+            },
+        })
+    }
 }

@@ -3,7 +3,6 @@ use Rattle.std.proofs.Common.{◌≡◌, ℕ, zero, suc, ◌+◌, true, List, []
 use Rattle.std.proofs.lemmas.List.{map-append, replicate-append-replicate}
 use Rattle.hj_base.specs.declared.numbers.EventNo.{EventNo}
 use Rattle.hj_base.specs.declared.numbers.Side.{Side}
-use Rattle.hj_base.specs.declared.numbers.Side.TheVariants.{Left, Right}
 use Rattle.hj_base.specs.Journals.{IsPrefix}
 use Rattle.hj_msg.specs.declared.drain.Drained.{Drained}
 use Rattle.hj_msg.specs.declared.drain.Drained.TheVariants.{Kept, Refused}
@@ -13,9 +12,9 @@ use Rattle.hj_msg.specs.declared.fin.Fin.TheVariants as fin
 use Rattle.hj_msg.specs.declared.message.Report.TheVariants.{Handled}
 use Rattle.hj_msg.specs.declared.partner.Partner.{Partner}
 use Rattle.hj_msg.specs.Drain.{AreKept, Drainage, TakesAll, pairs_in}
-use Rattle.hj_msg.specs.Met.{pairs_of}
+use Rattle.hj_msg.specs.Met.{pair_of, pairs_of}
 use Rattle.hj_msg.specs.RunsJoin.{EndsJoin}
-use Rattle.hj_sequential.specs.Giving.{Gives, pair_of}
+use Rattle.hj_sequential.specs.Giving.{Gives}
 
 abbrev pair_in : {P : Type 0} → Drainage P → Pair P
 pair_in one = one.pair
@@ -84,11 +83,6 @@ module _ {P D : Type 0} (takes : D → Pair P → Drained → D → Type 0) wher
     ends = ((0, refl), record { rest = pairs; is = refl });
   }
 
--- the pairs of a report are those of its row with each partner
-pub pairs_are : {P : Type 0} (at : EventNo) (side : Side) (row : P) (partners : List (Partner P)) → pairs_of (Handled at side row partners) ≡ map (pair_of side at row) partners
-pairs_are at Left row partners = refl
-pairs_are at Right row partners = refl
-
 -- an element of a list cuts it in two
 cut-at : {X : Type 0} (xs : List X) (i : ℕ) (x : X) → slice_get xs i ≡ Some x → xs ≡ take i xs ++ x ∷ drop (suc i) xs
 cut-at [] i x e = absurd (cc)
@@ -109,7 +103,7 @@ module _ {P D : Type 0} (takes : D → Pair P → Drained → D → Type 0) (sid
     pairs_cut : map (pair_of side at row) (take count partners) ++ pair_of side at row partner ∷ map (pair_of side at row) (drop (suc count) partners) ≡ pairs_of (Handled at side row partners)
     pairs_cut =
         sym (map-append (pair_of side at row) (take count partners) (partner ∷ drop (suc count) partners))
-        ∙ ap (λ (ps : List (Partner P)). map (pair_of side at row) ps) (sym (cut-at partners count partner (sym is))) ∙ sym (pairs_are at side row partners)
+        ∙ ap (λ (ps : List (Partner P)). map (pair_of side at row) ps) (sym (cut-at partners count partner (sym is)))
 
     -- memory runs out before the next one
     pub gave-memory : Gives takes (pairs_of (Handled at side row partners)) fin.Memory unfilled filled
@@ -138,7 +132,7 @@ module _ {P D : Type 0} (takes : D → Pair P → Drained → D → Type 0) (sid
   -- no partner is left
   pub gave-all : (count : ℕ) (filled : D) → take count partners ≡ partners → GaveFirst count filled → Gives takes (pairs_of (Handled at side row partners)) fin.Done unfilled filled
   gave-all count filled all gave =
-      subst (λ (pairs : List (Pair P)). Gives takes pairs fin.Done unfilled filled) (ap (λ (ps : List (Partner P)). map (pair_of side at row) ps) all ∙ sym (pairs_are at side row partners)) gave
+      subst (λ (pairs : List (Pair P)). Gives takes pairs fin.Done unfilled filled) (ap (λ (ps : List (Partner P)). map (pair_of side at row) ps) all) gave
 
 pub was_kept : (answer : Drained) → (answer ≡ Refused → ⊥) → answer ≡ Kept
 was_kept Kept other = refl

@@ -1,10 +1,9 @@
-ghost use Rattle.std.specs.Prelude.{◌≡◌, IfOk};
 ghost use Rattle.hj_msg.specs.declared.message.Report.TheVariants.{Handled};
 ghost use Rattle.hj_msg.specs.Met.{pairs_of};
-ghost use Rattle.hj_sequential.specs.Giving.{Gives, pair_of};
+ghost use Rattle.hj_sequential.specs.Giving.{Gives};
 
-use hj_base::{EventNo, Memory, Share, Side};
-use hj_msg::{Drain, Drained, Fin, Pair, Partner, Partners};
+use hj_base::{EventNo, Share, Side};
+use hj_msg::{Drain, Drained, Fin, Pair, Partners};
 
 /// Gives the pairs of a row of `side` and of its partners to a drain, one after the other, up to the first one that it refuses.
 #[inline(always)]
@@ -21,7 +20,7 @@ pub(crate) fn give<P: Share + Drop, D: Drain<P>>(
         let Some(partner) = partners.get(at) else {
             unreachable!()
         };
-        let Ok(pair) = pair_of(no, side, row, partner) else {
+        let Ok(pair) = Pair::of(no, side, row, partner) else {
             return Fin::Memory;
         };
         if drain.pair(pair) == Drained::Refused {
@@ -29,32 +28,4 @@ pub(crate) fn give<P: Share + Drop, D: Drain<P>>(
         }
     }
     Fin::Done
-}
-
-/// Makes the pair of a row of `side` and of a partner, with rows of its own.
-#[inline(always)]
-fn pair_of<P: Share + Drop>(
-    no: EventNo,
-    side: Side,
-    row: &P,
-    partner: &Partner<P>,
-) -> Result<Pair<P>, Memory>
-    ensures { IfOk result (λ pair. pair ≡ pair_of side no row.now partner.now) }
-{
-    let row = row.share()?;
-    let other = partner.row.share()?;
-    Ok(match side {
-        Side::Left => Pair {
-            left_no: no,
-            right_no: partner.no,
-            left: row,
-            right: other,
-        },
-        Side::Right => Pair {
-            left_no: partner.no,
-            right_no: no,
-            left: other,
-            right: row,
-        },
-    })
 }

@@ -4,5 +4,5 @@ use Rattle.hj_collect.proofs.pairs.only_pair.Goals as goal
 
 pub returns : goal.returns
 returns g c =
-    only c.args.report.now c.in-Handled.side c.in-Handled.no c.in-Handled.row c.in-Handled.partners c.in-Some.partner.now c.in_ok-pair_of.field-0 c.in-Handled.is (sym c.len.ensures ∙ c.if-len-ne1.false) c.in-Some.ensures
-    c.in_ok-pair_of.ensures
+    only c.args.report.now c.in-Handled.side c.in-Handled.no c.in-Handled.row c.in-Handled.partners c.in-Some.partner.now c.in_ok-of.field-0 c.in-Handled.is (sym c.len.ensures ∙ c.if-len-ne1.false) c.in-Some.ensures
+    c.in_ok-of.ensures

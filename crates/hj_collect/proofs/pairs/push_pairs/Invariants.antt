@@ -1,5 +1,5 @@
 use Rattle.std.proofs.Common.{◌≡◌, ◌++◌, map, take}
-use Rattle.hj_collect.specs.Pairs.{pair_of}
+use Rattle.hj_msg.specs.Met.{pair_of}
 use Rattle.hj_collect.proofs.pairs.push_pairs.Given as goal
 
 -- the pairs with the partners so far are behind those that were there

@@ -5,8 +5,8 @@ use Rattle.hj_msg.specs.declared.drain.Drained.TheVariants.{Refused}
 use Rattle.hj_sequential.proofs.GivenPairs.{gave-all, gave-memory, gave-one, gave-refused, was_kept}
 use Rattle.hj_sequential.proofs.giving.give.Goals as goal
 
-pub returns-in_default-pair_of : goal.returns-in_default-pair_of
-returns-in_default-pair_of g c =
+pub returns-in_default-of : goal.returns-in_default-of
+returns-in_default-of g c =
     gave-memory g.D.Drain.takes c.args.side c.args.no c.args.row.now c.args.partners.now c.args.drain.now c.loop-at.at c.loop-at.drain c.loop-at.invariant c.in-Some.partner.now c.in-Some.ensures
 
 pub returns-then-eq : goal.returns-then-eq
