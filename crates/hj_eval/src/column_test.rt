@@ -1,8 +1,9 @@
-ghost use Rattle.std.specs.Prelude.{◌≡◌, true, List, IfSome, slice_get};
+ghost use Rattle.std.specs.Prelude.{◌≡◌, true, List, Some, IfSome, slice_get};
 ghost use Rattle.hj_value.specs.declared.field.Field.{Field};
+ghost use Rattle.hj_value.specs.declared.field.Field.TheVariants as field;
 ghost use Rattle.hj_query.specs.Grammar.{columns_of};
 ghost use Rattle.hj_eval.specs.Filter.{pred_on};
-ghost use Rattle.hj_eval.specs.Tests.{number_holds, numbers_meet, texts_meet, AreOperands, ArePair, HasKind};
+ghost use Rattle.hj_eval.specs.Tests.{in_turn, meets, number_holds, numbers_meet, texts_meet, AreOperands, ArePair, HasKind};
 
 use crate::filter::Need;
 use crate::store_plan::lone_column;
@@ -54,11 +55,23 @@ impl NumberTest {
         let right = right.get(usize::from(self.columns.right));
         match (left, right) {
             (Some(Field::Int(left)), Some(Field::Int(right))) => match self.need {
-                Need::Compare(op) if self.columns.is_turned => accepts(op, right.cmp(&left)),
-                Need::Compare(op) => accepts(op, left.cmp(&right)),
-                Need::Within(distance) => left.abs_diff(right) <= distance,
+                Need::Compare(Op::Eq) => left == right,
+                need => self.meets(need, left, right),
             },
             _ => false,
+        }
+    }
+
+    /// Asks whether two numbers, that of the left row and that of the right row, compare so, or differ by at most so much.
+    // Called, so that what is compiled into a probe stays short.
+    #[inline(never)]
+    fn meets(&self, need: Need, left: i64, right: i64) -> bool
+        ensures { result ≡ in_turn (meets need) self.now.columns.is_turned (Some (field.Int left)) (Some (field.Int right)) }
+    {
+        match need {
+            Need::Compare(op) if self.columns.is_turned => accepts(op, right.cmp(&left)),
+            Need::Compare(op) => accepts(op, left.cmp(&right)),
+            Need::Within(distance) => left.abs_diff(right) <= distance,
         }
     }
 }

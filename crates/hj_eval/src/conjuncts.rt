@@ -1,4 +1,4 @@
-ghost use Rattle.std.specs.Prelude.{◌≡◌, ◌&&◌, List, OnOk, IfOk};
+ghost use Rattle.std.specs.Prelude.{◌≡◌, ◌&&◌, [], true, length, List, OnOk, IfOk};
 ghost use Rattle.std.specs.List.{list_all};
 ghost use Rattle.hj_value.specs.declared.field.Field.{Field};
 ghost use Rattle.hj_eval.specs.Filter.{pred_on};
@@ -71,26 +71,38 @@ impl<'a> Conjuncts<'a> {
     }
 
     /// Asks whether all parts hold for a left and a right row, under the query whose condition they are.
+    // The first test of numbers is compiled into the caller, since most rows that are looked at fail it.
     #[inline(always)]
     pub fn hold(&self, query: &Query, left: &Row, right: &Row) -> bool
         ensures { result ≡ all_hold query.now self.now left.now right.now }
     {
-        self.numbers_hold(left, right)
-            && self.texts_hold(left, right)
-            && self.others_hold(query, left, right)
+        let Some((first, others)) = self.numbers.split_first() else {
+            return self.rest_holds(query, &[], left, right);
+        };
+        first.holds(left, right)
+            && (self.is_one_test() || self.rest_holds(query, others, left, right))
     }
 
-    /// Asks whether all tests of numbers hold for a left and a right row.
+    /// Returns whether there is a single part, which is a test of numbers; false says nothing.
     #[inline(always)]
-    fn numbers_hold(&self, left: &Row, right: &Row) -> bool
-        ensures { result ≡ list_all (λ test. number_holds test left.now right.now) self.now.numbers.items }
+    fn is_one_test(&self) -> bool
+        ensures numbers { result ≡ true → length self.now.numbers.items ≡ 1 }
+        ensures texts { result ≡ true → self.now.texts.items ≡ [] }
+        ensures others { result ≡ true → self.now.others.items ≡ [] }
     {
-        for test in &self.numbers {
-            if !test.holds(left, right) {
-                return false;
-            }
-        }
-        true
+        self.numbers.len() == 1 && self.texts.is_empty() && self.others.is_empty()
+    }
+
+    /// Asks whether these tests of numbers, and all parts that are none, hold for a left and a right row.
+    #[inline(never)]
+    fn rest_holds(&self, query: &Query, numbers: &[NumberTest], left: &Row, right: &Row) -> bool
+        ensures { result ≡ (list_all (λ test. number_holds test left.now right.now) numbers.now
+            && (list_all (λ test. texts_meet test.op test.columns left.now right.now) self.now.texts.items
+            && list_all (λ pred. pred_on query.now pred.now left.now right.now) self.now.others.items)) }
+    {
+        numbers_hold(numbers, left, right)
+            && self.texts_hold(left, right)
+            && self.others_hold(query, left, right)
     }
 
     /// Asks whether all tests of texts hold for a left and a right row.
@@ -119,4 +131,17 @@ impl<'a> Conjuncts<'a> {
         }
         true
     }
+}
+
+/// Asks whether tests of numbers hold for a left and a right row.
+#[inline(always)]
+fn numbers_hold(tests: &[NumberTest], left: &Row, right: &Row) -> bool
+    ensures { result ≡ list_all (λ test. number_holds test left.now right.now) tests.now }
+{
+    for test in tests {
+        if !test.holds(left, right) {
+            return false;
+        }
+    }
+    true
 }

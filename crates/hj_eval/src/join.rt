@@ -95,6 +95,7 @@ impl Share for QueryJoin<'_> {
 impl Join<SharedRow> for QueryJoin<'_> {
     ghost predicate = { holds };
 
+    #[inline(always)]
     fn matches(&self, left: &SharedRow, right: &SharedRow) -> bool {
         self.ready.holds(left.row(), right.row())
     }

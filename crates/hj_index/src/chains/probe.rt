@@ -1,4 +1,4 @@
-ghost use Rattle.std.specs.Prelude.{◌≡◌, Some, List, map, nat_eq, reverse, true, IfOk};
+ghost use Rattle.std.specs.Prelude.{◌≡◌, [], Some, List, map, nat_eq, true, IfOk, OnOk};
 ghost use Rattle.std.specs.HashMap.{get};
 ghost use Rattle.hj_value.specs.declared.field.Field.{Field};
 ghost use Rattle.hj_msg.specs.Store.{joins, settled_matches};
@@ -33,11 +33,10 @@ impl Chains {
             return self.probe_sorted(alloc, side, against, join);
         }
         let last = self.last_of(key);
-        let Some(_place) = self.place(last) else {
-            return Ok(Partners::new(alloc));
-        };
-        let mut partners = self.walk(alloc, key, last, side, against, join)?;
-        partners.reverse();
+        let mut partners = Partners::new(alloc);
+        if self.place(last).is_some() {
+            self.walk(key, last, side, against, join, &mut partners)?;
+        }
         Ok(partners)
     }
 
@@ -56,25 +55,26 @@ impl Chains {
         partners_of(alloc, self.sorted_rows(alloc, side, against, join)?)
     }
 
-    /// Finds the settled rows of a key that join with a row of the other stream, from the last place on that is known of the key.
+    /// Puts the settled rows of a key that join with a row of the other stream into an empty list of partners, from the last place on
+    /// that is known of the key. After an error some of them may be there.
     // Called, so that a probe of a key that has no row stays short.
     #[inline(never)]
     fn walk<J: Join<SharedRow>>(
         &self,
-        alloc: Global,
         key: u64,
         last: u64,
         side: Side,
         against: &SharedRow,
         join: &J,
-    ) -> Result<Partners<SharedRow>, Memory>
+        found: &mut Partners<SharedRow>,
+    ) -> Result<(), Memory>
         requires chained { AreChained self.now }
         requires ascending { self.now.is_ascending ≡ true }
         requires key { (row : List Field) → joins (J.predicate join.now) side row against.now ≡ true → key_at self.now.own row ≡ Some key }
         requires last { last ≡ known_place (get nat_eq self.now.last key) }
-        ensures { IfOk result (λ found. reverse found ≡ settled_matches (J.predicate join.now) side against.now (rows_in self.now)) }
+        requires empty { found.old ≡ [] }
+        ensures { OnOk result (found.new ≡ settled_matches (J.predicate join.now) side against.now (rows_in self.now)) }
     {
-        let mut found = Partners::new(alloc);
         let mut next = last;
         while let Some(place) = self.place(next) {
             next = place.before;
@@ -85,7 +85,8 @@ impl Chains {
                 })?;
             }
         }
-        Ok(found)
+        found.reverse();
+        Ok(())
     }
 
     /// Finds the settled rows that join with a row of the other stream, by their numbers, whatever the order in which they stand.
