@@ -6,11 +6,13 @@ ghost use Rattle.hj_msg.specs.declared.message.Msg.TheVariants.{R as LeftRow, S 
 ghost use Rattle.hj_core.specs.Ready.{IsReady};
 ghost use Rattle.hj_core.specs.Sent.{passed_on};
 
-use crate::at_home::{keep_at_home, remove_at_home, rest_at_home, settle_at_home, share_at_home};
+mod preparing;
+
+use crate::at_home::{keep_at_home, remove_at_home, settle_at_home};
 use crate::cores::Homes;
 use crate::flight::Flight;
 use crate::sends::when;
-use crate::{Prepared, Sends, Way};
+use crate::{Sends, Way};
 use hj_base::{CoreNo, EventNo, Memory, Share, Side};
 use hj_msg::{Join, Msg, Report, Store};
 use std::alloc::Global;
@@ -51,7 +53,6 @@ impl<P: Share + Drop, J: Join<P> + Drop, L: Store<P, J> + Drop, R: Store<P, J> +
     R,
 > {
     ghost use Rattle.hj_core.specs.Contents.{Contents, KeepsPlace, Suits, state_of};
-    ghost use Rattle.hj_core.specs.Prepared.{IsPrepared};
     ghost use Rattle.hj_core.specs.Sent.{sent};
 
     /// Makes the core of this place among `cores`, which are at most 64, over two empty stores.
@@ -83,36 +84,6 @@ impl<P: Share + Drop, J: Join<P> + Drop, L: Store<P, J> + Drop, R: Store<P, J> +
             place,
             homes: Homes::new(cores),
         }
-    }
-
-    /// Takes all memory that a message needs, and finds the partners of its row. What the core holds stays the same.
-    #[inline(always)]
-    pub fn prepare(&mut self, msg: &Msg<P>) -> Result<Prepared<P>, Memory>
-        ensures state { state_of L.entries R.entries self.new ≡ state_of L.entries R.entries self.old }
-        ensures kept { KeepsPlace self.old self.new }
-        ensures prepared { IfOk result (IsPrepared (J.predicate self.new.join) self.new.place self.new.cores (state_of L.entries R.entries self.new)
-            (L.has_place self.new.left) (R.has_place self.new.right) self.new.flight.room msg.now) }
-    {
-        match msg {
-            Msg::R { no, row } => self.prepare_left(*no, row),
-            Msg::S { no, row } => self.prepare_right(*no, row),
-            _ => Ok(Prepared::PassedOn),
-        }
-    }
-
-    /// Handles a message for which `prepared` was made, with no other one prepared or handled in between. Takes no
-    /// memory.
-    #[inline(always)]
-    pub fn commit(&mut self, msg: Msg<P>, prepared: Prepared<P>) -> Sends<P>
-        requires { IsPrepared (J.predicate self.old.join) self.old.place self.old.cores (state_of L.entries R.entries self.old)
-            (L.has_place self.old.left) (R.has_place self.old.right) self.old.flight.room msg prepared }
-        ensures state { state_of L.entries R.entries self.new ≡ after self.old.place self.old.cores (state_of L.entries R.entries self.old) msg }
-        ensures sends { sent result ≡ sends self.old.place self.old.cores msg }
-        ensures report { result.entry ≡ report (J.predicate self.old.join) (state_of L.entries R.entries self.old) msg }
-        ensures kept { KeepsPlace self.old self.new }
-    {
-        let entry = self.keep_prepared(&msg, prepared);
-        self.answer(msg, entry)
     }
 
     /// Makes what this core sends for a message, with what it reports of it.
@@ -353,122 +324,6 @@ impl<P: Share + Drop, J: Join<P> + Drop, L: Store<P, J> + Drop, R: Store<P, J> +
             row: reported,
             partners,
         })
-    }
-
-    #[inline(always)]
-    fn prepare_left(&mut self, no: EventNo, row: &P) -> Result<Prepared<P>, Memory>
-        ensures state { state_of L.entries R.entries self.new ≡ state_of L.entries R.entries self.old }
-        ensures kept { KeepsPlace self.old self.new }
-        ensures prepared { IfOk result (IsPrepared (J.predicate self.new.join) self.new.place self.new.cores (state_of L.entries R.entries self.new)
-            (L.has_place self.new.left) (R.has_place self.new.right) self.new.flight.room (LeftRow no row.now)) }
-    {
-        let mut found = self.right.probe(Side::Right, row, &self.join)?;
-        self.flight.add_partners(row, &self.join, &mut found)?;
-        let home = self.is_home(no);
-        Ok(Prepared::Arrival {
-            partners: found,
-            resting: share_at_home::<P, J, L>(&mut self.left, home, no, row)?,
-            reported: row.share()?,
-            flying: None,
-        })
-    }
-
-    #[inline(always)]
-    fn prepare_right(&mut self, no: EventNo, row: &P) -> Result<Prepared<P>, Memory>
-        ensures state { state_of L.entries R.entries self.new ≡ state_of L.entries R.entries self.old }
-        ensures kept { KeepsPlace self.old self.new }
-        ensures prepared { IfOk result (IsPrepared (J.predicate self.new.join) self.new.place self.new.cores (state_of L.entries R.entries self.new)
-            (L.has_place self.new.left) (R.has_place self.new.right) self.new.flight.room (RightRow no row.now)) }
-    {
-        let partners = self.left.probe(Side::Left, row, &self.join)?;
-        let home = self.is_home(no);
-        let first = self.is_first();
-        Ok(Prepared::Arrival {
-            partners,
-            resting: share_at_home::<P, J, R>(&mut self.right, home, no, row)?,
-            flying: share_in_flight(&mut self.flight, first, row)?,
-            reported: row.share()?,
-        })
-    }
-
-    /// Handles a message for which `prepared` was made, and returns what is to be reported. The message isn't sent on.
-    #[inline(always)]
-    fn keep_prepared(&mut self, msg: &Msg<P>, prepared: Prepared<P>) -> Option<Report<P>>
-        requires { IsPrepared (J.predicate self.old.join) self.old.place self.old.cores (state_of L.entries R.entries self.old)
-            (L.has_place self.old.left) (R.has_place self.old.right) self.old.flight.room msg.now prepared }
-        ensures state { state_of L.entries R.entries self.new ≡ after self.old.place self.old.cores (state_of L.entries R.entries self.old) msg.now }
-        ensures report { result ≡ report (J.predicate self.old.join) (state_of L.entries R.entries self.old) msg.now }
-        ensures kept { KeepsPlace self.old self.new }
-    {
-        match msg {
-            Msg::R { no, row } => return Some(self.commit_left(*no, row, prepared)),
-            Msg::S { no, row } => return Some(self.commit_right(*no, row, prepared)),
-            Msg::EndR(no) => self.settle_left(*no),
-            Msg::EndS(no) => self.settle_right(*no),
-            Msg::ExpR(no) => self.remove_left(*no),
-            Msg::ExpS(no) => self.remove_right(*no),
-            Msg::AckS(no) => self.flight.acknowledge(*no),
-            Msg::QuietL(no) => return Some(quiet(*no, Side::Left)),
-            Msg::QuietR(no) => return Some(quiet(*no, Side::Right)),
-            Msg::CloseL => return self.close_left(),
-            Msg::CloseR => return self.close_right(),
-        }
-        None
-    }
-
-    #[inline(always)]
-    fn commit_left(&mut self, no: EventNo, _row: &P, prepared: Prepared<P>) -> Report<P>
-        requires { IsPrepared (J.predicate self.old.join) self.old.place self.old.cores (state_of L.entries R.entries self.old)
-            (L.has_place self.old.left) (R.has_place self.old.right) self.old.flight.room (LeftRow no _row.now) prepared }
-        ensures state { state_of L.entries R.entries self.new ≡ after self.old.place self.old.cores (state_of L.entries R.entries self.old) (LeftRow no _row.now) }
-        ensures report { Some result ≡ report (J.predicate self.old.join) (state_of L.entries R.entries self.old) (LeftRow no _row.now) }
-        ensures kept { KeepsPlace self.old self.new }
-    {
-        let Prepared::Arrival {
-            partners,
-            reported,
-            resting,
-            flying: _,
-        } = prepared
-        else {
-            unreachable!()
-        };
-        let last = self.is_last();
-        rest_at_home::<P, J, L>(&mut self.left, no, resting, last);
-        Report::Handled {
-            no,
-            side: Side::Left,
-            row: reported,
-            partners,
-        }
-    }
-
-    #[inline(always)]
-    fn commit_right(&mut self, no: EventNo, _row: &P, prepared: Prepared<P>) -> Report<P>
-        requires { IsPrepared (J.predicate self.old.join) self.old.place self.old.cores (state_of L.entries R.entries self.old)
-            (L.has_place self.old.left) (R.has_place self.old.right) self.old.flight.room (RightRow no _row.now) prepared }
-        ensures state { state_of L.entries R.entries self.new ≡ after self.old.place self.old.cores (state_of L.entries R.entries self.old) (RightRow no _row.now) }
-        ensures report { Some result ≡ report (J.predicate self.old.join) (state_of L.entries R.entries self.old) (RightRow no _row.now) }
-        ensures kept { KeepsPlace self.old self.new }
-    {
-        let Prepared::Arrival {
-            partners,
-            reported,
-            resting,
-            flying,
-        } = prepared
-        else {
-            unreachable!()
-        };
-        let first = self.is_first();
-        rest_at_home::<P, J, R>(&mut self.right, no, resting, first);
-        keep_in_flight(&mut self.flight, no, flying);
-        Report::Handled {
-            no,
-            side: Side::Right,
-            row: reported,
-            partners,
-        }
     }
 }
 

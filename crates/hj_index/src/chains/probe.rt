@@ -32,12 +32,33 @@ impl Chains {
         if !self.is_ascending {
             return self.probe_sorted(alloc, side, against, join);
         }
-        let last = self.last_of(key);
         let mut partners = Partners::new(alloc);
-        if self.place(last).is_some() {
-            self.walk(key, last, side, against, join, &mut partners)?;
-        }
+        self.gather(key, side, against, join, &mut partners)?;
         Ok(partners)
+    }
+
+    /// Puts the settled rows of a key that join with a row of the other stream into an empty list of partners. After an error some of
+    /// them may be there.
+    #[inline(always)]
+    fn gather<J: Join<SharedRow>>(
+        &self,
+        key: u64,
+        side: Side,
+        against: &SharedRow,
+        join: &J,
+        found: &mut Partners<SharedRow>,
+    ) -> Result<(), Memory>
+        requires chained { AreChained self.now }
+        requires ascending { self.now.is_ascending ≡ true }
+        requires key { (row : List Field) → joins (J.predicate join.now) side row against.now ≡ true → key_at self.now.own row ≡ Some key }
+        requires empty { found.old ≡ [] }
+        ensures { OnOk result (found.new ≡ settled_matches (J.predicate join.now) side against.now (rows_in self.now)) }
+    {
+        let last = self.last_of(key);
+        let Some(_place) = self.place(last) else {
+            return Ok(());
+        };
+        self.walk(key, last, side, against, join, found)
     }
 
     /// Finds the same, whatever the order in which the rows stand.

@@ -8,7 +8,7 @@ pub loop-place-init : goal.loop-place-init
 loop-place-init g c =
     let s = c.args.self.now in
     walk-starts (λ row. joins (g.J.Join.predicate c.args.join.now) c.args.side row c.args.against.now) s.own c.args.key s.base s.places.items (get nat_eq s.last) c.requires.key c.requires.chained.nearly.linked
-    c.new-found.result c.args.last c.new-found.ensures c.requires.last
+    c.args.found.now c.args.last c.requires.empty c.requires.last
 
 pub loop-place-smaller-in_ok-push : goal.loop-place-smaller-in_ok-push
 loop-place-smaller-in_ok-push g c =
@@ -38,6 +38,7 @@ loop-place-preserved g c =
 pub returns : goal.returns
 returns g c =
     let s = c.args.self.now in
-    walk-ends (λ row. joins (g.J.Join.predicate c.args.join.now) c.args.side row c.args.against.now) s.own c.args.key s.base s.places.items (get nat_eq s.last) c.requires.key c.requires.chained.nearly.linked
+    c.reverse.ensures
+    ∙ walk-ends (λ row. joins (g.J.Join.predicate c.args.join.now) c.args.side row c.args.against.now) s.own c.args.key s.base s.places.items (get nat_eq s.last) c.requires.key c.requires.chained.nearly.linked
     c.loop-place.found c.loop-place.next c.loop-place.invariant (sym c.in_default.ensures)
     ∙ sym (matches-sorted (λ row. joins (g.J.Join.predicate c.args.join.now) c.args.side row c.args.against.now) s.places.items (c.requires.chained.nearly.ascending c.requires.ascending))
