@@ -19,7 +19,7 @@ use Rattle.hj_msg.specs.Run.{IsComplete, IsRun, LogEntry, Run}
 use Rattle.hj_msg.specs.Turns.{Turns, TakesTurns}
 use Rattle.hj_collect.specs.Collector.{CollectorState}
 use Rattle.hj_collect.specs.StandsFor as collect
-use Rattle.hj_link.specs.Seen.{EndSeen, LinkSeen, SenderSeen, WaySeen, link_of, one_way_of}
+use Rattle.hj_link.specs.Seen.{EndSeen, LinkSeen, WaySeen, link_of, one_way_of}
 use Rattle.hj_raw.specs.Items.{Taken, lists_of}
 use Rattle.hj_desk.specs.declared.desk.Desk.{Desk}
 use Rattle.hj_desk.specs.Caller.{last_answer}
@@ -42,7 +42,7 @@ pub record TurnsOf {P : Type 0} (matches : P → P → Bool) (place n : ℕ) (le
   pub takes : TakesTurns matches place n turns left right reports
   pub uncut : Contains (puts reports) Ended → turns.cut ≡ None
 
-module _ {P : Type 0} (matches : P → P → Bool) (desk : Desk P) (lefts rights : List (EndSeen (Msg P))) (senders : List (SenderSeen (Report P))) (chain : FormChain desk lefts rights senders) where
+module _ {P : Type 0} (matches : P → P → Bool) (desk : Desk P) (lefts rights : List (EndSeen (Msg P))) (senders : List (EndSeen (Report P))) (chain : FormChain desk lefts rights senders) where
   -- what is seen of the cores
   abbrev pub workers_of : Workers P
   workers_of = record {
@@ -162,7 +162,7 @@ module _ {P : Type 0} (matches : P → P → Bool) (desk : Desk P) (lefts rights
 -- Where a desk stands for what a feed answered and the reports that it took, what its outlet gave of them is known, and what it and the
 -- cores had is closed, that is what a crew did.
 module _ {P F O : Type 0} (gives : F → Given P → F → Type 0) (state : F → FeedState) (gave : O → ℕ → List (Taken P) → Bool → Drained → O → Type 0) (rests : O → CollectorState → Type 0) (matches : P → P → Bool) (desk : Desk P)
-    (lefts rights : List (EndSeen (Msg P))) (senders : List (SenderSeen (Report P))) (chain : FormChain desk lefts rights senders) (from to : F) (begun now : O) (answers : List (Given P))
+    (lefts rights : List (EndSeen (Msg P))) (senders : List (EndSeen (Report P))) (chain : FormChain desk lefts rights senders) (from to : F) (begun now : O) (answers : List (Given P))
     (feed : GoesOverAnswers gives from answers to) (log : List (LogEntry P)) (taken : List (Taken P)) (stood : StandsFor desk (state to) (record { log = log; events = events_in answers; taken = taken }))
     (some : 1 ≤ cores_of desk) (ended_so : Fin) (given : gave begun (cores_of desk) [] false Kept begun → gave begun (cores_of desk) taken desk.over (last_answer ended_so) now)
     (so : ended_so ≡ fin.Done → IsDone desk × rests now desk.collector)

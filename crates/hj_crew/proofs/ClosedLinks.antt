@@ -5,7 +5,7 @@ use Rattle.std.proofs.lemmas.List.{get_or-map}
 use Rattle.std.proofs.lemmas.Slice.Zip.{AllZip-long}
 use Rattle.hj_base.specs.Journals.{Entry, takes}
 use Rattle.hj_base.specs.Link.{Agrees, AgreesOneWay, Link, OneWay}
-use Rattle.hj_link.specs.Seen.{EndSeen, ReceiverSeen, SenderSeen, LinkSeen, WaySeen, closed, closed_way, link_of, one_way_of}
+use Rattle.hj_link.specs.Seen.{EndSeen, LinkSeen, WaySeen, closed, closed_way, link_of, one_way_of}
 use Rattle.hj_crew.specs.Links.{AreLinked, AreQueues, closed_links, closed_queues}
 
 -- ---- closed links and queues, place by place
@@ -14,24 +14,24 @@ module _ {M : Type 0} where
   abbrev pub end_journal : EndSeen M → List (Entry M)
   end_journal end = end.journal
 
-  abbrev pub sender_journal : SenderSeen M → List (Entry M)
+  abbrev pub sender_journal : EndSeen M → List (Entry M)
   sender_journal sender = sender.journal
 
-  abbrev pub receiver_journal : ReceiverSeen M → List (Entry M)
+  abbrev pub receiver_journal : EndSeen M → List (Entry M)
   receiver_journal receiver = receiver.journal
 
   pub length-linked : (left right : List (EndSeen M)) → AreLinked left right → length right ≡ length left
   length-linked left right linked = AllZip-long (λ (l r : EndSeen M). l.link ≡ r.link) left right linked
 
-  pub length-queued : (senders : List (SenderSeen M)) (receivers : List (ReceiverSeen M)) → AreQueues senders receivers → length receivers ≡ length senders
-  length-queued senders receivers queued = AllZip-long (λ (s : SenderSeen M) (r : ReceiverSeen M). s.link ≡ r.link) senders receivers queued
+  pub length-queued : (senders : List (EndSeen M)) (receivers : List (EndSeen M)) → AreQueues senders receivers → length receivers ≡ length senders
+  length-queued senders receivers queued = AllZip-long (λ (s : EndSeen M) (r : EndSeen M). s.link ≡ r.link) senders receivers queued
 
   pub length-closed_links : (left right : List (EndSeen M)) → AreLinked left right → length (closed_links left right) ≡ length left
   length-closed_links [] right linked = refl
   length-closed_links (l ∷ left) [] linked = absurd linked
   length-closed_links (l ∷ left) (r ∷ right) linked = ap suc (length-closed_links left right linked.1)
 
-  pub length-closed_queues : (senders : List (SenderSeen M)) (receivers : List (ReceiverSeen M)) → AreQueues senders receivers → length (closed_queues senders receivers) ≡ length senders
+  pub length-closed_queues : (senders : List (EndSeen M)) (receivers : List (EndSeen M)) → AreQueues senders receivers → length (closed_queues senders receivers) ≡ length senders
   length-closed_queues [] receivers queued = refl
   length-closed_queues (s ∷ senders) [] queued = absurd queued
   length-closed_queues (s ∷ senders) (r ∷ receivers) queued = ap suc (length-closed_queues senders receivers queued.1)
@@ -44,7 +44,7 @@ module _ {M : Type 0} where
   link-closed (l ∷ left) (r ∷ right) linked zero = refl
   link-closed (l ∷ left) (r ∷ right) linked (suc k) = link-closed left right linked.1 k
 
-  pub queue-closed : (senders : List (SenderSeen M)) (receivers : List (ReceiverSeen M)) → AreQueues senders receivers → (k : ℕ)
+  pub queue-closed : (senders : List (EndSeen M)) (receivers : List (EndSeen M)) → AreQueues senders receivers → (k : ℕ)
       → get_or (map (λ queue. queue.way) (closed_queues senders receivers)) k (one_way_of [] []) ≡ one_way_of (get_or (map sender_journal senders) k []) (get_or (map receiver_journal receivers) k [])
   queue-closed [] [] queued k = refl
   queue-closed [] (r ∷ receivers) queued k = absurd queued
@@ -53,14 +53,14 @@ module _ {M : Type 0} where
   queue-closed (s ∷ senders) (r ∷ receivers) queued (suc k) = queue-closed senders receivers queued.1 k
 
   -- what was taken is what the receivers took
-  pub receivers-closed : (senders : List (SenderSeen M)) (receivers : List (ReceiverSeen M)) → AreQueues senders receivers
+  pub receivers-closed : (senders : List (EndSeen M)) (receivers : List (EndSeen M)) → AreQueues senders receivers
       → map (λ queue. queue.way.receiver) (closed_queues senders receivers) ≡ map (λ receiver. receiver.journal) receivers
   receivers-closed [] [] queued = refl
   receivers-closed [] (r ∷ receivers) queued = absurd queued
   receivers-closed (s ∷ senders) [] queued = absurd queued
   receivers-closed (s ∷ senders) (r ∷ receivers) queued = ap (λ l. r.journal ∷ l) (receivers-closed senders receivers queued.1)
 
-  pub takes-closed : (senders : List (SenderSeen M)) (receivers : List (ReceiverSeen M)) → AreQueues senders receivers
+  pub takes-closed : (senders : List (EndSeen M)) (receivers : List (EndSeen M)) → AreQueues senders receivers
       → map (λ queue. takes queue.way.receiver) (closed_queues senders receivers) ≡ map (λ receiver. takes receiver.journal) receivers
   takes-closed [] [] queued = refl
   takes-closed [] (r ∷ receivers) queued = absurd queued
@@ -75,7 +75,7 @@ module _ {M : Type 0} where
   capacity-closed capacity (l ∷ left) (r ∷ right) all zero d low = all 0 l (omega arith)
   capacity-closed capacity (l ∷ left) (r ∷ right) all (suc k) d low = capacity-closed capacity left right (λ j e less. all (suc j) e (omega (arith, less))) k d (omega (arith, low))
 
-  capacity-closed_queues : (capacity : ℕ) (senders : List (SenderSeen M)) (receivers : List (ReceiverSeen M)) → All (λ sender. sender.capacity ≡ capacity) senders → (k : ℕ) (d : WaySeen M)
+  capacity-closed_queues : (capacity : ℕ) (senders : List (EndSeen M)) (receivers : List (EndSeen M)) → All (λ sender. sender.capacity ≡ capacity) senders → (k : ℕ) (d : WaySeen M)
       → k < length (closed_queues senders receivers) → (get_or (closed_queues senders receivers) k d).capacity ≡ capacity
   capacity-closed_queues capacity [] receivers all k d low = absurd (omega (arith, low))
   capacity-closed_queues capacity (s ∷ senders) [] all k d low = absurd (omega (arith, low))
@@ -90,7 +90,7 @@ module _ {M : Type 0} where
       subst (λ (l : Link M). Agrees capacity l) (sym (get_or-map (λ (link : LinkSeen M). link.link) (closed_links left right) k d (link_of [] []) low))
       (subst (λ c. Agrees c (get_or (closed_links left right) k d).link) (capacity-closed capacity left right are k d low) (all k d low))
 
-  pub agrees-at_queue : (capacity : ℕ) (senders : List (SenderSeen M)) (receivers : List (ReceiverSeen M)) → All (λ sender. sender.capacity ≡ capacity) senders
+  pub agrees-at_queue : (capacity : ℕ) (senders : List (EndSeen M)) (receivers : List (EndSeen M)) → All (λ sender. sender.capacity ≡ capacity) senders
       → All (λ queue. AgreesOneWay queue.capacity queue.way) (closed_queues senders receivers) → (k : ℕ) → k < length (closed_queues senders receivers)
       → AgreesOneWay capacity (get_or (map (λ queue. queue.way) (closed_queues senders receivers)) k (one_way_of [] []))
   agrees-at_queue capacity senders receivers are all k low =

@@ -8,7 +8,7 @@ use Rattle.hj_msg.specs.declared.message.Msg.{Msg}
 use Rattle.hj_msg.specs.declared.message.Report.{Report}
 use Rattle.hj_msg.specs.declared.message.Report.TheVariants.{Ended}
 use Rattle.hj_msg.specs.Turns.{Turns, TakesTurns}
-use Rattle.hj_link.specs.Seen.{EndSeen, ReceiverSeen, SenderSeen}
+use Rattle.hj_link.specs.Seen.{EndSeen}
 use Rattle.hj_worker.specs.Hands.{unput}
 use Rattle.hj_worker.specs.Seen.{WorkerSeen}
 use Rattle.hj_desk.specs.declared.desk.Desk.{Desk}
@@ -19,19 +19,19 @@ use Rattle.hj_crew.specs.Links.{AreLinked, AreQueues, closed_links, closed_queue
 use Rattle.hj_crew.specs.Ran.{RanSeen}
 
 -- what a worker's parts say of it
-pub its_turns : {P J : Type 0} (predicate : J → P → P → Bool) (worker : WorkerSeen P J) (left right : EndSeen (Msg P)) (reports : SenderSeen (Report P)) → left ≡ worker.ends.left → right ≡ worker.ends.right → reports ≡ worker.ends.reports
+pub its_turns : {P J : Type 0} (predicate : J → P → P → Bool) (worker : WorkerSeen P J) (left right : EndSeen (Msg P)) (reports : EndSeen (Report P)) → left ≡ worker.ends.left → right ≡ worker.ends.right → reports ≡ worker.ends.reports
     → (turns : Turns P) × TakesTurns (predicate worker.join) worker.place worker.cores turns left.journal right.journal reports.journal × (worker.hand ≡ unput [] ↔ turns.cut ≡ None)
     → (Contains (puts reports.journal) Ended → worker.hand ≡ unput []) → TakesItsTurns predicate worker
 its_turns {P} predicate worker left right reports at_left at_right of_reports took ended = (
   took.0,
   subst (λ (l : EndSeen (Msg P)). TakesTurns (predicate worker.join) worker.place worker.cores took.0 l.journal worker.ends.right.journal worker.ends.reports.journal) at_left
       (subst (λ (r : EndSeen (Msg P)). TakesTurns (predicate worker.join) worker.place worker.cores took.0 left.journal r.journal worker.ends.reports.journal) at_right
-      (subst (λ (s : SenderSeen (Report P)). TakesTurns (predicate worker.join) worker.place worker.cores took.0 left.journal right.journal s.journal) of_reports took.1)),
-  λ put. took.2.0 (ended (subst (λ (s : SenderSeen (Report P)). Contains (puts s.journal) Ended) (sym of_reports) put)),
+      (subst (λ (s : EndSeen (Report P)). TakesTurns (predicate worker.join) worker.place worker.cores took.0 left.journal right.journal s.journal) of_reports took.1)),
+  λ put. took.2.0 (ended (subst (λ (s : EndSeen (Report P)). Contains (puts s.journal) Ended) (sym of_reports) put)),
 )
 
 -- All workers but these handed in their ends, behind the first left end.
-pub record HandedIn {P J : Type 0} (predicate : J → P → P → Bool) (all others : List (WorkerSeen P J)) (first : EndSeen (Msg P)) (receivers : List (ReceiverSeen (Report P))) (ends : ChainEnds P) : Type 0 where
+pub record HandedIn {P J : Type 0} (predicate : J → P → P → Bool) (all others : List (WorkerSeen P J)) (first : EndSeen (Msg P)) (receivers : List (EndSeen (Report P))) (ends : ChainEnds P) : Type 0 where
   pub done : List (WorkerSeen P J)
   pub are : all ≡ done ++ others
   pub left : ends.left.items ≡ first ∷ right_of done
@@ -40,7 +40,7 @@ pub record HandedIn {P J : Type 0} (predicate : J → P → P → Bool) (all oth
   pub receivers_are : ends.receivers.items ≡ receivers
   pub turns : All (TakesItsTurns predicate) done
 
-module _ {P J : Type 0} (predicate : J → P → P → Bool) (all : List (WorkerSeen P J)) (first : EndSeen (Msg P)) (receivers : List (ReceiverSeen (Report P))) where
+module _ {P J : Type 0} (predicate : J → P → P → Bool) (all : List (WorkerSeen P J)) (first : EndSeen (Msg P)) (receivers : List (EndSeen (Report P))) where
   pub none-handed_in : (others : List (WorkerSeen P J)) (ends : ChainEnds P) → others ≡ all → ends.left.items ≡ first ∷ [] → ends.right.items ≡ [] → ends.senders.items ≡ [] → ends.receivers.items ≡ receivers
       → HandedIn predicate all others first receivers ends
   none-handed_in others ends are left right senders same = record { done = []; are = sym are; left = left; right = right; senders = senders; receivers_are = same; turns = All-nil (TakesItsTurns predicate) }
@@ -54,7 +54,7 @@ module _ {P J : Type 0} (predicate : J → P → P → Bool) (all : List (Worker
         takes.left ∙ ap (λ (l : List (EndSeen (Msg P))). l ++ worker.ends.right ∷ []) handed.left
         ∙ ap (λ (l : List (EndSeen (Msg P))). first ∷ l) (sym (map-append (λ (w : WorkerSeen P J). w.ends.right) handed.done (worker ∷ [])));
     right = takes.right ∙ ap (λ (l : List (EndSeen (Msg P))). l ++ worker.ends.left ∷ []) handed.right ∙ sym (map-append (λ (w : WorkerSeen P J). w.ends.left) handed.done (worker ∷ []));
-    senders = takes.senders ∙ ap (λ (l : List (SenderSeen (Report P))). l ++ worker.ends.reports ∷ []) handed.senders ∙ sym (map-append (λ (w : WorkerSeen P J). w.ends.reports) handed.done (worker ∷ []));
+    senders = takes.senders ∙ ap (λ (l : List (EndSeen (Report P))). l ++ worker.ends.reports ∷ []) handed.senders ∙ sym (map-append (λ (w : WorkerSeen P J). w.ends.reports) handed.done (worker ∷ []));
     receivers_are = ap (λ receivers_of. receivers_of.items) takes.receivers ∙ handed.receivers_are;
     turns = All-push (TakesItsTurns predicate) handed.done worker handed.turns turned;
   }
@@ -101,14 +101,14 @@ module _ {P J : Type 0} (predicate : J → P → P → Bool) (desk : Desk P) (wo
 
     pub all-queued : FormChain desk (left_of workers) (right_of workers) (reports_of workers) → AreQueues ends.senders.items ends.receivers.items
     all-queued chain =
-        subst (λ (s : List (SenderSeen (Report P))). AreQueues s ends.receivers.items) (sym all.senders)
-        (subst (λ (r : List (ReceiverSeen (Report P))). AreQueues (reports_of workers) r) (sym all.receivers_are) chain.queues)
+        subst (λ (s : List (EndSeen (Report P))). AreQueues s ends.receivers.items) (sym all.senders)
+        (subst (λ (r : List (EndSeen (Report P))). AreQueues (reports_of workers) r) (sym all.receivers_are) chain.queues)
 
     pub all-closed : (ran : RanSeen P) → ran.links ≡ closed_links ends.left.items right → ran.queues ≡ closed_queues ends.senders.items ends.receivers.items → All (λ link. Agrees link.capacity link.link) ran.links
         → All (λ queue. AgreesOneWay queue.capacity queue.way) ran.queues → AreClosed predicate desk workers ran
     all-closed ran links queues links_agree queues_agree = record {
       links = links ∙ ap₂ (λ (l r : List (EndSeen (Msg P))). closed_links l r) all.left all_right;
-      queues = queues ∙ ap₂ (λ (s : List (SenderSeen (Report P))) (r : List (ReceiverSeen (Report P))). closed_queues s r) all.senders all.receivers_are;
+      queues = queues ∙ ap₂ (λ (s : List (EndSeen (Report P))) (r : List (EndSeen (Report P))). closed_queues s r) all.senders all.receivers_are;
       links_agree = links_agree;
       queues_agree = queues_agree;
       turns = all.turns;

@@ -4,7 +4,7 @@ use Rattle.std.proofs.Math.Nat.{mul-div_cancel_left}
 use Rattle.std.proofs.lemmas.List.{get_or_append_left, get_or_at, length-map, length-replicate, take_all}
 use Rattle.hj_msg.specs.declared.message.Msg.{Msg}
 use Rattle.hj_msg.specs.declared.message.Report.{Report}
-use Rattle.hj_link.specs.Seen.{EndSeen, SenderSeen}
+use Rattle.hj_link.specs.Seen.{EndSeen}
 use Rattle.hj_worker.specs.Seen.{WorkerSeen}
 use Rattle.hj_crew.specs.declared.ends.ChainEnds.{ChainEnds}
 use Rattle.hj_crew.specs.declared.team.Team.{Team}
@@ -27,7 +27,7 @@ module _ {P J : Type 0} (workers : List (WorkerSeen P J)) (old new : ChainEnds P
   unused-left unused = record {
     left = all-front (λ (end : EndSeen (Msg P)). end.journal ≡ []) old.left.items new.left.items (right_of workers) given.left unused.left;
     right = all-front (λ (end : EndSeen (Msg P)). end.journal ≡ []) old.right.items new.right.items (left_of workers) given.right unused.right;
-    senders = all-front (λ (sender : SenderSeen (Report P)). sender.journal ≡ []) old.senders.items new.senders.items (reports_of workers) given.senders unused.senders;
+    senders = all-front (λ (sender : EndSeen (Report P)). sender.journal ≡ []) old.senders.items new.senders.items (reports_of workers) given.senders unused.senders;
   }
 
   pub ends-left : (before after : ℕ) → before ≡ after + length workers → AreEndsFor before old → AreEndsFor after new
@@ -42,7 +42,7 @@ gives-more : {P J : Type 0} (worker : WorkerSeen P J) (workers : List (WorkerSee
 gives-more {P} worker workers first old new before given = record {
   left = before.left ∙ ap (λ (l : List (EndSeen (Msg P))). l ++ right_of workers) given.left ∙ append_assoc new.left.items (worker.ends.right ∷ []) (right_of workers);
   right = before.right ∙ ap (λ (l : List (EndSeen (Msg P))). l ++ left_of workers) given.right ∙ append_assoc new.right.items (worker.ends.left ∷ []) (left_of workers);
-  senders = before.senders ∙ ap (λ (l : List (SenderSeen (Report P))). l ++ reports_of workers) given.senders ∙ append_assoc new.senders.items (worker.ends.reports ∷ []) (reports_of workers);
+  senders = before.senders ∙ ap (λ (l : List (EndSeen (Report P))). l ++ reports_of workers) given.senders ∙ append_assoc new.senders.items (worker.ends.reports ∷ []) (reports_of workers);
   receivers = given.receivers ∙ before.receivers;
 }
 

@@ -3,7 +3,7 @@ use Rattle.std.proofs.Common.{◌≡◌, ℕ, ◌+◌, ◌*◌, List, [], ◌∷
 use Rattle.std.proofs.lemmas.List.{length-map}
 use Rattle.hj_msg.specs.declared.message.Msg.{Msg}
 use Rattle.hj_msg.specs.declared.message.Report.{Report}
-use Rattle.hj_link.specs.Seen.{EndSeen, ReceiverSeen, SenderSeen}
+use Rattle.hj_link.specs.Seen.{EndSeen}
 use Rattle.hj_worker.specs.Seen.{WorkerSeen}
 use Rattle.hj_desk.specs.declared.desk.Desk.{Desk}
 use Rattle.hj_crew.specs.declared.ends.ChainEnds.{ChainEnds}
@@ -40,7 +40,7 @@ module _ {P : Type 0} (cores capacity : ℕ) (ends others : ChainEnds P) (last :
   others_unused = record {
     left = subst (λ ends_of. All (λ (end : EndSeen (Msg P)). end.journal ≡ []) ends_of.items) (sym off.left) (λ k d low. (new.left k d low).0);
     right = all-front (λ (end : EndSeen (Msg P)). end.journal ≡ []) ends.right.items others.right.items (last ∷ []) off.right (λ k d low. (new.right k d low).0);
-    senders = subst (λ senders_of. All (λ (sender : SenderSeen (Report P)). sender.journal ≡ []) senders_of.items) (sym off.senders) (λ k d low. (new.senders k d low).0);
+    senders = subst (λ senders_of. All (λ (sender : EndSeen (Report P)). sender.journal ≡ []) senders_of.items) (sym off.senders) (λ k d low. (new.senders k d low).0);
   }
 
   pub last_unused : last.journal ≡ []
@@ -68,7 +68,7 @@ module _ {P : Type 0} (cores capacity : ℕ) (ends others : ChainEnds P) (last :
 
     all_senders : ends.senders.items ≡ reports_of makes.workers
     all_senders =
-        ap (λ senders_of. senders_of.items) (sym off.senders) ∙ makes.ends.senders ∙ ap (λ (l : List (SenderSeen (Report P))). l ++ reports_of makes.workers) (none-of left.senders.items left_over.senders)
+        ap (λ senders_of. senders_of.items) (sym off.senders) ∙ makes.ends.senders ∙ ap (λ (l : List (EndSeen (Report P))). l ++ reports_of makes.workers) (none-of left.senders.items left_over.senders)
 
     receivers : left.receivers ≡ ends.receivers
     receivers = makes.ends.receivers ∙ off.receivers
@@ -76,8 +76,8 @@ module _ {P : Type 0} (cores capacity : ℕ) (ends others : ChainEnds P) (last :
     pub few_receivers : length left.receivers.items ≡ cores
     few_receivers = ap (λ receivers_of. length receivers_of.items) receivers ∙ length-queued ends.senders.items ends.receivers.items new.queued ∙ new.queues
 
-    pub receivers_unused : All (λ (receiver : ReceiverSeen (Report P)). receiver.journal ≡ []) left.receivers.items
-    receivers_unused = subst (λ receivers_of. All (λ (receiver : ReceiverSeen (Report P)). receiver.journal ≡ []) receivers_of.items) (sym receivers) (λ k d low. (new.receivers k d low).0)
+    pub receivers_unused : All (λ (receiver : EndSeen (Report P)). receiver.journal ≡ []) left.receivers.items
+    receivers_unused = subst (λ receivers_of. All (λ (receiver : EndSeen (Report P)). receiver.journal ≡ []) receivers_of.items) (sym receivers) (λ k d low. (new.receivers k d low).0)
 
     pub crew : (in_flight : ℕ) (desk : Desk P) → capacity ≡ 2 * in_flight + 2 → left.left.items ≡ desk.ports.left ∷ [] → desk.ports.right ≡ last → desk.reports ≡ left.receivers → desk.driver.flight ≡ in_flight → AreCrew join cores in_flight desk teams
     crew in_flight desk room at_left at_right reports flight =
@@ -95,11 +95,11 @@ module _ {P : Type 0} (cores capacity : ℕ) (ends others : ChainEnds P) (last :
             links =
                 subst (λ (l : List (EndSeen (Msg P))). AreLinked l (left_of makes.workers ++ desk.ports.right ∷ [])) lefts (subst (λ (l : List (EndSeen (Msg P))). AreLinked ends.left.items l) rights new.linked);
             queues =
-                subst (λ (l : List (SenderSeen (Report P))). AreQueues l desk.reports.items) all_senders (subst (λ (l : List (ReceiverSeen (Report P))). AreQueues ends.senders.items l) queues new.queued);
+                subst (λ (l : List (EndSeen (Report P))). AreQueues l desk.reports.items) all_senders (subst (λ (l : List (EndSeen (Report P))). AreQueues ends.senders.items l) queues new.queued);
             link_capacity =
                 subst (All (λ (end : EndSeen (Msg P)). end.capacity ≡ 2 * desk.driver.flight + 2)) lefts (λ k d low. (new.left k d low).1 ∙ holds);
             queue_capacity =
-                subst (All (λ (sender : SenderSeen (Report P)). sender.capacity ≡ 2 * desk.driver.flight + 2)) all_senders (λ k d low. (new.senders k d low).1 ∙ holds);
+                subst (All (λ (sender : EndSeen (Report P)). sender.capacity ≡ 2 * desk.driver.flight + 2)) all_senders (λ k d low. (new.senders k d low).1 ∙ holds);
           };
           flight = flight;
         }

@@ -6,7 +6,7 @@ use Rattle.hj_msg.specs.declared.message.Msg.{Msg}
 use Rattle.hj_msg.specs.declared.message.Report.{Report}
 use Rattle.hj_msg.specs.declared.message.Report.TheVariants.{Ended}
 use Rattle.hj_msg.specs.Turns.{Turns, TakesTurns}
-use Rattle.hj_link.specs.Seen.{EndSeen, SenderSeen}
+use Rattle.hj_link.specs.Seen.{EndSeen}
 use Rattle.hj_worker.specs.Seen.{WorkerSeen}
 use Rattle.hj_crew.specs.declared.ends.ChainEnds.{ChainEnds}
 use Rattle.hj_crew.specs.declared.team.Team.{Team}
@@ -25,7 +25,7 @@ module _ {P J : Type 0} where
   abbrev pub right_of : List (WorkerSeen P J) → List (EndSeen (Msg P))
   right_of workers = map (λ worker. worker.ends.right) workers
 
-  abbrev pub reports_of : List (WorkerSeen P J) → List (SenderSeen (Report P))
+  abbrev pub reports_of : List (WorkerSeen P J) → List (EndSeen (Report P))
   reports_of workers = map (λ worker. worker.ends.reports) workers
 
   -- They are those of the cores from a place on, each of n cores and with this join.

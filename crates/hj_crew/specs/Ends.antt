@@ -2,7 +2,7 @@
 use Rattle.std.specs.Prelude.{◌≡◌, ℕ, ◌+◌, ◌*◌, List, [], ◌∷◌, ◌++◌, All, length}
 use Rattle.hj_msg.specs.declared.message.Msg.{Msg}
 use Rattle.hj_msg.specs.declared.message.Report.{Report}
-use Rattle.hj_link.specs.Seen.{EndSeen, SenderSeen}
+use Rattle.hj_link.specs.Seen.{EndSeen}
 use Rattle.hj_desk.specs.declared.desk.Desk.{Desk}
 use Rattle.hj_crew.specs.declared.ends.ChainEnds.{ChainEnds}
 use Rattle.hj_crew.specs.Links.{AreLinked, AreQueues}
@@ -20,7 +20,7 @@ pub record AreNew {P : Type 0} (cores capacity : ℕ) (ends : ChainEnds P) : Typ
 
 -- The cores' ends, by their places, make one chain with a desk: its left port is the left end of the first link, and its right
 -- port the right end of the last one.
-pub record FormChain {P : Type 0} (desk : Desk P) (left right : List (EndSeen (Msg P))) (senders : List (SenderSeen (Report P))) : Type 0 where
+pub record FormChain {P : Type 0} (desk : Desk P) (left right : List (EndSeen (Msg P))) (senders : List (EndSeen (Report P))) : Type 0 where
   pub cores : length left ≡ length desk.reports.items
   pub links : AreLinked (desk.ports.left ∷ right) (left ++ desk.ports.right ∷ [])
   pub queues : AreQueues senders desk.reports.items

@@ -27,7 +27,7 @@ use Rattle.hj_collect.specs.StandsFor as collect
 use Rattle.hj_collect.specs.StandsFor.{with_report}
 use Rattle.hj_collect.proofs.Following.{follows}
 use Rattle.hj_order.proofs.Emissions.{met-permutation}
-use Rattle.hj_link.specs.Seen.{ReceiverSeen}
+use Rattle.hj_link.specs.Seen.{EndSeen}
 use Rattle.hj_raw.specs.Items.{Taken, lists_of, with_taken}
 use Rattle.hj_desk.specs.declared.desk.Desk.{Desk}
 use Rattle.hj_desk.specs.Desk.{IsBefore, Gathered, collected, journals_of}
@@ -82,8 +82,8 @@ module _ {P : Type 0} (lists : List (List (Report P))) (core : ℕ) (report : Re
         (met-permutation lists core report low));
   }
 
-module _ {P : Type 0} (receivers : List (ReceiverSeen (Report P))) (core : ℕ) (before after : ReceiverSeen (Report P)) (low : core < length receivers) (was : get_or receivers core before ≡ before) where
-  abbrev taken_in : ReceiverSeen (Report P) → List (Report P)
+module _ {P : Type 0} (receivers : List (EndSeen (Report P))) (core : ℕ) (before after : EndSeen (Report P)) (low : core < length receivers) (was : get_or receivers core before ≡ before) where
+  abbrev taken_in : EndSeen (Report P) → List (Report P)
   taken_in receiver = takes receiver.journal
 
   collected-taken : (turn : ℕ) (report : Report P) → after.journal ≡ before.journal ++ taken turn report ∷ [] → collected (set receivers core after) ≡ with_report core report (collected receivers)
@@ -107,10 +107,10 @@ module _ {P : Type 0} (receivers : List (ReceiverSeen (Report P))) (core : ℕ) 
     entry r = taken r.turn r.report
 
     journals : journals_of (set receivers core after) ≡ set (journals_of receivers) core (before.journal ++ taken number report ∷ [])
-    journals = map-set (λ (r : ReceiverSeen (Report P)). r.journal) receivers core after ∙ ap (set (journals_of receivers) core) grown
+    journals = map-set (λ (r : EndSeen (Report P)). r.journal) receivers core after ∙ ap (set (journals_of receivers) core) grown
 
     at-core : get_or (journals_of receivers) core [] ≡ before.journal
-    at-core = get_or-map (λ (r : ReceiverSeen (Report P)). r.journal) receivers core before [] low ∙ ap (λ (r : ReceiverSeen (Report P)). r.journal) was
+    at-core = get_or-map (λ (r : EndSeen (Report P)). r.journal) receivers core before [] low ∙ ap (λ (r : EndSeen (Report P)). r.journal) was
 
     takes-more : (k : ℕ) → takes_of k (reports ++ one ∷ []) ≡ takes_of k reports ++ takes_of k (one ∷ [])
     takes-more k =
@@ -126,7 +126,7 @@ module _ {P : Type 0} (receivers : List (ReceiverSeen (Report P))) (core : ℕ) 
         elim (eqb_tells core k) [
           | inl w ↦
               ap (λ js. get_or js k []) journals ∙ ap (λ j. get_or (set (journals_of receivers) core journal) j []) (sym w.1)
-              ∙ get_or-set_same (journals_of receivers) core journal [] (omega (arith, low, length-map receivers (λ (r : ReceiverSeen (Report P)). r.journal)))
+              ∙ get_or-set_same (journals_of receivers) core journal [] (omega (arith, low, length-map receivers (λ (r : EndSeen (Report P)). r.journal)))
               ∙ ap (λ l. l ++ taken number report ∷ []) (sym at-core ∙ are.each core ∙ ap (λ j. takes_of j reports) w.1) ∙ behind k true w.0
           | inr w ↦
               ap (λ js. get_or js k []) journals ∙ get_or-set_other (journals_of receivers) core k journal [] (λ e. w.1 (sym e)) ∙ are.each k
@@ -146,12 +146,12 @@ module _ {P : Type 0} (receivers : List (ReceiverSeen (Report P))) (core : ℕ) 
         let lists = collected receivers in
         let many : length lists ≡ length receivers = length-map receivers taken_in in
         let are : collected (set receivers core after) ≡ with_report core report lists = collected-taken number report grown in
-        let one : IsBefore number before.journal = subst (λ (r : ReceiverSeen (Report P)). IsBefore number r.journal) was (old.in_turn core before low) in
+        let one : IsBefore number before.journal = subst (λ (r : EndSeen (Report P)). IsBefore number r.journal) was (old.in_turn core before low) in
         let last : Taken P = record { turn = number; core = core; report = report } in
         record {
           in_turn =
-              All-set (λ (r : ReceiverSeen (Report P)). IsBefore next r.journal) receivers core after (subst (IsBefore next) (sym grown) (before-taken number next is before.journal one report))
-              (All-weaker (λ (r : ReceiverSeen (Report P)). IsBefore number r.journal) (λ (r : ReceiverSeen (Report P)). IsBefore next r.journal) (λ (r : ReceiverSeen (Report P)) b. before-more number next is r.journal b) receivers old.in_turn);
+              All-set (λ (r : EndSeen (Report P)). IsBefore next r.journal) receivers core after (subst (IsBefore next) (sym grown) (before-taken number next is before.journal one report))
+              (All-weaker (λ (r : EndSeen (Report P)). IsBefore number r.journal) (λ (r : EndSeen (Report P)). IsBefore next r.journal) (λ (r : EndSeen (Report P)) b. before-more number next is r.journal b) receivers old.in_turn);
           follows =
               subst (collect.StandsFor (after_report at report collector)) (sym (are ∙ ap (λ k. with_report k report lists) (sym here)))
               (follows at report collector lists (omega (arith, low, here, many, ap length old.follows.left, length-map lists (mark_of Left))) old.follows);
@@ -172,11 +172,11 @@ module _ {P : Type 0} (receivers : List (ReceiverSeen (Report P))) (core : ℕ) 
     collects-none same =
         let are = collected-same same in
         let journals : journals_of (set receivers core after) ≡ journals_of receivers =
-        map-set_same (λ (r : ReceiverSeen (Report P)). r.journal) receivers core after before (same ∙ ap (λ (r : ReceiverSeen (Report P)). r.journal) (sym was)) in
+        map-set_same (λ (r : EndSeen (Report P)). r.journal) receivers core after before (same ∙ ap (λ (r : EndSeen (Report P)). r.journal) (sym was)) in
         record {
           in_turn =
-              All-set (λ (r : ReceiverSeen (Report P)). IsBefore number r.journal) receivers core after
-              (subst (IsBefore number) (sym same) (subst (λ (r : ReceiverSeen (Report P)). IsBefore number r.journal) was (old.in_turn core before low))) old.in_turn;
+              All-set (λ (r : EndSeen (Report P)). IsBefore number r.journal) receivers core after
+              (subst (IsBefore number) (sym same) (subst (λ (r : EndSeen (Report P)). IsBefore number r.journal) was (old.in_turn core before low))) old.in_turn;
           follows = subst (collect.StandsFor collector) (sym are) old.follows;
           are = subst (λ js. AreTaken js reports) (sym journals) old.are;
           before = old.before;
@@ -194,11 +194,11 @@ refused (Err refusal) What bad what = what
 
 -- ---- a whole desk
 
-module _ {P : Type 0} (old : Desk P) (core : CoreNo) (at : ℕ) (here : at ≡ core.0) (before after : ReceiverSeen (Report P)) (low : core.0 < length old.reports.items) (value : before ≡ get_or old.reports.items at before)
+module _ {P : Type 0} (old : Desk P) (core : CoreNo) (at : ℕ) (here : at ≡ core.0) (before after : EndSeen (Report P)) (low : core.0 < length old.reports.items) (value : before ≡ get_or old.reports.items at before)
     (link : after.link ≡ before.link) (capacity : after.capacity ≡ before.capacity) where
   changes : (new : Desk P) → new.reports.items ≡ set old.reports.items at after → ChangesReceiver core before after old new
   changes new is = record {
-    was = ap (slice_get old.reports.items) (sym here) ∙ slice_get-get_or old.reports.items at before (omega (arith, low, here)) ∙ ap (λ (r : ReceiverSeen (Report P)). Some r) (sym value);
+    was = ap (slice_get old.reports.items) (sym here) ∙ slice_get-get_or old.reports.items at before (omega (arith, low, here)) ∙ ap (λ (r : EndSeen (Report P)). Some r) (sym value);
     is = is ∙ ap (λ (k : ℕ). set old.reports.items k after) here;
     link = link;
     capacity = capacity;

@@ -32,7 +32,7 @@ use Rattle.hj_driver.proofs.Logs.{admitted-push}
 use Rattle.hj_driver.proofs.MayClose.{may_close}
 use Rattle.hj_driver.proofs.Standing.{stands-closing}
 use Rattle.hj_collect.specs.Collector.{CollectorState}
-use Rattle.hj_link.specs.Seen.{ReceiverSeen}
+use Rattle.hj_link.specs.Seen.{EndSeen}
 use Rattle.hj_raw.specs.Items.{Taken}
 use Rattle.hj_desk.specs.declared.ports.Ports.{Ports}
 use Rattle.hj_desk.specs.declared.desk.Desk.{Desk}
@@ -115,11 +115,11 @@ module _ {P : Type 0} where
   }
 
   -- the cores' reports
-  pub gathered-later : (receivers : List (ReceiverSeen (Report P))) (number next : ℕ) (collector : CollectorState) (reports : List (Taken P)) → next ≡ number + 1 → Gathered receivers number collector reports
+  pub gathered-later : (receivers : List (EndSeen (Report P))) (number next : ℕ) (collector : CollectorState) (reports : List (Taken P)) → next ≡ number + 1 → Gathered receivers number collector reports
       → Gathered receivers next collector reports
   gathered-later receivers number next collector reports is old = record {
     in_turn =
-        All-weaker (λ (r : ReceiverSeen (Report P)). IsBefore number r.journal) (λ (r : ReceiverSeen (Report P)). IsBefore next r.journal) (λ (r : ReceiverSeen (Report P)) before. before-more number next is r.journal before) receivers
+        All-weaker (λ (r : EndSeen (Report P)). IsBefore number r.journal) (λ (r : EndSeen (Report P)). IsBefore next r.journal) (λ (r : EndSeen (Report P)) before. before-more number next is r.journal before) receivers
         old.in_turn;
     follows = old.follows;
     are = old.are;

@@ -16,7 +16,7 @@ use Rattle.hj_msg.specs.Driver.{DriverTurn, receipt}
 use Rattle.hj_msg.specs.Run.{LogEntry}
 use Rattle.hj_collect.specs.Collector.{CollectorState}
 use Rattle.hj_collect.specs.StandsFor as collect
-use Rattle.hj_link.specs.Seen.{ReceiverSeen}
+use Rattle.hj_link.specs.Seen.{EndSeen}
 use Rattle.hj_raw.specs.Items.{Taken, lists_of}
 use Rattle.hj_desk.specs.declared.caller.Caller.{Caller}
 use Rattle.hj_desk.specs.declared.desk.Desk.{Desk}
@@ -34,22 +34,22 @@ use Rattle.hj_desk.proofs.Driving.{links-twice}
 -- ---- receivers
 
 module _ {P : Type 0} where
-  pub queues-same : (receivers : List (ReceiverSeen (Report P))) → KeepsQueues receivers receivers
+  pub queues-same : (receivers : List (EndSeen (Report P))) → KeepsQueues receivers receivers
   queues-same receivers = record { links = refl; capacities = refl }
 
-  pub queues-twice : (one two three : List (ReceiverSeen (Report P))) → KeepsQueues one two → KeepsQueues two three → KeepsQueues one three
+  pub queues-twice : (one two three : List (EndSeen (Report P))) → KeepsQueues one two → KeepsQueues two three → KeepsQueues one three
   queues-twice one two three first second = record { links = second.links ∙ first.links; capacities = second.capacities ∙ first.capacities }
 
-  queues-changed : (core : CoreNo) (was is : ReceiverSeen (Report P)) (old new : Desk P) → ChangesReceiver core was is old new → KeepsQueues old.reports.items new.reports.items
+  queues-changed : (core : CoreNo) (was is : EndSeen (Report P)) (old new : Desk P) → ChangesReceiver core was is old new → KeepsQueues old.reports.items new.reports.items
   queues-changed core was is old new changes =
       let here : get_or old.reports.items core.0 was ≡ was = get_or_from_slice_get old.reports.items core.0 was was changes.was in
       record {
         links =
-            ap (map (λ (r : ReceiverSeen (Report P)). r.link)) changes.is
-            ∙ map-set_same (λ (r : ReceiverSeen (Report P)). r.link) old.reports.items core.0 is was (changes.link ∙ ap (λ (r : ReceiverSeen (Report P)). r.link) (sym here));
+            ap (map (λ (r : EndSeen (Report P)). r.link)) changes.is
+            ∙ map-set_same (λ (r : EndSeen (Report P)). r.link) old.reports.items core.0 is was (changes.link ∙ ap (λ (r : EndSeen (Report P)). r.link) (sym here));
         capacities =
-            ap (map (λ (r : ReceiverSeen (Report P)). r.capacity)) changes.is
-            ∙ map-set_same (λ (r : ReceiverSeen (Report P)). r.capacity) old.reports.items core.0 is was (changes.capacity ∙ ap (λ (r : ReceiverSeen (Report P)). r.capacity) (sym here));
+            ap (map (λ (r : EndSeen (Report P)). r.capacity)) changes.is
+            ∙ map-set_same (λ (r : EndSeen (Report P)). r.capacity) old.reports.items core.0 is was (changes.capacity ∙ ap (λ (r : EndSeen (Report P)). r.capacity) (sym here));
       }
 
 -- ---- a feed's answers, one behind another
@@ -193,7 +193,7 @@ module _ {P F O : Type 0} (gives : F → Given P → F → Type 0) (state : F �
     abbrev behind : Caller P F O
     behind = record old { desk = desk; outlet = outlet; awaited = awaited }
 
-    many : (was is : ReceiverSeen (Report P)) → ChangesReceiver core was is old.desk desk → cores_of desk ≡ cores_of old.desk
+    many : (was is : EndSeen (Report P)) → ChangesReceiver core was is old.desk desk → cores_of desk ≡ cores_of old.desk
     many was is changes = ap length changes.is ∙ length-set old.desk.reports.items core.0 is
 
     by-report : (report : Report P) (over : Bool) (takes_it : TakesReport core report old.desk desk) → desk.over ≡ over

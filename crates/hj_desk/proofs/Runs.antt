@@ -25,7 +25,7 @@ use Rattle.hj_msg.specs.Turns.{TakesTurns}
 use Rattle.hj_msg.proofs.Emitting.{emits_prefix}
 use Rattle.hj_msg.proofs.Members.{Contains-head, any_of}
 use Rattle.hj_driver.specs.StandsFor.{is_closing}
-use Rattle.hj_link.specs.Seen.{ReceiverSeen}
+use Rattle.hj_link.specs.Seen.{EndSeen}
 use Rattle.hj_desk.specs.declared.desk.Desk.{Desk}
 use Rattle.hj_desk.specs.Desk.{History, IsBefore, IsFed, StandsFor, collected, numbers_of, turns_of}
 use Rattle.hj_desk.specs.Releases.{Releases}
@@ -72,8 +72,8 @@ map-twice : {X Y Z : Type 0} (f : X → Y) (g : Y → Z) (xs : List X) → map g
 map-twice f g [] = refl
 map-twice f g (x ∷ xs) = ap (λ l. g (f x) ∷ l) (map-twice f g xs)
 
-module _ {P : Type 0} (receivers : List (ReceiverSeen (Report P))) (k : ℕ) where
-  abbrev journal_in : ReceiverSeen (Report P) → List (Entry (Report P))
+module _ {P : Type 0} (receivers : List (EndSeen (Report P))) (k : ℕ) where
+  abbrev journal_in : EndSeen (Report P) → List (Entry (Report P))
   journal_in receiver = receiver.journal
 
   pub collected-at : get_or (collected receivers) k [] ≡ takes (get_or (map journal_in receivers) k [])
@@ -81,7 +81,7 @@ module _ {P : Type 0} (receivers : List (ReceiverSeen (Report P))) (k : ℕ) whe
       ap (λ (l : List (List (Report P))). get_or l k []) (sym (map-twice journal_in takes receivers))
       ∙ listn.get_or-map takes (map journal_in receivers) k []
 
-  pub taken-in_turn : (turn : ℕ) → k < length receivers → All (λ (r : ReceiverSeen (Report P)). IsBefore turn r.journal) receivers → IsInTurn (get_or (map journal_in receivers) k [])
+  pub taken-in_turn : (turn : ℕ) → k < length receivers → All (λ (r : EndSeen (Report P)). IsBefore turn r.journal) receivers → IsInTurn (get_or (map journal_in receivers) k [])
   taken-in_turn turn low all = (All-map (IsBefore turn) journal_in receivers all k [] (omega (arith, low, length-map receivers journal_in))).in_turn
 
 -- ---- the run
@@ -137,7 +137,7 @@ module _ {P : Type 0} (workers : Workers P) (desk : Desk P) (feed : FeedState) (
   pub all_reports : AreAllReportsOf run (collected desk.reports.items)
   all_reports = record {
     of_run = record {
-      one_each = length-map desk.reports.items (λ (r : ReceiverSeen (Report P)). takes r.journal);
+      one_each = length-map desk.reports.items (λ (r : EndSeen (Report P)). takes r.journal);
       prefixes = λ k low. subst (λ (rs : List (Report P)). IsPrefix rs (puts (workers.reports k))) (sym (collected-at desk.reports.items k)) (parts.queues k low).flows.taken;
     };
     all_taken = λ k low. record { rest = []; is = collected-at desk.reports.items k ∙ sym (append-nil (takes (taken_of desk k))) };

@@ -9,7 +9,7 @@ use Rattle.hj_msg.specs.declared.message.Report.{Report}
 use Rattle.hj_msg.specs.Feed.{FeedState, GoesOverAnswers, events_in}
 use Rattle.hj_msg.specs.Run.{LogEntry}
 use Rattle.hj_collect.specs.Collector.{CollectorState}
-use Rattle.hj_link.specs.Seen.{ReceiverSeen}
+use Rattle.hj_link.specs.Seen.{EndSeen}
 use Rattle.hj_raw.specs.Items.{Taken}
 use Rattle.hj_desk.specs.declared.caller.Caller.{Caller}
 use Rattle.hj_desk.specs.declared.caller.Round.{Round}
@@ -20,7 +20,7 @@ use Rattle.hj_desk.specs.Runs.{IsDone, cores_of}
 
 module _ {P : Type 0} where
   -- the receivers are of the links that they were of
-  pub record KeepsQueues (old new : List (ReceiverSeen (Report P))) : Type 0 where
+  pub record KeepsQueues (old new : List (EndSeen (Report P))) : Type 0 where
     pub links : map (λ receiver. receiver.link) new ≡ map (λ receiver. receiver.link) old
     pub capacities : map (λ receiver. receiver.capacity) new ≡ map (λ receiver. receiver.capacity) old
 

@@ -13,7 +13,7 @@ use Rattle.hj_msg.specs.Event.{IsWellFormed}
 use Rattle.hj_msg.specs.Feed.{FeedState, event_in, is_stop, numbering_of}
 use Rattle.hj_msg.specs.Driver.{DriverTurn, admitted}
 use Rattle.hj_msg.specs.Run.{LogEntry, port_journal}
-use Rattle.hj_link.specs.Seen.{ReceiverSeen}
+use Rattle.hj_link.specs.Seen.{EndSeen}
 use Rattle.hj_driver.specs.Driver.{DriverState}
 use Rattle.hj_driver.specs.StandsFor as driver
 use Rattle.hj_driver.specs.StandsFor.{is_closing}
@@ -49,7 +49,7 @@ module _ {P : Type 0} where
   turns_of log = map (λ entry. entry.turn) log
 
   -- what was taken of the reports of each core
-  abbrev pub collected : List (ReceiverSeen (Report P)) → List (List (Report P))
+  abbrev pub collected : List (EndSeen (Report P)) → List (List (Report P))
   collected receivers = map (λ receiver. takes receiver.journal) receivers
 
   -- The journals of the two ends of the chain are those of a log, whose numbers rise and are below that of the next turn. The
@@ -71,11 +71,11 @@ module _ {P : Type 0} where
     pub closed : list_any is_closing turns ≡ true → is_stop next ≡ true
 
   -- what was taken of the reports of each core, under the numbers of the turns
-  abbrev pub journals_of : List (ReceiverSeen (Report P)) → List (List (Entry (Report P)))
+  abbrev pub journals_of : List (EndSeen (Report P)) → List (List (Entry (Report P)))
   journals_of receivers = map (λ receiver. receiver.journal) receivers
 
   -- The collector took what was taken of the cores' reports, in turn and below the next turn.
-  pub record Gathered (receivers : List (ReceiverSeen (Report P))) (next_turn : ℕ) (collector : CollectorState) (reports : List (Taken P)) : Type 0 where
+  pub record Gathered (receivers : List (EndSeen (Report P))) (next_turn : ℕ) (collector : CollectorState) (reports : List (Taken P)) : Type 0 where
     pub in_turn : All (λ receiver. IsBefore next_turn receiver.journal) receivers
     pub follows : collect.StandsFor collector (collected receivers)
     pub are : AreTaken (journals_of receivers) reports

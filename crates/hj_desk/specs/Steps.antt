@@ -21,7 +21,7 @@ use Rattle.hj_driver.specs.declared.answers.Closing.TheVariants as answer
 use Rattle.hj_driver.specs.Driver.{cause_of, closing_of, is_finished}
 use Rattle.hj_collect.specs.Collector.{CollectorState, after_report, has_ended}
 use Rattle.hj_collect.specs.StandsFor as collect
-use Rattle.hj_link.specs.Seen.{ReceiverSeen}
+use Rattle.hj_link.specs.Seen.{EndSeen}
 use Rattle.hj_raw.specs.Items.{Taken, lists_of}
 use Rattle.hj_desk.specs.declared.desk.Desk.{Desk}
 use Rattle.hj_desk.specs.declared.step.Step.{Step}
@@ -96,7 +96,7 @@ module _ {P : Type 0} where
   Admits Memory old new = ⊥
 
   -- Nothing changed but the receiver of a core, which is still of the same link.
-  pub record ChangesReceiver (core : CoreNo) (before after : ReceiverSeen (Report P)) (old new : Desk P) : Type 0 where
+  pub record ChangesReceiver (core : CoreNo) (before after : EndSeen (Report P)) (old new : Desk P) : Type 0 where
     pub was : slice_get old.reports.items core.0 ≡ Some before
     pub is : new.reports.items ≡ slice_set old.reports.items core.0 after
     pub link : after.link ≡ before.link
@@ -109,8 +109,8 @@ module _ {P : Type 0} where
   -- A report of a core was taken under the next number, and the collector took note of it. Whatever the desk stood for, it stands for
   -- that with this report behind.
   pub record TakesReport (core : CoreNo) (report : Report P) (old new : Desk P) : Type 0 where
-    pub before : ReceiverSeen (Report P)
-    pub after : ReceiverSeen (Report P)
+    pub before : EndSeen (Report P)
+    pub after : EndSeen (Report P)
     pub receiver : ChangesReceiver core before after old new
     pub noted : after.journal ≡ before.journal ++ taken old.turns report ∷ []
     pub number : new.turns ≡ old.turns + 1
@@ -120,8 +120,8 @@ module _ {P : Type 0} where
 
   -- A step found no report of a core.
   pub record FindsNoReport (core : CoreNo) (old new : Desk P) : Type 0 where
-    pub before : ReceiverSeen (Report P)
-    pub after : ReceiverSeen (Report P)
+    pub before : EndSeen (Report P)
+    pub after : EndSeen (Report P)
     pub receiver : ChangesReceiver core before after old new
     pub same : after.journal ≡ before.journal
     pub none_known : before.ready ≡ 0

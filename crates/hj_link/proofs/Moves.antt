@@ -6,7 +6,7 @@ use native.Mathlib.Decide.{ℕ_discrete}
 use Rattle.atomic_table.specs.Table.{keeps, takes as takes_slot, gives, Allows}
 use Rattle.hj_link.specs.declared.table.Slot.{Slot}
 use Rattle.hj_link.specs.declared.table.Slot.TheVariants.{Empty, Full}
-use Rattle.hj_link.specs.declared.sides.Words.{Words}
+use Rattle.hj_link.specs.declared.endpoints.Words.{Words}
 use Rattle.hj_link.specs.declared.table.Capacities.{Capacities}
 use Rattle.hj_link.specs.declared.table.End.{End}
 use Rattle.hj_link.specs.declared.table.View.{View}

@@ -1,33 +1,12 @@
 -- What contracts see of the ends of a link, and of the link once both were handed in.
-use Rattle.std.specs.Prelude.{ℕ, List}
-use Rattle.hj_base.specs.Journals.{Entry}
+use Rattle.std.specs.Prelude.{◌≡◌, ℕ, ◌+◌, List, [], ◌∷◌, ◌++◌}
+use Rattle.hj_base.specs.Journals.{Entry, put}
 use Rattle.hj_base.specs.Link.{Link, OneWay}
 use Rattle.atomic_table.specs.Seated.{TableId}
 
--- the sender of a link
-pub record SenderSeen (M : Type 0) : Type 0 where
-  -- which link it is of, and for how many messages there is room on it
-  pub link : TableId
-  pub capacity : ℕ
-  pub journal : List (Entry M)
-  -- so many puts find room, whatever the receiver does
-  pub room : ℕ
-  -- the steps that found the link full
-  pub full_looks : ℕ
-
--- the receiver of a link
-pub record ReceiverSeen (M : Type 0) : Type 0 where
-  pub link : TableId
-  pub capacity : ℕ
-  pub journal : List (Entry M)
-  -- so many takes find a message, whatever the sender does
-  pub ready : ℕ
-  -- the steps that found the link empty
-  pub empty_looks : ℕ
-
--- an end of a link that goes both ways
+-- an end of a link, which goes both ways or one way
 pub record EndSeen (M : Type 0) : Type 0 where
-  -- which link it is of, and for how many messages there is room in each direction
+  -- which link it is of, and for how many messages there is room in each of its directions
   pub link : TableId
   pub capacity : ℕ
   pub journal : List (Entry M)
@@ -49,6 +28,14 @@ pub record LinkSeen (M : Type 0) : Type 0 where
   pub link : Link M
 
 module _ {M : Type 0} where
+  -- a message was put under a turn, for which there was room
+  pub record HasPut (turn : ℕ) (message : M) (old new : EndSeen M) : Type 0 where
+    pub link : (new.link ≡ old.link) × (new.capacity ≡ old.capacity)
+    pub journal : new.journal ≡ old.journal ++ put turn message ∷ []
+    pub room : new.room + 1 ≡ old.room
+    pub full_looks : new.full_looks ≡ old.full_looks
+    pub takes : (new.ready ≡ old.ready) × (new.empty_looks ≡ old.empty_looks)
+
   abbrev pub one_way_of : List (Entry M) → List (Entry M) → OneWay M
   one_way_of sender receiver = record { sender = sender; receiver = receiver }
 

@@ -1,7 +1,7 @@
 -- Where the ends of a link lie in its table. An end is told by a truth value, which is `true` for the left one.
 use Rattle.std.specs.Prelude.{◌≡◌, ℕ, Bool, true, false, ◌+◌, ◌%◌}
 use Rattle.atomic_table.specs.Seated.{TableId}
-use Rattle.hj_link.specs.declared.sides.Words.{Words}
+use Rattle.hj_link.specs.declared.endpoints.Words.{Words}
 use Rattle.hj_link.specs.declared.table.Capacities.{Capacities}
 
 -- Word 0 counts the puts of the left end, word 16 the takes of these by the right end, word 32 the puts of the right end, and

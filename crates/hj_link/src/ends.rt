@@ -1,47 +1,64 @@
-//! The ends of a link that goes both ways.
-ghost use Rattle.std.specs.Prelude.{◌≡◌, ◌+◌, ◌<◌, ◌≤◌, ◌∷◌, ◌++◌, [], IfOk, IfErr, OnOk, OnErr, IfSome, IfNone, MatchBool};
-ghost use Rattle.std.specs.Arc.{arc_value};
+//! The ends of links, and how links are made.
+ghost use Rattle.std.specs.Prelude.{◌≡◌, ◌+◌, ◌<◌, ◌≤◌, ◌∷◌, ◌++◌, [], map, option_to_list, Some, IfOk, IfErr, OnOk, OnErr, IfSome, IfNone, MatchBool};
 ghost use Rattle.hj_base.specs.Journals.{put, taken};
-ghost use Rattle.hj_base.specs.Link.{Agrees};
-ghost use Rattle.hj_link.specs.Words.{IsOfLink};
 ghost use Rattle.hj_link.specs.Rule.{journal_of};
 ghost use Rattle.hj_link.specs.Steps.{own};
-ghost use Rattle.hj_link.specs.Halves.{IsSeated, Outgoes, Incomes};
-ghost use Rattle.hj_link.specs.Seen.{EndSeen, LinkSeen, closed, link_of};
+ghost use Rattle.hj_link.specs.Seen.{EndSeen, HasPut};
 
-use crate::halves::{Full, Incoming, Outgoing, Ring};
-use crate::opening::{join, open};
-use crate::sides::{OnLeft, OnRight, Side};
-use crate::table::{Capacities, LinkSeat, LinkTable};
+use crate::endpoints::{Endpoint, OnLeft, OnRight};
+use crate::halves::{PuttingHalf, TakingHalf, Unused};
+use crate::incoming::Incoming;
+use crate::opening::open;
+use crate::outgoing::Outgoing;
+use crate::ring::Ring;
+use crate::steps::SeatedEnd;
+use crate::table::Capacities;
 use hj_base::Memory;
 use std::alloc::Global;
-use std::marker::{Model, PhantomData};
-use std::sync::Arc;
+use std::marker::Model;
 
-/// An end of a link, which puts and takes. None of its calls waits or takes memory.
+/// An end of a link. None of its calls waits or takes memory.
 #[derive(Drop)]
-pub struct LinkEnd<M: Drop, D: Side> {
-    table: Arc<LinkTable<M>>,
-    seat: LinkSeat<M>,
-    outgoing: Outgoing,
-    incoming: Incoming,
-    side: PhantomData<D>,
+pub struct LinkEnd<M: Drop, D: Endpoint, O: PuttingHalf<M>, I: TakingHalf<M>> {
+    pub(crate) end: SeatedEnd<M, D>,
+    outgoing: O,
+    incoming: I,
 }
 
-pub type LeftEnd<M> = LinkEnd<M, OnLeft>;
+/// The left end of a link that goes both ways.
+pub type LeftEnd<M> = LinkEnd<M, OnLeft, Outgoing, Incoming>;
 
-pub type RightEnd<M> = LinkEnd<M, OnRight>;
+/// The right end of a link that goes both ways.
+pub type RightEnd<M> = LinkEnd<M, OnRight, Outgoing, Incoming>;
 
-impl<M: Drop, D: Side> Model for LinkEnd<M, D> {
+/// The end of a link in one direction that puts.
+pub type Sender<M> = LinkEnd<M, OnLeft, Outgoing, Unused>;
+
+/// The end of a link in one direction that takes.
+pub type Receiver<M> = LinkEnd<M, OnRight, Unused, Incoming>;
+
+/// A message that found no room, handed back.
+#[derive(Debug, Drop)]
+pub struct Full<M>(pub M);
+
+impl<M: Drop, D: Endpoint, O: PuttingHalf<M>, I: TakingHalf<M>> Model for LinkEnd<M, D, O, I> {
     ghost Value = { EndSeen M };
 
-    ghost view = { λ e. record { link = e.seat.table_id; capacity = e.outgoing.ring.capacity; journal = journal_of (own D.is_left e.seat.me); room = e.outgoing.room; ready = e.incoming.ready; full_looks = (own D.is_left e.seat.me).full_looks; empty_looks = (own D.is_left e.seat.me).empty_looks } };
+    ghost view = { λ e. record {
+      link = e.end.link;
+      capacity = e.end.me.0.capacities.rightwards;
+      journal = journal_of (own D.is_left e.end.me);
+      room = O.room e.outgoing;
+      ready = I.ready e.incoming;
+      full_looks = (own D.is_left e.end.me).full_looks;
+      empty_looks = (own D.is_left e.end.me).empty_looks;
+    } };
 
-    ghost invariant = { λ e. IsOfLink e.seat.table_id (arc_value e.table).shared.table_id × IsSeated D.is_left e.seat.me × Outgoes D.is_left e.seat.me e.outgoing × Incomes D.is_left e.seat.me e.incoming × (e.incoming.ring.capacity ≡ e.outgoing.ring.capacity) };
+    ghost invariant = { λ e. O.outgoes D.is_left e.end.me e.outgoing × I.incomes D.is_left e.end.me e.incoming };
 }
 
-impl<M: Drop, D: Side> LinkEnd<M, D> {
-    /// Returns whether the next put finds room. If it doesn't, this direction was full at a step of this call.
+impl<M: Drop, D: Endpoint, I: TakingHalf<M>> LinkEnd<M, D, Outgoing, I> {
+    /// Returns whether the next put finds room. If it doesn't, the direction into which it puts was full at a step of this call.
     #[inline(always)]
     pub fn room(&mut self) -> bool
         ensures link { (self.new.link ≡ self.old.link) × (self.new.capacity ≡ self.old.capacity) }
@@ -51,10 +68,10 @@ impl<M: Drop, D: Side> LinkEnd<M, D> {
         ensures known { 0 < self.old.room → self.new.room ≡ self.old.room }
         ensures takes { (self.new.ready ≡ self.old.ready) × (self.new.empty_looks ≡ self.old.empty_looks) }
     {
-        self.outgoing.room::<M, D>(&self.table, &mut self.seat)
+        self.outgoing.room(&mut self.end)
     }
 
-    /// Puts a message under a turn. Hands it back only if this direction was full at a step of this call.
+    /// Puts a message under a turn. Hands it back only if the direction was full at a step of this call.
     #[inline(always)]
     pub fn put(&mut self, turn: u64, message: M) -> Result<(), Full<M>>
         ensures link { (self.new.link ≡ self.old.link) × (self.new.capacity ≡ self.old.capacity) }
@@ -65,10 +82,50 @@ impl<M: Drop, D: Side> LinkEnd<M, D> {
         ensures full { OnErr result ((self.old.room ≡ 0) × (self.new.room ≡ 0) × (self.new.full_looks ≡ self.old.full_looks + 1)) }
         ensures takes { (self.new.ready ≡ self.old.ready) × (self.new.empty_looks ≡ self.old.empty_looks) }
     {
-        self.outgoing
-            .put::<M, D>(&self.table, &mut self.seat, turn, message)
+        if !self.room() {
+            return Err(Full(message));
+        }
+        if I::TAKES {
+            self.put_there(turn, message);
+        } else {
+            self.put_apart(turn, message);
+        }
+        Ok(())
     }
 
+    /// Puts a message under a turn, if there is one. Hands it back only if the direction was full at a step of this call.
+    #[inline(always)]
+    pub fn put_some(&mut self, turn: u64, message: Option<M>) -> Option<M>
+        ensures link { (self.new.link ≡ self.old.link) × (self.new.capacity ≡ self.old.capacity) }
+        ensures put { IfNone result ((self.new.journal ≡ self.old.journal ++ map (put turn) (option_to_list message)) × (self.new.full_looks ≡ self.old.full_looks)) }
+        ensures back { IfSome result (λ back. (message ≡ Some back) × (self.new.journal ≡ self.old.journal) × (self.new.full_looks ≡ self.old.full_looks + 1)) }
+    {
+        match self.put(turn, message?) {
+            Ok(()) => None,
+            Err(Full(back)) => Some(back),
+        }
+    }
+
+    // Puts a message under a turn. There is room for it.
+    #[inline(always)]
+    fn put_there(&mut self, turn: u64, message: M)
+        requires { 0 < self.old.room }
+        ensures { HasPut turn message self.old self.new }
+    {
+        self.outgoing.put(&mut self.end, turn, message);
+    }
+
+    // Does what `put_there` does. Called, since what goes one way may be large.
+    #[inline(never)]
+    fn put_apart(&mut self, turn: u64, message: M)
+        requires { 0 < self.old.room }
+        ensures { HasPut turn message self.old self.new }
+    {
+        self.put_there(turn, message);
+    }
+}
+
+impl<M: Drop, D: Endpoint, O: PuttingHalf<M>> LinkEnd<M, D, O, Incoming> {
     /// Takes the oldest message of the other end, under a turn. None only if there was none at a step of this call.
     #[inline(always)]
     pub fn take(&mut self, turn: u64) -> Option<M>
@@ -79,8 +136,10 @@ impl<M: Drop, D: Side> LinkEnd<M, D> {
         ensures empty { IfNone result ((self.old.ready ≡ 0) × (self.new.ready ≡ 0) × (self.new.empty_looks ≡ self.old.empty_looks + 1)) }
         ensures puts { (self.new.room ≡ self.old.room) × (self.new.full_looks ≡ self.old.full_looks) }
     {
-        self.incoming
-            .take::<M, D>(&self.table, &mut self.seat, turn)
+        if !self.incoming.ready(&mut self.end) {
+            return None;
+        }
+        Some(self.incoming.take(&mut self.end, turn))
     }
 }
 
@@ -104,62 +163,42 @@ pub fn duplex<M: Drop>(alloc: Global, capacity: usize) -> Result<(LeftEnd<M>, Ri
     let rightwards = Ring::new(0, capacity);
     let leftwards = Ring::new(capacity, capacity);
     let left = LinkEnd {
-        table: Arc::try_clone(&link.table)?,
-        seat: link.left,
+        end: link.left,
         outgoing: Outgoing::new(rightwards),
         incoming: Incoming::new(leftwards),
-        side: PhantomData,
     };
     let right = LinkEnd {
-        table: link.table,
-        seat: link.right,
+        end: link.right,
         outgoing: Outgoing::new(leftwards),
         incoming: Incoming::new(rightwards),
-        side: PhantomData,
     };
     Ok((left, right))
 }
 
-/// A link that goes both ways whose two ends were handed in.
-#[derive(Drop)]
-pub struct Closed<M: Drop> {
-    table: Arc<LinkTable<M>>,
-    seat: LinkSeat<M>,
-    capacity: usize,
-}
-
-impl<M: Drop> Model for Closed<M> {
-    ghost Value = { LinkSeen M };
-
-    ghost view = { λ c. closed c.capacity (journal_of c.seat.me.0.left) (journal_of c.seat.me.0.right) };
-
-    ghost invariant = { λ c. Agrees c.capacity (link_of (journal_of c.seat.me.0.left) (journal_of c.seat.me.0.right)) };
-}
-
-/// Takes in both ends of a link, whose journals then agree.
-pub fn close<M: Drop>(left: LeftEnd<M>, right: RightEnd<M>) -> Closed<M>
-    requires { left.link ≡ right.link }
-    ensures journals { result ≡ closed left.capacity left.journal right.journal }
-    ensures agree { Agrees result.capacity result.link }
+/// Makes a link in one direction, with room for 1 to 514 messages. It takes all the memory that the link ever takes.
+pub fn one_way<M: Drop>(alloc: Global, capacity: usize) -> Result<(Sender<M>, Receiver<M>), Memory>
+    requires { (0 < capacity) × (capacity ≤ 514) }
+    ensures link { IfOk result (λ ends. ends.0.link ≡ ends.1.link) }
+    ensures capacity { IfOk result (λ ends. (ends.0.capacity ≡ capacity) × (ends.1.capacity ≡ capacity)) }
+    ensures room { IfOk result (λ ends. (ends.0.room ≡ capacity) × (ends.1.ready ≡ 0)) }
+    ensures journals { IfOk result (λ ends. (ends.0.journal ≡ []) × (ends.1.journal ≡ [])) }
+    ensures looks { IfOk result (λ ends. (ends.0.full_looks ≡ 0) × (ends.1.empty_looks ≡ 0)) }
 {
-    let LinkEnd {
-        table,
-        seat: left_seat,
-        outgoing,
-        incoming: _,
-        side: _,
-    } = left;
-    let LinkEnd {
-        table: _,
-        seat: right_seat,
-        outgoing: _,
-        incoming: _,
-        side: _,
-    } = right;
-    let seat = join(&table, left_seat, right_seat);
-    Closed {
-        table,
-        seat,
-        capacity: outgoing.ring.capacity,
-    }
+    let capacities = Capacities {
+        rightwards: capacity,
+        leftwards: 0,
+    };
+    let link = open(alloc, capacities)?;
+    let ring = Ring::new(0, capacity);
+    let sender = LinkEnd {
+        end: link.left,
+        outgoing: Outgoing::new(ring),
+        incoming: Unused,
+    };
+    let receiver = LinkEnd {
+        end: link.right,
+        outgoing: Unused,
+        incoming: Incoming::new(ring),
+    };
+    Ok((sender, receiver))
 }

@@ -1,15 +1,17 @@
 //! Links between threads, without locks: what one end puts the other end takes, in its order.
 #![tactic(auto)]
 
+mod closing;
+mod endpoints;
 mod ends;
 mod halves;
+mod incoming;
 mod opening;
+mod outgoing;
 mod plays;
-mod sides;
+mod ring;
 mod steps;
 mod table;
-mod ways;
 
-pub use ends::{Closed, LeftEnd, RightEnd, close, duplex};
-pub use halves::Full;
-pub use ways::{ClosedWay, Receiver, Sender, close_way, one_way};
+pub use closing::{Closed, ClosedWay, close, close_way};
+pub use ends::{Full, LeftEnd, Receiver, RightEnd, Sender, duplex, one_way};

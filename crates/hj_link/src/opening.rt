@@ -1,31 +1,30 @@
 //! How the table of a link is made, and how its two ends come together again.
-ghost use Rattle.std.specs.Prelude.{◌≡◌, ◌<◌, ◌≤◌, [], true, false, IfOk};
-ghost use Rattle.std.specs.Arc.{arc_value};
-ghost use Rattle.hj_link.specs.Words.{IsOfLink};
+ghost use Rattle.std.specs.Prelude.{◌≡◌, ◌<◌, ◌≤◌, [], IfOk};
+ghost use Rattle.hj_link.specs.declared.table.View.{View};
 ghost use Rattle.hj_link.specs.Rule.{opened};
 ghost use Rattle.hj_link.specs.Steps.{Meets, left_alone, right_alone, both_ends};
-ghost use Rattle.hj_link.specs.Halves.{IsSeated};
 
+use crate::endpoints::{OnLeft, OnRight};
 use crate::plays::{Apart, Learn, Together};
+use crate::steps::SeatedEnd;
 use crate::table::{Capacities, LinkSeat, LinkTable, Slot};
 use atomic_table::Table;
 use hj_base::Memory;
 use std::alloc::Global;
+use std::marker::{Model, PhantomData};
 use std::sync::Arc;
 
-/// The table of a new link, and the seats of its ends.
+/// The two ends of a new link.
 #[derive(Drop)]
 pub(crate) struct Opened<M: Drop> {
-    pub(crate) table: Arc<LinkTable<M>>,
-    pub(crate) left: LinkSeat<M>,
-    pub(crate) right: LinkSeat<M>,
+    pub(crate) left: SeatedEnd<M, OnLeft>,
+    pub(crate) right: SeatedEnd<M, OnRight>,
 }
 
 // Takes all the memory that the link ever takes.
 pub(crate) fn open<M: Drop>(alloc: Global, capacities: Capacities) -> Result<Opened<M>, Memory>
     requires { (0 < capacities.rightwards) × (capacities.rightwards ≤ 514) × (capacities.leftwards ≤ 514) }
-    ensures table { IfOk result (λ link. IsOfLink link.left.table_id (arc_value link.table).shared.table_id) }
-    ensures same { IfOk result (λ link. link.right.table_id ≡ link.left.table_id) }
+    ensures link { IfOk result (λ link. link.left.link ≡ link.right.link) }
     ensures left { IfOk result (λ link. link.left.me ≡ (left_alone (opened capacities), [])) }
     ensures right { IfOk result (λ link. link.right.me ≡ (right_alone (opened capacities), [])) }
 {
@@ -42,23 +41,47 @@ pub(crate) fn open<M: Drop>(alloc: Global, capacities: Capacities) -> Result<Ope
     let Ok(table) = Arc::new(alloc, table) else {
         return Err(Memory);
     };
-    Ok(Opened { table, left, right })
+    Ok(Opened {
+        left: SeatedEnd {
+            table: Arc::try_clone(&table)?,
+            seat: left,
+            endpoint: PhantomData,
+        },
+        right: SeatedEnd {
+            table,
+            seat: right,
+            endpoint: PhantomData,
+        },
+    })
 }
 
-// Joins the seats of the two ends of a link, and learns that their journals agree.
-pub(crate) fn join<M: Drop>(
-    table: &LinkTable<M>,
-    left: LinkSeat<M>,
-    right: LinkSeat<M>,
-) -> LinkSeat<M>
-    requires table { IsOfLink left.table_id table.now.shared.table_id }
-    requires link { right.table_id ≡ left.table_id }
-    requires ends { IsSeated true left.me × IsSeated false right.me }
-    ensures both { result.me.0 ≡ both_ends left.me.0 right.me.0 }
-    ensures meets { Meets result.me.0 }
+/// A link whose two ends were handed in.
+#[derive(Drop)]
+pub(crate) struct Joined<M: Drop> {
+    table: Arc<LinkTable<M>>,
+    seat: LinkSeat<M>,
+}
+
+impl<M: Drop> Model for Joined<M> {
+    ghost Value = { View M };
+
+    ghost view = { λ j. j.seat.me.0 };
+
+    ghost invariant = { λ j. Meets j.seat.me.0 };
+}
+
+// Joins the two ends of a link, and learns that their journals agree.
+pub(crate) fn join<M: Drop>(left: SeatedEnd<M, OnLeft>, right: SeatedEnd<M, OnRight>) -> Joined<M>
+    requires { left.link ≡ right.link }
+    ensures both { result ≡ both_ends left.me.0 right.me.0 }
+    ensures meets { Meets result }
 {
-    let mut seat = left;
-    table.shared.join_seat::<Together>(&mut seat, right);
+    let SeatedEnd {
+        table,
+        mut seat,
+        endpoint: _,
+    } = left;
+    table.shared.join_seat::<Together>(&mut seat, right.seat);
     table.shared.load::<Learn>(&mut seat, 0);
-    seat
+    Joined { table, seat }
 }

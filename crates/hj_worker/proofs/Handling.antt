@@ -12,7 +12,7 @@ use Rattle.hj_core.specs.declared.way.Way.{Way}
 use Rattle.hj_core.specs.declared.way.Way.TheVariants.{Left as ToLeft, Right as ToRight}
 use Rattle.hj_core.specs.Contents.{Contents, KeepsPlace}
 use Rattle.hj_core.specs.Sent.{sent}
-use Rattle.hj_link.specs.Seen.{EndSeen, SenderSeen}
+use Rattle.hj_link.specs.Seen.{EndSeen}
 use Rattle.hj_worker.specs.declared.answers.Place.{Place}
 use Rattle.hj_worker.specs.declared.answers.Place.TheVariants.{Link, Reports}
 use Rattle.hj_worker.specs.declared.ends.Ends.{Ends}
@@ -73,7 +73,7 @@ module _ {P : Type 0} where
       → full_looks place new ≡ full_looks place old
   full-kept (Link Left) old mid new looked kept same = kept.0 ∙ ap (λ (e : EndSeen (Msg P)). e.full_looks) looked.left
   full-kept (Link Right) old mid new looked kept same = kept.1 ∙ ap (λ (e : EndSeen (Msg P)). e.full_looks) looked.right
-  full-kept Reports old mid new looked kept same = ap (λ (s : SenderSeen (Report P)). s.full_looks) same ∙ looked.full
+  full-kept Reports old mid new looked kept same = ap (λ (s : EndSeen (Report P)). s.full_looks) same ∙ looked.full
 
   pub blocked-since : (place : Place) (items : List (Outgoing P)) (old mid new : Ends P) → full_looks place mid ≡ full_looks place old → AreBlocked place items mid new → AreBlocked place items old new
   blocked-since place items old mid new same blocked = record { first = blocked.first; later = blocked.later; are = blocked.are; at = blocked.at; full = blocked.full ∙ ap (λ looks. looks + 1) same }
@@ -214,7 +214,7 @@ module _ {P J L R : Type 0} (predicate : J → P → P → Bool) (rows : Content
   handles-leaving old last before (Refused message) calls calls' is taken done left same = absurd left
 
   -- Memory ran out.
-  pub ran_out : {core : Contents P J L R} {number : ℕ} {first : Side} {message : Msg P} {old mid : Ends P} (prepared : Contents P J L R) (reports : SenderSeen (Report P)) → Took core number first message old mid
+  pub ran_out : {core : Contents P J L R} {number : ℕ} {first : Side} {message : Msg P} {old mid : Ends P} (prepared : Contents P J L R) (reports : EndSeen (Report P)) → Took core number first message old mid
       → KeepsPlace core prepared → rows prepared ≡ rows core → reports.journal ≡ mid.reports.journal ++ put number NoMemory ∷ []
       → IsOutOfMemory (predicate prepared.join) prepared.place prepared.cores (rows prepared) (journals_of (record mid { reports = reports })) (number + 1) message
   ran_out {core = core} {number = number} {message = message} {mid = mid} prepared reports took kept same put_is =
@@ -222,7 +222,7 @@ module _ {P J L R : Type 0} (predicate : J → P → P → Bool) (rows : Content
       (record { number = number; begun = journals_of mid; begins = took.begins; put = ap (λ rs. record (journals_of mid) { reports = rs }) put_is; counted = refl })
 
   -- The message is in hand then, and a report of it alone was put.
-  pub stands-out : {core : Contents P J L R} {number : ℕ} {first : Side} {message : Msg P} {old mid : Ends P} (new : Contents P J L R) (last : Ends P) (hand : Hand P) (reports : SenderSeen (Report P)) → Took core number first message old mid
+  pub stands-out : {core : Contents P J L R} {number : ℕ} {first : Side} {message : Msg P} {old mid : Ends P} (new : Contents P J L R) (last : Ends P) (hand : Hand P) (reports : EndSeen (Report P)) → Took core number first message old mid
       → KeepsPlace core new → hand ≡ Refused message → rows new ≡ rows core → last ≡ mid → reports.journal ≡ last.reports.journal ++ put number NoMemory ∷ []
       → Stands (predicate new.join) new.place new.cores (rows new) (journals_of (record last { reports = reports })) (number + 1) hand
   stands-out {number = number} {message = message} new last hand reports took kept hand_is same last_is put_is =
@@ -230,7 +230,7 @@ module _ {P J L R : Type 0} (predicate : J → P → P → Bool) (rows : Content
       (subst (λ (e : Ends P). reports.journal ≡ e.reports.journal ++ put number NoMemory ∷ [] → IsOutOfMemory (predicate new.join) new.place new.cores (rows new) (journals_of (record e { reports = reports })) (number + 1) message)
       (sym last_is) (λ put_here. ran_out new reports took kept same put_here) put_is)
 
-  pub runs-out : {core : Contents P J L R} {number : ℕ} {first : Side} {message : Msg P} {ends mid : Ends P} (old : WorkerSeen P J) (new : Contents P J L R) (last : Ends P) (before : InHand P) (hand : Hand P) (reports : SenderSeen (Report P))
+  pub runs-out : {core : Contents P J L R} {number : ℕ} {first : Side} {message : Msg P} {ends mid : Ends P} (old : WorkerSeen P J) (new : Contents P J L R) (last : Ends P) (before : InHand P) (hand : Hand P) (reports : EndSeen (Report P))
       (calls calls' : ℕ) → seen core ends before number calls ≡ old → Took core number first message ends mid → hand ≡ Refused message → rows new ≡ rows core → last ≡ mid
       → reports.journal ≡ last.reports.journal ++ put number NoMemory ∷ [] → RunsOut first old (seen new (record last { reports = reports }) (in_hand hand) (number + 1) calls')
   runs-out {number = number} {first = first} {message = message} {mid = mid} old new last before hand reports calls calls' is took hand_is same last_is put_is =

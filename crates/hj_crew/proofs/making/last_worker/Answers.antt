@@ -1,7 +1,7 @@
 use Rattle.std.proofs.Common.{◌≡◌, ◌++◌, ◌∷◌, [], ◌∙◌, ap, refl, sym}
 use Rattle.hj_msg.specs.declared.message.Msg.{Msg}
 use Rattle.hj_msg.specs.declared.message.Report.{Report}
-use Rattle.hj_link.specs.Seen.{EndSeen, SenderSeen}
+use Rattle.hj_link.specs.Seen.{EndSeen}
 use Rattle.hj_worker.specs.Seen.{WorkerSeen}
 use Rattle.hj_crew.proofs.MadeTeams.{last-of}
 use Rattle.hj_crew.proofs.making.last_worker.Goals as goal
@@ -16,7 +16,7 @@ new-requires-clause-right g c =
 
 pub new-requires-clause-reports : goal.new-requires-clause-reports
 new-requires-clause-reports g c =
-    last-of (λ (sender : SenderSeen (Report g.row.P.Denot)). sender.journal ≡ []) c.args.ends.now.senders.items c.pop-3.new.self.items c.in-Some-pop-2.reports c.in-Some-pop-2.ensures.items
+    last-of (λ (sender : EndSeen (Report g.row.P.Denot)). sender.journal ≡ []) c.args.ends.now.senders.items c.pop-3.new.self.items c.in-Some-pop-2.reports c.in-Some-pop-2.ensures.items
     c.requires.unused.senders
 
 pub returns-clause-ends : goal.returns-clause-ends

@@ -12,7 +12,7 @@ pub struct Words {
 }
 
 /// One of the two ends of a link.
-pub trait Side {
+pub trait Endpoint {
     ghost is_left: { Bool };
 
     /// Returns the words that this end reads and writes. They lie 128 bytes apart, so that no two share a cache line.
@@ -22,7 +22,7 @@ pub trait Side {
 
 pub struct OnLeft;
 
-impl Side for OnLeft {
+impl Endpoint for OnLeft {
     ghost is_left = { true };
 
     fn words() -> Words {
@@ -37,7 +37,7 @@ impl Side for OnLeft {
 
 pub struct OnRight;
 
-impl Side for OnRight {
+impl Endpoint for OnRight {
     ghost is_left = { false };
 
     fn words() -> Words {
