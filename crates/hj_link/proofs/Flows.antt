@@ -8,9 +8,9 @@ use native.Mathlib.Nat.{add-mod_right}
 use lib.ListN.{get_elem?}
 use Rattle.hj_base.specs.Journals.{IsPrefix}
 use Rattle.atomic_table.proofs.Lists.{set_here, set_else, at_longer, one_turn}
-use Rattle.hj_link.specs.declared.table.Slot.{Slot}
-use Rattle.hj_link.specs.declared.table.Slot.TheVariants.{Empty, Full}
-use Rattle.hj_link.specs.Flow.{Flow}
+use Rattle.hj_link.specs.declared.table.MessageSlot.{MessageSlot}
+use Rattle.hj_link.specs.declared.table.MessageSlot.TheVariants.{Empty, Filled}
+use Rattle.hj_link.specs.Flow.{Flow, AreFilled, AreVacant}
 
 module _ {A : Type 0} where
   pub at_within : (l : List A) (i : ℕ) (a : A) → get_elem? l i ≡ some a → i < length l
@@ -64,9 +64,27 @@ pub inside : (c base p n : ℕ) → 0 < c → base + c ≤ n → base + p % c < 
 inside c base p n pos fits = let x : ℕ = p % c in let lt : x < c = mod-lt p pos in omega arith
 
 abbrev pub Row : Type 0 → Type 0
-Row M = List (maybe.Option (Slot M))
+Row M = List (maybe.Option (MessageSlot M))
 
 module _ {M : Type 0} where
+  -- a direction as it was, but for one slot and for which slots are out
+  pub with_slot : {c base pw tw : ℕ} {hs : Row M} {sent got known : List M} {kt : ℕ} {a b : Bool} (f : Flow c base pw tw hs sent got known kt a b) (k : ℕ) (z : maybe.Option (MessageSlot M)) (a' b' : Bool)
+      → (a' ≡ true → length sent < kt + c) → (b' ≡ true → length got < length known) → AreFilled c base (set hs k z) sent got b' → AreVacant c base (set hs k z) sent got a'
+      → Flow c base pw tw (set hs k z) sent got known kt a' b'
+  with_slot {c} {base} {hs = hs} f k z a' b' free some_one full vacant = record {
+    fits = subst (λ (n : ℕ). base + c ≤ n) (sym (length-set hs k z)) f.fits;
+    put_is = f.put_is;
+    take_is = f.take_is;
+    learned = f.learned;
+    taken = f.taken;
+    stale = f.stale;
+    within = f.within;
+    free_there = free;
+    some_there = some_one;
+    full = full;
+    vacant = vacant;
+  }
+
   -- the putting end saw that g were taken
   pub flow_looks_for_room : (c base pw tw : ℕ) (hs : Row M) (sent got known : List M) (kt : ℕ) (a b : Bool) → Flow c base pw tw hs sent got known kt a b → Flow c base pw tw hs sent got known (length got) a b
   flow_looks_for_room c base pw tw hs sent got known kt a b f = let old = f.stale in let w = f.within in record {
@@ -107,28 +125,18 @@ module _ {M : Type 0} where
       let v = f.vacant n (le_refl n) (omega arith) (λ _. refl) in (
         v.0,
         v.1,
-        record {
-          fits = subst (λ (z : ℕ). base + c ≤ z) (sym (length-set hs k none)) f.fits;
-          put_is = f.put_is;
-          take_is = f.take_is;
-          learned = f.learned;
-          taken = f.taken;
-          stale = f.stale;
-          within = f.within;
-          free_there = (λ _. room);
-          some_there = f.some_there;
-          full = (λ p m le at home. let lt : p < n = at_within sent p m at in let x = f.full p m le at home in (x.0, set_else hs k (base + p % c) none (apart c base p n g le (omega arith) (omega arith) (omega arith) (λ e. omega arith)) ∙ x.1));
-          vacant = (λ p le lt home. let ne : p ≢ n = (λ e. true≢false (home e)) in let x = f.vacant p le lt (λ e. absurd (ne e)) in (x.0, set_else hs k (base + p % c) none (apart c base p n g (omega arith) lt (omega arith) (omega arith) ne) ∙ x.1));
-        },
+        with_slot f k none true b (λ _. room) f.some_there
+            (λ p m le at home. let lt : p < n = at_within sent p m at in let x = f.full p m le at home in (x.0, set_else hs k (base + p % c) none (apart c base p n g le (omega arith) (omega arith) (omega arith) (λ e. omega arith)) ∙ x.1))
+            (λ p le lt home. let ne : p ≢ n = (λ e. true≢false (home e)) in let x = f.vacant p le lt (λ e. absurd (ne e)) in (x.0, set_else hs k (base + p % c) none (apart c base p n g (omega arith) lt (omega arith) (omega arith) ne) ∙ x.1)),
       )
 
   -- the put is published, and the slot comes home
   pub flow_publishes : (c base pw tw : ℕ) (hs : Row M) (sent got known : List M) (kt : ℕ) (b : Bool) (t : ℕ) (m : M) (new : ℕ) → Flow c base pw tw hs sent got known kt true b → new ≡ (length sent + 1) % 2 ^ 64
-      → Flow c base new tw (set hs (base + length sent % c) (some (Full t m))) (sent ++ m ∷ []) got known kt false b
+      → Flow c base new tw (set hs (base + length sent % c) (some (Filled t m))) (sent ++ m ∷ []) got known kt false b
   flow_publishes c base pw tw hs sent got known kt b t m new f is = let n : ℕ = length sent in let g : ℕ = length got in let k : ℕ = base + n % c in let old : kt ≤ g = f.stale in let room : n < kt + c = f.free_there refl in
       let gl : g ≤ length known = prefix_length got known f.taken in let kl : length known ≤ n = prefix_length known sent f.learned in
       let long : length (sent ++ m ∷ []) ≡ n + 1 = omega (arith, length-append sent (m ∷ [])) in record {
-        fits = subst (λ (z : ℕ). base + c ≤ z) (sym (length-set hs k (some (Full t m)))) f.fits;
+        fits = subst (λ (z : ℕ). base + c ≤ z) (sym (length-set hs k (some (Filled t m)))) f.fits;
         put_is = is ∙ ap (λ (z : ℕ). z % 2 ^ 64) (sym long);
         take_is = f.take_is;
         learned = longer_prefix known sent m f.learned;
@@ -138,15 +146,15 @@ module _ {M : Type 0} where
         free_there = (λ e. absurd (true≢false (sym e)));
         some_there = f.some_there;
         full = (λ p x le at home. ⊎_elim
-            (λ here. let lt : p < n = at_within sent p x here in let z = f.full p x le here home in (z.0, set_else hs k (base + p % c) (some (Full t m)) (apart c base p n g le (omega arith) (omega arith) (omega arith) (λ e. omega arith)) ∙ z.1))
-            (λ new_one. let is_n : p ≡ n = new_one.0 in (t, ap (λ (z : ℕ). get_elem? (set hs k (some (Full t m))) (base + z % c)) is_n ∙ set_here hs k (some (Full t m)) (inside c base n (length hs) (omega arith) f.fits) ∙ ap (λ (z : M). some (some (Full t z))) new_one.1))
+            (λ here. let lt : p < n = at_within sent p x here in let z = f.full p x le here home in (z.0, set_else hs k (base + p % c) (some (Filled t m)) (apart c base p n g le (omega arith) (omega arith) (omega arith) (λ e. omega arith)) ∙ z.1))
+            (λ new_one. let is_n : p ≡ n = new_one.0 in (t, ap (λ (z : ℕ). get_elem? (set hs k (some (Filled t m))) (base + z % c)) is_n ∙ set_here hs k (some (Filled t m)) (inside c base n (length hs) (omega arith) f.fits) ∙ ap (λ (z : M). some (some (Filled t z))) new_one.1))
             (at_end sent m x p at));
-        vacant = (λ p le lt home. let ne : p ≢ n = (λ e. omega arith) in let z = f.vacant p (omega arith) lt (λ e. absurd (ne e)) in (z.0, set_else hs k (base + p % c) (some (Full t m)) (apart c base p n g (omega arith) lt (omega arith) (omega arith) ne) ∙ z.1));
+        vacant = (λ p le lt home. let ne : p ≢ n = (λ e. omega arith) in let z = f.vacant p (omega arith) lt (λ e. absurd (ne e)) in (z.0, set_else hs k (base + p % c) (some (Filled t m)) (apart c base p n g (omega arith) lt (omega arith) (omega arith) ne) ∙ z.1));
       }
 
   -- the slot of the next known put is taken out, and holds its message
   pub flow_fetches : (c base pw tw : ℕ) (hs : Row M) (sent got known : List M) (kt : ℕ) (a : Bool) → Flow c base pw tw hs sent got known kt a false → length got < length known
-      → (t : ℕ) × (x : M) × (get_elem? known (length got) ≡ some x) × (get_elem? hs (base + length got % c) ≡ some (some (Full t x))) × Flow c base pw tw (set hs (base + length got % c) none) sent got known kt a true
+      → (t : ℕ) × (x : M) × (get_elem? known (length got) ≡ some x) × (get_elem? hs (base + length got % c) ≡ some (some (Filled t x))) × Flow c base pw tw (set hs (base + length got % c) none) sent got known kt a true
   flow_fetches c base pw tw hs sent got known kt a f some_one = let n : ℕ = length sent in let g : ℕ = length got in let k : ℕ = base + g % c in let old : kt ≤ g = f.stale in
       let w : n ≤ kt + c = f.within in let kl : length known ≤ n = prefix_length known sent f.learned in let pos : 0 < c = omega arith in
       let next = there known g some_one in let x = next.0 in let lies = f.full g x (le_refl g) (prefix_at known sent g x f.learned next.1) (λ _. refl) in (
@@ -154,19 +162,9 @@ module _ {M : Type 0} where
         x,
         next.1,
         lies.1,
-        record {
-          fits = subst (λ (z : ℕ). base + c ≤ z) (sym (length-set hs k none)) f.fits;
-          put_is = f.put_is;
-          take_is = f.take_is;
-          learned = f.learned;
-          taken = f.taken;
-          stale = f.stale;
-          within = f.within;
-          free_there = f.free_there;
-          some_there = (λ _. some_one);
-          full = (λ p m le at home. let lt : p < n = at_within sent p m at in let ne : p ≢ g = (λ e. true≢false (home e)) in let z = f.full p m le at (λ e. absurd (ne e)) in (z.0, set_else hs k (base + p % c) none (apart c base p g g le (omega arith) (le_refl g) (omega arith) ne) ∙ z.1));
-          vacant = (λ p le lt home. let ne : p ≢ g = (λ e. omega arith) in let z = f.vacant p le lt home in (z.0, set_else hs k (base + p % c) none (apart c base p g g (omega arith) lt (le_refl g) (omega arith) ne) ∙ z.1));
-        },
+        with_slot f k none a true f.free_there (λ _. some_one)
+            (λ p m le at home. let lt : p < n = at_within sent p m at in let ne : p ≢ g = (λ e. true≢false (home e)) in let z = f.full p m le at (λ e. absurd (ne e)) in (z.0, set_else hs k (base + p % c) none (apart c base p g g le (omega arith) (le_refl g) (omega arith) ne) ∙ z.1))
+            (λ p le lt home. let ne : p ≢ g = (λ e. omega arith) in let z = f.vacant p le lt home in (z.0, set_else hs k (base + p % c) none (apart c base p g g (omega arith) lt (le_refl g) (omega arith) ne) ∙ z.1)),
       )
 
   -- the take is published, and the slot comes home empty

@@ -4,8 +4,8 @@ use mathlib.Core.Option.{none, some}
 use mathlib.Core.Logic.{dite}
 use native.Mathlib.Decide.{ℕ_discrete}
 use Rattle.atomic_table.specs.Table.{keeps, takes as takes_slot, gives, Allows}
-use Rattle.hj_link.specs.declared.table.Slot.{Slot}
-use Rattle.hj_link.specs.declared.table.Slot.TheVariants.{Empty, Full}
+use Rattle.hj_link.specs.declared.table.MessageSlot.{MessageSlot}
+use Rattle.hj_link.specs.declared.table.MessageSlot.TheVariants.{Empty, Filled}
 use Rattle.hj_link.specs.declared.endpoints.Words.{Words}
 use Rattle.hj_link.specs.declared.table.Capacities.{Capacities}
 use Rattle.hj_link.specs.declared.table.End.{End}
@@ -104,13 +104,13 @@ module _ {M : Type 0} where
 
   put_published_by : (side : Bool) (c : Capacities) (n id : ℕ) (me : Seated M) (new : ℕ) → IsLaid side me → new ≡ (length (sent (own side me)) + 1) % 2 ^ 64 → Allows (Rule c) n id me (words_of side).puts (λ _. new) (λ _. publishes side me)
   put_published_by side c n id me new l is = let v : View M = me.0 in let e : End M = end_of side v in let i : ℕ = put_slot side me in let w : ℕ = (words_of side).puts in let t : ℕ = l.turn in let x : M = l.message in
-      subst (λ (z : List (ℕ × Slot M)). Allows (Rule c) n id (v, z) w (λ _. new) (λ _. publishes side (v, z))) (sym l.held) (λ s r wide at _.
+      subst (λ (z : List (ℕ × MessageSlot M)). Allows (Rule c) n id (v, z) w (λ _. new) (λ _. publishes side (v, z))) (sym l.held) (λ s r wide at _.
       let f : End M = other_of side r in let o = side_knows side c s r id v at l.has in let did = both_put _ _ _ _ _ _ _ _ _ _ _ t x new o l.is_out is in (
         with_end side v (after_put e t x f.empty_looks),
         gives,
         tt,
-        side_goes side c s r id v at l.has (after_put e t x f.empty_looks) (set s.words w new) (set s.homes i (some (Full t x))) (length-set s.words w new ∙ r.wide) (length-set s.homes i (some (Full t x)))
-            (put_stored side _ _ _ _ s.words (set s.homes i (some (Full t x))) (after_put e t x f.empty_looks) f new r.wide did),
+        side_goes side c s r id v at l.has (after_put e t x f.empty_looks) (set s.words w new) (set s.homes i (some (Filled t x))) (length-set s.words w new ∙ r.wide) (length-set s.homes i (some (Filled t x)))
+            (put_stored side _ _ _ _ s.words (set s.homes i (some (Filled t x))) (after_put e t x f.empty_looks) f new r.wide did),
         (f.empty_looks, refl),
       ))
 
@@ -119,7 +119,7 @@ module _ {M : Type 0} where
   fetched_by side c n id me has idle some_one s r wide at _ = let e : End M = own side me in let f : End M = other_of side r in let w : ℕ = (words_of side).takes in let o = side_knows side c s r id me.0 at has in
       let i : ℕ = take_slot side me in let did = both_fetch _ _ _ _ _ _ _ _ _ _ _ o idle some_one in (
         changed side me (set_fetching e true),
-        takes_slot i (Full did.0 did.1),
+        takes_slot i (Filled did.0 did.1),
         did.3,
         side_goes side c s r id me.0 at has (set_fetching e true) (set s.words w (get_or s.words w 0)) (set s.homes i none) (length-set s.words w (get_or s.words w 0) ∙ r.wide) (length-set s.homes i none)
             (loaded side me.0.capacities s.words (set s.homes i none) (set_fetching e true) f w (takes_inside side _ r.wide) did.4),
@@ -128,7 +128,7 @@ module _ {M : Type 0} where
 
   take_published_by : (side : Bool) (c : Capacities) (n id : ℕ) (me : Seated M) (new : ℕ) → IsEmptied side me → new ≡ (length (got (own side me)) + 1) % 2 ^ 64 → Allows (Rule c) n id me (words_of side).takes (λ _. new) (λ _. publishes_take side me)
   take_published_by side c n id me new l is = let v : View M = me.0 in let e : End M = end_of side v in let i : ℕ = take_slot side me in let w : ℕ = (words_of side).takes in let t : ℕ = l.turn in let x : M = l.message in
-      subst (λ (z : List (ℕ × Slot M)). Allows (Rule c) n id (v, z) w (λ _. new) (λ _. publishes_take side (v, z))) (sym l.held) (λ s r wide at _.
+      subst (λ (z : List (ℕ × MessageSlot M)). Allows (Rule c) n id (v, z) w (λ _. new) (λ _. publishes_take side (v, z))) (sym l.held) (λ s r wide at _.
       let f : End M = other_of side r in let o = side_knows side c s r id v at l.has in let did = both_take _ _ _ _ _ _ _ _ _ _ _ t x new o l.is_out l.next is in (
         with_end side v (after_take e t x f.full_looks),
         gives,

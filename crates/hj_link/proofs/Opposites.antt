@@ -1,5 +1,5 @@
 -- The steps of one end keep both directions. Those of the other end follow by `swapped`.
-use Rattle.std.proofs.Common.{◌≡◌, ◌≢◌, ℕ, Bool, true, false, ◌+◌, ◌%◌, ◌^◌, ◌==◌, ◌<◌, ◌≤◌, suc, zero, List, [], ◌∷◌, ◌++◌, All, length, map, set, sym, refl, ap, ◌∙◌, subst, arith, mod-lt, le_refl, length-append, length-set, true≢false}
+use Rattle.std.proofs.Common.{◌≡◌, ◌≢◌, ℕ, Bool, true, false, ◌+◌, ◌%◌, ◌^◌, ◌==◌, ◌<◌, ◌≤◌, suc, zero, List, [], ◌∷◌, ◌++◌, All, length, map, set, sym, refl, ap, ◌∙◌, subst, arith, mod-lt, le_refl, length-append, true≢false}
 use Rattle.std.proofs.lemmas.Bool.{eqb-true}
 use Rattle.std.proofs.lemmas.List.{length-map}
 use Rattle.std.proofs.lemmas.List.Elements.{All-head, All-tail}
@@ -9,32 +9,22 @@ use lib.ListN.{get_elem?}
 use Rattle.hj_base.specs.Journals.{Entry, puts}
 use Rattle.hj_base.specs.Link.{TookBeforePut, Flows}
 use Rattle.atomic_table.proofs.Lists.{set_else}
-use Rattle.hj_link.specs.declared.table.Slot.{Slot}
-use Rattle.hj_link.specs.declared.table.Slot.TheVariants.{Empty, Full}
+use Rattle.hj_link.specs.declared.table.MessageSlot.{MessageSlot}
+use Rattle.hj_link.specs.declared.table.MessageSlot.TheVariants.{Empty, Filled}
 use Rattle.hj_link.specs.declared.table.End.{End}
 use Rattle.hj_link.specs.Flow.{Flow, IsEmpty}
 use Rattle.hj_link.specs.Rule.{Opposed, entry_of, journal_of, sent, got, new_end}
 use Rattle.hj_link.specs.Steps.{noted, saw_takes, saw_puts, set_putting, set_fetching, after_put, after_take}
-use Rattle.hj_link.proofs.Flows.{Row, prefix_length, prefix_trans, prefix_refl, flow_looks_for_room, flow_looks_for_message, flow_reserves, flow_publishes, flow_fetches, flow_publishes_take}
+use Rattle.hj_link.proofs.Flows.{Row, with_slot, prefix_length, prefix_trans, prefix_refl, flow_looks_for_room, flow_looks_for_message, flow_reserves, flow_publishes, flow_fetches, flow_publishes_take}
 use Rattle.hj_link.proofs.Looking.{looked_for_message, looked_for_room, looks_at, looks_put, looks_start, looks_take}
 use Rattle.hj_link.proofs.Journals.{sent_more, got_more, sent_same, got_same, journal_more, in_time_after_put, in_time_after_take}
 
 module _ {M : Type 0} where
   -- a flow does not see the slots of the other direction
-  frame : (k base a b : ℕ) (hs : Row M) (sent got known : List M) (kt : ℕ) (x y : Bool) (j : ℕ) (z : maybe.Option (Slot M)) → ((p : ℕ) → base + p % k ≢ j) → Flow k base a b hs sent got known kt x y → Flow k base a b (set hs j z) sent got known kt x y
-  frame k base a b hs sent got known kt x y j z ne f = record {
-    fits = subst (λ (n : ℕ). base + k ≤ n) (sym (length-set hs j z)) f.fits;
-    put_is = f.put_is;
-    take_is = f.take_is;
-    learned = f.learned;
-    taken = f.taken;
-    stale = f.stale;
-    within = f.within;
-    free_there = f.free_there;
-    some_there = f.some_there;
-    full = (λ p m le at home. let q = f.full p m le at home in (q.0, set_else hs j (base + p % k) z (ne p) ∙ q.1));
-    vacant = (λ p le lt home. let q = f.vacant p le lt home in (q.0, set_else hs j (base + p % k) z (ne p) ∙ q.1));
-  }
+  frame : (k base a b : ℕ) (hs : Row M) (sent got known : List M) (kt : ℕ) (x y : Bool) (j : ℕ) (z : maybe.Option (MessageSlot M)) → ((p : ℕ) → base + p % k ≢ j) → Flow k base a b hs sent got known kt x y → Flow k base a b (set hs j z) sent got known kt x y
+  frame k base a b hs sent got known kt x y j z ne f = with_slot f j z x y f.free_there f.some_there
+      (λ p m le at home. let q = f.full p m le at home in (q.0, set_else hs j (base + p % k) z (ne p) ∙ q.1))
+      (λ p le lt home. let q = f.vacant p le lt home in (q.0, set_else hs j (base + p % k) z (ne p) ∙ q.1))
 
   pub swapped : (k base k' base' a b c d : ℕ) (hs : Row M) (one two : End M) → Opposed k base k' base' a b c d hs one two → Opposed k' base' k base c d a b hs two one
   swapped k base k' base' a b c d hs one two o = record { apart = (λ p q e. o.apart q p (sym e)); there = o.back; back = o.there; in_time = (λ p q t u. o.in_time q p u t); looks_there = o.looks_back; looks_back = o.looks_there }
@@ -66,8 +56,8 @@ module _ {M : Type 0} where
       (f.0, f.1, record { apart = o.apart; there = f.2; back = frame k' base' c d hs (sent two) (got one) one.known two.known_takes two.putting one.fetching (base + n % k) none (λ p e. o.apart n p (sym e)) o.back; in_time = o.in_time; looks_there = o.looks_there; looks_back = o.looks_back })
 
   pub both_put : (k base k' base' a b c d : ℕ) (hs : Row M) (one two : End M) (t : ℕ) (m : M) (new : ℕ) → Opposed k base k' base' a b c d hs one two → one.putting ≡ true → new ≡ (length (sent one) + 1) % 2 ^ 64
-      → Opposed k base k' base' new b c d (set hs (base + length (sent one) % k) (some (Full t m))) (after_put one t m two.empty_looks) two
-  both_put k base k' base' a b c d hs one two t m new o out is = let n : ℕ = length (sent one) in let i : ℕ = base + n % k in let z : maybe.Option (Slot M) = some (Full t m) in
+      → Opposed k base k' base' new b c d (set hs (base + length (sent one) % k) (some (Filled t m))) (after_put one t m two.empty_looks) two
+  both_put k base k' base' a b c d hs one two t m new o out is = let n : ℕ = length (sent one) in let i : ℕ = base + n % k in let z : maybe.Option (MessageSlot M) = some (Filled t m) in
       let f = flow_publishes _ _ _ _ _ _ _ _ _ _ t m new (subst (λ (x : Bool). Flow k base a b hs (sent one) (got two) two.known one.known_takes x two.fetching) out o.there) is in
       let more : length (puts (journal_of one ++ entry_of (noted true t m) ∷ [])) ≡ n + 1 = ap (λ (l : List (Entry M)). length (puts l)) (sym (journal_more one.journal (noted true t m))) ∙ ap length (sent_more one.journal t m) ∙ length-append (sent one) (m ∷ []) in
       let g : ℕ = length (got two) in let kn : ℕ = length two.known in let le1 : g ≤ kn = prefix_length _ _ o.there.taken in let le2 : kn ≤ n = prefix_length _ _ o.there.learned in record {
@@ -82,14 +72,14 @@ module _ {M : Type 0} where
       }
 
   pub both_fetch : (k base k' base' a b c d : ℕ) (hs : Row M) (one two : End M) → Opposed k base k' base' a b c d hs one two → one.fetching ≡ false → length (got one) < length one.known
-      → (t : ℕ) × (x : M) × (get_elem? one.known (length (got one)) ≡ some x) × (get_elem? hs (base' + length (got one) % k') ≡ some (some (Full t x))) × Opposed k base k' base' a b c d (set hs (base' + length (got one) % k') none) (set_fetching one true) two
+      → (t : ℕ) × (x : M) × (get_elem? one.known (length (got one)) ≡ some x) × (get_elem? hs (base' + length (got one) % k') ≡ some (some (Filled t x))) × Opposed k base k' base' a b c d (set hs (base' + length (got one) % k') none) (set_fetching one true) two
   both_fetch k base k' base' a b c d hs one two o idle some_one = let g : ℕ = length (got one) in
       let f = flow_fetches _ _ _ _ _ _ _ _ _ _ (subst (λ (x : Bool). Flow k' base' c d hs (sent two) (got one) one.known two.known_takes two.putting x) idle o.back) some_one in
       (f.0, f.1, f.2, f.3, record { apart = o.apart; there = frame k base a b hs (sent one) (got two) two.known one.known_takes one.putting two.fetching (base' + g % k') none (λ p e. o.apart p g e) o.there; back = f.4; in_time = o.in_time; looks_there = o.looks_there; looks_back = o.looks_back })
 
   pub both_take : (k base k' base' a b c d : ℕ) (hs : Row M) (one two : End M) (t : ℕ) (x : M) (new : ℕ) → Opposed k base k' base' a b c d hs one two → one.fetching ≡ true → get_elem? one.known (length (got one)) ≡ some x → new ≡ (length (got one) + 1) % 2 ^ 64
       → Opposed k base k' base' a b c new (set hs (base' + length (got one) % k') (some (Empty t))) (after_take one t x two.full_looks) two
-  both_take k base k' base' a b c d hs one two t x new o out next is = let g : ℕ = length (got one) in let i : ℕ = base' + g % k' in let z : maybe.Option (Slot M) = some (Empty t) in
+  both_take k base k' base' a b c d hs one two t x new o out next is = let g : ℕ = length (got one) in let i : ℕ = base' + g % k' in let z : maybe.Option (MessageSlot M) = some (Empty t) in
       let f = flow_publishes_take _ _ _ _ _ _ _ _ _ _ x t new (subst (λ (y : Bool). Flow k' base' c d hs (sent two) (got one) one.known two.known_takes two.putting y) out o.back) next is in
       let same : length (puts (journal_of one ++ entry_of (noted false t x) ∷ [])) ≡ length (puts (journal_of one)) = ap (λ (l : List (Entry M)). length (puts l)) (sym (journal_more one.journal (noted false t x))) ∙ ap length (sent_same one.journal t x) in record {
         apart = o.apart;
@@ -106,15 +96,15 @@ module _ {M : Type 0} where
   flows_of k base a b hs from to known kt x y f = let n : ℕ = length (sent from) in let g : ℕ = length (got to) in let p : kt ≤ g = f.stale in let q : n ≤ kt + k = f.within in record { taken = prefix_trans _ _ _ f.taken f.learned; room = omega arith }
 
   -- a slot of a list of empty ones
-  empty_there : (xs : List (Slot M)) (i : ℕ) → All IsEmpty xs → i < length xs → (t : ℕ) × (get_elem? (map some xs) i ≡ some (some (Empty t)))
+  empty_there : (xs : List (MessageSlot M)) (i : ℕ) → All IsEmpty xs → i < length xs → (t : ℕ) × (get_elem? (map some xs) i ≡ some (some (Empty t)))
   empty_there [] i empty h = absurd (omega arith)
-  empty_there (x ∷ xs) zero empty h = let head = All-head IsEmpty x xs empty in (head.0, ap (λ (z : Slot M). some (some z)) head.1)
+  empty_there (x ∷ xs) zero empty h = let head = All-head IsEmpty x xs empty in (head.0, ap (λ (z : MessageSlot M). some (some z)) head.1)
   empty_there (x ∷ xs) (suc i) empty h = empty_there xs i (All-tail IsEmpty x xs empty) (omega arith)
 
   -- a direction as it is made
-  flow_starts : (k base : ℕ) (xs : List (Slot M)) → All IsEmpty xs → base + k ≤ length xs → Flow k base 0 0 (map some xs) [] [] [] 0 false false
+  flow_starts : (k base : ℕ) (xs : List (MessageSlot M)) → All IsEmpty xs → base + k ≤ length xs → Flow k base 0 0 (map some xs) [] [] [] 0 false false
   flow_starts k base xs empty long = record {
-    fits = grind (arith, length-map xs (λ (y : Slot M). some y), long);
+    fits = grind (arith, length-map xs (λ (y : MessageSlot M). some y), long);
     put_is = refl;
     take_is = refl;
     learned = prefix_refl [];
@@ -127,7 +117,7 @@ module _ {M : Type 0} where
     vacant = (λ p le lt home. let i : ℕ = p % k in let pos : 0 < k = omega arith in let small : i < k = mod-lt p pos in let l : ℕ = length xs in let fit : base + k ≤ l = long in empty_there xs (base + i) empty (omega arith));
   }
 
-  pub both_start : (k k' : ℕ) (xs : List (Slot M)) → All IsEmpty xs → 0 < k → length xs ≡ k + k' → Opposed k 0 k' k 0 0 0 0 (map some xs) new_end new_end
+  pub both_start : (k k' : ℕ) (xs : List (MessageSlot M)) → All IsEmpty xs → 0 < k → length xs ≡ k + k' → Opposed k 0 k' k 0 0 0 0 (map some xs) new_end new_end
   both_start k k' xs empty pos long = let l : ℕ = length xs in let is : l ≡ k + k' = long in record {
     apart = (λ p q e. let i : ℕ = p % k in let j : ℕ = q % k' in let small : i < k = mod-lt p pos in let same : 0 + i ≡ k + j = e in omega arith);
     there = flow_starts k 0 xs empty (omega arith);

@@ -3,19 +3,30 @@ use Rattle.std.specs.Prelude.{◌≡◌, ℕ, Bool, true, false, ◌+◌, ◌^�
 use mathlib.Core.Option.{Option, some}
 use lib.ListN.{get_elem?}
 use Rattle.hj_base.specs.Journals.{IsPrefix}
-use Rattle.hj_link.specs.declared.table.Slot.{Slot}
-use Rattle.hj_link.specs.declared.table.Slot.TheVariants.{Empty, Full}
+use Rattle.hj_link.specs.declared.table.MessageSlot.{MessageSlot}
+use Rattle.hj_link.specs.declared.table.MessageSlot.TheVariants.{Empty, Filled}
 
 -- a slot without a message
-abbrev pub IsEmpty : {M : Type 0} → Slot M → Type 0
+abbrev pub IsEmpty : {M : Type 0} → MessageSlot M → Type 0
 IsEmpty slot = (turn : ℕ) × (slot ≡ Empty turn)
 
 -- The ring has `capacity` slots from `base` on; the message of place p, counted from 0, lies in the slot p % capacity of it. A
 -- direction of capacity 0 has no slot, and nothing is ever put.
+module _ {M : Type 0} where
+  -- a published slot that is at home has the message of its place
+  abbrev pub AreFilled : (capacity base : ℕ) → List (Option (MessageSlot M)) → List M → List M → Bool → Type 0
+  AreFilled capacity base homes sent got fetching = (p : ℕ) (m : M) → length got ≤ p → get_elem? sent p ≡ some m → (p ≡ length got → fetching ≡ false)
+      → (turn : ℕ) × (get_elem? homes (base + p % capacity) ≡ some (some (Filled turn m)))
+
+  -- the slot of a free place is at home and empty unless it is the one that is out for a put
+  abbrev pub AreVacant : (capacity base : ℕ) → List (Option (MessageSlot M)) → List M → List M → Bool → Type 0
+  AreVacant capacity base homes sent got putting = (p : ℕ) → length sent ≤ p → p < length got + capacity → (p ≡ length sent → putting ≡ false)
+      → (turn : ℕ) × (get_elem? homes (base + p % capacity) ≡ some (some (Empty turn)))
+
 -- `sent` was put and `got` was taken. Of `sent` the taking end knows `known`, and of `got` the putting end knows the number
 -- `known_takes`. A list `homes` has each slot's value, or nothing where the slot is out: `putting` says so of the slot of the
 -- next place to put into, and `fetching` of that of the next place to take from.
-pub record Flow {M : Type 0} (capacity base put_word take_word : ℕ) (homes : List (Option (Slot M))) (sent got known : List M) (known_takes : ℕ) (putting fetching : Bool) : Type 0 where
+pub record Flow {M : Type 0} (capacity base put_word take_word : ℕ) (homes : List (Option (MessageSlot M))) (sent got known : List M) (known_takes : ℕ) (putting fetching : Bool) : Type 0 where
   pub fits : base + capacity ≤ length homes
   -- a word is a count modulo 2^64
   pub put_is : put_word ≡ length sent % 2 ^ 64
@@ -28,7 +39,5 @@ pub record Flow {M : Type 0} (capacity base put_word take_word : ℕ) (homes : L
   -- a slot is out only for a place that is known to be free, or to have its message
   pub free_there : putting ≡ true → length sent < known_takes + capacity
   pub some_there : fetching ≡ true → length got < length known
-  -- a published slot that is at home has the message of its place
-  pub full : (p : ℕ) (m : M) → length got ≤ p → get_elem? sent p ≡ some m → (p ≡ length got → fetching ≡ false) → (turn : ℕ) × (get_elem? homes (base + p % capacity) ≡ some (some (Full turn m)))
-  -- the slot of a free place is at home and empty unless it is the one that is out for a put
-  pub vacant : (p : ℕ) → length sent ≤ p → p < length got + capacity → (p ≡ length sent → putting ≡ false) → (turn : ℕ) × (get_elem? homes (base + p % capacity) ≡ some (some (Empty turn)))
+  pub full : AreFilled capacity base homes sent got fetching
+  pub vacant : AreVacant capacity base homes sent got putting

@@ -5,8 +5,8 @@ use Rattle.atomic_table.specs.Seated.{TableId}
 use Rattle.hj_link.specs.declared.table.Capacities.{Capacities}
 use Rattle.hj_link.specs.declared.table.End.{End}
 use Rattle.hj_link.specs.declared.ring.Ring.{Ring}
-use Rattle.hj_link.specs.declared.outgoing.Outgoing.{Outgoing}
-use Rattle.hj_link.specs.declared.incoming.Incoming.{Incoming}
+use Rattle.hj_link.specs.declared.outgoing.OutgoingWay.{OutgoingWay}
+use Rattle.hj_link.specs.declared.incoming.IncomingWay.{IncomingWay}
 use Rattle.hj_link.specs.Words.{capacity_of, base_of}
 use Rattle.hj_link.specs.Rule.{Seated, sent, got}
 use Rattle.hj_link.specs.Steps.{has_end, own}
@@ -29,7 +29,7 @@ module _ {M : Type 0} where
     pub no_slot : m.1 ≡ []
 
   -- what an end keeps of the direction into which it puts
-  pub record IsOutgoing (side : Bool) (capacities : Capacities) (end : End M) (half : Outgoing) : Type 0 where
+  pub record IsOutgoing (side : Bool) (capacities : Capacities) (end : End M) (half : OutgoingWay) : Type 0 where
     pub idle : end.putting ≡ false
     pub ring_is : IsRing side capacities (length (sent end)) half.ring
     pub puts_is : half.puts ≡ length (sent end) % 2 ^ 64
@@ -37,17 +37,17 @@ module _ {M : Type 0} where
     pub room_is : length (sent end) + half.room ≡ end.known_takes + half.ring.capacity
 
   -- what it keeps of the direction from which it takes
-  pub record IsIncoming (side : Bool) (capacities : Capacities) (end : End M) (half : Incoming) : Type 0 where
+  pub record IsIncoming (side : Bool) (capacities : Capacities) (end : End M) (half : IncomingWay) : Type 0 where
     pub idle : end.fetching ≡ false
     pub ring_is : IsRing (not side) capacities (length (got end)) half.ring
     pub takes_is : half.takes ≡ length (got end) % 2 ^ 64
     pub ready_is : length (got end) + half.ready ≡ length end.known
 
   -- the same, of the end that a seat has
-  abbrev pub Outgoes : Bool → Seated M → Outgoing → Type 0
+  abbrev pub Outgoes : Bool → Seated M → OutgoingWay → Type 0
   Outgoes side m half = IsOutgoing side m.0.capacities (own side m) half
 
-  abbrev pub Incomes : Bool → Seated M → Incoming → Type 0
+  abbrev pub Incomes : Bool → Seated M → IncomingWay → Type 0
   Incomes side m half = IsIncoming side m.0.capacities (own side m) half
 
 -- a seat, with the table at which it is
@@ -75,7 +75,7 @@ module _ {M : Type 0} where
     pub full_looks : (own side new.me).full_looks ≡ (own side old.me).full_looks
 
   -- so a take leaves right what is kept of the puts, and a put what is kept of the takes
-  pub outgoes_on : (side : Bool) (old new : AtTable M) (half : Outgoing) → KeepsPuts side old new → Outgoes side old.me half → Outgoes side new.me half
+  pub outgoes_on : (side : Bool) (old new : AtTable M) (half : OutgoingWay) → KeepsPuts side old new → Outgoes side old.me half → Outgoes side new.me half
   outgoes_on side old new half keeps is = record {
     idle = keeps.putting ∙ is.idle;
     ring_is = subst (λ (c : Capacities). IsRing side c (length (sent (own side new.me))) half.ring) (sym keeps.capacities)
@@ -85,7 +85,7 @@ module _ {M : Type 0} where
     room_is = ap (λ (l : List M). length l + half.room) keeps.sent_is ∙ is.room_is ∙ ap (λ (n : ℕ). n + half.ring.capacity) (sym keeps.known_takes);
   }
 
-  pub incomes_on : (side : Bool) (old new : AtTable M) (half : Incoming) → KeepsTakes side old new → Incomes side old.me half → Incomes side new.me half
+  pub incomes_on : (side : Bool) (old new : AtTable M) (half : IncomingWay) → KeepsTakes side old new → Incomes side old.me half → Incomes side new.me half
   incomes_on side old new half keeps is = record {
     idle = keeps.fetching ∙ is.idle;
     ring_is = subst (λ (c : Capacities). IsRing (not side) c (length (got (own side new.me))) half.ring) (sym keeps.capacities)

@@ -6,7 +6,7 @@ use mathlib.Core.Option.{Option, some}
 use Rattle.hj_base.specs.Journals.{Entry, puts, takes}
 use Rattle.hj_base.specs.Link.{TookBeforePut}
 use Rattle.atomic_table.specs.Table.{State, Me}
-use Rattle.hj_link.specs.declared.table.Slot.{Slot}
+use Rattle.hj_link.specs.declared.table.MessageSlot.{MessageSlot}
 use Rattle.hj_link.specs.declared.table.Capacities.{Capacities}
 use Rattle.hj_link.specs.declared.table.Noted.{Noted}
 use Rattle.hj_link.specs.declared.table.End.{End}
@@ -16,7 +16,7 @@ use Rattle.hj_link.specs.Looks.{Looks}
 
 -- a seat in a step: its view, and the slots that it has taken out, each with its value
 abbrev pub Seated : Type 0 → Type 0
-Seated M = Me (Slot M) (View M)
+Seated M = Me (MessageSlot M) (View M)
 
 module _ {M : Type 0} where
   abbrev pub entry_of : Noted M → Entry M
@@ -50,7 +50,7 @@ module _ {M : Type 0} where
   -- Both directions of a link: `one` puts into the ring of `capacity` slots from `base` on, and `two` into that of `capacity'`
   -- slots from `base'` on. The words count the puts of `one` and the takes of these by `two`, and then the puts of `two` and the
   -- takes of these by `one`. No slot is of both rings.
-  pub record Opposed (capacity base capacity' base' put_word take_word put_word' take_word' : ℕ) (homes : List (Option (Slot M))) (one two : End M) : Type 0 where
+  pub record Opposed (capacity base capacity' base' put_word take_word put_word' take_word' : ℕ) (homes : List (Option (MessageSlot M))) (one two : End M) : Type 0 where
     pub apart : (p q : ℕ) → base + p % capacity ≢ base' + q % capacity'
     pub there : Flow capacity base put_word take_word homes (sent one) (got two) two.known one.known_takes one.putting two.fetching
     pub back : Flow capacity' base' put_word' take_word' homes (sent two) (got one) one.known two.known_takes two.putting one.fetching
@@ -64,7 +64,7 @@ module _ {M : Type 0} where
     pub of_right : v.has_right ≡ true → (j ≡ right_id) × (v.right ≡ right) × (v.capacities ≡ capacities)
 
   -- The ring of what goes rightwards comes first. The words are those of `words_of`.
-  pub record Rule (capacities : Capacities) (s : State (Slot M) (View M)) : Type 0 where
+  pub record Rule (capacities : Capacities) (s : State (MessageSlot M) (View M)) : Type 0 where
     pub left_id : ℕ
     pub right_id : ℕ
     pub left : End M

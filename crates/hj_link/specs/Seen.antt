@@ -28,9 +28,13 @@ pub record LinkSeen (M : Type 0) : Type 0 where
   pub link : Link M
 
 module _ {M : Type 0} where
+  -- an end stays on its link
+  abbrev pub KeepsLink : EndSeen M → EndSeen M → Type 0
+  KeepsLink old new = (new.link ≡ old.link) × (new.capacity ≡ old.capacity)
+
   -- a message was put under a turn, for which there was room
   pub record HasPut (turn : ℕ) (message : M) (old new : EndSeen M) : Type 0 where
-    pub link : (new.link ≡ old.link) × (new.capacity ≡ old.capacity)
+    pub link : KeepsLink old new
     pub journal : new.journal ≡ old.journal ++ put turn message ∷ []
     pub room : new.room + 1 ≡ old.room
     pub full_looks : new.full_looks ≡ old.full_looks

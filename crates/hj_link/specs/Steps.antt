@@ -5,8 +5,8 @@ use mathlib.Core.Option.{some}
 use Rattle.hj_base.specs.Journals.{IsPrefix}
 use Rattle.hj_base.specs.Link.{Flows}
 use Rattle.atomic_table.specs.Table.{rest}
-use Rattle.hj_link.specs.declared.table.Slot.{Slot}
-use Rattle.hj_link.specs.declared.table.Slot.TheVariants.{Empty, Full}
+use Rattle.hj_link.specs.declared.table.MessageSlot.{MessageSlot}
+use Rattle.hj_link.specs.declared.table.MessageSlot.TheVariants.{Empty, Filled}
 use Rattle.hj_link.specs.declared.table.Noted.{Noted}
 use Rattle.hj_link.specs.declared.table.Capacities.{Capacities}
 use Rattle.hj_link.specs.declared.table.End.{End}
@@ -100,10 +100,10 @@ module _ {M : Type 0} where
   reserves side m m' = (turn : ℕ) × (m' ≡ (changed side m (set_putting (own side m) true), (put_slot side m, Empty turn) ∷ m.1))
 
   -- the end after it published the slot that was taken out last, whose turn and message are those of the put
-  abbrev pub laid : End M → List (ℕ × Slot M) → ℕ → End M
+  abbrev pub laid : End M → List (ℕ × MessageSlot M) → ℕ → End M
   laid end [] empties = end
   laid end ((k, Empty turn) ∷ others) empties = end
-  laid end ((k, Full turn message) ∷ others) empties = after_put end turn message empties
+  laid end ((k, Filled turn message) ∷ others) empties = after_put end turn message empties
 
   -- publish a put: the slot comes home
   abbrev pub publishes : Bool → Seated M → Seated M → Type 0
@@ -112,13 +112,13 @@ module _ {M : Type 0} where
   -- take out the slot of the next known put, which has its message
   abbrev pub fetches : Bool → Seated M → Seated M → Type 0
   fetches side m m' = (turn : ℕ) × (message : M) × (get_elem? (own side m).known (length (got (own side m))) ≡ some message)
-      × (m' ≡ (changed side m (set_fetching (own side m) true), (take_slot side m, Full turn message) ∷ m.1))
+      × (m' ≡ (changed side m (set_fetching (own side m) true), (take_slot side m, Filled turn message) ∷ m.1))
 
   -- the end after it published the slot that was taken out last, whose turn is that of the take
-  abbrev pub emptied : End M → List (ℕ × Slot M) → M → ℕ → End M
+  abbrev pub emptied : End M → List (ℕ × MessageSlot M) → M → ℕ → End M
   emptied end [] message fulls = end
   emptied end ((k, Empty turn) ∷ others) message fulls = after_take end turn message fulls
-  emptied end ((k, Full turn old) ∷ others) message fulls = end
+  emptied end ((k, Filled turn old) ∷ others) message fulls = end
 
   -- publish a take: its message is the next known put, and the slot comes home
   abbrev pub publishes_take : Bool → Seated M → Seated M → Type 0
@@ -149,10 +149,10 @@ module _ {M : Type 0} where
   neither = view no_room false new_end false new_end
 
   -- the slot of the end's next place to put into is out with this value, or that of its next place to take from, and no other
-  abbrev pub holding : Bool → Seated M → Slot M → Seated M
+  abbrev pub holding : Bool → Seated M → MessageSlot M → Seated M
   holding side m value = (changed side m (set_putting (own side m) true), (put_slot side m, value) ∷ [])
 
-  abbrev pub holding_taken : Bool → Seated M → Slot M → Seated M
+  abbrev pub holding_taken : Bool → Seated M → MessageSlot M → Seated M
   holding_taken side m value = (changed side m (set_fetching (own side m) true), (take_slot side m, value) ∷ [])
 
   -- a message was laid into the slot of the next place, and is to be published
@@ -161,7 +161,7 @@ module _ {M : Type 0} where
     pub message : M
     pub has : has_end side m.0 ≡ true
     pub is_out : (own side m).putting ≡ true
-    pub held : m.1 ≡ (put_slot side m, Full turn message) ∷ []
+    pub held : m.1 ≡ (put_slot side m, Filled turn message) ∷ []
 
   -- the slot of the next known put was emptied, and is to be published
   pub record IsEmptied (side : Bool) (m : Seated M) : Type 0 where

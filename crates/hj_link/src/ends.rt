@@ -3,13 +3,13 @@ ghost use Rattle.std.specs.Prelude.{◌≡◌, ◌+◌, ◌<◌, ◌≤◌, ◌�
 ghost use Rattle.hj_base.specs.Journals.{put, taken};
 ghost use Rattle.hj_link.specs.Rule.{journal_of};
 ghost use Rattle.hj_link.specs.Steps.{own};
-ghost use Rattle.hj_link.specs.Seen.{EndSeen, HasPut};
+ghost use Rattle.hj_link.specs.Seen.{EndSeen, KeepsLink, HasPut};
 
 use crate::endpoints::{Endpoint, OnLeft, OnRight};
 use crate::halves::{PuttingHalf, TakingHalf, Unused};
-use crate::incoming::Incoming;
+use crate::incoming::IncomingWay;
 use crate::opening::open;
-use crate::outgoing::Outgoing;
+use crate::outgoing::OutgoingWay;
 use crate::ring::Ring;
 use crate::steps::SeatedEnd;
 use crate::table::Capacities;
@@ -26,16 +26,16 @@ pub struct LinkEnd<M: Drop, D: Endpoint, O: PuttingHalf<M>, I: TakingHalf<M>> {
 }
 
 /// The left end of a link that goes both ways.
-pub type LeftEnd<M> = LinkEnd<M, OnLeft, Outgoing, Incoming>;
+pub type LeftEnd<M> = LinkEnd<M, OnLeft, OutgoingWay, IncomingWay>;
 
 /// The right end of a link that goes both ways.
-pub type RightEnd<M> = LinkEnd<M, OnRight, Outgoing, Incoming>;
+pub type RightEnd<M> = LinkEnd<M, OnRight, OutgoingWay, IncomingWay>;
 
 /// The end of a link in one direction that puts.
-pub type Sender<M> = LinkEnd<M, OnLeft, Outgoing, Unused>;
+pub type Sender<M> = LinkEnd<M, OnLeft, OutgoingWay, Unused>;
 
 /// The end of a link in one direction that takes.
-pub type Receiver<M> = LinkEnd<M, OnRight, Unused, Incoming>;
+pub type Receiver<M> = LinkEnd<M, OnRight, Unused, IncomingWay>;
 
 /// A message that found no room, handed back.
 #[derive(Debug, Drop)]
@@ -57,11 +57,11 @@ impl<M: Drop, D: Endpoint, O: PuttingHalf<M>, I: TakingHalf<M>> Model for LinkEn
     ghost invariant = { λ e. O.outgoes D.is_left e.end.me e.outgoing × I.incomes D.is_left e.end.me e.incoming };
 }
 
-impl<M: Drop, D: Endpoint, I: TakingHalf<M>> LinkEnd<M, D, Outgoing, I> {
+impl<M: Drop, D: Endpoint, I: TakingHalf<M>> LinkEnd<M, D, OutgoingWay, I> {
     /// Returns whether the next put finds room. If it doesn't, the direction into which it puts was full at a step of this call.
     #[inline(always)]
     pub fn room(&mut self) -> bool
-        ensures link { (self.new.link ≡ self.old.link) × (self.new.capacity ≡ self.old.capacity) }
+        ensures link { KeepsLink self.old self.new }
         ensures journal { self.new.journal ≡ self.old.journal }
         ensures room { MatchBool result (0 < self.new.room) ((self.old.room ≡ 0) × (self.new.room ≡ 0)) }
         ensures full { MatchBool result (self.new.full_looks ≡ self.old.full_looks) (self.new.full_looks ≡ self.old.full_looks + 1) }
@@ -74,7 +74,7 @@ impl<M: Drop, D: Endpoint, I: TakingHalf<M>> LinkEnd<M, D, Outgoing, I> {
     /// Puts a message under a turn. Hands it back only if the direction was full at a step of this call.
     #[inline(always)]
     pub fn put(&mut self, turn: u64, message: M) -> Result<(), Full<M>>
-        ensures link { (self.new.link ≡ self.old.link) × (self.new.capacity ≡ self.old.capacity) }
+        ensures link { KeepsLink self.old self.new }
         ensures put { OnOk result ((self.new.journal ≡ self.old.journal ++ put turn message ∷ []) × (self.new.full_looks ≡ self.old.full_looks)) }
         ensures room { OnOk result (0 < self.old.room → self.new.room + 1 ≡ self.old.room) }
         ensures back { IfErr result (λ full. full.0 ≡ message) }
@@ -96,7 +96,7 @@ impl<M: Drop, D: Endpoint, I: TakingHalf<M>> LinkEnd<M, D, Outgoing, I> {
     /// Puts a message under a turn, if there is one. Hands it back only if the direction was full at a step of this call.
     #[inline(always)]
     pub fn put_some(&mut self, turn: u64, message: Option<M>) -> Option<M>
-        ensures link { (self.new.link ≡ self.old.link) × (self.new.capacity ≡ self.old.capacity) }
+        ensures link { KeepsLink self.old self.new }
         ensures put { IfNone result ((self.new.journal ≡ self.old.journal ++ map (put turn) (option_to_list message)) × (self.new.full_looks ≡ self.old.full_looks)) }
         ensures back { IfSome result (λ back. (message ≡ Some back) × (self.new.journal ≡ self.old.journal) × (self.new.full_looks ≡ self.old.full_looks + 1)) }
     {
@@ -125,11 +125,11 @@ impl<M: Drop, D: Endpoint, I: TakingHalf<M>> LinkEnd<M, D, Outgoing, I> {
     }
 }
 
-impl<M: Drop, D: Endpoint, O: PuttingHalf<M>> LinkEnd<M, D, O, Incoming> {
+impl<M: Drop, D: Endpoint, O: PuttingHalf<M>> LinkEnd<M, D, O, IncomingWay> {
     /// Takes the oldest message of the other end, under a turn. None only if there was none at a step of this call.
     #[inline(always)]
     pub fn take(&mut self, turn: u64) -> Option<M>
-        ensures link { (self.new.link ≡ self.old.link) × (self.new.capacity ≡ self.old.capacity) }
+        ensures link { KeepsLink self.old self.new }
         ensures taken { IfSome result (λ message. (self.new.journal ≡ self.old.journal ++ taken turn message ∷ []) × (self.new.empty_looks ≡ self.old.empty_looks)) }
         ensures ready { 0 < self.old.ready → self.new.ready + 1 ≡ self.old.ready }
         ensures same { IfNone result (self.new.journal ≡ self.old.journal) }
@@ -164,13 +164,13 @@ pub fn duplex<M: Drop>(alloc: Global, capacity: usize) -> Result<(LeftEnd<M>, Ri
     let leftwards = Ring::new(capacity, capacity);
     let left = LinkEnd {
         end: link.left,
-        outgoing: Outgoing::new(rightwards),
-        incoming: Incoming::new(leftwards),
+        outgoing: OutgoingWay::new(rightwards),
+        incoming: IncomingWay::new(leftwards),
     };
     let right = LinkEnd {
         end: link.right,
-        outgoing: Outgoing::new(leftwards),
-        incoming: Incoming::new(rightwards),
+        outgoing: OutgoingWay::new(leftwards),
+        incoming: IncomingWay::new(rightwards),
     };
     Ok((left, right))
 }
@@ -192,13 +192,13 @@ pub fn one_way<M: Drop>(alloc: Global, capacity: usize) -> Result<(Sender<M>, Re
     let ring = Ring::new(0, capacity);
     let sender = LinkEnd {
         end: link.left,
-        outgoing: Outgoing::new(ring),
+        outgoing: OutgoingWay::new(ring),
         incoming: Unused,
     };
     let receiver = LinkEnd {
         end: link.right,
         outgoing: Unused,
-        incoming: Incoming::new(ring),
+        incoming: IncomingWay::new(ring),
     };
     Ok((sender, receiver))
 }

@@ -3,8 +3,8 @@ ghost use Rattle.std.specs.Prelude.{ℕ, Bool};
 ghost use Rattle.hj_link.specs.Rule.{Seated};
 ghost use Rattle.hj_link.specs.Halves.{AtTable, Outgoes, Incomes, KeepsTakes, KeepsPuts, outgoes_on, incomes_on};
 
-use crate::incoming::Incoming;
-use crate::outgoing::Outgoing;
+use crate::incoming::IncomingWay;
+use crate::outgoing::OutgoingWay;
 
 /// What an end keeps of the direction into which it puts, if it puts.
 pub trait PuttingHalf<M>: Drop {
@@ -30,7 +30,7 @@ pub trait TakingHalf<M>: Drop {
     const TAKES: bool;
 }
 
-impl<M> PuttingHalf<M> for Outgoing {
+impl<M> PuttingHalf<M> for OutgoingWay {
     ghost outgoes = { λ side me half. Outgoes side me half };
 
     ghost room = { λ half. half.room };
@@ -38,7 +38,7 @@ impl<M> PuttingHalf<M> for Outgoing {
     ghost goes_on = { λ side old new half keeps is. outgoes_on side old new half keeps is };
 }
 
-impl<M> TakingHalf<M> for Incoming {
+impl<M> TakingHalf<M> for IncomingWay {
     ghost incomes = { λ side me half. Incomes side me half };
 
     ghost ready = { λ half. half.ready };

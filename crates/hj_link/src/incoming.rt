@@ -11,7 +11,7 @@ use crate::steps::SeatedEnd;
 
 /// The direction from which an end takes.
 #[derive(Drop)]
-pub struct Incoming {
+pub struct IncomingWay {
     pub ring: Ring,
     // the takes, modulo 2^64
     pub takes: u64,
@@ -19,11 +19,11 @@ pub struct Incoming {
     pub ready: u64,
 }
 
-impl Incoming {
-    pub(crate) fn new(ring: Ring) -> Incoming
+impl IncomingWay {
+    pub(crate) fn new(ring: Ring) -> IncomingWay
         ensures { (result.ring ≡ ring) × (result.takes ≡ 0) × (result.ready ≡ 0) }
     {
-        Incoming {
+        IncomingWay {
             ring,
             takes: 0,
             ready: 0,

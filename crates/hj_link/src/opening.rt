@@ -7,7 +7,7 @@ ghost use Rattle.hj_link.specs.Steps.{Meets, left_alone, right_alone, both_ends}
 use crate::endpoints::{OnLeft, OnRight};
 use crate::plays::{Apart, Learn, Together};
 use crate::steps::SeatedEnd;
-use crate::table::{Capacities, LinkSeat, LinkTable, Slot};
+use crate::table::{Capacities, LinkSeat, LinkTable, MessageSlot};
 use atomic_table::Table;
 use hj_base::Memory;
 use std::alloc::Global;
@@ -29,9 +29,9 @@ pub(crate) fn open<M: Drop>(alloc: Global, capacities: Capacities) -> Result<Ope
     ensures right { IfOk result (λ link. link.right.me ≡ (right_alone (opened capacities), [])) }
 {
     let count = capacities.rightwards + capacities.leftwards;
-    let mut slots: Vec<Slot<M>> = Vec::with_capacity(alloc, count)?;
+    let mut slots: Vec<MessageSlot<M>> = Vec::with_capacity(alloc, count)?;
     for _ in 0..count {
-        slots.push_reserved(Slot::Empty(0));
+        slots.push_reserved(MessageSlot::Empty(0));
     }
     let words = [0u64; 64];
     let Ok((table, mut left)) = Table::new(alloc, words.as_slice(), slots, &capacities) else {

@@ -11,7 +11,7 @@ use crate::steps::SeatedEnd;
 
 /// The direction into which an end puts.
 #[derive(Drop)]
-pub struct Outgoing {
+pub struct OutgoingWay {
     pub ring: Ring,
     // the puts, and the takes that were seen, modulo 2^64
     pub puts: u64,
@@ -20,12 +20,12 @@ pub struct Outgoing {
     pub room: u64,
 }
 
-impl Outgoing {
-    pub(crate) fn new(ring: Ring) -> Outgoing
+impl OutgoingWay {
+    pub(crate) fn new(ring: Ring) -> OutgoingWay
         requires { ring.capacity ≤ 514 }
         ensures { (result.ring ≡ ring) × (result.puts ≡ 0) × (result.seen_takes ≡ 0) × (result.room ≡ ring.capacity) }
     {
-        Outgoing {
+        OutgoingWay {
             ring,
             puts: 0,
             seen_takes: 0,

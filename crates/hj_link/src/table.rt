@@ -7,9 +7,9 @@ use std::collections::LinkedList;
 
 /// A place for a message, with the turn of the put or of the take that left it so.
 #[derive(Drop)]
-pub enum Slot<M> {
+pub enum MessageSlot<M> {
     Empty(u64),
-    Full(u64, M),
+    Filled(u64, M),
 }
 
 /// For how many messages each direction has room. A link that goes one way has none for the way back.
@@ -56,12 +56,12 @@ pub struct View<M> {
 
 pub struct LinkRule;
 
-impl<M> TableRule<Slot<M>, View<M>, Capacities> for LinkRule {
+impl<M> TableRule<MessageSlot<M>, View<M>, Capacities> for LinkRule {
     ghost holds = { λ capacities. Rule capacities };
 
     ghost first = { λ capacities. opened capacities };
 }
 
-pub(crate) type LinkTable<M> = Table<Slot<M>, View<M>, Capacities, LinkRule, Global>;
+pub(crate) type LinkTable<M> = Table<MessageSlot<M>, View<M>, Capacities, LinkRule, Global>;
 
-pub(crate) type LinkSeat<M> = Seat<Slot<M>, View<M>>;
+pub(crate) type LinkSeat<M> = Seat<MessageSlot<M>, View<M>>;

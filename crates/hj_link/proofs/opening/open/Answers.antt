@@ -1,6 +1,6 @@
 use Rattle.std.proofs.Common.{All, rules, ap, refl, subst, sym}
 use Rattle.std.proofs.lemmas.List.Elements.{All-push}
-use Rattle.hj_link.specs.declared.table.Slot.TheVariants.{Empty}
+use Rattle.hj_link.specs.declared.table.MessageSlot.TheVariants.{Empty}
 use Rattle.hj_link.specs.Flow.{IsEmpty}
 use Rattle.hj_link.proofs.Seats.{starts, splits}
 use Rattle.hj_link.proofs.opening.open.Goals as goal
