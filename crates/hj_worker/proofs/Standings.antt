@@ -11,7 +11,7 @@ use Rattle.std.proofs.lemmas.List.Quantifiers.{all_pairs_push}
 use Rattle.std.proofs.lemmas.List.Sums.{fold-append}
 use Rattle.hj_base.specs.declared.numbers.Side.{Side}
 use Rattle.hj_base.specs.declared.numbers.Side.TheVariants.{Left, Right}
-use Rattle.hj_base.specs.Journals.{IsPrefix, put, taken}
+use Rattle.hj_base.specs.Journals.{Entry, IsPrefix, put, taken}
 use Rattle.hj_msg.specs.declared.message.Msg.{Msg}
 use Rattle.hj_msg.specs.declared.message.Report.{Report}
 use Rattle.hj_msg.specs.declared.message.Report.TheVariants.{NoMemory}
@@ -87,6 +87,13 @@ module _ {P : Type 0} where
   abbrev turn_of : ℕ → Side → Msg P → List (Outgoing P) → Turn P
   turn_of number end message done = record { number = number; end = end; message = message; to_left = lefts done; to_right = rights done; reports = reports_in done }
 
+  -- a journal behind some turns, to which what a further turn takes and makes was added
+  behind_turns : {M : Type 0} (at_place : Turn P → List (Entry M)) (turns : List (Turn P)) (turn : Turn P) (earlier begun whole took made : List (Entry M)) → earlier ≡ flat_map at_place turns → begun ≡ earlier ++ took
+      → whole ≡ begun ++ made → at_place turn ≡ took ++ made → whole ≡ flat_map at_place (turns ++ turn ∷ [])
+  behind_turns at_place turns turn earlier begun whole took made before takes makes at =
+      makes ∙ ap (λ xs. xs ++ made) (takes ∙ ap (λ xs. xs ++ took) before) ∙ append_assoc (flat_map at_place turns) took made
+      ∙ ap (λ xs. flat_map at_place turns ++ xs) (sym at ∙ sym (append-nil (at_place turn))) ∙ sym (flat_map-append at_place turns (turn ∷ []))
+
   whole-push : (matches : P → P → Bool) (place n : ℕ) (state : State P) (turns : List (Turn P)) (turn : Turn P) → AreWhole matches place n state turns
       → IsWhole matches place n (fold (after place n) state (map (λ t. t.message) turns)) turn → AreWhole matches place n state (turns ++ turn ∷ [])
   whole-push matches place n state [] turn whole last = (last, tt)
@@ -104,23 +111,18 @@ module _ {P : Type 0} {matches : P → P → Bool} {place n : ℕ} {before : Sta
 
   left_is : (done : List (Outgoing P)) → (with_puts number begun done).left ≡ flat_map at_left (begins.turns ++ this done ∷ [])
   left_is done =
-      puts-left number begun done
-      ∙ ap (λ xs. xs ++ map (put number) (lefts done)) (ap (λ (j : Journals P). j.left) begins.taken ∙ take-left number begins.end message begins.earlier ∙ ap (λ xs. xs ++ only_at begins.end Left (taken number message)) begins.are.left)
-      ∙ append_assoc (flat_map at_left begins.turns) (only_at begins.end Left (taken number message)) (map (put number) (lefts done))
-      ∙ ap (λ xs. flat_map at_left begins.turns ++ xs) (sym (append-nil (at_left (this done)))) ∙ sym (flat_map-append at_left begins.turns (this done ∷ []))
+      behind_turns at_left begins.turns (this done) begins.earlier.left begun.left _ (only_at begins.end Left (taken number message)) (map (put number) (lefts done)) begins.are.left
+      (ap (λ (j : Journals P). j.left) begins.taken ∙ take-left number begins.end message begins.earlier) (puts-left number begun done) refl
 
   right_is : (done : List (Outgoing P)) → (with_puts number begun done).right ≡ flat_map at_right (begins.turns ++ this done ∷ [])
   right_is done =
-      puts-right number begun done
-      ∙ ap (λ xs. xs ++ map (put number) (rights done)) (ap (λ (j : Journals P). j.right) begins.taken ∙ take-right number begins.end message begins.earlier ∙ ap (λ xs. xs ++ only_at begins.end Right (taken number message)) begins.are.right)
-      ∙ append_assoc (flat_map at_right begins.turns) (only_at begins.end Right (taken number message)) (map (put number) (rights done))
-      ∙ ap (λ xs. flat_map at_right begins.turns ++ xs) (sym (append-nil (at_right (this done)))) ∙ sym (flat_map-append at_right begins.turns (this done ∷ []))
+      behind_turns at_right begins.turns (this done) begins.earlier.right begun.right _ (only_at begins.end Right (taken number message)) (map (put number) (rights done)) begins.are.right
+      (ap (λ (j : Journals P). j.right) begins.taken ∙ take-right number begins.end message begins.earlier) (puts-right number begun done) refl
 
   reports_is : (done : List (Outgoing P)) → (with_puts number begun done).reports ≡ flat_map at_reports (begins.turns ++ this done ∷ [])
   reports_is done =
-      puts-reports number begun done
-      ∙ ap (λ xs. xs ++ map (put number) (reports_in done)) (ap (λ (j : Journals P). j.reports) begins.taken ∙ take-reports number begins.end message begins.earlier ∙ begins.are.reports)
-      ∙ ap (λ xs. flat_map at_reports begins.turns ++ xs) (sym (append-nil (at_reports (this done)))) ∙ sym (flat_map-append at_reports begins.turns (this done ∷ []))
+      behind_turns at_reports begins.turns (this done) begins.earlier.reports begun.reports _ [] (map (put number) (reports_in done)) begins.are.reports
+      (ap (λ (j : Journals P). j.reports) begins.taken ∙ take-reports number begins.end message begins.earlier ∙ sym (append-nil begins.earlier.reports)) (puts-reports number begun done) refl
 
   abbrev ls : List (Msg P)
   ls = (sends place n message).left

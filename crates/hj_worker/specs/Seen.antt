@@ -5,7 +5,7 @@ use Rattle.hj_base.specs.declared.numbers.Side.TheVariants.{Left, Right}
 use Rattle.hj_msg.specs.Core.{State}
 use Rattle.hj_worker.specs.declared.answers.Place.{Place}
 use Rattle.hj_worker.specs.declared.answers.Place.TheVariants.{Link, Reports}
-use Rattle.hj_worker.specs.declared.ends.Ends.{Ends}
+use Rattle.hj_worker.specs.declared.ends.WorkerEnds.{WorkerEnds}
 use Rattle.hj_worker.specs.Outgoing.{Outgoing, leftwards, rightwards, reported, Journals}
 use Rattle.hj_worker.specs.Hands.{InHand}
 
@@ -15,14 +15,14 @@ pub record WorkerSeen (P J : Type 0) : Type 0 where
   pub place : ℕ
   pub cores : ℕ
   pub state : State P
-  pub ends : Ends P
+  pub ends : WorkerEnds P
   pub hand : InHand P
   -- how many messages it took, and how often it was called to turn, as far as that is counted
   pub taken : ℕ
   pub calls : ℕ
 
 module _ {P : Type 0} where
-  abbrev pub journals_of : Ends P → Journals P
+  abbrev pub journals_of : WorkerEnds P → Journals P
   journals_of ends = record { left = ends.left.journal; right = ends.right.journal; reports = ends.reports.journal }
 
   -- the place into which a thing is put
@@ -32,12 +32,12 @@ module _ {P : Type 0} where
   place_of (reported entry) = Reports
 
   -- the steps that found a place full, and those that found nothing to take at an end
-  abbrev pub full_looks : Place → Ends P → ℕ
+  abbrev pub full_looks : Place → WorkerEnds P → ℕ
   full_looks (Link Left) ends = ends.left.full_looks
   full_looks (Link Right) ends = ends.right.full_looks
   full_looks Reports ends = ends.reports.full_looks
 
-  abbrev pub empty_looks : Side → Ends P → ℕ
+  abbrev pub empty_looks : Side → WorkerEnds P → ℕ
   empty_looks Left ends = ends.left.empty_looks
   empty_looks Right ends = ends.right.empty_looks
 

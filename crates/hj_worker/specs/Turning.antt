@@ -5,11 +5,12 @@ use Rattle.hj_base.specs.declared.numbers.Side.TheVariants.{Left, Right}
 use Rattle.hj_msg.specs.declared.message.Msg.{Msg}
 use Rattle.hj_msg.specs.declared.message.Report.TheVariants.{NoMemory as MemoryRanOut}
 use Rattle.hj_msg.specs.Core.{after}
+use Rattle.hj_link.specs.Seen.{KeepsLink}
 use Rattle.hj_worker.specs.declared.answers.Place.{Place}
 use Rattle.hj_worker.specs.declared.answers.Place.TheVariants.{Link, Reports}
 use Rattle.hj_worker.specs.declared.answers.Turn.{Turn}
 use Rattle.hj_worker.specs.declared.answers.Turn.TheVariants.{Did, Idle, Blocked, Ended, NoMemory}
-use Rattle.hj_worker.specs.declared.ends.Ends.{Ends}
+use Rattle.hj_worker.specs.declared.ends.WorkerEnds.{WorkerEnds}
 use Rattle.hj_worker.specs.Outgoing.{Outgoing, Journals, reported, outgoing, with_puts, with_take}
 use Rattle.hj_worker.specs.declared.hand.Hand.{Hand}
 use Rattle.hj_worker.specs.declared.hand.Hand.TheVariants.{Nothing, Rest, Refused}
@@ -18,10 +19,10 @@ use Rattle.hj_worker.specs.Seen.{WorkerSeen, journals_of, place_of, full_looks, 
 
 module _ {P : Type 0} where
   -- each end stays on its link
-  pub record KeepsLinks (old new : Ends P) : Type 0 where
-    pub left : (new.left.link ≡ old.left.link) × (new.left.capacity ≡ old.left.capacity)
-    pub right : (new.right.link ≡ old.right.link) × (new.right.capacity ≡ old.right.capacity)
-    pub reports : (new.reports.link ≡ old.reports.link) × (new.reports.capacity ≡ old.reports.capacity)
+  pub record KeepsLinks (old new : WorkerEnds P) : Type 0 where
+    pub left : KeepsLink old.left new.left
+    pub right : KeepsLink old.right new.right
+    pub reports : KeepsLink old.reports new.reports
 
   -- Of some things the first ones were put under the number of a turn, and these others weren't.
   pub record Puts (number : ℕ) (items : List (Outgoing P)) (old : Journals P) (others : List (Outgoing P)) (new : Journals P) : Type 0 where
@@ -30,7 +31,7 @@ module _ {P : Type 0} where
     pub journals : new ≡ with_puts number old done
 
   -- There are things to put, and the place of the first one was found full.
-  pub record AreBlocked (place : Place) (items : List (Outgoing P)) (old new : Ends P) : Type 0 where
+  pub record AreBlocked (place : Place) (items : List (Outgoing P)) (old new : WorkerEnds P) : Type 0 where
     pub first : Outgoing P
     pub later : List (Outgoing P)
     pub are : items ≡ first ∷ later
@@ -38,17 +39,17 @@ module _ {P : Type 0} where
     pub full : full_looks place new ≡ full_looks place old + 1
 
   -- Of some things the first ones were put under the number of a turn, and those that weren't are in hand.
-  abbrev pub LeavesInHand : ℕ → List (Outgoing P) → Ends P → Hand P → Ends P → Type 0
+  abbrev pub LeavesInHand : ℕ → List (Outgoing P) → WorkerEnds P → Hand P → WorkerEnds P → Type 0
   LeavesInHand number items old Nothing new = journals_of new ≡ with_puts number (journals_of old) items
   LeavesInHand number items old (Rest sends) new = Puts number items (journals_of old) (things_of sends) (journals_of new) × ((place : Place) × AreBlocked place (things_of sends) old new)
   LeavesInHand number items old (Refused message) new = ⊥
 
   -- a look at an end found nothing to take
-  abbrev pub FindsNone : Side → Ends P → Ends P → Type 0
+  abbrev pub FindsNone : Side → WorkerEnds P → WorkerEnds P → Type 0
   FindsNone end old new = empty_looks end new ≡ empty_looks end old + 1
 
   -- A message was taken at an end, under the number of a turn. Where it isn't the end that is looked at first, that one had none.
-  pub record Takes (number : ℕ) (first : Side) (message : Msg P) (old new : Ends P) : Type 0 where
+  pub record Takes (number : ℕ) (first : Side) (message : Msg P) (old new : WorkerEnds P) : Type 0 where
     pub end : Side
     pub journals : journals_of new ≡ with_take number end message (journals_of old)
     pub order : end ≡ other_end first → FindsNone first old new
@@ -87,7 +88,7 @@ module _ {P J : Type 0} where
   -- the first of which there was no room.
   pub record Handles (matches : P → P → Bool) (first : Side) (old new : WorkerSeen P J) : Type 0 where
     pub message : Msg P
-    pub between : Ends P
+    pub between : WorkerEnds P
     pub takes : Takes old.taken first message old.ends between
     pub others : List (Outgoing P)
     pub puts : Puts old.taken (outgoing matches old.place old.cores old.state message) (journals_of between) others (journals_of new.ends)
@@ -99,7 +100,7 @@ module _ {P J : Type 0} where
   -- A worker took a message, memory ran out, and it put a report of this alone. It keeps the message.
   pub record RunsOut (first : Side) (old new : WorkerSeen P J) : Type 0 where
     pub message : Msg P
-    pub between : Ends P
+    pub between : WorkerEnds P
     pub takes : Takes old.taken first message old.ends between
     pub journals : journals_of new.ends ≡ with_puts old.taken (journals_of between) (reported MemoryRanOut ∷ [])
     pub state : new.state ≡ old.state

@@ -1,6 +1,5 @@
 //! The ends of a worker.
-ghost use Rattle.std.specs.Prelude.{◌≡◌, ◌+◌, ◌<◌, ◌++◌, [], map, option_to_list, Some, None, IfSome, IfNone, MatchOption};
-ghost use Rattle.hj_base.specs.Journals.{put};
+ghost use Rattle.std.specs.Prelude.{◌≡◌, Some, None, IfSome, IfNone};
 ghost use Rattle.hj_worker.specs.declared.hand.Hand.TheVariants.{Nothing, Rest};
 
 use crate::answers::Place;
@@ -12,7 +11,7 @@ use hj_msg::{Msg, Report};
 
 /// Where a worker takes its messages and puts its own.
 #[derive(Drop)]
-pub struct Ends<P: Drop> {
+pub struct WorkerEnds<P: Drop> {
     /// The right end of the link to the left.
     pub(crate) left: RightEnd<Msg<P>>,
     /// The left end of the link to the right.
@@ -27,7 +26,7 @@ pub struct Unput<P> {
     pub(crate) sends: Sends<P>,
 }
 
-impl<P: Drop> Ends<P> {
+impl<P: Drop> WorkerEnds<P> {
     ghost use Rattle.std.specs.Prelude.{ℕ};
     ghost use Rattle.hj_base.specs.declared.numbers.Side.TheVariants.{Left as OnLeft, Right as OnRight};
     ghost use Rattle.hj_worker.specs.Hands.{things_of};
@@ -104,7 +103,7 @@ impl<P: Drop> Ends<P> {
             to_right_then,
             entry,
         } = sends;
-        if let Some(message) = put_left(&mut self.left, turn, to_left) {
+        if let Some(message) = self.left.put_some(turn, to_left) {
             return Some(Unput {
                 place: Place::Link(Side::Left),
                 sends: Sends {
@@ -115,7 +114,7 @@ impl<P: Drop> Ends<P> {
                 },
             });
         }
-        if let Some(message) = put_right(&mut self.right, turn, to_right) {
+        if let Some(message) = self.right.put_some(turn, to_right) {
             return Some(Unput {
                 place: Place::Link(Side::Right),
                 sends: Sends {
@@ -126,7 +125,7 @@ impl<P: Drop> Ends<P> {
                 },
             });
         }
-        if let Some(message) = put_right(&mut self.right, turn, to_right_then) {
+        if let Some(message) = self.right.put_some(turn, to_right_then) {
             return Some(Unput {
                 place: Place::Link(Side::Right),
                 sends: Sends {
@@ -137,7 +136,7 @@ impl<P: Drop> Ends<P> {
                 },
             });
         }
-        if let Some(report) = put_report(&mut self.reports, turn, entry) {
+        if let Some(report) = self.reports.put_some(turn, entry) {
             return Some(Unput {
                 place: Place::Reports,
                 sends: Sends {
@@ -177,55 +176,4 @@ fn keep_for_right<P: Drop>(hand: &mut Hand<P>, message: Msg<P>)
         to_right_then: None,
         entry: None,
     });
-}
-
-/// Puts a message, if there is one. Hands it back if the link is full.
-#[inline(always)]
-fn put_left<P: Drop>(
-    end: &mut RightEnd<Msg<P>>,
-    turn: u64,
-    message: Option<Msg<P>>,
-) -> Option<Msg<P>>
-    ensures link { (end.new.link ≡ end.old.link) × (end.new.capacity ≡ end.old.capacity) }
-    ensures put { IfNone result ((end.new.journal ≡ end.old.journal ++ map (put turn) (option_to_list message)) × (end.new.full_looks ≡ end.old.full_looks)) }
-    ensures back { IfSome result (λ back. (message ≡ Some back) × (end.new.journal ≡ end.old.journal) × (end.new.full_looks ≡ end.old.full_looks + 1)) }
-{
-    match end.put(turn, message?) {
-        Ok(()) => None,
-        Err(Full(back)) => Some(back),
-    }
-}
-
-/// Puts a message, if there is one. Hands it back if the link is full.
-#[inline(always)]
-fn put_right<P: Drop>(
-    end: &mut LeftEnd<Msg<P>>,
-    turn: u64,
-    message: Option<Msg<P>>,
-) -> Option<Msg<P>>
-    ensures link { (end.new.link ≡ end.old.link) × (end.new.capacity ≡ end.old.capacity) }
-    ensures put { IfNone result ((end.new.journal ≡ end.old.journal ++ map (put turn) (option_to_list message)) × (end.new.full_looks ≡ end.old.full_looks)) }
-    ensures back { IfSome result (λ back. (message ≡ Some back) × (end.new.journal ≡ end.old.journal) × (end.new.full_looks ≡ end.old.full_looks + 1)) }
-{
-    match end.put(turn, message?) {
-        Ok(()) => None,
-        Err(Full(back)) => Some(back),
-    }
-}
-
-/// Puts a report, if there is one. Hands it back if the queue is full.
-#[inline(always)]
-fn put_report<P: Drop>(
-    reports: &mut Sender<Report<P>>,
-    turn: u64,
-    report: Option<Report<P>>,
-) -> Option<Report<P>>
-    ensures link { (reports.new.link ≡ reports.old.link) × (reports.new.capacity ≡ reports.old.capacity) }
-    ensures put { IfNone result ((reports.new.journal ≡ reports.old.journal ++ map (put turn) (option_to_list report)) × (reports.new.full_looks ≡ reports.old.full_looks)) }
-    ensures back { IfSome result (λ back. (report ≡ Some back) × (reports.new.journal ≡ reports.old.journal) × (reports.new.full_looks ≡ reports.old.full_looks + 1)) }
-{
-    match reports.put(turn, report?) {
-        Ok(()) => None,
-        Err(Full(back)) => Some(back),
-    }
 }

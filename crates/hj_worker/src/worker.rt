@@ -1,10 +1,11 @@
 ghost use Rattle.hj_base.specs.Journals.{put};
+ghost use Rattle.hj_link.specs.Seen.{KeepsLink};
 ghost use Rattle.hj_msg.specs.declared.message.Report.TheVariants.{NoMemory};
 ghost use Rattle.hj_worker.specs.Seen.{first_end};
 ghost use Rattle.std.specs.Prelude.{◌≡◌, ◌≢◌, ◌+◌, ◌-◌, ◌^◌, ◌<◌, ◌==◌, ◌↔◌, ◌∷◌, ◌++◌, [], true, false, min, length, None, Contains};
 
 use crate::answers::{Place, Turn};
-use crate::ends::Ends;
+use crate::ends::WorkerEnds;
 use crate::hand::Hand;
 use crate::messages::handle;
 use hj_base::{CoreNo, Gate, Memory, Share, Side};
@@ -18,7 +19,7 @@ use std::mem;
 #[derive(Drop)]
 pub struct Worker<P: Drop, J: Join<P>, L: Store<P, J>, R: Store<P, J>> {
     core: Core<P, J, L, R>,
-    ends: Ends<P>,
+    ends: WorkerEnds<P>,
     hand: Hand<P>,
     taken: u64,
     calls: u64,
@@ -102,7 +103,7 @@ impl<P: Share + Drop, J: Join<P> + Drop, L: Store<P, J> + Drop, R: Store<P, J> +
     {
         Worker {
             core,
-            ends: Ends {
+            ends: WorkerEnds {
                 left,
                 right,
                 reports,
@@ -228,7 +229,7 @@ impl<P: Share + Drop, J: Join<P> + Drop, L: Store<P, J> + Drop, R: Store<P, J> +
 #[cold]
 fn report_no_memory<P: Drop>(reports: &mut Sender<Report<P>>, turn: u64)
     requires { 0 < reports.old.room }
-    ensures link { (reports.new.link ≡ reports.old.link) × (reports.new.capacity ≡ reports.old.capacity) }
+    ensures link { KeepsLink reports.old reports.new }
     ensures put { reports.new.journal ≡ reports.old.journal ++ put turn NoMemory ∷ [] }
 {
     let Ok(()) = reports.put(turn, Report::NoMemory) else {

@@ -1,5 +1,5 @@
 use Rattle.hj_worker.proofs.Handling.{left-kept, right-kept}
-use Rattle.hj_worker.proofs.ends.Ends.pass_on.Goals as goal
+use Rattle.hj_worker.proofs.ends.WorkerEnds.pass_on.Goals as goal
 
 pub returns-in-Err-clause-puts : goal.returns-in-Err-clause-puts
 returns-in-Err-clause-puts g c =
