@@ -27,6 +27,7 @@ pub trait TakingHalf<M>: Drop {
     // A put leaves it right.
     ghost goes_on: { (side : Bool) (old new : AtTable M) (half : Self) → KeepsTakes side old new → incomes side old.me half → incomes side new.me half };
 
+    /// Whether the end takes messages.
     const TAKES: bool;
 }
 

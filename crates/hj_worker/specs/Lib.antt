@@ -1,3 +1,4 @@
+pub mod Handled
 pub mod Hands
 pub mod Outgoing
 pub mod Rows

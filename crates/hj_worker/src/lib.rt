@@ -4,7 +4,7 @@
 mod answers;
 mod ends;
 mod hand;
-mod messages;
+mod station;
 mod worker;
 
 pub use answers::{Place, Turn};

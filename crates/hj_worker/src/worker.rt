@@ -7,7 +7,7 @@ ghost use Rattle.std.specs.Prelude.{◌≡◌, ◌≢◌, ◌+◌, ◌-◌, ◌^
 use crate::answers::{Place, Turn};
 use crate::ends::WorkerEnds;
 use crate::hand::Hand;
-use crate::messages::handle;
+use crate::station::Station;
 use hj_base::{CoreNo, Gate, Memory, Share, Side};
 use hj_core::Core;
 use hj_link::{LeftEnd, RightEnd, Sender};
@@ -18,9 +18,7 @@ use std::mem;
 /// A core between its two links, with the queue of its reports. It handles one message a turn.
 #[derive(Drop)]
 pub struct Worker<P: Drop, J: Join<P>, L: Store<P, J>, R: Store<P, J>> {
-    core: Core<P, J, L, R>,
-    ends: WorkerEnds<P>,
-    hand: Hand<P>,
+    station: Station<P, J, L, R>,
     taken: u64,
     calls: u64,
 }
@@ -34,17 +32,17 @@ impl<P: Drop, J: Join<P>, L: Store<P, J>, R: Store<P, J>> Model for Worker<P, J,
     ghost Value = { WorkerSeen P J };
 
     ghost view = { λ w. record {
-      join = w.core.join;
-      place = w.core.place;
-      cores = w.core.cores;
-      state = state_of L.entries R.entries w.core;
-      ends = w.ends;
-      hand = in_hand w.hand;
+      join = w.station.core.join;
+      place = w.station.core.place;
+      cores = w.station.core.cores;
+      state = state_of L.entries R.entries w.station.core;
+      ends = w.station.ends;
+      hand = in_hand w.station.hand;
       taken = w.taken;
       calls = w.calls;
     } };
 
-    ghost invariant = { λ w. Stands (J.predicate w.core.join) w.core.place w.core.cores (state_of L.entries R.entries w.core) (journals_of w.ends) w.taken w.hand };
+    ghost invariant = { λ w. Stands (J.predicate w.station.core.join) w.station.core.place w.station.core.cores (state_of L.entries R.entries w.station.core) (journals_of w.station.ends) w.taken w.station.hand };
 }
 
 /// The ends of a worker, handed back.
@@ -102,13 +100,15 @@ impl<P: Share + Drop, J: Join<P> + Drop, L: Store<P, J> + Drop, R: Store<P, J> +
         } }
     {
         Worker {
-            core,
-            ends: WorkerEnds {
-                left,
-                right,
-                reports,
+            station: Station {
+                core,
+                ends: WorkerEnds {
+                    left,
+                    right,
+                    reports,
+                },
+                hand: Hand::Nothing,
             },
-            hand: Hand::Nothing,
             taken: 0,
             calls: 0,
         }
@@ -134,10 +134,10 @@ impl<P: Share + Drop, J: Join<P> + Drop, L: Store<P, J> + Drop, R: Store<P, J> +
     {
         let calls = self.calls;
         self.calls = calls.saturating_add(1);
-        gate.pass(self.core.place(), calls);
-        match &self.hand {
+        gate.pass(self.station.core.place(), calls);
+        match &self.station.hand {
             Hand::Nothing => {
-                if self.core.ended() {
+                if self.station.core.ended() {
                     Turn::Ended
                 } else {
                     self.handle_next(first_look(calls))
@@ -164,10 +164,10 @@ impl<P: Share + Drop, J: Join<P> + Drop, L: Store<P, J> + Drop, R: Store<P, J> +
         ensures ended { Contains (puts result.reports.journal) Ended → self.hand ≡ unput [] }
     {
         Parts {
-            place: self.core.place(),
-            left: self.ends.left,
-            right: self.ends.right,
-            reports: self.ends.reports,
+            place: self.station.core.place(),
+            left: self.station.ends.left,
+            right: self.station.ends.right,
+            reports: self.station.ends.reports,
         }
     }
 
@@ -178,13 +178,13 @@ impl<P: Share + Drop, J: Join<P> + Drop, L: Store<P, J> + Drop, R: Store<P, J> +
         ensures calls { self.new.calls ≡ self.old.calls }
         ensures in_hand { (items : List (Outgoing P)) → self.old.hand ≡ unput items → 0 < length items → PutsOn items self.old result self.new }
     {
-        let Hand::Rest(sends) = mem::replace(&mut self.hand, Hand::Nothing) else {
+        let Hand::Rest(sends) = mem::replace(&mut self.station.hand, Hand::Nothing) else {
             unreachable!()
         };
-        match self.ends.put_all(self.taken - 1, sends) {
+        match self.station.ends.put_all(self.taken - 1, sends) {
             None => Turn::Did,
             Some(unput) => {
-                self.hand = Hand::Rest(unput.sends);
+                self.station.hand = Hand::Rest(unput.sends);
                 Turn::Blocked(unput.place)
             }
         }
@@ -200,25 +200,18 @@ impl<P: Share + Drop, J: Join<P> + Drop, L: Store<P, J> + Drop, R: Store<P, J> +
         ensures calls { self.new.calls ≡ self.old.calls }
         ensures goes_on { TurnsOn (J.predicate self.old.join) first self.old result self.new }
     {
-        if !self.ends.reports.room() {
+        if !self.station.ends.reports.room() {
             return Turn::Blocked(Place::Reports);
         }
         let number = self.taken;
-        let Some(message) = self.ends.take(number, first) else {
+        let Some(message) = self.station.ends.take(number, first) else {
             return Turn::Idle;
         };
         self.taken = number + 1;
-        let handled = handle(
-            &mut self.core,
-            &mut self.ends,
-            &mut self.hand,
-            number,
-            message,
-        );
-        match handled {
+        match self.station.handle(number, message) {
             Ok(()) => Turn::Did,
             Err(Memory) => {
-                report_no_memory(&mut self.ends.reports, number);
+                report_no_memory(&mut self.station.ends.reports, number);
                 Turn::NoMemory
             }
         }

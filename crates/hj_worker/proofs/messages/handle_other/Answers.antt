@@ -1,8 +1,0 @@
-use Rattle.hj_core.specs.Contents.{state_of}
-use Rattle.hj_worker.proofs.Handling.{made}
-use Rattle.hj_worker.proofs.messages.handle_other.Goals as goal
-
-pub returns-clause-puts : goal.returns-clause-puts
-returns-clause-puts g c =
-    made g.J.Join.predicate (state_of g.L.Store.entries g.R.Store.entries) c.args.core.now c.handle.new.self c.args.message c.answer-sends.result c.handle.ensures.kept c.in-Ok.ensures.state
-    c.answer-sends.ensures.sends c.in-Ok.entry c.answer-sends.ensures.report c.in-Ok.ensures.report c.args.turn c.args.ends.now c.put_made.new.self c.put_made.new.hand c.put_made.ensures.puts

@@ -1,9 +1,0 @@
-use Rattle.std.specs.declared.option.Option.TheVariants.{Some}
-use Rattle.hj_core.specs.Contents.{state_of}
-use Rattle.hj_worker.proofs.Handling.{made}
-use Rattle.hj_worker.proofs.messages.handle_row.Goals as goal
-
-pub returns-clause-puts : goal.returns-clause-puts
-returns-clause-puts g c =
-    made g.J.Join.predicate (state_of g.L.Store.entries g.R.Store.entries) c.args.core.now c.report_of.new.core _ c.answer-sends.result c.report_of.ensures.kept c.in-Ok.ensures.state
-    (rw (c.message_of-2.ensures) at c.answer-sends.ensures.sends) (Some c.in-Ok.report) c.answer-sends.ensures.report c.in-Ok.ensures.report c.args.turn c.args.ends.now c.put_made.new.self c.put_made.new.hand c.put_made.ensures.puts
