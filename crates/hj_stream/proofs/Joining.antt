@@ -2,6 +2,7 @@
 use Rattle.std.proofs.Common.{◌≡◌, ℕ, Bool, false, ◌&&◌, List, [], ◌++◌, length, None, Some, refl, sym, ap, ◌∙◌, append-nil}
 use Rattle.std.proofs.lemmas.Grind.{flat_map-append}
 use Rattle.std.proofs.KnownBytes.{Appends-nil}
+use Rattle.std.specs.Io.KnownBytes.{Appends}
 use Rattle.std.specs.declared.option.Option.{Option}
 use Rattle.hj_value.specs.declared.field.Field.{Field}
 use Rattle.hj_base.specs.declared.numbers.Side.TheVariants.{Left, Right}
@@ -23,7 +24,7 @@ use Rattle.hj_event.specs.Events.{Numbered}
 use Rattle.hj_event.specs.Numbering.{no_event}
 use Rattle.hj_event.specs.Merger.{IsAllRead, fails_next}
 use Rattle.hj_event.specs.Roles.{IsInStep}
-use Rattle.hj_event.specs.Sides.{in_front}
+use Rattle.hj_event.specs.Sides.{in_front, Follows}
 use Rattle.hj_event.specs.Calls.{GivesAll, then_events}
 use Rattle.hj_event.proofs.RoleLemmas.{not_read}
 use Rattle.hj_stream.specs.declared.outcome.Outcome.{Outcome}
@@ -33,7 +34,7 @@ use Rattle.hj_output.specs.declared.output.Sent.TheVariants as sent
 use Rattle.hj_stream.specs.Draining.{refusal_of}
 use Rattle.hj_stream.specs.Feeding.{outcome_by}
 use Rattle.hj_stream.specs.JoinText.{JoinResult, Line, joined_by, joined_text, text_by}
-use Rattle.hj_stream.specs.Joining.{CountsSinkFault, FailsOn, WritesText, AreEnded, JoinsBy, JoinsTo}
+use Rattle.hj_stream.specs.Joining.{CountsSinkFault, FailsOn, WritesText, AreEnded, JoinsBy, JoinsSo, JoinsTo}
 use Rattle.hj_output.specs.Output.{CountsFaults}
 use Rattle.hj_stream.proofs.Prefixes.{IsPrefix-trans}
 
@@ -138,6 +139,30 @@ refusal_says sent.Memory = memory_says
 -- what begins the text of the first events begins the whole one
 pub front_of_all : (line : Line) (query : Parts) (events : List (Event (List Field))) (all others : Numbered) (grown : List ℕ) → all ≡ then_events events others → IsPrefix grown (joined_text line query events) → IsPrefix grown (joined_text line query all.events)
 front_of_all line query events all others grown is front = IsPrefix-trans grown (joined_text line query events) (joined_text line query all.events) front (begins_text line query events all others is)
+
+-- a join that wrote this text, of which something else is said
+module _ {Writes Says : Outcome → Parts → Stream → Stream → ℕ → List ℕ → Type 0} {ended : Outcome} {query : Parts} {limit : ℕ}
+    {before now : Role → RoleState} {old new : Option (List ℕ)} (joins : JoinsSo Writes ended query limit before now old new) where
+  pub joins_saying : (grown : List ℕ) → Appends old new grown
+      → ((l r : Stream) → Follows joins.left_failed joins.left_ended l → Follows joins.right_failed joins.right_ended r
+      → Says ended query (in_front joins.left_bytes l) (in_front joins.right_bytes r) limit grown)
+      → JoinsSo Says ended query limit before now old new
+  joins_saying grown written text = record {
+    left_bytes = joins.left_bytes;
+    right_bytes = joins.right_bytes;
+    left_failed = joins.left_failed;
+    right_failed = joins.right_failed;
+    left_ended = joins.left_ended;
+    right_ended = joins.right_ended;
+    left = joins.left;
+    right = joins.right;
+    failed = joins.failed;
+    others = joins.others;
+    grown = grown;
+    written = written;
+    text = text;
+    ends = joins.ends;
+  }
 
 -- memory ran out before anything was read
 pub none_joined : (joined : Parts → Stream → Stream → ℕ → JoinResult) (query : Parts) (limit : ℕ) (now : Role → RoleState) (sink : Option (List ℕ)) → IsInStep false (now role.Left) → IsInStep false (now role.Right)

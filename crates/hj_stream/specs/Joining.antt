@@ -53,10 +53,9 @@ abbrev pub AreEnded : Outcome → Bool → Bool → Type 0
 AreEnded (outcome.Done events) left right = (left ≡ true) × (right ≡ true)
 AreEnded ended left right = Unit {0}
 
--- A join of two streams that has this result: these bytes of both streams were read, this text was written, and whatever comes
--- after the bytes, it is the text that the outcome says. Nothing comes after a read that answered the end, and after a failed one
--- the stream is cut off.
-pub record JoinsTo (joined : Parts → Stream → Stream → ℕ → JoinResult) (ended : Outcome) (query : Parts) (limit : ℕ)
+-- A join of two streams that writes so: these bytes of both streams were read, this text was written, and whatever comes after the
+-- bytes, it is what the outcome says. Nothing comes after a read that answered the end, and after a failed one the stream is cut off.
+pub record JoinsSo (Writes : Outcome → Parts → Stream → Stream → ℕ → List ℕ → Type 0) (ended : Outcome) (query : Parts) (limit : ℕ)
     (before now : Role → RoleState) (old new : Option (List ℕ)) : Type 0 where
   pub left_bytes : List ℕ
   pub right_bytes : List ℕ
@@ -71,8 +70,14 @@ pub record JoinsTo (joined : Parts → Stream → Stream → ℕ → JoinResult)
   pub grown : List ℕ
   pub written : Appends old new grown
   pub text : (l r : Stream) → Follows left_failed left_ended l → Follows right_failed right_ended r
-      → WritesText ended grown (joined query (in_front left_bytes l) (in_front right_bytes r) limit)
+      → Writes ended query (in_front left_bytes l) (in_front right_bytes r) limit grown
   pub ends : AreEnded ended left_ended right_ended
+
+-- A join of two streams that has this result.
+abbrev pub JoinsTo : (Parts → Stream → Stream → ℕ → JoinResult) → Outcome → Parts → ℕ → (Role → RoleState) → (Role → RoleState)
+    → Option (List ℕ) → Option (List ℕ) → Type 0
+JoinsTo joined ended query limit before now old new =
+    JoinsSo (λ how of left right most written. WritesText how written (joined of left right most)) ended query limit before now old new
 
 -- A join that writes a line for each pair.
 abbrev pub JoinsBy : Line → Outcome → Parts → ℕ → (Role → RoleState) → (Role → RoleState) → Option (List ℕ) → Option (List ℕ) → Type 0

@@ -20,12 +20,20 @@ impl<T> History<T> {
     pub(crate) fn new() -> History<T>
         ensures { result.items ≡ [] }
     {
-        History { of: PhantomData }
+        History::told_by(&(), &())
     }
 
     /// Makes the same history with one more after it.
     pub(crate) fn and(&self, item: &T) -> History<T>
         ensures { result.items ≡ self.now.items ++ item.now ∷ [] }
+    {
+        History::told_by(self, item)
+    }
+
+    /// Makes a history of the items that the caller's proof names, by these two values.
+    fn told_by<A, B>(_first: &A, _second: &B) -> History<T>
+        ghost items: { List T }
+        ensures { result.items ≡ items }
     {
         History { of: PhantomData }
     }
