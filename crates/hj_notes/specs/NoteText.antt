@@ -23,11 +23,17 @@ status_of note.Sink = 5
 status_of note.Memory = 6
 status_of (note.TooManyEvents limit) = 7
 
--- A run that ended well has no note.
+-- What is told of a run by why it didn't end well: a run that ended well has no note, and the status 0.
+abbrev pub text_by : {Why : Type 0} → (Why → List ℕ) → Result (Unit {0}) Why → List ℕ
+text_by text (Ok done) = []
+text_by text (Err why) = text why
+
+abbrev pub status_by : {Why : Type 0} → (Why → ℕ) → Result (Unit {0}) Why → ℕ
+status_by status (Ok done) = 0
+status_by status (Err why) = status why
+
 abbrev pub text_of_end : Result (Unit {0}) Note → List ℕ
-text_of_end (Ok done) = []
-text_of_end (Err why) = note_text why
+text_of_end ended = text_by note_text ended
 
 abbrev pub status_of_end : Result (Unit {0}) Note → ℕ
-status_of_end (Ok done) = 0
-status_of_end (Err why) = status_of why
+status_of_end ended = status_by status_of ended

@@ -1,5 +1,5 @@
 -- The text of each note of `twice`, and the exit status that goes with it.
-use Rattle.std.specs.Prelude.{ℕ, List, [], codes, Ok, Err}
+use Rattle.std.specs.Prelude.{ℕ, List, codes}
 use Rattle.std.specs.declared.result.Result.{Result}
 use Rattle.hj_base.specs.declared.numbers.Side.{Side}
 use Rattle.hj_base.specs.declared.numbers.Side.TheVariants as side
@@ -7,7 +7,7 @@ use Rattle.hj_base.specs.declared.outside.Role.TheVariants as role
 use Rattle.hj_notes.specs.declared.twice_note.TwiceNote.{TwiceNote}
 use Rattle.hj_notes.specs.declared.twice_note.TwiceNote.TheVariants as twice
 use Rattle.hj_notes.specs.Notes.{refused_note, role_name, stream_note}
-use Rattle.hj_notes.specs.NoteText.{note_text, status_of}
+use Rattle.hj_notes.specs.NoteText.{note_text, status_by, status_of, text_by}
 
 -- The columns of the second query's left stream aren't those of the first join's pairs.
 abbrev pub shape_note : List ℕ
@@ -30,11 +30,8 @@ twice_status (twice.BadSecondQuery found) = 2
 twice_status twice.Shape = 2
 twice_status (twice.BadSecondRecord of at found) = 3
 
--- A run that ended well has no note.
 abbrev pub text_of_twice : Result (Unit {0}) TwiceNote → List ℕ
-text_of_twice (Ok done) = []
-text_of_twice (Err why) = twice_text why
+text_of_twice ended = text_by twice_text ended
 
 abbrev pub status_of_twice : Result (Unit {0}) TwiceNote → ℕ
-status_of_twice (Ok done) = 0
-status_of_twice (Err why) = twice_status why
+status_of_twice ended = status_by twice_status ended

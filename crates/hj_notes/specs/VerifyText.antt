@@ -1,12 +1,12 @@
 -- The text of each note of `verify`, and the exit status that goes with it.
-use Rattle.std.specs.Prelude.{ℕ, List, [], ◌++◌, codes, Ok, Err}
+use Rattle.std.specs.Prelude.{ℕ, List, ◌++◌, codes}
 use Rattle.std.specs.Fmt.{decimal}
 use Rattle.std.specs.declared.result.Result.{Result}
 use Rattle.hj_notes.specs.declared.verify_note.Refusal.{Refusal}
 use Rattle.hj_notes.specs.declared.verify_note.Refusal.TheVariants as refusal
 use Rattle.hj_notes.specs.declared.verify_note.VerifyNote.{VerifyNote}
 use Rattle.hj_notes.specs.declared.verify_note.VerifyNote.TheVariants as verify
-use Rattle.hj_notes.specs.NoteText.{note_text, status_of}
+use Rattle.hj_notes.specs.NoteText.{note_text, status_by, status_of, text_by}
 
 -- A line of the trace, by its number from 1, breaks a rule.
 abbrev pub line_note : ℕ → List ℕ → List ℕ
@@ -28,11 +28,8 @@ abbrev pub verify_status : VerifyNote → ℕ
 verify_status (verify.Common why) = status_of why
 verify_status (verify.Refused found) = 8
 
--- A run that ended well has no note.
 abbrev pub text_of_verify : Result (Unit {0}) VerifyNote → List ℕ
-text_of_verify (Ok done) = []
-text_of_verify (Err why) = verify_text why
+text_of_verify ended = text_by verify_text ended
 
 abbrev pub status_of_verify : Result (Unit {0}) VerifyNote → ℕ
-status_of_verify (Ok done) = 0
-status_of_verify (Err why) = verify_status why
+status_of_verify ended = status_by verify_status ended

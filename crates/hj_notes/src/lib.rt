@@ -4,12 +4,12 @@
 mod note;
 mod parts;
 mod query_note;
+mod reason;
 mod record_note;
 mod twice_note;
 mod verify_note;
-mod writing;
 
 pub use note::Note;
-pub use twice_note::{TwiceNote, report_twice, write_twice_note};
-pub use verify_note::{Refusal, VerifyNote, report_verify, write_verify_note};
-pub use writing::{report, write_note};
+pub use reason::{Reason, report};
+pub use twice_note::TwiceNote;
+pub use verify_note::{Refusal, VerifyNote};

@@ -1,10 +1,19 @@
-ghost use Rattle.std.specs.Prelude.{◌≡◌};
-ghost use Rattle.hj_notes.specs.NoteText.{status_of};
-
-use hj_base::{Memory, Role, Side};
+use crate::parts::{Part, put_parts, role_name, side_name};
+use crate::query_note::put_query;
+use crate::reason::Reason;
+use crate::record_note::put_record;
+use hj_base::{Memory, Role, Side, Sink};
 use hj_event::RecordFault;
 use hj_query::QueryFault;
 use std::alloc::AllocError;
+
+const USAGE: &str = "\
+usage: equi W LEFT RIGHT | join [--cores N] [--threads N] [--flight N] [--max-events N] [--schedule SEED] QUERY LEFT RIGHT \
+| check QUERY | gen N KEYS SEED W \
+| raw [--cores N] [--threads N] [--flight N] [--max-events N] QUERY LEFT RIGHT \
+| trace [--cores N] [--flight N] [--max-events N] [--schedule SEED] QUERY LEFT RIGHT \
+| verify [--cores N] [--flight N] [--max-events N] QUERY LEFT RIGHT TRACE OUTPUT \
+| twice [--cores N] [--threads N] [--flight N] [--max-events N] [--schedule SEED] QUERY LEFT RIGHT QUERY THIRD\n";
 
 /// Why a run didn't end well.
 #[derive(Clone, Copy, Debug)]
@@ -51,11 +60,14 @@ impl From<AllocError> for Note {
     }
 }
 
-impl Note {
-    /// Gives the exit status that goes with the note, from 1 to 7.
-    pub fn status(&self) -> u8
-        ensures { result ≡ status_of self.now }
-    {
+impl Reason for Note {
+    ghost use Rattle.hj_notes.specs.NoteText.{note_text, status_of};
+
+    ghost status_of = { λ note. status_of note };
+
+    ghost text_of = { λ note. note_text note };
+
+    fn status(&self) -> u8 {
         match self {
             Note::Usage => 1,
             Note::BadQuery(_) => 2,
@@ -64,6 +76,28 @@ impl Note {
             Note::Sink => 5,
             Note::Memory => 6,
             Note::TooManyEvents(_) => 7,
+        }
+    }
+
+    fn write<N: Sink>(&self, notes: &mut N) {
+        match *self {
+            Note::Usage => put_parts(notes, &[Part::Words(USAGE)]),
+            Note::BadQuery(fault) => put_query(notes, role_name(Role::Query), fault),
+            Note::BadRecord { side, at, fault } => put_record(notes, side_name(side), at, fault),
+            Note::Source(role) => put_parts(
+                notes,
+                &[Part::Words("source: "), role_name(role), Part::Words("\n")],
+            ),
+            Note::Sink => put_parts(notes, &[Part::Words("sink\n")]),
+            Note::Memory => put_parts(notes, &[Part::Words("memory\n")]),
+            Note::TooManyEvents(limit) => put_parts(
+                notes,
+                &[
+                    Part::Words("events: limit "),
+                    Part::Number(limit),
+                    Part::Words("\n"),
+                ],
+            ),
         }
     }
 }

@@ -1,12 +1,11 @@
 //! Why `verify` didn't end well, as a text, and as an exit status.
-ghost use Rattle.std.specs.Prelude.{◌≡◌};
 ghost use Rattle.hj_notes.specs.NoteWritten.{NoteWritten};
-ghost use Rattle.hj_notes.specs.VerifyText.{line_note, refusal_note, status_of_verify, text_of_verify, verify_status, verify_text};
+ghost use Rattle.hj_notes.specs.VerifyText.{line_note, refusal_note};
 
 use crate::note::Note;
 use crate::parts::{Part, put_parts};
-use crate::writing::write_note;
-use hj_base::{Memory, Sink};
+use crate::reason::Reason;
+use hj_base::Sink;
 
 /// Why a trace or an output is refused. Lines of a trace are counted from 1, and bytes of an output from 0.
 #[derive(Clone, Copy, Debug, PartialEq, Eq)]
@@ -45,51 +44,25 @@ impl From<Note> for VerifyNote {
     }
 }
 
-impl From<Memory> for VerifyNote {
-    ghost use Rattle.std.specs.Prelude.{◌≡◌};
-    ghost use Rattle.hj_notes.specs.declared.note.Note.TheVariants as note;
-    ghost use Rattle.hj_notes.specs.declared.verify_note.VerifyNote.TheVariants as verify;
+impl Reason for VerifyNote {
+    ghost use Rattle.hj_notes.specs.VerifyText.{verify_status, verify_text};
 
-    ghost from_gives = { λ _ e. e ≡ verify.Common note.Memory };
+    ghost status_of = { λ note. verify_status note };
 
-    fn from(_: Memory) -> Self {
-        VerifyNote::Common(Note::Memory)
-    }
-}
+    ghost text_of = { λ note. verify_text note };
 
-impl VerifyNote {
-    /// Gives the exit status that goes with the note, from 1 to 8.
-    pub fn status(&self) -> u8
-        ensures { result ≡ verify_status self.now }
-    {
+    fn status(&self) -> u8 {
         match self {
             VerifyNote::Common(note) => note.status(),
             VerifyNote::Refused(_) => 8,
         }
     }
-}
 
-/// Writes the note of an ending of `verify`, and answers its status.
-pub fn report_verify<N: Sink>(notes: &mut N, ended: Result<(), VerifyNote>) -> u8
-    ensures status { result ≡ status_of_verify ended }
-    ensures note { NoteWritten (text_of_verify ended) (N.told notes.old) (N.told notes.new) (N.refusals notes.old) (N.refusals notes.new) }
-{
-    match ended {
-        Ok(()) => 0,
-        Err(note) => {
-            write_verify_note(notes, &note);
-            note.status()
+    fn write<N: Sink>(&self, notes: &mut N) {
+        match *self {
+            VerifyNote::Common(note) => note.write(notes),
+            VerifyNote::Refused(refusal) => put_refusal(notes, refusal),
         }
-    }
-}
-
-/// Writes a note of `verify`. It takes no memory, and stops at the first refusal.
-pub fn write_verify_note<N: Sink>(notes: &mut N, note: &VerifyNote)
-    ensures { NoteWritten (verify_text note.now) (N.told notes.old) (N.told notes.new) (N.refusals notes.old) (N.refusals notes.new) }
-{
-    match *note {
-        VerifyNote::Common(note) => write_note(notes, &note),
-        VerifyNote::Refused(refusal) => put_refusal(notes, refusal),
     }
 }
 
