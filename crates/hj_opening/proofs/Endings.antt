@@ -21,6 +21,7 @@ use Rattle.hj_opening.specs.Keeping as keeping
 use Rattle.hj_opening.specs.Serve as says
 use Rattle.hj_opening.specs.Streams.{Fails, IsBegunUnder}
 use Rattle.hj_opening.specs.Words.{Names, Recipe, Source, TextKind, check_query, join_streams, keyed, most_events, named, sum_up}
+use Rattle.hj_opening.proofs.Kept.{decides, kept}
 use Rattle.hj_opening.proofs.Phases.{Roles}
 
 abbrev pub End : Type 0
@@ -92,24 +93,12 @@ module _ (kind : TextKind) (source : Source) (names : Names) (limit : ℕ) (call
   own_decides status note (says.failed_source of is told fails) none = absurd (none.roles of fails.fails)
   own_decides status note (says.events is told all) none = inr (ends_by status too_many is all)
 
-  join_decides : (status : ℕ) (note : List ℕ) → Ends (EndsJoin kind source names limit call) status note call → NothingFails call → (status ≡ 6) ⊎ IsJoinDecided status source names limit call
-  join_decides status note (keeping.own how) none = inr (own_decides status note how none)
-  join_decides status note (keeping.failed_sink is told rose) none = absurd (none.sink rose)
-  join_decides status note (keeping.memory is told) none = inl is
-
   pub join_runs : (ended : End) → JoinCause ended → CountsSink ended call.faults_before call.faults_now → (grown : List ℕ) → Appends call.old call.new grown → (grown ≡ []) ⊎ IsJoinFront kind source names limit call grown
       → BeginsInOrder source names call → ((of : Role) → ¬ (IsJoinRole source of) → (call.now of).phase ≡ unbegun) → RunsOrder ended (join_streams kind source names limit) call
   join_runs ended cause counts grown written front roles none = record {
-    keeps = record {
-      ends = join_ends ended cause counts;
-      grown = grown;
-      written = written;
-      front = front;
-      others = none;
-      sink = sink_kept ended call.faults_before call.faults_now counts;
-    };
+    keeps = kept (join_ends ended cause counts) grown written front none (sink_kept ended call.faults_before call.faults_now counts);
     roles = roles;
-    complete = join_decides (status_of_end ended) (text_of_end ended) (join_ends ended cause counts);
+    complete = decides (λ status. IsJoinDecided status source names limit call) own_decides (join_ends ended cause counts);
   }
 
 -- ---- a check
@@ -143,24 +132,12 @@ module _ (name : List ℕ) (call : Call) where
   own_check status note (says.refused found is told refuses) none = inl (is, (found, refuses))
   own_check status note (says.failed_query is told fails nothing) none = absurd (none.roles role.Query fails)
 
-  check_decides : (status : ℕ) (note : List ℕ) → Ends (EndsCheck name call) status note call → NothingFails call → (status ≡ 6) ⊎ CheckDecided status
-  check_decides status note (keeping.own how) none = inr (own_check status note how none)
-  check_decides status note (keeping.failed_sink is told rose) none = absurd (none.sink rose)
-  check_decides status note (keeping.memory is told) none = inl is
-
   pub check_runs : (ended : End) → CheckCause ended → CountsSink ended call.faults_before call.faults_now → (grown : List ℕ) → Appends call.old call.new grown → (grown ≡ []) ⊎ BeginsCanonical grown name call
       → IsBegunUnder name (call.now role.Query).phase → IsQueryAlone call.now → RunsOrder ended (check_query name) call
   check_runs ended cause counts grown written front query alone = record {
-    keeps = record {
-      ends = check_ends ended cause counts;
-      grown = grown;
-      written = written;
-      front = front;
-      others = alone;
-      sink = sink_kept ended call.faults_before call.faults_now counts;
-    };
+    keeps = kept (check_ends ended cause counts) grown written front alone (sink_kept ended call.faults_before call.faults_now counts);
     query = query;
-    complete = check_decides (status_of_end ended) (text_of_end ended) (check_ends ended cause counts);
+    complete = decides CheckDecided own_check (check_ends ended cause counts);
   }
 
 -- ---- a summary
@@ -182,25 +159,15 @@ module _ (recipe : Recipe) (call : Call) where
   gen_ends (Err (why.Source of)) cause counts = absurd cause
   gen_ends (Err (why.TooManyEvents most)) cause counts = absurd cause
 
-  own_summed : (status : ℕ) (note : List ℕ) → EndsGen recipe call status note → (status ≡ 0) × WritesSummary recipe most_events call
-  own_summed status note (says.summed is told written) = (is, written)
-
-  gen_decides : (status : ℕ) (note : List ℕ) → Ends (EndsGen recipe call) status note call → NothingFails call → (status ≡ 6) ⊎ ((status ≡ 0) × WritesSummary recipe most_events call)
-  gen_decides status note (keeping.own how) none = inr (own_summed status note how)
-  gen_decides status note (keeping.failed_sink is told rose) none = absurd (none.sink rose)
-  gen_decides status note (keeping.memory is told) none = inl is
+  own_summed : (status : ℕ) (note : List ℕ) → EndsGen recipe call status note → NothingFails call
+      → (status ≡ 0) × WritesSummary recipe most_events call
+  own_summed status note (says.summed is told written) none = (is, written)
 
   pub gen_runs : (ended : End) → GenCause ended → CountsSink ended call.faults_before call.faults_now → (grown : List ℕ) → Appends call.old call.new grown → (grown ≡ []) ⊎ BeginsSummary grown recipe most_events
       → ((of : Role) → call.now of ≡ call.before of) → ((of : Role) → (call.now of).phase ≡ unbegun) → RunsOrder ended (sum_up recipe) call
   gen_runs ended cause counts grown written front untouched unbegun_now = record {
-    keeps = record {
-      ends = gen_ends ended cause counts;
-      grown = grown;
-      written = written;
-      front = front;
-      others = λ of no. unbegun_now of;
-      sink = sink_kept ended call.faults_before call.faults_now counts;
-    };
+    keeps = kept (gen_ends ended cause counts) grown written front (λ of no. unbegun_now of)
+        (sink_kept ended call.faults_before call.faults_now counts);
     untouched = untouched;
-    complete = gen_decides (status_of_end ended) (text_of_end ended) (gen_ends ended cause counts);
+    complete = decides (λ status. (status ≡ 0) × WritesSummary recipe most_events call) own_summed (gen_ends ended cause counts);
   }

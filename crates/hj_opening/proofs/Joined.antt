@@ -12,6 +12,7 @@ use Rattle.hj_base.specs.Outside.{RoleState, opened, role_of, unbegun}
 use Rattle.hj_stream.specs.declared.outcome.Outcome.{Outcome}
 use Rattle.hj_stream.specs.declared.outcome.Outcome.TheVariants as outcome
 use Rattle.hj_stream.specs.Joining.{AreEnded, CountsSinkFault, FailsOn, Joins, WritesText}
+use Rattle.hj_stream.proofs.Joining.{joins_saying}
 use Rattle.hj_stream.specs.JoinText.{join_result}
 use Rattle.hj_event.specs.Arrivals.{Ending, clean, bad, unread, too_many}
 use Rattle.hj_event.specs.Events.{events_of}
@@ -196,22 +197,9 @@ writes_lines outcome.Memory query left right limit grown w = w
 
 -- a join that writes the line of each pair
 pub joins_lines : {ended : Outcome} {query : Parts} {limit : ℕ} {before now : Roles} {old new : Option (List ℕ)} → Joins ended query limit before now old new → JoinsKind pair_lines ended query limit before now old new
-joins_lines {ended} {query} {limit} joins = record {
-  left_bytes = joins.left_bytes;
-  right_bytes = joins.right_bytes;
-  left_failed = joins.left_failed;
-  right_failed = joins.right_failed;
-  left_ended = joins.left_ended;
-  right_ended = joins.right_ended;
-  left = joins.left;
-  right = joins.right;
-  failed = joins.failed;
-  others = joins.others;
-  grown = joins.grown;
-  written = joins.written;
-  text = λ l r l_follows r_follows. writes_lines ended query (in_front joins.left_bytes l) (in_front joins.right_bytes r) limit joins.grown (joins.text l r l_follows r_follows);
-  ends = joins.ends;
-}
+joins_lines {ended} {query} {limit} joins = joins_saying joins joins.grown joins.written (λ l r l_follows r_follows.
+    writes_lines ended query (in_front joins.left_bytes l) (in_front joins.right_bytes r) limit joins.grown
+    (joins.text l r l_follows r_follows))
 
 -- ---- the causes of an ending, under a query
 

@@ -1,5 +1,6 @@
 pub mod Endings
 pub mod Joined
+pub mod Kept
 pub mod MadeEvents
 pub mod MadeLines
 pub mod Phases

@@ -7,12 +7,12 @@ use Rattle.hj_base.specs.declared.outside.Role.TheVariants as role
 use Rattle.hj_base.specs.Outside.{unbegun}
 use Rattle.hj_notes.specs.declared.note.Note.TheVariants as why
 use Rattle.hj_notes.specs.declared.twice_note.TwiceNote.TheVariants as why_twice
-use Rattle.hj_notes.specs.NoteText.{status_of_end, text_of_end}
+use Rattle.hj_notes.specs.NoteText.{note_text, status_by, status_of, status_of_end, text_by, text_of_end}
 use Rattle.hj_notes.specs.declared.verify_note.VerifyNote.{VerifyNote}
 use Rattle.hj_notes.specs.declared.verify_note.VerifyNote.TheVariants as verify
-use Rattle.hj_notes.specs.VerifyText.{status_of_verify, text_of_verify}
+use Rattle.hj_notes.specs.VerifyText.{status_of_verify, text_of_verify, verify_status, verify_text}
 use Rattle.hj_notes.specs.NoteWritten.{NoteWritten}
-use Rattle.hj_notes.specs.TwiceText.{status_of_twice, text_of_twice}
+use Rattle.hj_notes.specs.TwiceText.{status_of_twice, text_of_twice, twice_status, twice_text}
 use Rattle.hj_notes.specs.Notes.{memory_note, usage_note}
 use Rattle.hj_opening.specs.Calls.{Call}
 use Rattle.hj_opening.specs.Calls.{call as as_call}
@@ -27,6 +27,7 @@ use Rattle.hj_opening.specs.TwoJoins.{BeginsTwice}
 use Rattle.hj_opening.specs.Verifying.{BeginsCheck}
 use Rattle.hj_opening.specs.Words.{CheckedNames, Names, Order, Source, TwiceNames, check_query, check_trace, join_streams, join_twice, keyed, named, sum_up}
 use Rattle.hj_opening.proofs.Endings.{End, check_runs, gen_runs, join_runs}
+use Rattle.hj_opening.proofs.Kept.{kept}
 use Rattle.hj_opening.proofs.Phases.{Roles, begun-unbegun}
 use Rattle.hj_opening.proofs.TwiceEndings.{TwiceEnd, twice_runs}
 use Rattle.hj_opening.proofs.Verified.{serves_verify}
@@ -49,15 +50,23 @@ at_most_twice (Err why_twice.Shape) = omega arith
 at_most_twice (Err (why_twice.BadSecondRecord side at found)) = omega arith
 
 -- an ending whose status was answered, and whose note was written
-serves_end : (call : Call) (status : ℕ) (ended : End) (order : Option Order) (told told' : Option (List ℕ)) (refused refused' : ℕ) → status ≡ status_of_end ended → ServesOrder order (status_of_end ended) (text_of_end ended) call
+serves_by : {Why : Type 0} (status_of : Why → ℕ) (text_of : Why → List ℕ)
+    → ((ended : Result (Unit {0}) Why) → status_by status_of ended ≤ 8) → (call : Call) (status : ℕ) (ended : Result (Unit {0}) Why)
+    (order : Option Order) (told told' : Option (List ℕ)) (refused refused' : ℕ) → status ≡ status_by status_of ended → ServesOrder order (status_by status_of ended) (text_by text_of ended) call
+    → NoteWritten (text_by text_of ended) told told' refused refused' → Serves status order call told told' refused refused'
+serves_by status_of text_of at_most call status ended order told told' refused refused' is serves w =
+    subst (λ (n : ℕ). Serves n order call told told' refused refused') (sym is)
+    (record { note = text_by text_of ended; serves = serves; noted = w; statuses = at_most ended })
+
+serves_end : (call : Call) (status : ℕ) (ended : End) (order : Option Order) (told told' : Option (List ℕ)) (refused refused' : ℕ)
+    → status ≡ status_of_end ended → ServesOrder order (status_of_end ended) (text_of_end ended) call
     → NoteWritten (text_of_end ended) told told' refused refused' → Serves status order call told told' refused refused'
-serves_end call status ended order told told' refused refused' is serves w =
-    subst (λ (n : ℕ). Serves n order call told told' refused refused') (sym is) (record { note = text_of_end ended; serves = serves; noted = w; statuses = at_most_eight ended })
+serves_end = serves_by status_of note_text at_most_eight
 
 -- an order that ran
 pub serves_order : (call : Call) (status : ℕ) (ended : End) (order : Order) (told told' : Option (List ℕ)) (refused refused' : ℕ) → status ≡ status_of_end ended → RunsOrder ended order call
     → NoteWritten (text_of_end ended) told told' refused refused' → Serves status (Some order) call told told' refused refused'
-serves_order call status ended order told told' refused refused' is runs w = serves_end call status ended (Some order) told told' refused refused' is runs w
+serves_order call status ended order = serves_end call status ended (Some order)
 
 -- a check of a trace that ran
 at_most_verify : (ended : Result (Unit {0}) VerifyNote) → status_of_verify ended ≤ 8
@@ -67,15 +76,13 @@ at_most_verify (Err (verify.Refused found)) = omega arith
 
 pub serves_check : (call : Call) (status : ℕ) (ended : Result (Unit {0}) VerifyNote) (order : Order) (told told' : Option (List ℕ)) (refused refused' : ℕ) → status ≡ status_of_verify ended → RunsVerify ended order call
     → NoteWritten (text_of_verify ended) told told' refused refused' → Serves status (Some order) call told told' refused refused'
-serves_check call status ended order told told' refused refused' is runs w =
-    subst (λ (n : ℕ). Serves n (Some order) call told told' refused refused') (sym is) (record { note = text_of_verify ended; serves = runs; noted = w; statuses = at_most_verify ended })
+serves_check call status ended order = serves_by verify_status verify_text at_most_verify call status ended (Some order)
 
 -- two joins in a row that ran
 pub serves_twice : (call : Call) (status : ℕ) (ended : TwiceEnd) (names : TwiceNames) (limit : ℕ) (told told' : Option (List ℕ)) (refused refused' : ℕ) → status ≡ status_of_twice ended → RunsTwice ended names limit call
     → NoteWritten (text_of_twice ended) told told' refused refused' → Serves status (Some (join_twice names limit)) call told told' refused refused'
-serves_twice call status ended names limit told told' refused refused' is runs w =
-    subst (λ (n : ℕ). Serves n (Some (join_twice names limit)) call told told' refused refused') (sym is)
-    (record { note = text_of_twice ended; serves = runs; noted = w; statuses = at_most_twice ended })
+serves_twice call status ended names limit =
+    serves_by twice_status twice_text at_most_twice call status ended (Some (join_twice names limit))
 
 -- ---- words that were read as no order
 
@@ -124,14 +131,7 @@ module _ (under : List ℕ → Option (List ℕ)) (before : Roles) (old : Option
 
   no_memory : (order : Option Order) → ServesOrder order 6 memory_note untouched
   no_memory None = record {
-    keeps = record {
-      ends = keeping.memory refl refl;
-      grown = [];
-      written = Appends-nil old;
-      front = inl refl;
-      others = λ of no. unbegun_before of;
-      sink = λ other. refl;
-    };
+    keeps = kept (keeping.memory refl refl) [] (Appends-nil old) (inl refl) (λ of no. unbegun_before of) (λ other. refl);
     no_order = inr refl;
   }
   no_memory (Some (join_streams kind source names limit)) = join_runs kind source names limit untouched (Err why.Memory) tt refl [] (Appends-nil old) (inl refl) (begins_none source names) (λ of none. unbegun_before of)
@@ -144,14 +144,7 @@ module _ (under : List ℕ → Option (List ℕ)) (before : Roles) (old : Option
 
   no_words : ServesOrder None 1 usage_note untouched
   no_words = record {
-    keeps = record {
-      ends = keeping.own (says.usage refl refl);
-      grown = [];
-      written = Appends-nil old;
-      front = inl refl;
-      others = λ of no. unbegun_before of;
-      sink = λ other. refl;
-    };
+    keeps = kept (keeping.own (says.usage refl refl)) [] (Appends-nil old) (inl refl) (λ of no. unbegun_before of) (λ other. refl);
     no_order = inl refl;
   }
 

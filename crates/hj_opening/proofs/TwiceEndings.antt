@@ -18,6 +18,7 @@ use Rattle.hj_opening.specs.RunTwice.{RunsTwice}
 use Rattle.hj_opening.specs.TwoJoins.{BeginsSecond, BeginsTwice, EndsInFirst, EndsTwice, FailsJoins, IsTwiceDecided, IsTwiceRole, RefusesSecond, RefusesShape, WritesAllThree, WritesSecond}
 use Rattle.hj_opening.specs.TwoJoins as says
 use Rattle.hj_opening.specs.Words.{TwiceNames}
+use Rattle.hj_opening.proofs.Kept.{decides, kept}
 
 abbrev pub TwiceEnd : Type 0
 TwiceEnd = Result (Unit {0}) TwiceNote
@@ -74,22 +75,10 @@ module _ (names : TwiceNames) (limit : ℕ) (call : Call) where
   own_decides status text (says.events is told many) none =
       elim many [ inl ends ↦ says.by_first too_many (λ e. cc) is ends | inr writes ↦ says.by_second too_many is writes ]
 
-  twice_decides : (status : ℕ) (text : List ℕ) → Ends (EndsTwice names limit call) status text call → NothingFails call → (status ≡ 6) ⊎ IsTwiceDecided names limit call status
-  twice_decides status text (keeping.own how) none = inr (own_decides status text how none)
-  twice_decides status text (keeping.failed_sink is told rose) none = absurd (none.sink rose)
-  twice_decides status text (keeping.memory is told) none = inl is
-
   pub twice_runs : (ended : TwiceEnd) → TwiceCause ended → CountsSinkTwice ended call.faults_before call.faults_now → (grown : List ℕ) → Appends call.old call.new grown → (grown ≡ []) ⊎ BeginsSecond grown names limit call
       → BeginsTwice names call.under call.before call.now → ((of : Role) → ¬ (IsTwiceRole of) → (call.now of).phase ≡ unbegun) → RunsTwice ended names limit call
   twice_runs ended cause counts grown written front roles none = record {
-    keeps = record {
-      ends = twice_ends ended cause counts;
-      grown = grown;
-      written = written;
-      front = front;
-      others = none;
-      sink = sink_kept ended call.faults_before call.faults_now counts;
-    };
+    keeps = kept (twice_ends ended cause counts) grown written front none (sink_kept ended call.faults_before call.faults_now counts);
     roles = roles;
-    complete = twice_decides (status_of_twice ended) (text_of_twice ended) (twice_ends ended cause counts);
+    complete = decides (IsTwiceDecided names limit call) own_decides (twice_ends ended cause counts);
   }

@@ -23,7 +23,7 @@ use Rattle.hj_opening.specs.Queries.{IsAccepted}
 use Rattle.hj_opening.specs.ReadyTwice.{IsTwiceReady}
 use Rattle.hj_opening.specs.RunTwice.{RunsTwice, end_of_twice}
 use Rattle.hj_opening.specs.Streams.{Fails, IsBegunUnder, IsStream, NoneFails}
-use Rattle.hj_opening.specs.TwoJoins.{AcceptsBoth, AreAllOpen, AreThree, BeginsSecond, BeginsTwice, EndsInFirst, EndsUnread, FailsJoins, IsTwiceRole, WritesAllThree, WritesSecond}
+use Rattle.hj_opening.specs.TwoJoins.{AcceptsBoth, AreAllOpen, BeginsSecond, BeginsTwice, BothJoins, EndsInFirst, EndsUnread, FailsJoins, FirstJoin, IsTwiceRole, WritesAllThree, WritesSecond}
 use Rattle.hj_opening.specs.Words.{TwiceNames}
 use Rattle.hj_opening.proofs.Joined.{Behind, SomeFails, behind, fails_of, fails_or_none, phase_of, whole_behind}
 use Rattle.hj_opening.proofs.Phases.{Roles, begun-opened, open-opened}
@@ -80,40 +80,40 @@ module _ (queries : TwoQueries) (names : TwiceNames) (limit : ℕ) (under : List
     abbrev whole_text : List ℕ
     whole_text = (second_result queries.first queries.second limit found.left found.right found.third).text
 
-    three : AreThree names this found.left found.right found.third
+    first_join : FirstJoin names this
     unfolding this
-    three = record { of_first = record { of_left = found.of_left.is; of_right = found.of_right.is }; of_third = found.of_third.is }
-
-    stops : (ending : Ending) → grown ≡ [] → first_ending ≡ ending → EndsInFirst ending names limit this
-    unfolding this
-    stops ending none ends = record {
+    first_join = record {
       first = queries.first;
       second = queries.second;
       accepted = accepted;
       left = found.left;
       right = found.right;
-      streams = three.of_first;
+      streams = record { of_left = found.of_left.is; of_right = found.of_right.is };
+    }
+
+    both_joins : BothJoins names this
+    unfolding this
+    both_joins = record { of_first = first_join; third = found.third; of_third = found.of_third.is }
+
+    stops : (ending : Ending) → grown ≡ [] → first_ending ≡ ending → EndsInFirst ending names limit this
+    unfolding this first_join
+    stops ending none ends = record {
+      joins = first_join;
       ends = ends;
       nothing = subst (λ (text : List ℕ). Appends old new text) none found.written;
     }
 
     writes : (ending : Ending) → first_ending ≡ clean → grown ≡ whole_text → second_ending ≡ ending → WritesSecond ending names limit this
-    unfolding this
+    unfolding this first_join both_joins
     writes ending first_ends all ends = record {
-      first = queries.first;
-      second = queries.second;
-      accepted = accepted;
-      left = found.left;
-      right = found.right;
-      third = found.third;
-      streams = three;
+      joins = both_joins;
       first_ends = first_ends;
       ends = ends;
       written = subst (λ (text : List ℕ). Appends old new text) all found.written;
     }
 
     writes_all : lf ≡ false → rf ≡ false → tf ≡ false → le ≡ true → re ≡ true → te ≡ true → first_ending ≡ clean → grown ≡ whole_text → second_ending ≡ clean → WritesAllThree names limit this
-    unfolding this writes
+    unfolding this first_join both_joins writes
     writes_all l_unfailed r_unfailed t_unfailed l_end r_end t_end first_ends all ends = record {
       writes = writes clean first_ends all ends;
       left_whole = found.of_left.whole l_unfailed l_end;
@@ -125,17 +125,8 @@ module _ (queries : TwoQueries) (names : TwiceNames) (limit : ℕ) (under : List
     }
 
     begins : IsPrefix grown whole_text → BeginsSecond grown names limit this
-    unfolding this
-    begins front = record {
-      first = queries.first;
-      second = queries.second;
-      accepted = accepted;
-      left = found.left;
-      right = found.right;
-      third = found.third;
-      streams = three;
-      begins = front;
-    }
+    unfolding this first_join both_joins
+    begins front = record { joins = both_joins; begins = front }
 
     begins_whole : grown ≡ whole_text → BeginsSecond grown names limit this
     begins_whole all = begins (begins_all grown whole_text (sym all))

@@ -25,6 +25,7 @@ use Rattle.hj_opening.specs.Streams.{Fails, IsBegunUnder}
 use Rattle.hj_opening.specs.Verifying.{BeginsCheck, EndsVerify, FindsNone, IsCheckDecided, IsCheckRole, ServesVerify}
 use Rattle.hj_opening.specs.Verifying as tells
 use Rattle.hj_opening.specs.Words.{Chain, CheckedNames, TextKind, join_streams, named}
+use Rattle.hj_opening.proofs.Kept.{decides, kept}
 use Rattle.hj_opening.proofs.Phases.{Roles, begun-opened, begun-refused, begun-unbegun, fails_as, open-opened}
 use Rattle.hj_opening.proofs.RunningOrders.{same_name}
 
@@ -54,11 +55,6 @@ module _ (chain : Chain) (name : List ℕ) (names : CheckedNames) (limit : ℕ) 
 
   by_ending : (status : ℕ) (ending : Ending) → status ≡ status_of_ending ending → FindsNone (λ e. e ≡ ending) chain name names limit call → FindsNone (λ e. status ≡ status_of_ending e) chain name names limit call
   by_ending status ending is finds = record {
-    query = finds.query;
-    left = finds.left;
-    right = finds.right;
-    trace = finds.trace;
-    output = finds.output;
     checked = finds.checked;
     ending = is ∙ sym (ap status_of_ending finds.ending);
     are_right = finds.are_right;
@@ -72,27 +68,15 @@ module _ (chain : Chain) (name : List ℕ) (names : CheckedNames) (limit : ℕ) 
   own_decides status note (tells.events is told finds) none = inr (inr (by_ending status too_many is finds))
   own_decides status note (tells.refused found is told finds) none = inr (inl (is, (found, finds)))
 
-  decides : (status : ℕ) (note : List ℕ) → EndsCheckOf status note → NothingFails call → (status ≡ 6) ⊎ IsCheckDecided status chain name names limit call
-  decides status note (keeping.own how) none = inr (own_decides status note how none)
-  decides status note (keeping.failed_sink is told rose) none = absurd (none.sink rose)
-  decides status note (keeping.memory is told) none = inl is
-
   pub serves_verify : (status : ℕ) (note : List ℕ) → EndsCheckOf status note → status ≢ 5 → Appends call.old call.new [] → call.faults_now ≡ call.faults_before → BeginsCheck name names call
       → ((of : Role) → ¬ (IsCheckRole of) → (call.now of).phase ≡ unbegun) → ((of : Role) → (call.now of).faults ≢ (call.before of).faults → (status ≡ 4) ⊎ (status ≡ 6))
       → ServesVerify chain name names limit status note call
   serves_verify status note ends no_sink nothing sink roles others failing = record {
-    keeps = record {
-      ends = ends;
-      grown = [];
-      written = nothing;
-      front = inl refl;
-      others = others;
-      sink = λ other. sink;
-    };
+    keeps = kept ends [] nothing (inl refl) others (λ other. sink);
     no_sink = no_sink;
     roles = roles;
     failing = failing;
-    complete = decides status note ends;
+    complete = decides (λ s. IsCheckDecided s chain name names limit call) own_decides ends;
   }
 
   -- ---- a check that ended as a join would

@@ -1,15 +1,13 @@
 -- What a call of a join did from its query on: of which streams, up to which ending, and how much of the text it wrote.
-use Rattle.std.specs.Prelude.{◌≡◌, ℕ, Bool, List, true, false}
+use Rattle.std.specs.Prelude.{◌≡◌, ℕ, List, true}
 use Rattle.std.specs.declared.option.Option.{Option}
 use Rattle.std.specs.Io.KnownBytes.{Appends}
 use Rattle.hj_base.specs.declared.outside.Role.{Role}
 use Rattle.hj_base.specs.declared.outside.Role.TheVariants as role
-use Rattle.hj_base.specs.Outside.{RoleState, ChangesOnlyStreams}
+use Rattle.hj_base.specs.Outside.{RoleState}
 use Rattle.hj_event.specs.Arrivals.{Ending, clean}
-use Rattle.hj_event.specs.Roles.{IsReadOn}
-use Rattle.hj_event.specs.Sides.{Follows, in_front}
 use Rattle.hj_stream.specs.declared.outcome.Outcome.{Outcome}
-use Rattle.hj_stream.specs.Joining.{AreEnded, FailsOn}
+use Rattle.hj_stream.specs.Joining.{JoinsSo}
 use Rattle.hj_stream.specs.JoinText.{join_result}
 use Rattle.hj_query.specs.Parts.{Parts}
 use Rattle.hj_record.specs.Pieces.{Stream}
@@ -49,23 +47,6 @@ pub record BeginsText (kind : TextKind) (grown : List ℕ) (query : Parts) (limi
   pub streams : AreStreams names call.under call.before call.now left right
   pub begins : IsTextFront kind query left right limit grown
 
--- A join that writes a text of this kind: these bytes of both streams were read, this text was written, and whatever comes after
--- the bytes, it is what the outcome says. Nothing comes after a read that answered the end, and after a failed one the stream is
--- cut off.
-pub record JoinsKind (kind : TextKind) (ended : Outcome) (query : Parts) (limit : ℕ) (before now : Role → RoleState)
-    (old new : Option (List ℕ)) : Type 0 where
-  pub left_bytes : List ℕ
-  pub right_bytes : List ℕ
-  pub left_failed : Bool
-  pub right_failed : Bool
-  pub left_ended : Bool
-  pub right_ended : Bool
-  pub left : IsReadOn left_failed left_bytes false left_ended (before role.Left) (now role.Left)
-  pub right : IsReadOn right_failed right_bytes false right_ended (before role.Right) (now role.Right)
-  pub failed : FailsOn ended left_failed right_failed
-  pub others : ChangesOnlyStreams before now
-  pub grown : List ℕ
-  pub written : Appends old new grown
-  pub text : (l r : Stream) → Follows left_failed left_ended l → Follows right_failed right_ended r
-      → WritesKind kind ended query (in_front left_bytes l) (in_front right_bytes r) limit grown
-  pub ends : AreEnded ended left_ended right_ended
+-- A join that writes a text of this kind.
+abbrev pub JoinsKind : TextKind → Outcome → Parts → ℕ → (Role → RoleState) → (Role → RoleState) → Option (List ℕ) → Option (List ℕ) → Type 0
+JoinsKind kind ended query limit before now old new = JoinsSo (WritesKind kind) ended query limit before now old new

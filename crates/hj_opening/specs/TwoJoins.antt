@@ -20,6 +20,7 @@ use Rattle.hj_record.specs.Pieces.{Stream}
 use Rattle.hj_relay.specs.Fits.{Fits}
 use Rattle.hj_relay.specs.Rows.{IsTooLong}
 use Rattle.hj_relay.specs.Twice.{second_result}
+use Rattle.hj_stream.specs.JoinText.{JoinResult}
 use Rattle.hj_opening.specs.Calls.{Call}
 use Rattle.hj_opening.specs.Keeping.{Keeps, NothingFails, RefusesQuery, status_of_ending}
 use Rattle.hj_opening.specs.Queries.{IsAccepted, IsRefused}
@@ -81,55 +82,58 @@ pub record RefusesShape (names : TwiceNames) (call : Call) : Type 0 where
 
 -- ---- The joins.
 
--- the streams of a call
-pub record AreThree (names : TwiceNames) (call : Call) (left right third : Stream) : Type 0 where
-  pub of_first : AreStreams names.streams call.under call.before call.now left right
-  pub of_third : IsStream (call.under names.third) role.Third call.before call.now third
-
--- The events of the first join end so, and nothing was written.
-pub record EndsInFirst (ending : Ending) (names : TwiceNames) (limit : ℕ) (call : Call) : Type 0 where
+-- Both queries of a call are accepted; these are the streams of its first join.
+pub record FirstJoin (names : TwiceNames) (call : Call) : Type 0 where
   pub first : Parts
   pub second : Parts
   pub accepted : AcceptsBoth first second names call.under call.before call.now
   pub left : Stream
   pub right : Stream
   pub streams : AreStreams names.streams call.under call.before call.now left right
-  pub ends : (events_of first left right limit).ending ≡ ending
+
+-- and this is the third stream
+pub record BothJoins (names : TwiceNames) (call : Call) : Type 0 where
+  pub of_first : FirstJoin names call
+  pub third : Stream
+  pub of_third : IsStream (call.under names.third) role.Third call.before call.now third
+
+module _ {names : TwiceNames} {call : Call} where
+  -- how the events of the first join end
+  abbrev pub first_ending : FirstJoin names call → ℕ → Ending
+  first_ending of limit = (events_of of.first of.left of.right limit).ending
+
+  -- the second join
+  abbrev pub second_join : BothJoins names call → ℕ → JoinResult
+  second_join both limit =
+      second_result both.of_first.first both.of_first.second limit both.of_first.left both.of_first.right both.third
+
+-- The events of the first join end so, and nothing was written.
+pub record EndsInFirst (ending : Ending) (names : TwiceNames) (limit : ℕ) (call : Call) : Type 0 where
+  pub joins : FirstJoin names call
+  pub ends : first_ending joins limit ≡ ending
   pub nothing : Appends call.old call.new []
 
 -- The events of the first join end with both streams, those of the second one end so, and the whole text of the second one was written.
 pub record WritesSecond (ending : Ending) (names : TwiceNames) (limit : ℕ) (call : Call) : Type 0 where
-  pub first : Parts
-  pub second : Parts
-  pub accepted : AcceptsBoth first second names call.under call.before call.now
-  pub left : Stream
-  pub right : Stream
-  pub third : Stream
-  pub streams : AreThree names call left right third
-  pub first_ends : (events_of first left right limit).ending ≡ clean
-  pub ends : (second_result first second limit left right third).ending ≡ ending
-  pub written : Appends call.old call.new (second_result first second limit left right third).text
+  pub joins : BothJoins names call
+  pub first_ends : first_ending joins.of_first limit ≡ clean
+  pub ends : (second_join joins limit).ending ≡ ending
+  pub written : Appends call.old call.new (second_join joins limit).text
 
 -- And all three streams were read to their ends.
 pub record WritesAllThree (names : TwiceNames) (limit : ℕ) (call : Call) : Type 0 where
   pub writes : WritesSecond clean names limit call
-  pub left_whole : writes.left.whole ≡ true
-  pub right_whole : writes.right.whole ≡ true
-  pub third_whole : writes.third.whole ≡ true
+  pub left_whole : writes.joins.of_first.left.whole ≡ true
+  pub right_whole : writes.joins.of_first.right.whole ≡ true
+  pub third_whole : writes.joins.third.whole ≡ true
   pub left_ended : IsReadToEnd names.streams.left (call.now role.Left)
   pub right_ended : IsReadToEnd names.streams.right (call.now role.Right)
   pub third_ended : IsReadToEnd names.third (call.now role.Third)
 
 -- The bytes are a front of the text of the second join.
 pub record BeginsSecond (grown : List ℕ) (names : TwiceNames) (limit : ℕ) (call : Call) : Type 0 where
-  pub first : Parts
-  pub second : Parts
-  pub accepted : AcceptsBoth first second names call.under call.before call.now
-  pub left : Stream
-  pub right : Stream
-  pub third : Stream
-  pub streams : AreThree names call left right third
-  pub begins : IsPrefix grown (second_result first second limit left right third).text
+  pub joins : BothJoins names call
+  pub begins : IsPrefix grown (second_join joins limit).text
 
 -- The events of a join end in the missing read of this role's stream: those of the first one, or those of the second one.
 abbrev pub EndsUnread : Role → TwiceNames → ℕ → Call → Type 0

@@ -36,11 +36,20 @@ IsCheckRole role.Trace = Unit {0}
 IsCheckRole role.Output = Unit {0}
 
 -- The query was accepted; these are the streams of the call, its trace and its output.
-pub record IsChecked (name : List ℕ) (names : CheckedNames) (call : Call) (query : Parts) (left right trace output : Stream) : Type 0 where
+pub record Checked (name : List ℕ) (names : CheckedNames) (call : Call) : Type 0 where
+  pub query : Parts
+  pub left : Stream
+  pub right : Stream
+  pub trace : Stream
+  pub output : Stream
   pub accepted : IsAccepted query name (call.under name) (call.before role.Query) (call.now role.Query)
   pub of_streams : AreStreams names.streams call.under call.before call.now left right
   pub of_trace : IsStream (call.under names.trace) role.Trace call.before call.now trace
   pub of_output : IsStream (call.under names.output) role.Output call.before call.now output
+
+-- the events of its streams
+abbrev pub events_in : {name : List ℕ} {names : CheckedNames} {call : Call} → Checked name names call → ℕ → Numbered
+events_in checked limit = events_of checked.query checked.left checked.right limit
 
 -- This is wrong with a trace or an output of the join of these events.
 abbrev pub IsWrong : TraceFault → Chain → Parts → Numbered → (trace output : List ℕ) → Type 0
@@ -54,25 +63,15 @@ pub record AreRight (chain : Chain) (query : Parts) (all : Numbered) (trace outp
 
 -- The trace has this fault, or the output has, over the events of the streams.
 pub record FindsFault (found : TraceFault) (chain : Chain) (name : List ℕ) (names : CheckedNames) (limit : ℕ) (call : Call) : Type 0 where
-  pub query : Parts
-  pub left : Stream
-  pub right : Stream
-  pub trace : Stream
-  pub output : Stream
-  pub checked : IsChecked name names call query left right trace output
-  pub stands : IsWrong found chain query (events_of query left right limit) trace.bytes output.bytes
+  pub checked : Checked name names call
+  pub stands : IsWrong found chain checked.query (events_in checked limit) checked.trace.bytes checked.output.bytes
 
 -- The events of the streams end so; the trace and the output are right.
 pub record FindsNone (EndsSo : Ending → Type 0) (chain : Chain) (name : List ℕ) (names : CheckedNames) (limit : ℕ) (call : Call)
     : Type 0 where
-  pub query : Parts
-  pub left : Stream
-  pub right : Stream
-  pub trace : Stream
-  pub output : Stream
-  pub checked : IsChecked name names call query left right trace output
-  pub ending : EndsSo (events_of query left right limit).ending
-  pub are_right : AreRight chain query (events_of query left right limit) trace.bytes output.bytes
+  pub checked : Checked name names call
+  pub ending : EndsSo (events_in checked limit).ending
+  pub are_right : AreRight chain checked.query (events_in checked limit) checked.trace.bytes checked.output.bytes
 
 -- how a note names a fault
 abbrev pub refusal_of : TraceFault → Refusal
