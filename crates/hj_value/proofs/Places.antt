@@ -1,4 +1,4 @@
--- A text that is put behind the others stands where its slot says, and the others stay where they are.
+-- A text that is put behind the others stands where its stored field says, and the others stay where they are.
 use Rattle.std.proofs.Common.{◌≡◌, ℕ, ℤ, ◌+◌, ◌-◌, ◌<◌, ◌≤◌, List, [], ◌∷◌, ◌++◌, length, map, take, drop, get_or, refl, sym, ap, ap₂, ◌∙◌, arith}
 use Rattle.std.proofs.Math.Seq.{drop-append_seam, take-length}
 use Rattle.std.proofs.lemmas.List.{take-append-le, drop-append-le, map-append, length-drop, take_more}
@@ -6,23 +6,23 @@ use Rattle.std.proofs.lemmas.List.Elements.{All-head, All-tail}
 use Rattle.std.specs.Prelude.{All}
 use Rattle.hj_value.specs.declared.field.Field.{Field}
 use Rattle.hj_value.specs.declared.field.Field.TheVariants as field
-use Rattle.hj_value.specs.declared.slots.Slot.{Slot}
-use Rattle.hj_value.specs.declared.slots.Slot.TheVariants as slot
-use Rattle.hj_value.specs.Slots.{between, field_of, fields_of, IsPlace}
+use Rattle.hj_value.specs.declared.stored_fields.StoredField.{StoredField}
+use Rattle.hj_value.specs.declared.stored_fields.StoredField.TheVariants as stored
+use Rattle.hj_value.specs.StoredFields.{between, field_of, fields_of, IsPlace}
 
 between-append : (texts text : List ℕ) (from to : ℕ) → from ≤ to → to ≤ length texts → between (texts ++ text) from to ≡ between texts from to
 between-append texts text from to ordered within =
     ap (take (to - from)) (drop-append-le from texts text (omega arith))
     ∙ take-append-le (to - from) (drop from texts) text (omega (arith, length-drop from texts))
 
-field_of-append : (texts text : List ℕ) (one : Slot) → IsPlace texts one → field_of (texts ++ text) one ≡ field_of texts one
-field_of-append texts text (slot.Int value) place = refl
-field_of-append texts text (slot.Text from to) place = ap (λ bytes. field.Text bytes) (between-append texts text from to place.0 place.1)
+field_of-append : (texts text : List ℕ) (one : StoredField) → IsPlace texts one → field_of (texts ++ text) one ≡ field_of texts one
+field_of-append texts text (stored.Int value) place = refl
+field_of-append texts text (stored.Text from to) place = ap (λ bytes. field.Text bytes) (between-append texts text from to place.0 place.1)
 
-fields_of-append : (texts text : List ℕ) (slots : List Slot) → All (IsPlace texts) slots → fields_of (texts ++ text) slots ≡ fields_of texts slots
+fields_of-append : (texts text : List ℕ) (fields : List StoredField) → All (IsPlace texts) fields → fields_of (texts ++ text) fields ≡ fields_of texts fields
 fields_of-append texts text [] places = refl
-fields_of-append texts text (one ∷ slots) places =
-    ap₂ (λ f fs. f ∷ fs) (field_of-append texts text one (All-head (IsPlace texts) one slots places)) (fields_of-append texts text slots (All-tail (IsPlace texts) one slots places))
+fields_of-append texts text (one ∷ fields) places =
+    ap₂ (λ f fs. f ∷ fs) (field_of-append texts text one (All-head (IsPlace texts) one fields places)) (fields_of-append texts text fields (All-tail (IsPlace texts) one fields places))
 
 between-last : (texts text : List ℕ) → between (texts ++ text) (length texts) (length texts + length text) ≡ text
 between-last texts text =
@@ -30,11 +30,11 @@ between-last texts text =
     ap₂ (λ n bytes. take n bytes) long (drop-append_seam texts text) ∙ take-length text
 
 -- a row with a text more
-pub fields_of-push : (texts after text : List ℕ) (slots longer : List Slot) (one : Slot) (new : Field) (row : List Field) → after ≡ texts ++ text → longer ≡ slots ++ one ∷ [] → one ≡ slot.Text (length texts) (length texts + length text) → new ≡ field.Text text → fields_of texts slots ≡ row → All (IsPlace texts) slots → fields_of after longer ≡ row ++ new ∷ []
-fields_of-push texts after text slots longer one new row put pushed placed is seen places =
-    ap₂ (λ bytes all. fields_of bytes all) put (pushed ∙ ap (λ last. slots ++ last ∷ []) placed)
-    ∙ map-append (field_of (texts ++ text)) slots (slot.Text (length texts) (length texts + length text) ∷ [])
-    ∙ ap₂ (λ others last. others ++ field.Text last ∷ []) (fields_of-append texts text slots places ∙ seen) (between-last texts text)
+pub fields_of-push : (texts after text : List ℕ) (fields longer : List StoredField) (one : StoredField) (new : Field) (row : List Field) → after ≡ texts ++ text → longer ≡ fields ++ one ∷ [] → one ≡ stored.Text (length texts) (length texts + length text) → new ≡ field.Text text → fields_of texts fields ≡ row → All (IsPlace texts) fields → fields_of after longer ≡ row ++ new ∷ []
+fields_of-push texts after text fields longer one new row put pushed placed is seen places =
+    ap₂ (λ bytes all. fields_of bytes all) put (pushed ∙ ap (λ last. fields ++ last ∷ []) placed)
+    ∙ map-append (field_of (texts ++ text)) fields (stored.Text (length texts) (length texts + length text) ∷ [])
+    ∙ ap₂ (λ others last. others ++ field.Text last ∷ []) (fields_of-append texts text fields places ∙ seen) (between-last texts text)
     ∙ ap (λ last. row ++ last ∷ []) (sym is)
 
 -- one number more of a list

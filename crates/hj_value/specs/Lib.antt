@@ -4,4 +4,4 @@ pub mod Magnitude
 pub mod Number
 pub mod Row
 pub mod Schema
-pub mod Slots
+pub mod StoredFields

@@ -9,7 +9,7 @@ mod number;
 mod row;
 mod schema;
 mod shared_row;
-mod slots;
+mod stored_fields;
 
 pub use borrowed::Text;
 pub use column::{Column, ColumnType};

@@ -4,7 +4,7 @@ ghost use Rattle.hj_value.specs.declared.field.Field.TheVariants as field;
 ghost use Rattle.hj_value.specs.Row.{time_of};
 
 use crate::Field;
-use crate::slots::Slots;
+use crate::stored_fields::StoredFields;
 use arrayvec::ArrayVec;
 use hj_base::Memory;
 use std::alloc::Global;
@@ -15,18 +15,18 @@ const MOST_NUMBERS: usize = 4;
 
 /// The fields of a row.
 #[derive(Drop)]
-enum Fields {
+enum RowFields {
     /// A few numbers, which take no block of memory.
     Numbers(ArrayVec<i64, 4>),
     /// Any others.
-    Slots(Slots),
+    Stored(StoredFields),
 }
 
 /// A row, seen as the list of its fields, in the order of the columns.
 #[derive(Drop)]
 pub struct Row {
     alloc: Global,
-    fields: Fields,
+    fields: RowFields,
 }
 
 impl Model for Row {
@@ -47,7 +47,7 @@ impl Row {
     {
         Row {
             alloc,
-            fields: Fields::Numbers(ArrayVec::new()),
+            fields: RowFields::Numbers(ArrayVec::new()),
         }
     }
 
@@ -61,7 +61,7 @@ impl Row {
         }
         Ok(Row {
             alloc,
-            fields: Fields::Slots(Slots::with_capacity(alloc, fields, text_bytes)?),
+            fields: RowFields::Stored(StoredFields::with_capacity(alloc, fields, text_bytes)?),
         })
     }
 
@@ -71,8 +71,8 @@ impl Row {
         ensures { result ≡ length self.now }
     {
         match &self.fields {
-            Fields::Numbers(numbers) => numbers.len(),
-            Fields::Slots(slots) => slots.len(),
+            RowFields::Numbers(numbers) => numbers.len(),
+            RowFields::Stored(stored) => stored.len(),
         }
     }
 
@@ -82,11 +82,11 @@ impl Row {
         ensures { result ≡ slice_get self.now at }
     {
         match &self.fields {
-            Fields::Numbers(numbers) => match numbers.as_slice().get(at) {
+            RowFields::Numbers(numbers) => match numbers.as_slice().get(at) {
                 Some(number) => Some(Field::Int(*number)),
                 None => None,
             },
-            Fields::Slots(slots) => slots.get(at),
+            RowFields::Stored(stored) => stored.get(at),
         }
     }
 
@@ -97,8 +97,8 @@ impl Row {
         ensures few { IfSome result (λ numbers. length numbers.now ≤ 4) }
     {
         match &self.fields {
-            Fields::Numbers(numbers) => Some(numbers.as_slice()),
-            Fields::Slots(_) => None,
+            RowFields::Numbers(numbers) => Some(numbers.as_slice()),
+            RowFields::Stored(_) => None,
         }
     }
 
@@ -109,12 +109,12 @@ impl Row {
         ensures ok { OnOk result (self.new ≡ self.old ++ field.entry ∷ []) }
         ensures err { OnErr result (self.new ≡ self.old) }
     {
-        if let Fields::Slots(slots) = &mut self.fields {
-            return slots.push(field);
+        if let RowFields::Stored(stored) = &mut self.fields {
+            return stored.push(field);
         }
         match field {
             Field::Int(number) if self.push_number(number) => Ok(()),
-            field => self.push_slot(field),
+            field => self.push_stored(field),
         }
     }
 
@@ -125,23 +125,23 @@ impl Row {
         ensures no { result ≡ false → self.new ≡ self.old }
     {
         match &mut self.fields {
-            Fields::Numbers(numbers) => numbers.try_push(number).is_ok(),
-            Fields::Slots(_) => false,
+            RowFields::Numbers(numbers) => numbers.try_push(number).is_ok(),
+            RowFields::Stored(_) => false,
         }
     }
 
-    /// Appends a field to the slots, in which the numbers that are there are put first.
+    /// Appends a field to stored ones, in which the numbers that are there are put first.
     #[cold]
-    fn push_slot(&mut self, field: Field<'_>) -> Result<(), Memory>
+    fn push_stored(&mut self, field: Field<'_>) -> Result<(), Memory>
         ensures ok { OnOk result (self.new ≡ self.old ++ field.entry ∷ []) }
         ensures err { OnErr result (self.new ≡ self.old) }
     {
         match &mut self.fields {
-            Fields::Slots(slots) => slots.push(field),
-            Fields::Numbers(numbers) => {
-                let mut slots = slots_of(self.alloc, numbers.as_slice())?;
-                slots.push(field)?;
-                self.fields = Fields::Slots(slots);
+            RowFields::Stored(stored) => stored.push(field),
+            RowFields::Numbers(numbers) => {
+                let mut stored = stored_of(self.alloc, numbers.as_slice())?;
+                stored.push(field)?;
+                self.fields = RowFields::Stored(stored);
                 Ok(())
             }
         }
@@ -153,23 +153,23 @@ impl Row {
         ensures { result ≡ time_of self.now }
     {
         match &self.fields {
-            Fields::Numbers(numbers) => match numbers.as_slice().first() {
+            RowFields::Numbers(numbers) => match numbers.as_slice().first() {
                 Some(time) => *time,
                 None => 0,
             },
-            Fields::Slots(slots) => slots.time(),
+            RowFields::Stored(stored) => stored.time(),
         }
     }
 }
 
-/// Makes slots of a few numbers, with room for as many fields again.
-fn slots_of(alloc: Global, numbers: &[i64]) -> Result<Slots, Memory>
+/// Stores a few numbers, with room for as many fields again.
+fn stored_of(alloc: Global, numbers: &[i64]) -> Result<StoredFields, Memory>
     requires { length numbers.now ≤ 4 }
-    ensures { IfOk result (λ slots. slots ≡ map field.Int numbers.now) }
+    ensures { IfOk result (λ fields. fields ≡ map field.Int numbers.now) }
 {
-    let mut slots = Slots::with_capacity(alloc, 2 * MOST_NUMBERS, 0)?;
+    let mut stored = StoredFields::with_capacity(alloc, 2 * MOST_NUMBERS, 0)?;
     for number in numbers {
-        slots.push(Field::Int(*number))?;
+        stored.push(Field::Int(*number))?;
     }
-    Ok(slots)
+    Ok(stored)
 }

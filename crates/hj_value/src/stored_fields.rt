@@ -1,6 +1,6 @@
 ghost use Rattle.std.specs.Prelude.{◌≡◌, ◌+◌, ◌++◌, ◌<◌, ◌^◌, [], ◌∷◌, List, length, slice_get, OnOk, OnErr, IfOk};
 ghost use Rattle.hj_value.specs.Row.{time_of};
-ghost use Rattle.hj_value.specs.declared.slots.Slot.TheVariants as slots;
+ghost use Rattle.hj_value.specs.declared.stored_fields.StoredField.TheVariants as stored;
 
 use crate::{Field, Text};
 use hj_base::Memory;
@@ -9,42 +9,42 @@ use std::marker::Model;
 
 /// The value of one column, or where its bytes stand among the texts of the row: at `from..to`.
 #[derive(Clone, Copy)]
-pub(crate) enum Slot {
+pub(crate) enum StoredField {
     Int(i64),
     Text { from: u32, to: u32 },
 }
 
 /// Fields of any kind and count, seen as the list of them.
 #[derive(Drop)]
-pub(crate) struct Slots {
-    slots: Vec<Slot>,
+pub(crate) struct StoredFields {
+    fields: Vec<StoredField>,
     /// The bytes of all texts, one text after another, so that they take one block of memory.
     texts: Vec<u8>,
 }
 
-impl Model for Slots {
+impl Model for StoredFields {
     ghost use Rattle.std.specs.Prelude.{List, All};
     ghost use Rattle.hj_value.specs.declared.field.Field.{Field};
-    ghost use Rattle.hj_value.specs.Slots.{fields_of, IsPlace};
+    ghost use Rattle.hj_value.specs.StoredFields.{fields_of, IsPlace};
 
     ghost Value = { List Field };
 
-    ghost view = { λ r. fields_of r.texts.items r.slots.items };
+    ghost view = { λ r. fields_of r.texts.items r.fields.items };
 
-    ghost invariant = { λ r. All (IsPlace r.texts.items) r.slots.items };
+    ghost invariant = { λ r. All (IsPlace r.texts.items) r.fields.items };
 }
 
-impl Slots {
+impl StoredFields {
     /// Makes room for `fields` fields, whose texts have `text_bytes` bytes together.
     pub(crate) fn with_capacity(
         alloc: Global,
         fields: usize,
         text_bytes: usize,
     ) -> Result<Self, Memory>
-        ensures { IfOk result (λ slots. slots ≡ []) }
+        ensures { IfOk result (λ fields. fields ≡ []) }
     {
-        Ok(Slots {
-            slots: Vec::with_capacity(alloc, fields)?,
+        Ok(StoredFields {
+            fields: Vec::with_capacity(alloc, fields)?,
             texts: Vec::with_capacity(alloc, text_bytes)?,
         })
     }
@@ -54,7 +54,7 @@ impl Slots {
     pub(crate) fn len(&self) -> usize
         ensures { result ≡ length self.now }
     {
-        self.slots.len()
+        self.fields.len()
     }
 
     /// Returns the field at a place, counted from 0; None exactly at or past the length.
@@ -62,9 +62,9 @@ impl Slots {
     pub(crate) fn get(&self, at: usize) -> Option<Field<'_>>
         ensures { result ≡ slice_get self.now at }
     {
-        match self.slots.get(at) {
-            Some(Slot::Int(value)) => Some(Field::Int(*value)),
-            Some(Slot::Text { from, to }) => {
+        match self.fields.get(at) {
+            Some(StoredField::Int(value)) => Some(Field::Int(*value)),
+            Some(StoredField::Text { from, to }) => {
                 let bytes = &self.texts[*from as usize..*to as usize];
                 Some(Field::Text(Text::new(bytes)))
             }
@@ -79,11 +79,11 @@ impl Slots {
         ensures err { OnErr result (self.new ≡ self.old) }
     {
         match field {
-            Field::Int(value) => self.slots.push(Slot::Int(value))?,
+            Field::Int(value) => self.fields.push(StoredField::Int(value))?,
             Field::Text(text) => {
-                self.slots.reserve(1)?;
-                let slot = add_text(&mut self.texts, text.bytes())?;
-                self.slots.push_reserved(slot);
+                self.fields.reserve(1)?;
+                let stored = add_text(&mut self.texts, text.bytes())?;
+                self.fields.push_reserved(stored);
             }
         }
         Ok(())
@@ -94,22 +94,22 @@ impl Slots {
     pub(crate) fn time(&self) -> i64
         ensures { result ≡ time_of self.now }
     {
-        match self.slots.first() {
-            Some(Slot::Int(time)) => *time,
-            Some(Slot::Text { .. }) | None => 0,
+        match self.fields.first() {
+            Some(StoredField::Int(time)) => *time,
+            Some(StoredField::Text { .. }) | None => 0,
         }
     }
 }
 
 /// Appends a text to the others, and returns where it stands.
-fn add_text(texts: &mut Vec<u8>, text: &[u8]) -> Result<Slot, Memory>
+fn add_text(texts: &mut Vec<u8>, text: &[u8]) -> Result<StoredField, Memory>
     ensures texts { OnOk result (texts.new.items ≡ texts.old.items ++ text.now) }
-    ensures place { IfOk result (λ slot. slot
-        ≡ slots.Text (length texts.old.items) (length texts.old.items + length text.now)) }
+    ensures place { IfOk result (λ one. one
+        ≡ stored.Text (length texts.old.items) (length texts.old.items + length text.now)) }
     ensures err { OnErr result (texts.new.items ≡ texts.old.items) }
 {
     let from = u32::try_from(texts.len()).map_err(|_| Memory)?;
     let to = u32::try_from(texts.len() + text.len()).map_err(|_| Memory)?;
     texts.extend_from_slice(text)?;
-    Ok(Slot::Text { from, to })
+    Ok(StoredField::Text { from, to })
 }
