@@ -4,7 +4,7 @@ use Rattle.std.specs.List.{filter}
 use Rattle.hj_base.specs.declared.numbers.EventNo.{EventNo}
 use Rattle.hj_base.specs.declared.numbers.Side.{Side}
 use Rattle.hj_base.specs.declared.numbers.Side.TheVariants.{Left, Right}
-use Rattle.hj_window.specs.declared.side_rows.Due.{Due}
+use Rattle.hj_window.specs.declared.side_rows.AgedRow.{AgedRow}
 use Rattle.hj_base.specs.declared.numbers.Window.{Window}
 use Rattle.hj_base.specs.declared.numbers.Window.TheVariants.{Rows, Time}
 use Rattle.hj_window.specs.LiveRows.{LiveRow, LiveRows, IsInOrder, is_gone, is_gone_at, window_of}
@@ -29,7 +29,7 @@ none_gone live now (row ∷ rows) left right =
     ap (λ b. cond b (row ∷ filter (is_gone live now) rows) (filter (is_gone live now) rows)) (stays_on live row.side (now -ℤ row.time) left right) ∙ none_gone live now rows left right
 
 -- the rows that are still to be answered
-abbrev pub still_due : ℤ → Kept → Kept → Option Due → Option Due → List LiveRow
+abbrev pub still_due : ℤ → Kept → Kept → Option AgedRow → Option AgedRow → List LiveRow
 still_due now left right first other = merged (live_rows Left (due_rows left.window now left.rows first)) (live_rows Right (due_rows right.window now right.rows other))
 
 pub lefts_in_order : (left right : Kept) → IsInOrder (live_of left right).rows → IsInOrder (live_rows Left left.rows)
@@ -39,7 +39,7 @@ pub rights_in_order : (left right : Kept) → IsInOrder (live_of left right).row
 rights_in_order left right order = subst IsInOrder (rights_of left.rows right.rows) (in_order_filter _ (live_of left right).rows order)
 
 -- at first all are
-pub all_due : (live : LiveRows) (now : ℤ) (left right : Kept) (first other : Option Due) → live_of left right ≡ live → IsInOrder (live_of left right).rows
+pub all_due : (live : LiveRows) (now : ℤ) (left right : Kept) (first other : Option AgedRow) → live_of left right ≡ live → IsInOrder (live_of left right).rows
     → aged left.window now left.rows ≡ due_rows left.window now left.rows first → aged right.window now right.rows ≡ due_rows right.window now right.rows other
     → filter (is_gone live now) live.rows ≡ still_due now left right first other
 all_due live now left right first other seen order left_due right_due =
@@ -49,45 +49,45 @@ all_due live now left right first other seen order left_due right_due =
     ∙ ap (λ l. merged l (filter gone (live_rows Right right.rows))) (filter_seen gone Left left.rows ∙ ap (live_rows Left) left_due)
     ∙ ap (merged (live_rows Left (due_rows left.window now left.rows first))) (filter_seen gone Right right.rows ∙ ap (live_rows Right) right_due))
 
-abbrev pub found : Side → Due → Option (Side × Due)
+abbrev pub found : Side → AgedRow → Option (Side × AgedRow)
 found side due = Some (side, due)
 
-same_side : (side other : Side) (due next : Due) → found side due ≡ found other next → side ≡ other
-same_side side other due next is = ap (λ o. (unwrap_or {T = Side × Due} o (side, due)).0) is
+same_side : (side other : Side) (due next : AgedRow) → found side due ≡ found other next → side ≡ other
+same_side side other due next is = ap (λ o. (unwrap_or {T = Side × AgedRow} o (side, due)).0) is
 
-same_due : (side other : Side) (due next : Due) → found side due ≡ found other next → due ≡ next
-same_due side other due next is = ap (λ o. (unwrap_or {T = Side × Due} o (side, due)).1) is
+same_due : (side other : Side) (due next : AgedRow) → found side due ≡ found other next → due ≡ next
+same_due side other due next is = ap (λ o. (unwrap_or {T = Side × AgedRow} o (side, due)).1) is
 
-right_isn't_left : (due next : Due) → found Right due ≡ found Left next → ⊥
+right_isn't_left : (due next : AgedRow) → found Right due ≡ found Left next → ⊥
 right_isn't_left due next is = let sides : Right ≡ Left = same_side Right Left due next is in cc
 
 -- the side of the row that was found
-pub found_on : (side wanted : Side) (due : Due) (answer : Option (Side × Due)) → found side due ≡ answer → side ≡ wanted → answer ≡ found wanted due
+pub found_on : (side wanted : Side) (due : AgedRow) (answer : Option (Side × AgedRow)) → found side due ≡ answer → side ≡ wanted → answer ≡ found wanted due
 found_on side wanted due answer is of = sym is ∙ ap (λ s. found s due) of
 
 -- where the left row is the first of two, it comes first
-left_first : (now : ℤ) (left right : Kept) (first other : Option Due) (due : Due) → first_of first other ≡ found Left due
+left_first : (now : ℤ) (left right : Kept) (first other : Option AgedRow) (due : AgedRow) → first_of first other ≡ found Left due
     → still_due now left right first other ≡ live_row Left due.held ∷ merged (live_rows Left (aged left.window now (drop due.next left.rows))) (live_rows Right (due_rows right.window now right.rows other))
 left_first now left right None None due is = cc
 left_first now left right None (Some other) due is = absurd (right_isn't_left other due is)
 left_first now left right (Some first) None due is =
-    ap (λ (d : Due). live_row Left d.held ∷ merged (live_rows Left (aged left.window now (drop d.next left.rows))) []) (same_due Left Left first due is)
+    ap (λ (d : AgedRow). live_row Left d.held ∷ merged (live_rows Left (aged left.window now (drop d.next left.rows))) []) (same_due Left Left first due is)
 left_first now left right (Some first) (Some other) due is =
     let lefts = live_rows Left (aged left.window now (drop first.next left.rows)) in
     let rights = live_rows Right (aged right.window now (drop other.next right.rows)) in
     elim (ltb first.held.no.0 other.held.no.0) as (λ b. cond b (found Left first) (found Right other) ≡ found Left due
     → cond b (live_row Left first.held ∷ merged lefts (live_row Right other.held ∷ rights)) (live_row Right other.held ∷ among (live_row Left first.held) (merged lefts) rights)
     ≡ live_row Left due.held ∷ merged (live_rows Left (aged left.window now (drop due.next left.rows))) (live_row Right other.held ∷ rights)) [
-      | true ↦ λ is'. ap (λ (d : Due). live_row Left d.held ∷ merged (live_rows Left (aged left.window now (drop d.next left.rows))) (live_row Right other.held ∷ rights)) (same_due Left Left first due is')
+      | true ↦ λ is'. ap (λ (d : AgedRow). live_row Left d.held ∷ merged (live_rows Left (aged left.window now (drop d.next left.rows))) (live_row Right other.held ∷ rights)) (same_due Left Left first due is')
       | false ↦ λ is'. absurd (right_isn't_left other due is')
     ] is
 
 -- and so the right one
-right_first : (now : ℤ) (left right : Kept) (first other : Option Due) (due : Due) → first_of first other ≡ found Right due
+right_first : (now : ℤ) (left right : Kept) (first other : Option AgedRow) (due : AgedRow) → first_of first other ≡ found Right due
     → still_due now left right first other ≡ live_row Right due.held ∷ merged (live_rows Left (due_rows left.window now left.rows first)) (live_rows Right (aged right.window now (drop due.next right.rows)))
 right_first now left right None None due is = cc
 right_first now left right None (Some other) due is =
-    ap (λ (d : Due). live_row Right d.held ∷ live_rows Right (aged right.window now (drop d.next right.rows))) (same_due Right Right other due is)
+    ap (λ (d : AgedRow). live_row Right d.held ∷ live_rows Right (aged right.window now (drop d.next right.rows))) (same_due Right Right other due is)
 right_first now left right (Some first) None due is = absurd (right_isn't_left due first (sym is))
 right_first now left right (Some first) (Some other) due is =
     let lefts = live_rows Left (aged left.window now (drop first.next left.rows)) in
@@ -96,7 +96,7 @@ right_first now left right (Some first) (Some other) due is =
     → cond b (live_row Left first.held ∷ merged lefts (live_row Right other.held ∷ rights)) (live_row Right other.held ∷ among (live_row Left first.held) (merged lefts) rights)
     ≡ live_row Right due.held ∷ merged (live_row Left first.held ∷ lefts) (live_rows Right (aged right.window now (drop due.next right.rows)))) [
       | true ↦ λ is'. absurd (right_isn't_left due first (sym is'))
-      | false ↦ λ is'. ap (λ (d : Due). live_row Right d.held ∷ merged (live_row Left first.held ∷ lefts) (live_rows Right (aged right.window now (drop d.next right.rows)))) (same_due Right Right other due is')
+      | false ↦ λ is'. ap (λ (d : AgedRow). live_row Right d.held ∷ merged (live_row Left first.held ∷ lefts) (live_rows Right (aged right.window now (drop d.next right.rows)))) (same_due Right Right other due is')
     ] is
 
 answered : (row : LiveRow) (rest all due : List LiveRow) (before after : List (Side × EventNo)) → numbers_of all ≡ before ++ numbers_of due → due ≡ row ∷ rest
@@ -105,7 +105,7 @@ answered row rest all due before after so_far next is =
     so_far ∙ ap (λ l. before ++ numbers_of l) next ∙ sym (append_assoc before ((row.side, number_of row) ∷ []) (numbers_of rest)) ∙ ap (λ l. l ++ numbers_of rest) (sym is)
 
 -- a left row was answered, and the next one of its side was looked for
-pub answered_left : (now : ℤ) (left right : Kept) (first other next : Option Due) (due : Due) (all : List LiveRow) (before after : List (Side × EventNo))
+pub answered_left : (now : ℤ) (left right : Kept) (first other next : Option AgedRow) (due : AgedRow) (all : List LiveRow) (before after : List (Side × EventNo))
     → numbers_of all ≡ before ++ numbers_of (still_due now left right first other) → first_of first other ≡ found Left due → after ≡ before ++ (Left, due.held.no) ∷ []
     → aged left.window now (drop due.next left.rows) ≡ due_rows left.window now left.rows next → numbers_of all ≡ after ++ numbers_of (still_due now left right next other)
 answered_left now left right first other next due all before after so_far is grown behind =
@@ -114,7 +114,7 @@ answered_left now left right first other next due all before after so_far is gro
     ∙ ap (λ l. after ++ numbers_of (merged (live_rows Left l) (live_rows Right (due_rows right.window now right.rows other)))) behind
 
 -- and so a right row
-pub answered_right : (now : ℤ) (left right : Kept) (first other next : Option Due) (due : Due) (all : List LiveRow) (before after : List (Side × EventNo))
+pub answered_right : (now : ℤ) (left right : Kept) (first other next : Option AgedRow) (due : AgedRow) (all : List LiveRow) (before after : List (Side × EventNo))
     → numbers_of all ≡ before ++ numbers_of (still_due now left right first other) → first_of first other ≡ found Right due → after ≡ before ++ (Right, due.held.no) ∷ []
     → aged right.window now (drop due.next right.rows) ≡ due_rows right.window now right.rows next → numbers_of all ≡ after ++ numbers_of (still_due now left right first next)
 answered_right now left right first other next due all before after so_far is grown behind =

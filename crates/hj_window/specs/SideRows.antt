@@ -7,7 +7,7 @@ use Rattle.hj_base.specs.declared.numbers.Side.TheVariants.{Left, Right}
 use Rattle.hj_base.specs.declared.numbers.Window.{Window}
 use Rattle.hj_base.specs.declared.numbers.Window.TheVariants.{Rows, Time}
 use Rattle.hj_window.specs.declared.side_rows.HeldRow.{HeldRow}
-use Rattle.hj_window.specs.declared.side_rows.Due.{Due}
+use Rattle.hj_window.specs.declared.side_rows.AgedRow.{AgedRow}
 use Rattle.hj_window.specs.LiveRows.{is_gone_at}
 
 pub record Kept : Type 0 where
@@ -52,12 +52,12 @@ has_room (Rows count) rows = nat_lt (length rows) count
 has_room (Time span) rows = false
 
 -- an aged row that was found, and those behind it
-abbrev pub due_rows : Window → ℤ → List HeldRow → Option Due → List HeldRow
+abbrev pub due_rows : Window → ℤ → List HeldRow → Option AgedRow → List HeldRow
 due_rows window now rows None = []
 due_rows window now rows (Some due) = due.held ∷ aged window now (drop due.next rows)
 
 -- the one of two rows that arrived first; the right one where the numbers are the same
-abbrev pub first_of : Option Due → Option Due → Option (Side × Due)
+abbrev pub first_of : Option AgedRow → Option AgedRow → Option (Side × AgedRow)
 first_of None None = None
 first_of (Some left) None = Some (Left, left)
 first_of None (Some right) = Some (Right, right)

@@ -4,7 +4,7 @@ ghost use Rattle.hj_window.specs.Numbers.{numbers_of, number_of_some};
 ghost use Rattle.hj_window.specs.SideRows.{IsAsBefore, unaged, overflow, entered, first_of};
 
 use crate::numbers::Numbers;
-use crate::side_rows::{Due, HeldRow, SideRows};
+use crate::side_rows::{AgedRow, HeldRow, SideRows};
 use hj_base::{EventNo, Memory, Side, Window};
 use std::alloc::Global;
 use std::marker::Model;
@@ -145,7 +145,7 @@ fn enter_by_age(
 }
 
 /// Returns the one of two rows that arrived first.
-fn first_of(left: Option<Due>, right: Option<Due>) -> Option<(Side, Due)>
+fn first_of(left: Option<AgedRow>, right: Option<AgedRow>) -> Option<(Side, AgedRow)>
     ensures { result ≡ first_of left right }
 {
     match (left, right) {

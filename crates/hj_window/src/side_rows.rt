@@ -17,7 +17,7 @@ pub(crate) struct HeldRow {
 
 /// A row that is gone by its age, and the place after it.
 #[derive(Clone, Copy)]
-pub(crate) struct Due {
+pub(crate) struct AgedRow {
     pub(crate) held: HeldRow,
     pub(crate) next: usize,
 }
@@ -65,7 +65,7 @@ impl SideRows {
     }
 
     /// Finds the first row from a place on that is gone by its age at this time.
-    pub(crate) fn due_from(&self, from: usize, now: i64) -> Option<Due>
+    pub(crate) fn due_from(&self, from: usize, now: i64) -> Option<AgedRow>
         ensures { aged self.now.window now (drop from self.now.rows) ≡ due_rows self.now.window now self.now.rows result }
     {
         if let Window::Rows(_) = self.window {
@@ -74,7 +74,7 @@ impl SideRows {
         for at in from..self.rows.len() {
             let held = self.rows[at];
             if is_aged(self.window, now, held.time) {
-                return Some(Due { held, next: at + 1 });
+                return Some(AgedRow { held, next: at + 1 });
             }
             if self.in_time {
                 // No later row is older.
