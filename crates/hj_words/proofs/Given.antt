@@ -27,7 +27,7 @@ use Rattle.clap.specs.declared.parser.matches.ArgMatches.{ArgMatches}
 use Rattle.clap.proofs.WalkLemmas.{first_value-rows}
 use Rattle.clap.proofs.FaultLemmas.{leaf_fault}
 use Rattle.hj_words.specs.Arguments.{Accepts, Carries, Refuses, bare_app, command_app, rule_at}
-use Rattle.hj_words.specs.declared.arguments.Place.TheVariants as place
+use Rattle.hj_words.specs.declared.arguments.ValuePlace.TheVariants as place
 use Rattle.hj_words.specs.Values.{Text, Value, given, once, text_of, values_of}
 use Rattle.hj_words.proofs.Commands.{Finds, Places, top_of}
 use Rattle.hj_words.proofs.Law.{AreTexts, Agrees, agrees, at, is_accepted}

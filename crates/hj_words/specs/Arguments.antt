@@ -7,8 +7,8 @@ use Rattle.clap.specs.Words.{App, Rule, first_value, found_of, new_rule}
 use Rattle.clap.specs.declared.builder.action.ArgAction.TheVariants.{Set}
 use Rattle.clap.specs.declared.parser.matches.ArgMatches.{ArgMatches}
 use Rattle.hj_words.specs.Values.{Text, Value, given, text_of}
-use Rattle.hj_words.specs.declared.arguments.Place.{Place}
-use Rattle.hj_words.specs.declared.arguments.Place.TheVariants as place
+use Rattle.hj_words.specs.declared.arguments.ValuePlace.{ValuePlace}
+use Rattle.hj_words.specs.declared.arguments.ValuePlace.TheVariants as place
 
 -- the matches give each name the text that the words give it
 pub record Carries (options names words : List Text) (matches : ArgMatches) : Type 0 where
@@ -17,7 +17,7 @@ pub record Carries (options names words : List Text) (matches : ArgMatches) : Ty
   pub texts : (name : Text) → first_value (found_of matches) name ≡ text_of name values
 
 -- the argument of a name: `--name VALUE` or `--name=VALUE`, or a word by its place
-abbrev pub rule_at : Place → Text → Rule
+abbrev pub rule_at : ValuePlace → Text → Rule
 rule_at place.Free name = record (new_rule name) { long = Some name; action = Some Set }
 rule_at place.InTurn name = record (new_rule name) { action = Some Set }
 

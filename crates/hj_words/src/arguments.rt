@@ -14,7 +14,7 @@ use std::alloc::{AllocError, Global};
 
 /// Where a value stands among the words.
 #[derive(Clone, Copy)]
-enum Place {
+enum ValuePlace {
     /// Anywhere, behind its name: `--name VALUE` or `--name=VALUE`.
     Free,
     /// In its turn among the words without a name.
@@ -48,8 +48,8 @@ fn matches<'a>(
         → Refuses (command_app name.entry.now (map (λ o. o.now) options.now) (map (λ n. n.now) names.now))
         (map string_bytes words.entry.now)) }
 {
-    let command = with_args(alloc, bare(alloc, name), Place::Free, options)?;
-    let command = with_args(alloc, command, Place::InTurn, names)?;
+    let command = with_args(alloc, bare(alloc, name), ValuePlace::Free, options)?;
+    let command = with_args(alloc, command, ValuePlace::InTurn, names)?;
     Ok(command.try_get_matches_from(words)?)
 }
 
@@ -57,7 +57,7 @@ fn matches<'a>(
 fn with_args<'a>(
     alloc: Global,
     mut command: Command<'a>,
-    place: Place,
+    place: ValuePlace,
     names: &[&'a str],
 ) -> Result<Command<'a>, AllocError>
     ensures { IfOk result (λ new. app_of new
@@ -79,13 +79,13 @@ fn bare<'a>(alloc: Global, name: &'a str) -> Command<'a>
 }
 
 /// Makes the argument of a name.
-fn argument<'a>(alloc: Global, place: Place, name: &'a str) -> Arg<'a>
+fn argument<'a>(alloc: Global, place: ValuePlace, name: &'a str) -> Arg<'a>
     ensures rule { rule_of result ≡ rule_at place name.entry.now }
     ensures local { result.global ≡ false }
 {
     let argument = Arg::new(alloc, name).action(ArgAction::Set);
     match place {
-        Place::Free => argument.long(name),
-        Place::InTurn => argument,
+        ValuePlace::Free => argument.long(name),
+        ValuePlace::InTurn => argument,
     }
 }
