@@ -4,10 +4,10 @@ use Rattle.std.specs.List.{filter, filter_map}
 use Rattle.std.specs.Option.{option_to_list}
 use Rattle.std.proofs.lemmas.Bool.Decides.{eqb_tells, nat_tests}
 use Rattle.hj_base.specs.declared.numbers.EventNo.{EventNo}
-use Rattle.hj_driver.specs.declared.lane.Part.{Part}
-use Rattle.hj_driver.specs.declared.lane.Part.TheVariants.{Row, End}
+use Rattle.hj_driver.specs.declared.lane.Departure.{Departure}
+use Rattle.hj_driver.specs.declared.lane.Departure.TheVariants.{Row, End}
 use Rattle.hj_driver.specs.declared.lane.Arrival.{Arrival}
-use Rattle.hj_driver.specs.Lane.{after_part, is_other, is_taken, is_same, with_part, waits_for}
+use Rattle.hj_driver.specs.Lane.{after_departure, is_other, is_taken, is_same, with_departure, waits_for}
 use Rattle.hj_driver.specs.Driver.{arrival_of}
 use Rattle.hj_chain.proofs.Balance.{count-cons_option, all_stay, none_go}
 use Rattle.hj_chain.proofs.Counts.{count, count-append}
@@ -31,22 +31,22 @@ neither : (number : Bool) → one (number && false) ≡ 0
 neither true = refl
 neither false = refl
 
-still-waits : (number : ℕ) (part taken : Part) (same : Bool) (at : EventNo) (before : Option Part)
-    → count (waits_for number part) (option_to_list (cond same (with_part taken (record { no = at; taken = before }) before) (Some (record { no = at; taken = before })))) ≤ one (waits_for number part (record { no = at; taken = before }))
-still-waits number part taken false at before = omega arith
-still-waits number part taken true at None = omega (arith, narrower (number == at.0) (not (is_same taken part)))
-still-waits number part taken true at (Some before) = kept-or-not (waits_for number part) (is_same before taken) (record { no = at; taken = Some before })
+still-waits : (number : ℕ) (departure taken : Departure) (same : Bool) (at : EventNo) (before : Option Departure)
+    → count (waits_for number departure) (option_to_list (cond same (with_departure taken (record { no = at; taken = before }) before) (Some (record { no = at; taken = before })))) ≤ one (waits_for number departure (record { no = at; taken = before }))
+still-waits number departure taken false at before = omega arith
+still-waits number departure taken true at None = omega (arith, narrower (number == at.0) (not (is_same taken departure)))
+still-waits number departure taken true at (Some before) = kept-or-not (waits_for number departure) (is_same before taken) (record { no = at; taken = Some before })
 
-waits-take : (number other : ℕ) (part taken : Part) (arrivals : List Arrival) → count (waits_for number part) (filter_map (after_part other taken) arrivals) ≤ count (waits_for number part) arrivals
-waits-take number other part taken [] = omega arith
-waits-take number other part taken (a ∷ later) = omega (
+waits-take : (number other : ℕ) (departure taken : Departure) (arrivals : List Arrival) → count (waits_for number departure) (filter_map (after_departure other taken) arrivals) ≤ count (waits_for number departure) arrivals
+waits-take number other departure taken [] = omega arith
+waits-take number other departure taken (a ∷ later) = omega (
   arith,
-  still-waits number part taken (other == a.no.0) a.no a.taken,
-  waits-take number other part taken later,
-  count-cons_option (waits_for number part) (after_part other taken a) (filter_map (after_part other taken) later),
+  still-waits number departure taken (other == a.no.0) a.no a.taken,
+  waits-take number other departure taken later,
+  count-cons_option (waits_for number departure) (after_departure other taken a) (filter_map (after_departure other taken) later),
 )
 
-waits-not : (number : ℕ) (part : Part) (at : EventNo) (before : Option Part) → count (waits_for number part) (option_to_list (with_part part (record { no = at; taken = before }) before)) ≡ 0
+waits-not : (number : ℕ) (departure : Departure) (at : EventNo) (before : Option Departure) → count (waits_for number departure) (option_to_list (with_departure departure (record { no = at; taken = before }) before)) ≡ 0
 waits-not number Row at None = omega (arith, neither (number == at.0))
 waits-not number Row at (Some Row) = omega (arith, neither (number == at.0))
 waits-not number Row at (Some End) = refl
@@ -54,40 +54,40 @@ waits-not number End at None = omega (arith, neither (number == at.0))
 waits-not number End at (Some End) = omega (arith, neither (number == at.0))
 waits-not number End at (Some Row) = refl
 
-waits-gone : (number : ℕ) (part : Part) (a : Arrival) → count (waits_for number part) (option_to_list (after_part number part a)) ≡ 0
-waits-gone number part a = elim (eqb_tells number a.no.0) [
-  | inl w ↦ ap (λ b. count (waits_for number part) (option_to_list (cond b (with_part part a a.taken) (Some a)))) w.0 ∙ waits-not number part a.no a.taken
-  | inr w ↦ ap (λ b. count (waits_for number part) (option_to_list (cond b (with_part part a a.taken) (Some a)))) w.0 ∙ ap (λ b. one (b && not (is_taken part a.taken)) + 0) w.0
+waits-gone : (number : ℕ) (departure : Departure) (a : Arrival) → count (waits_for number departure) (option_to_list (after_departure number departure a)) ≡ 0
+waits-gone number departure a = elim (eqb_tells number a.no.0) [
+  | inl w ↦ ap (λ b. count (waits_for number departure) (option_to_list (cond b (with_departure departure a a.taken) (Some a)))) w.0 ∙ waits-not number departure a.no a.taken
+  | inr w ↦ ap (λ b. count (waits_for number departure) (option_to_list (cond b (with_departure departure a a.taken) (Some a)))) w.0 ∙ ap (λ b. one (b && not (is_taken departure a.taken)) + 0) w.0
 ]
 
-pub waits-taken : (number : ℕ) (part : Part) (arrivals : List Arrival) → count (waits_for number part) (filter_map (after_part number part) arrivals) ≡ 0
-waits-taken number part [] = refl
-waits-taken number part (a ∷ later) = omega (
+pub waits-taken : (number : ℕ) (departure : Departure) (arrivals : List Arrival) → count (waits_for number departure) (filter_map (after_departure number departure) arrivals) ≡ 0
+waits-taken number departure [] = refl
+waits-taken number departure (a ∷ later) = omega (
   arith,
-  waits-gone number part a,
-  waits-taken number part later,
-  count-cons_option (waits_for number part) (after_part number part a) (filter_map (after_part number part) later),
+  waits-gone number departure a,
+  waits-taken number departure later,
+  count-cons_option (waits_for number departure) (after_departure number departure a) (filter_map (after_departure number departure) later),
 )
 
-waits-same : (number : ℕ) (part : Part) (arrivals : List Arrival) → count (waits_for number part) (filter_map (λ (a : Arrival). Some a) arrivals) ≡ count (waits_for number part) arrivals
-waits-same number part arrivals = ap (count (waits_for number part)) (sym (all_stay arrivals))
+waits-same : (number : ℕ) (departure : Departure) (arrivals : List Arrival) → count (waits_for number departure) (filter_map (λ (a : Arrival). Some a) arrivals) ≡ count (waits_for number departure) arrivals
+waits-same number departure arrivals = ap (count (waits_for number departure)) (sym (all_stay arrivals))
 
 -- of arrivals of which one message is taken, by its number
-pub taken-one : (number at : ℕ) (part : Part) (arrivals : List Arrival) → Fewer (count (waits_for number part) (filter_map (after_part at part) arrivals)) (one (at == number)) (count (waits_for number part) arrivals)
-taken-one number at part arrivals = elim (eqb_tells at number) [
-  | inl w ↦ inl (ap (λ i. count (waits_for number part) (filter_map (after_part i part) arrivals)) w.1 ∙ waits-taken number part arrivals)
-  | inr w ↦ inr (omega (arith, waits-take number at part part arrivals, ap one w.0))
+pub taken-one : (number at : ℕ) (departure : Departure) (arrivals : List Arrival) → Fewer (count (waits_for number departure) (filter_map (after_departure at departure) arrivals)) (one (at == number)) (count (waits_for number departure) arrivals)
+taken-one number at departure arrivals = elim (eqb_tells at number) [
+  | inl w ↦ inl (ap (λ i. count (waits_for number departure) (filter_map (after_departure i departure) arrivals)) w.1 ∙ waits-taken number departure arrivals)
+  | inr w ↦ inr (omega (arith, waits-take number at departure departure arrivals, ap one w.0))
 ]
 
 -- one more arrival
-pub waits-put : (number : ℕ) (part : Part) (arrivals : List Arrival) (at : EventNo) → count (waits_for number part) (arrivals ++ arrival_of at ∷ []) ≡ count (waits_for number part) arrivals + one (at.0 == number)
-waits-put number part arrivals at = grind (arith, nat_tests, count-append (waits_for number part) arrivals (arrival_of at ∷ []))
+pub waits-put : (number : ℕ) (departure : Departure) (arrivals : List Arrival) (at : EventNo) → count (waits_for number departure) (arrivals ++ arrival_of at ∷ []) ≡ count (waits_for number departure) arrivals + one (at.0 == number)
+waits-put number departure arrivals at = grind (arith, nat_tests, count-append (waits_for number departure) arrivals (arrival_of at ∷ []))
 
-pub waits-others : (number at : ℕ) (part taken : Part) (arrivals : List Arrival) (gone : ℕ) → gone ≡ 0 → Fewer (count (waits_for number part) (filter_map (after_part at taken) arrivals)) gone (count (waits_for number part) arrivals)
-waits-others number at part taken arrivals gone none = inr (omega (arith, waits-take number at part taken arrivals, none))
+pub waits-others : (number at : ℕ) (departure taken : Departure) (arrivals : List Arrival) (gone : ℕ) → gone ≡ 0 → Fewer (count (waits_for number departure) (filter_map (after_departure at taken) arrivals)) gone (count (waits_for number departure) arrivals)
+waits-others number at departure taken arrivals gone none = inr (omega (arith, waits-take number at departure taken arrivals, none))
 
-pub waits-still : (number : ℕ) (part : Part) (arrivals : List Arrival) (gone : ℕ) → gone ≡ 0 → Fewer (count (waits_for number part) (filter_map (λ (a : Arrival). Some a) arrivals)) gone (count (waits_for number part) arrivals)
-waits-still number part arrivals gone none = inr (omega (arith, waits-same number part arrivals, none))
+pub waits-still : (number : ℕ) (departure : Departure) (arrivals : List Arrival) (gone : ℕ) → gone ≡ 0 → Fewer (count (waits_for number departure) (filter_map (λ (a : Arrival). Some a) arrivals)) gone (count (waits_for number departure) arrivals)
+waits-still number departure arrivals gone none = inr (omega (arith, waits-same number departure arrivals, none))
 
 -- how many events that leave by one message are outstanding under a number: expiries, by that of their row, or quiet events
 abbrev pub outstanding_of : ℕ → List EventNo → ℕ

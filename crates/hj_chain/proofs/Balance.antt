@@ -16,10 +16,10 @@ use Rattle.hj_msg.specs.Turns.{only_at}
 use Rattle.hj_msg.specs.Driver.{DriverTurn, admission, receipt, closing}
 use Rattle.hj_msg.specs.Run.{LogEntry, port_journal}
 use Rattle.hj_msg.proofs.Members.{Contains-head, Contains-cons}
-use Rattle.hj_driver.specs.declared.lane.Part.{Part}
-use Rattle.hj_driver.specs.declared.lane.Part.TheVariants.{Row, End}
+use Rattle.hj_driver.specs.declared.lane.Departure.{Departure}
+use Rattle.hj_driver.specs.declared.lane.Departure.TheVariants.{Row, End}
 use Rattle.hj_driver.specs.declared.lane.Arrival.{Arrival}
-use Rattle.hj_driver.specs.Lane.{after_part, is_other, is_taken, with_part, IsRising, AreDistinct}
+use Rattle.hj_driver.specs.Lane.{after_departure, is_other, is_taken, with_departure, IsRising, AreDistinct}
 use Rattle.hj_driver.specs.Driver.{DriverState, after_put, after_take, after_message, arrival_of, stays, quiet_stays, closed, is_sent, IsNew, new_driver}
 use Rattle.hj_driver.proofs.Arrivals.{filter_map-same, none_changes, rising_after, rising_push, distinct_after, distinct_push}
 use Rattle.hj_chain.proofs.Journals.{puts-append, takes-append, entries, puts-entries, takes-entries, took_at, sent_at, port_journal-push}
@@ -28,11 +28,11 @@ use Rattle.hj_chain.proofs.MessageKinds.{a_R, an_S, an_EndR, an_EndS, an_ExpR, a
 use Rattle.hj_chain.proofs.Driving.{sent-take}
 
 -- one of the two messages of an arrival is still to be taken
-abbrev pub is_waiting : Part → Arrival → Bool
-is_waiting part arrival = not (is_taken part arrival.taken)
+abbrev pub is_waiting : Departure → Arrival → Bool
+is_waiting departure arrival = not (is_taken departure arrival.taken)
 
-abbrev pub waiting : Part → List Arrival → ℕ
-waiting part arrivals = count (is_waiting part) arrivals
+abbrev pub waiting : Departure → List Arrival → ℕ
+waiting departure arrivals = count (is_waiting departure) arrivals
 
 pub count-cons_option : {X : Type 0} (p : X → Bool) (o : Option X) (xs : List X) → count p (cons_option o xs) ≡ count p (option_to_list o) + count p xs
 count-cons_option p None xs = omega arith
@@ -42,23 +42,23 @@ absent : (number : ℕ) (a : Arrival) (later : List Arrival) → number ≡ a.no
 absent number a later is above = All-weaker (λ (other : Arrival). a.no.0 < other.no.0) (λ (other : Arrival). other.no.0 ≡ number → ⊥) (λ other less same. omega (arith, less, same, is)) later above
 
 -- the take of a message leaves at most one arrival the less that waits for such a one
-waiting-take : (number : ℕ) (part : Part) (arrivals : List Arrival) → IsRising arrivals → waiting part arrivals ≤ waiting part (filter_map (after_part number part) arrivals) + 1
-waiting-take number part [] rising = omega arith
-waiting-take number part (a ∷ later) rising = elim (eqb_tells number a.no.0) [
+waiting-take : (number : ℕ) (departure : Departure) (arrivals : List Arrival) → IsRising arrivals → waiting departure arrivals ≤ waiting departure (filter_map (after_departure number departure) arrivals) + 1
+waiting-take number departure [] rising = omega arith
+waiting-take number departure (a ∷ later) rising = elim (eqb_tells number a.no.0) [
   | inl w ↦
-      let rest : later ≡ filter_map (after_part number part) later = none_changes later number part (absent number a later w.1 rising.0) in
+      let rest : later ≡ filter_map (after_departure number departure) later = none_changes later number departure (absent number a later w.1 rising.0) in
       omega (
         arith,
-        one (is_waiting part a),
-        ap (waiting part) rest,
-        count-cons_option (is_waiting part) (after_part number part a) (filter_map (after_part number part) later),
+        one (is_waiting departure a),
+        ap (waiting departure) rest,
+        count-cons_option (is_waiting departure) (after_departure number departure a) (filter_map (after_departure number departure) later),
       )
   | inr w ↦
       omega (
         arith,
-        waiting-take number part later rising.1,
-        count-cons_option (is_waiting part) (after_part number part a) (filter_map (after_part number part) later),
-        ap (λ b. count (is_waiting part) (option_to_list (cond b (with_part part a a.taken) (Some a)))) w.0,
+        waiting-take number departure later rising.1,
+        count-cons_option (is_waiting departure) (after_departure number departure a) (filter_map (after_departure number departure) later),
+        ap (λ b. count (is_waiting departure) (option_to_list (cond b (with_departure departure a a.taken) (Some a)))) w.0,
       )
 ]
   where
@@ -67,7 +67,7 @@ waiting-take number part (a ∷ later) rising = elim (eqb_tells number a.no.0) [
     one false = omega arith
 
 -- and none that waits for the other one
-still_waits-End : (b : Bool) (at : EventNo) (t : Option Part) → cond {A = ℕ} (not (is_taken End t)) 1 0 ≤ count (is_waiting End) (option_to_list (cond b (with_part Row (record { no = at; taken = t }) t) (Some (record { no = at; taken = t }))))
+still_waits-End : (b : Bool) (at : EventNo) (t : Option Departure) → cond {A = ℕ} (not (is_taken End t)) 1 0 ≤ count (is_waiting End) (option_to_list (cond b (with_departure Row (record { no = at; taken = t }) t) (Some (record { no = at; taken = t }))))
 still_waits-End true at None = omega arith
 still_waits-End true at (Some Row) = omega arith
 still_waits-End true at (Some End) = omega arith
@@ -75,7 +75,7 @@ still_waits-End false at None = omega arith
 still_waits-End false at (Some Row) = omega arith
 still_waits-End false at (Some End) = omega arith
 
-still_waits-Row : (b : Bool) (at : EventNo) (t : Option Part) → cond {A = ℕ} (not (is_taken Row t)) 1 0 ≤ count (is_waiting Row) (option_to_list (cond b (with_part End (record { no = at; taken = t }) t) (Some (record { no = at; taken = t }))))
+still_waits-Row : (b : Bool) (at : EventNo) (t : Option Departure) → cond {A = ℕ} (not (is_taken Row t)) 1 0 ≤ count (is_waiting Row) (option_to_list (cond b (with_departure End (record { no = at; taken = t }) t) (Some (record { no = at; taken = t }))))
 still_waits-Row true at None = omega arith
 still_waits-Row true at (Some Row) = omega arith
 still_waits-Row true at (Some End) = omega arith
@@ -83,21 +83,21 @@ still_waits-Row false at None = omega arith
 still_waits-Row false at (Some Row) = omega arith
 still_waits-Row false at (Some End) = omega arith
 
-waiting-End : (number : ℕ) (arrivals : List Arrival) → waiting End arrivals ≤ waiting End (filter_map (after_part number Row) arrivals)
+waiting-End : (number : ℕ) (arrivals : List Arrival) → waiting End arrivals ≤ waiting End (filter_map (after_departure number Row) arrivals)
 waiting-End number [] = omega arith
 waiting-End number (a ∷ later) =
-    omega (arith, still_waits-End (number == a.no.0) a.no a.taken, waiting-End number later, count-cons_option (is_waiting End) (after_part number Row a) (filter_map (after_part number Row) later))
+    omega (arith, still_waits-End (number == a.no.0) a.no a.taken, waiting-End number later, count-cons_option (is_waiting End) (after_departure number Row a) (filter_map (after_departure number Row) later))
 
-waiting-Row : (number : ℕ) (arrivals : List Arrival) → waiting Row arrivals ≤ waiting Row (filter_map (after_part number End) arrivals)
+waiting-Row : (number : ℕ) (arrivals : List Arrival) → waiting Row arrivals ≤ waiting Row (filter_map (after_departure number End) arrivals)
 waiting-Row number [] = omega arith
 waiting-Row number (a ∷ later) =
-    omega (arith, still_waits-Row (number == a.no.0) a.no a.taken, waiting-Row number later, count-cons_option (is_waiting Row) (after_part number End a) (filter_map (after_part number End) later))
+    omega (arith, still_waits-Row (number == a.no.0) a.no a.taken, waiting-Row number later, count-cons_option (is_waiting Row) (after_departure number End a) (filter_map (after_departure number End) later))
 
 pub all_stay : (arrivals : List Arrival) → arrivals ≡ filter_map (λ (a : Arrival). Some a) arrivals
 all_stay arrivals = sym (filter_map-same (λ (a : Arrival). Some a) arrivals (λ k d low. refl))
 
-same_waiting : (part : Part) (arrivals : List Arrival) (more : ℕ) → waiting part arrivals ≤ waiting part (filter_map (λ (a : Arrival). Some a) arrivals) + more
-same_waiting part arrivals more = omega (arith, ap (waiting part) (all_stay arrivals))
+same_waiting : (departure : Departure) (arrivals : List Arrival) (more : ℕ) → waiting departure arrivals ≤ waiting departure (filter_map (λ (a : Arrival). Some a) arrivals) + more
+same_waiting departure arrivals more = omega (arith, ap (waiting departure) (all_stay arrivals))
 
 -- Of the arrivals of a side, by the message that is taken at a port.
 module _ {P : Type 0} (arrivals : List Arrival) (rising : IsRising arrivals) where
@@ -229,8 +229,8 @@ module _ {P : Type 0} (log : List (LogEntry P)) (number : ℕ) (turn : DriverTur
       ∙ ap (count p) (takes-append (port_journal port log) (entries number (took_at port turn) (sent_at port turn)) ∙ ap (λ ms. takes (port_journal port log) ++ ms) (takes-entries number (took_at port turn) (sent_at port turn)))
       ∙ count-append p (takes (port_journal port log)) (took_at port turn)
 
-waiting-put : (part : Part) (arrivals : List Arrival) (at : EventNo) → waiting part (arrivals ++ arrival_of at ∷ []) ≡ waiting part arrivals + 1
-waiting-put part arrivals at = count-append (is_waiting part) arrivals (arrival_of at ∷ [])
+waiting-put : (departure : Departure) (arrivals : List Arrival) (at : EventNo) → waiting departure (arrivals ++ arrival_of at ∷ []) ≡ waiting departure arrivals + 1
+waiting-put departure arrivals at = count-append (is_waiting departure) arrivals (arrival_of at ∷ [])
 
 module _ {P : Type 0} (driver : DriverState) (log : List (LogEntry P)) (number : ℕ) (old : Balanced driver log) where
   pub balanced-receipt : (port : Side) (m : Msg P) → Balanced (after_take port m driver) (log ++ record { number = number; turn = receipt port m } ∷ [])

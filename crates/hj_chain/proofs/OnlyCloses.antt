@@ -9,7 +9,7 @@ use Rattle.hj_msg.specs.declared.message.Msg.TheVariants.{CloseL}
 use Rattle.hj_msg.specs.Core as core
 use Rattle.hj_msg.specs.Core.{State, empty_state}
 use Rattle.hj_msg.specs.Event.{IsWellFormed}
-use Rattle.hj_driver.specs.declared.lane.Part.TheVariants.{Row, End}
+use Rattle.hj_driver.specs.declared.lane.Departure.TheVariants.{Row, End}
 use Rattle.hj_driver.specs.Driver.{DriverState, count_of, is_sent}
 use Rattle.hj_driver.proofs.ComingOut.{no_cause}
 use Rattle.hj_driver.proofs.MayClose.{may_close}

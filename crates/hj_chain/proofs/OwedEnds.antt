@@ -12,7 +12,7 @@ use Rattle.hj_msg.specs.declared.message.Msg.TheVariants.{R, AckS, EndS, S, EndR
 use Rattle.hj_msg.specs.Core.{sends, only_if, is_last}
 use Rattle.hj_msg.specs.Driver.{message_of, port_of}
 use Rattle.hj_msg.specs.Messages.{is_R, is_S, is_EndR, is_EndS}
-use Rattle.hj_driver.specs.declared.lane.Part.TheVariants.{Row, End}
+use Rattle.hj_driver.specs.declared.lane.Departure.TheVariants.{Row, End}
 use Rattle.hj_driver.specs.declared.lane.Arrival.{Arrival}
 use Rattle.hj_driver.specs.Lane.{waits_for}
 use Rattle.hj_driver.specs.Driver.{DriverState, after_put, after_message}

@@ -11,7 +11,7 @@ use Rattle.hj_msg.specs.declared.message.Msg.TheVariants.{R, EndS, ExpS, QuietL,
 use Rattle.hj_msg.specs.Core.{sends}
 use Rattle.hj_msg.specs.Driver.{message_of, port_of}
 use Rattle.hj_msg.specs.Messages.{is_R, is_S, is_ExpR, is_ExpS, is_QuietL, is_QuietR}
-use Rattle.hj_driver.specs.declared.lane.Part.TheVariants.{Row, End}
+use Rattle.hj_driver.specs.declared.lane.Departure.TheVariants.{Row, End}
 use Rattle.hj_driver.specs.declared.lane.Arrival.{Arrival}
 use Rattle.hj_driver.specs.Lane.{waits_for}
 use Rattle.hj_driver.specs.Driver.{DriverState, after_put, after_message, stays, quiet_stays}

@@ -2,7 +2,7 @@
 use Rattle.std.proofs.Common.{ℕ, zero, suc, ◌+◌, ◌*◌, ◌≤◌, inl, inr, Bool, true, false, cond, List, [], ◌∷◌, length, arith}
 use Rattle.hj_msg.specs.declared.event.Event.{Event}
 use Rattle.hj_msg.specs.Event.{IsWellFormed}
-use Rattle.hj_driver.specs.declared.lane.Part.TheVariants.{Row, End}
+use Rattle.hj_driver.specs.declared.lane.Departure.TheVariants.{Row, End}
 use Rattle.hj_driver.specs.Driver.{is_sent}
 use Rattle.hj_chain.specs.declared.actor.Actor.{Actor}
 use Rattle.hj_chain.specs.Chain.{ChainState}

@@ -20,8 +20,8 @@ use Rattle.hj_driver.specs.declared.answers.Why.TheVariants.{Flight, NotMarked, 
 use Rattle.hj_driver.specs.declared.answers.Closing.TheVariants as answer
 use Rattle.hj_driver.specs.declared.closes.Closes.{Closes}
 use Rattle.hj_driver.specs.declared.closes.Closes.TheVariants.{Unsent, Sent}
-use Rattle.hj_driver.specs.declared.lane.Part.{Part}
-use Rattle.hj_driver.specs.declared.lane.Part.TheVariants.{Row, End}
+use Rattle.hj_driver.specs.declared.lane.Departure.{Departure}
+use Rattle.hj_driver.specs.declared.lane.Departure.TheVariants.{Row, End}
 use Rattle.hj_driver.specs.declared.lane.Arrival.{Arrival}
 use Rattle.hj_driver.specs.Lane.{is_taken, waits_for}
 use Rattle.hj_driver.specs.Driver.{DriverState, awaits_close, count_of, is_finished, is_sent, row_cause}
@@ -84,7 +84,7 @@ pub record Idle {P : Type 0} (n : ℕ) (chain : ChainState P) : Type 0 where
   pub reports : (k : ℕ) → k < n → queue_at chain.reports k ≡ []
 
 -- an arrival waits for its row or its end mark
-waits-some : (taken : Option Part) → 1 ≤ one (not (is_taken Row taken)) + one (not (is_taken End taken))
+waits-some : (taken : Option Departure) → 1 ≤ one (not (is_taken Row taken)) + one (not (is_taken End taken))
 waits-some None = omega arith
 waits-some (Some Row) = omega arith
 waits-some (Some End) = omega arith

@@ -12,13 +12,13 @@ use Rattle.std.proofs.lemmas.List.{set_split, get_or_default}
 use Rattle.std.proofs.lemmas.Bool.Decides.{nat_tests}
 use Rattle.hj_base.specs.declared.numbers.EventNo.{EventNo}
 use Rattle.hj_driver.specs.declared.lane.Arrival.{Arrival}
-use Rattle.hj_driver.specs.declared.lane.Part.{Part}
-use Rattle.hj_driver.specs.declared.lane.Part.TheVariants.{Row, End}
+use Rattle.hj_driver.specs.declared.lane.Departure.{Departure}
+use Rattle.hj_driver.specs.declared.lane.Departure.TheVariants.{Row, End}
 use Rattle.std.proofs.lemmas.List.Folds.{list_any_none}
 use Rattle.std.proofs.lemmas.List.Quantifiers.{position-Some}
 use Rattle.hj_msg.proofs.Members.{Contains-from_filter}
 use Rattle.hj_driver.specs.Leaving.{LeavingState}
-use Rattle.hj_driver.specs.Lane.{LaneState, IsRising, AreDistinct, IsAt, IsAbsent, after_part, is_other, with_part, is_taken, waits_for}
+use Rattle.hj_driver.specs.Lane.{LaneState, IsRising, AreDistinct, IsAt, IsAbsent, after_departure, is_other, with_departure, is_taken, waits_for}
 
 abbrev any_arrival : Arrival
 any_arrival = record { no = record { 0 = 0 }; taken = None }
@@ -71,8 +71,8 @@ filter_map-at {X} f (x ∷ xs) (suc at) d within others =
     ∙ ap (λ ys. x ∷ ys) (filter_map-at f xs at d (omega arith) (λ k lt differs. others (suc k) (omega arith) (λ same. differs (omega arith))))
 
 -- what a search found leaves, or changes
-module _ (l : List Arrival) (rising : IsRising l) (number at : ℕ) (is : IsAt l number at) (part : Part) where
-  others_stay : (d : Arrival) (k : ℕ) → k < length l → (k ≡ at → ⊥) → after_part number part (get_or l k d) ≡ Some (get_or l k d)
+module _ (l : List Arrival) (rising : IsRising l) (number at : ℕ) (is : IsAt l number at) (departure : Departure) where
+  others_stay : (d : Arrival) (k : ℕ) → k < length l → (k ≡ at → ⊥) → after_departure number departure (get_or l k d) ≡ Some (get_or l k d)
   others_stay d k lt differs =
       let here : (get_or l at d).no.0 ≡ number = is.has_number d in
       let other : (number ≡ (get_or l k d).no.0) → ⊥ = λ same. elim (cases_lt k at) [
@@ -81,56 +81,56 @@ module _ (l : List Arrival) (rising : IsRising l) (number at : ℕ) (is : IsAt l
       ] in
       rw (ne_eqb number (get_or l k d).no.0 other) refl
 
-  this_one : (d : Arrival) → after_part number part (get_or l at d) ≡ with_part part (get_or l at d) (get_or l at d).taken
+  this_one : (d : Arrival) → after_departure number departure (get_or l at d) ≡ with_departure departure (get_or l at d) (get_or l at d).taken
   this_one d = rw (eq-eqb number (get_or l at d).no.0 (sym (is.has_number d))) refl
 
-  whole : (d : Arrival) → filter_map (after_part number part) l ≡ take at l ++ cons_option (with_part part (get_or l at d) (get_or l at d).taken) (drop (suc at) l)
-  whole d = filter_map-at (after_part number part) l at d is.in_range (others_stay d) ∙ ap (λ o. take at l ++ cons_option o (drop (suc at) l)) (this_one d)
+  whole : (d : Arrival) → filter_map (after_departure number departure) l ≡ take at l ++ cons_option (with_departure departure (get_or l at d) (get_or l at d).taken) (drop (suc at) l)
+  whole d = filter_map-at (after_departure number departure) l at d is.in_range (others_stay d) ∙ ap (λ o. take at l ++ cons_option o (drop (suc at) l)) (this_one d)
 
   -- the arrival stays, with what was taken; x is a read of it
-  pub marked : (x y : Arrival) → x ≡ get_or l at x → with_part part x x.taken ≡ Some y → set l at y ≡ filter_map (after_part number part) l
+  pub marked : (x y : Arrival) → x ≡ get_or l at x → with_departure departure x x.taken ≡ Some y → set l at y ≡ filter_map (after_departure number departure) l
   marked x y read stays =
-      set_split l at y is.in_range ∙ sym (whole x ∙ ap (λ (a : Arrival). take at l ++ cons_option (with_part part a a.taken) (drop (suc at) l)) (sym read) ∙ ap (λ o. take at l ++ cons_option o (drop (suc at) l)) stays)
+      set_split l at y is.in_range ∙ sym (whole x ∙ ap (λ (a : Arrival). take at l ++ cons_option (with_departure departure a a.taken) (drop (suc at) l)) (sym read) ∙ ap (λ o. take at l ++ cons_option o (drop (suc at) l)) stays)
 
   -- the arrival leaves
-  pub removed : (x : Arrival) → x ≡ get_or l at x → with_part part x x.taken ≡ None → remove l at ≡ filter_map (after_part number part) l
+  pub removed : (x : Arrival) → x ≡ get_or l at x → with_departure departure x x.taken ≡ None → remove l at ≡ filter_map (after_departure number departure) l
   removed x read leaves =
-      sym (whole x ∙ ap (λ (a : Arrival). take at l ++ cons_option (with_part part a a.taken) (drop (suc at) l)) (sym read) ∙ ap (λ o. take at l ++ cons_option o (drop (suc at) l)) leaves)
+      sym (whole x ∙ ap (λ (a : Arrival). take at l ++ cons_option (with_departure departure a a.taken) (drop (suc at) l)) (sym read) ∙ ap (λ o. take at l ++ cons_option o (drop (suc at) l)) leaves)
 
 -- where none has the number, all stay
-pub none_changes : (l : List Arrival) (number : ℕ) (part : Part) → IsAbsent l number → l ≡ filter_map (after_part number part) l
-none_changes l number part absent = sym (filter_map-same (after_part number part) l (λ k d lt. rw (ne_eqb number (get_or l k d).no.0 (λ same. absent k d lt (sym same))) refl))
+pub none_changes : (l : List Arrival) (number : ℕ) (departure : Departure) → IsAbsent l number → l ≡ filter_map (after_departure number departure) l
+none_changes l number departure absent = sym (filter_map-same (after_departure number departure) l (λ k d lt. rw (ne_eqb number (get_or l k d).no.0 (λ same. absent k d lt (sym same))) refl))
 
 -- the numbers rise where one changes or leaves
-abbrev changed : Bool → Part → Arrival → Option Part → Option Arrival
-changed same part x taken = cond same (with_part part x taken) (Some x)
+abbrev changed : Bool → Departure → Arrival → Option Departure → Option Arrival
+changed same departure x taken = cond same (with_departure departure x taken) (Some x)
 
-keeps_number : (P : ℕ → Type 0) (same : Bool) (part : Part) (x : Arrival) (taken : Option Part) (rest : List Arrival) → P x.no.0 → All (λ (a : Arrival). P a.no.0) rest
-    → All (λ (a : Arrival). P a.no.0) (cons_option (changed same part x taken) rest)
-keeps_number P false part x taken rest here all = All-cons (λ (a : Arrival). P a.no.0) x rest here all
-keeps_number P true part x None rest here all = All-cons (λ (a : Arrival). P a.no.0) (record { no = x.no; taken = Some part }) rest here all
+keeps_number : (P : ℕ → Type 0) (same : Bool) (departure : Departure) (x : Arrival) (taken : Option Departure) (rest : List Arrival) → P x.no.0 → All (λ (a : Arrival). P a.no.0) rest
+    → All (λ (a : Arrival). P a.no.0) (cons_option (changed same departure x taken) rest)
+keeps_number P false departure x taken rest here all = All-cons (λ (a : Arrival). P a.no.0) x rest here all
+keeps_number P true departure x None rest here all = All-cons (λ (a : Arrival). P a.no.0) (record { no = x.no; taken = Some departure }) rest here all
 keeps_number P true Row x (Some Row) rest here all = All-cons (λ (a : Arrival). P a.no.0) x rest here all
 keeps_number P true Row x (Some End) rest here all = all
 keeps_number P true End x (Some Row) rest here all = all
 keeps_number P true End x (Some End) rest here all = All-cons (λ (a : Arrival). P a.no.0) x rest here all
 
-above_after : (number : ℕ) (part : Part) (low : ℕ) (l : List Arrival) → All (λ (a : Arrival). low < a.no.0) l → All (λ (a : Arrival). low < a.no.0) (filter_map (after_part number part) l)
-above_after number part low [] all = All-nil (λ (a : Arrival). low < a.no.0)
-above_after number part low (x ∷ xs) all =
-    keeps_number (λ n. low < n) (number == x.no.0) part x x.taken _ (All-head (λ (a : Arrival). low < a.no.0) x xs all) (above_after number part low xs (All-tail (λ (a : Arrival). low < a.no.0) x xs all))
+above_after : (number : ℕ) (departure : Departure) (low : ℕ) (l : List Arrival) → All (λ (a : Arrival). low < a.no.0) l → All (λ (a : Arrival). low < a.no.0) (filter_map (after_departure number departure) l)
+above_after number departure low [] all = All-nil (λ (a : Arrival). low < a.no.0)
+above_after number departure low (x ∷ xs) all =
+    keeps_number (λ n. low < n) (number == x.no.0) departure x x.taken _ (All-head (λ (a : Arrival). low < a.no.0) x xs all) (above_after number departure low xs (All-tail (λ (a : Arrival). low < a.no.0) x xs all))
 
-rising_first : (same : Bool) (part : Part) (x : Arrival) (taken : Option Part) (rest : List Arrival) → All (λ (a : Arrival). x.no.0 < a.no.0) rest → IsRising rest → IsRising (cons_option (changed same part x taken) rest)
-rising_first false part x taken rest above rising = (above, rising)
-rising_first true part x None rest above rising = (above, rising)
+rising_first : (same : Bool) (departure : Departure) (x : Arrival) (taken : Option Departure) (rest : List Arrival) → All (λ (a : Arrival). x.no.0 < a.no.0) rest → IsRising rest → IsRising (cons_option (changed same departure x taken) rest)
+rising_first false departure x taken rest above rising = (above, rising)
+rising_first true departure x None rest above rising = (above, rising)
 rising_first true Row x (Some Row) rest above rising = (above, rising)
 rising_first true Row x (Some End) rest above rising = rising
 rising_first true End x (Some Row) rest above rising = rising
 rising_first true End x (Some End) rest above rising = (above, rising)
 
-pub rising_after : (number : ℕ) (part : Part) (l : List Arrival) → IsRising l → IsRising (filter_map (after_part number part) l)
-rising_after number part [] rising = tt
-rising_after number part (x ∷ xs) rising =
-    rising_first (number == x.no.0) part x x.taken _ (above_after number part x.no.0 xs rising.0) (rising_after number part xs rising.1)
+pub rising_after : (number : ℕ) (departure : Departure) (l : List Arrival) → IsRising l → IsRising (filter_map (after_departure number departure) l)
+rising_after number departure [] rising = tt
+rising_after number departure (x ∷ xs) rising =
+    rising_first (number == x.no.0) departure x x.taken _ (above_after number departure x.no.0 xs rising.0) (rising_after number departure xs rising.1)
 
 -- the numbers rise with a greater one behind
 pub rising_push : (l : List Arrival) (a : Arrival) → IsRising l → All (λ (other : Arrival). other.no.0 < a.no.0) l → IsRising (l ++ a ∷ [])
@@ -139,22 +139,22 @@ rising_push (x ∷ xs) a rising below =
     (All-push (λ (other : Arrival). x.no.0 < other.no.0) xs a rising.0 (All-head (λ (other : Arrival). other.no.0 < a.no.0) x xs below), rising_push xs a rising.1 (All-tail (λ (other : Arrival). other.no.0 < a.no.0) x xs below))
 
 -- what is found of an arrival whose message is awaited
-pub waits-at : (l : List Arrival) → IsRising l → (number at : ℕ) → IsAt l number at → (part : Part) (d : Arrival) → list_any (waits_for number part) l ≡ not (is_taken part (get_or l at d).taken)
-waits-at [] rising number at is part d = absurd (omega (arith, is.in_range))
-waits-at (x ∷ xs) rising number zero is part d =
+pub waits-at : (l : List Arrival) → IsRising l → (number at : ℕ) → IsAt l number at → (departure : Departure) (d : Arrival) → list_any (waits_for number departure) l ≡ not (is_taken departure (get_or l at d).taken)
+waits-at [] rising number at is departure d = absurd (omega (arith, is.in_range))
+waits-at (x ∷ xs) rising number zero is departure d =
     let here : x.no.0 ≡ number = is.has_number d in
-    ap (λ b. (b && not (is_taken part x.taken)) || list_any (waits_for number part) xs) (eq-eqb number x.no.0 (sym here))
-    ∙ ap (λ b. not (is_taken part x.taken) || b) (list_any_none (waits_for number part) xs (λ k e lt. let above = rising.0 k e lt in rw (ne_eqb number (get_or xs k e).no.0 (λ same. omega arith)) refl))
-    ∙ or-false (not (is_taken part x.taken))
-waits-at (x ∷ xs) rising number (suc at) is part d =
+    ap (λ b. (b && not (is_taken departure x.taken)) || list_any (waits_for number departure) xs) (eq-eqb number x.no.0 (sym here))
+    ∙ ap (λ b. not (is_taken departure x.taken) || b) (list_any_none (waits_for number departure) xs (λ k e lt. let above = rising.0 k e lt in rw (ne_eqb number (get_or xs k e).no.0 (λ same. omega arith)) refl))
+    ∙ or-false (not (is_taken departure x.taken))
+waits-at (x ∷ xs) rising number (suc at) is departure d =
     let here : (get_or xs at d).no.0 ≡ number = is.has_number d in
     let within : at < length xs = omega (arith, is.in_range) in
     let below = rising.0 at d within in
-    ap (λ b. (b && not (is_taken part x.taken)) || list_any (waits_for number part) xs) (ne_eqb number x.no.0 (λ same. omega arith))
-    ∙ waits-at xs rising.1 number at (record { in_range = within; has_number = is.has_number }) part d
+    ap (λ b. (b && not (is_taken departure x.taken)) || list_any (waits_for number departure) xs) (ne_eqb number x.no.0 (λ same. omega arith))
+    ∙ waits-at xs rising.1 number at (record { in_range = within; has_number = is.has_number }) departure d
 
-pub waits-absent : (l : List Arrival) (number : ℕ) (part : Part) → IsAbsent l number → list_any (waits_for number part) l ≡ false
-waits-absent l number part absent = list_any_none (waits_for number part) l (λ k d lt. rw (ne_eqb number (get_or l k d).no.0 (λ same. absent k d lt (sym same))) refl)
+pub waits-absent : (l : List Arrival) (number : ℕ) (departure : Departure) → IsAbsent l number → list_any (waits_for number departure) l ≡ false
+waits-absent l number departure absent = list_any_none (waits_for number departure) l (λ k d lt. rw (ne_eqb number (get_or l k d).no.0 (λ same. absent k d lt (sym same))) refl)
 
 abbrev lane : List Arrival → List EventNo → ℕ → LaneState
 lane arrivals expiries room = record { arrivals = arrivals; expiries = expiries; room = room }

@@ -19,7 +19,7 @@ use Rattle.hj_msg.specs.declared.message.Msg.{Msg}
 use Rattle.hj_driver.specs.declared.answers.Why.{Why}
 use Rattle.hj_driver.specs.declared.answers.Why.TheVariants.{Flight, NotMarked, Closed}
 use Rattle.hj_driver.specs.declared.answers.Admitted.TheVariants.{Send}
-use Rattle.hj_driver.specs.declared.lane.Part.TheVariants.{Row, End}
+use Rattle.hj_driver.specs.declared.lane.Departure.TheVariants.{Row, End}
 use Rattle.hj_driver.specs.declared.lane.Arrival.{Arrival}
 use Rattle.hj_driver.specs.Lane.{waits_for}
 use Rattle.hj_driver.specs.Driver.{DriverState, answer_to, cause_of, row_cause, IsNew, is_sent, count_of}

@@ -15,9 +15,9 @@ use Rattle.hj_msg.specs.declared.message.Msg.TheVariants.{R, AckS, EndS, ExpS, Q
 use Rattle.hj_msg.specs.Messages.{is_R, is_S, is_EndR, is_EndS, is_ExpR, is_ExpS, is_QuietL, is_QuietR}
 use Rattle.hj_msg.specs.Driver.{DriverTurn, admission, receipt, closing, admitted, is_take, took, outstanding}
 use Rattle.hj_driver.specs.declared.closes.Closes.TheVariants.{Unsent, Sent}
-use Rattle.hj_driver.specs.declared.lane.Part.TheVariants.{Row, End}
+use Rattle.hj_driver.specs.declared.lane.Departure.TheVariants.{Row, End}
 use Rattle.hj_driver.specs.declared.lane.Arrival.{Arrival}
-use Rattle.hj_driver.specs.Lane.{after_part, is_other, with_part}
+use Rattle.hj_driver.specs.Lane.{after_departure, is_other, with_departure}
 use Rattle.hj_driver.specs.Driver.{after_message, stays, quiet_stays, after_close, is_sent}
 use Rattle.hj_driver.specs.StandsFor.{arrival_with, arrival_after, expiry_after, quiet_after, arrivals_of, expiries_of, quiets_of, closes_of, is_CloseL, is_CloseR, is_closing}
 
@@ -46,7 +46,7 @@ admitted-push (receipt port message ∷ later) turn = admitted-push later turn
 admitted-push (closing ∷ later) turn = admitted-push later turn
 
 -- an arrival of which one more message was taken, or none
-row_more-if : (at : EventNo) (r e b : Bool) → arrival_with at (r || b) (e || false) ≡ option_and_then (λ (a : Arrival). cond b (with_part Row a a.taken) (Some a)) (arrival_with at r e)
+row_more-if : (at : EventNo) (r e b : Bool) → arrival_with at (r || b) (e || false) ≡ option_and_then (λ (a : Arrival). cond b (with_departure Row a a.taken) (Some a)) (arrival_with at r e)
 row_more-if at true true true = refl
 row_more-if at true true false = refl
 row_more-if at true false true = refl
@@ -56,13 +56,13 @@ row_more-if at false true false = refl
 row_more-if at false false true = refl
 row_more-if at false false false = refl
 
-row_more : (at its : EventNo) (r e : Bool) → arrival_with at (r || (its.0 == at.0)) (e || false) ≡ option_and_then (after_part its.0 Row) (arrival_with at r e)
+row_more : (at its : EventNo) (r e : Bool) → arrival_with at (r || (its.0 == at.0)) (e || false) ≡ option_and_then (after_departure its.0 Row) (arrival_with at r e)
 row_more at its true true = row_more-if at true true (its.0 == at.0)
 row_more at its true false = row_more-if at true false (its.0 == at.0)
 row_more at its false true = row_more-if at false true (its.0 == at.0)
 row_more at its false false = row_more-if at false false (its.0 == at.0)
 
-end_more-if : (at : EventNo) (r e b : Bool) → arrival_with at (r || false) (e || b) ≡ option_and_then (λ (a : Arrival). cond b (with_part End a a.taken) (Some a)) (arrival_with at r e)
+end_more-if : (at : EventNo) (r e b : Bool) → arrival_with at (r || false) (e || b) ≡ option_and_then (λ (a : Arrival). cond b (with_departure End a a.taken) (Some a)) (arrival_with at r e)
 end_more-if at true true true = refl
 end_more-if at true true false = refl
 end_more-if at true false true = refl
@@ -72,7 +72,7 @@ end_more-if at false true false = refl
 end_more-if at false false true = refl
 end_more-if at false false false = refl
 
-end_more : (at its : EventNo) (r e : Bool) → arrival_with at (r || false) (e || (its.0 == at.0)) ≡ option_and_then (after_part its.0 End) (arrival_with at r e)
+end_more : (at its : EventNo) (r e : Bool) → arrival_with at (r || false) (e || (its.0 == at.0)) ≡ option_and_then (after_departure its.0 End) (arrival_with at r e)
 end_more at its true true = end_more-if at true true (its.0 == at.0)
 end_more at its true false = end_more-if at true false (its.0 == at.0)
 end_more at its false true = end_more-if at false true (its.0 == at.0)

@@ -9,11 +9,11 @@ use Rattle.hj_msg.specs.declared.message.Msg.{Msg}
 use Rattle.hj_msg.specs.declared.message.Msg.TheVariants.{R, AckS, EndS, ExpS, QuietL, CloseL, S, EndR, ExpR, QuietR, CloseR}
 use Rattle.hj_driver.specs.declared.closes.Closes.{Closes}
 use Rattle.hj_driver.specs.declared.closes.Closes.TheVariants.{Unsent, Sent}
-use Rattle.hj_driver.specs.declared.lane.Part.{Part}
-use Rattle.hj_driver.specs.declared.lane.Part.TheVariants.{Row, End}
+use Rattle.hj_driver.specs.declared.lane.Departure.{Departure}
+use Rattle.hj_driver.specs.declared.lane.Departure.TheVariants.{Row, End}
 use Rattle.hj_driver.specs.declared.lane.Arrival.{Arrival}
 use Rattle.hj_driver.specs.Leaving.{LeavingState}
-use Rattle.hj_driver.specs.Lane.{LaneState, after_part, is_other, with_part, is_taken, waits_for}
+use Rattle.hj_driver.specs.Lane.{LaneState, after_departure, is_other, with_departure, is_taken, waits_for}
 use Rattle.hj_driver.specs.Driver.{DriverState, after_take, after_close_taken, awaits, awaits_close, is_awaited}
 
 abbrev pub state : ℕ → List Arrival → List EventNo → List Arrival → List EventNo → List EventNo → List EventNo → Closes → DriverState
@@ -49,16 +49,16 @@ abbrev pub with_numbers : (List EventNo → List EventNo) → LeavingState → L
 with_numbers f leaving = record leaving { numbers = f leaving.numbers }
 
 -- what each message does to the lanes
-at_right-R-core : (P : Type 0) (l r : LaneState) (lq rq : LeavingState) (f : ℕ) (c : Closes) (at : EventNo) (row : P) → seen (with_arrivals (filter_map (after_part at.0 Row)) l) r lq rq f c ≡ after_take {P = P} Right (R at row) (seen l r lq rq f c)
+at_right-R-core : (P : Type 0) (l r : LaneState) (lq rq : LeavingState) (f : ℕ) (c : Closes) (at : EventNo) (row : P) → seen (with_arrivals (filter_map (after_departure at.0 Row)) l) r lq rq f c ≡ after_take {P = P} Right (R at row) (seen l r lq rq f c)
 at_right-R-core P l r lq rq f c at row = simp (filter-true, filter_map-some) refl
 
-pub at_right-R : {P : Type 0} (m : Msg P) (l r after : LaneState) (lq rq : LeavingState) (f : ℕ) (c : Closes) (old : DriverState) (at : EventNo) (row : P) → m ≡ R at row → seen l r lq rq f c ≡ old → after ≡ with_arrivals (filter_map (after_part at.0 Row)) l → seen after r lq rq f c ≡ after_take Right m old
+pub at_right-R : {P : Type 0} (m : Msg P) (l r after : LaneState) (lq rq : LeavingState) (f : ℕ) (c : Closes) (old : DriverState) (at : EventNo) (row : P) → m ≡ R at row → seen l r lq rq f c ≡ old → after ≡ with_arrivals (filter_map (after_departure at.0 Row)) l → seen after r lq rq f c ≡ after_take Right m old
 at_right-R {P} m l r after lq rq f c old at row is_m is_old e = ap (λ (x : LaneState). seen x r lq rq f c) e ∙ at_right-R-core P l r lq rq f c at row ∙ ap (λ (d : DriverState). after_take {P = P} Right (R at row) d) is_old ∙ ap (λ (x : Msg P). after_take Right x old) (sym is_m)
 
-at_right-EndS-core : (P : Type 0) (l r : LaneState) (lq rq : LeavingState) (f : ℕ) (c : Closes) (at : EventNo) → seen l (with_arrivals (filter_map (after_part at.0 End)) r) lq rq f c ≡ after_take {P = P} Right (EndS at) (seen l r lq rq f c)
+at_right-EndS-core : (P : Type 0) (l r : LaneState) (lq rq : LeavingState) (f : ℕ) (c : Closes) (at : EventNo) → seen l (with_arrivals (filter_map (after_departure at.0 End)) r) lq rq f c ≡ after_take {P = P} Right (EndS at) (seen l r lq rq f c)
 at_right-EndS-core P l r lq rq f c at = simp (filter-true, filter_map-some) refl
 
-pub at_right-EndS : {P : Type 0} (m : Msg P) (l r after : LaneState) (lq rq : LeavingState) (f : ℕ) (c : Closes) (old : DriverState) (at : EventNo) → m ≡ EndS at → seen l r lq rq f c ≡ old → after ≡ with_arrivals (filter_map (after_part at.0 End)) r → seen l after lq rq f c ≡ after_take Right m old
+pub at_right-EndS : {P : Type 0} (m : Msg P) (l r after : LaneState) (lq rq : LeavingState) (f : ℕ) (c : Closes) (old : DriverState) (at : EventNo) → m ≡ EndS at → seen l r lq rq f c ≡ old → after ≡ with_arrivals (filter_map (after_departure at.0 End)) r → seen l after lq rq f c ≡ after_take Right m old
 at_right-EndS {P} m l r after lq rq f c old at is_m is_old e = ap (λ (x : LaneState). seen l x lq rq f c) e ∙ at_right-EndS-core P l r lq rq f c at ∙ ap (λ (d : DriverState). after_take {P = P} Right (EndS at) d) is_old ∙ ap (λ (x : Msg P). after_take Right x old) (sym is_m)
 
 at_right-ExpS-core : (P : Type 0) (l r : LaneState) (lq rq : LeavingState) (f : ℕ) (c : Closes) (of : EventNo) → seen l (with_expiries (filter (is_other of.0)) r) lq rq f c ≡ after_take {P = P} Right (ExpS of) (seen l r lq rq f c)
@@ -67,16 +67,16 @@ at_right-ExpS-core P l r lq rq f c of = simp (filter-true, filter_map-some) refl
 pub at_right-ExpS : {P : Type 0} (m : Msg P) (l r after : LaneState) (lq rq : LeavingState) (f : ℕ) (c : Closes) (old : DriverState) (of : EventNo) → m ≡ ExpS of → seen l r lq rq f c ≡ old → after ≡ with_expiries (filter (is_other of.0)) r → seen l after lq rq f c ≡ after_take Right m old
 at_right-ExpS {P} m l r after lq rq f c old of is_m is_old e = ap (λ (x : LaneState). seen l x lq rq f c) e ∙ at_right-ExpS-core P l r lq rq f c of ∙ ap (λ (d : DriverState). after_take {P = P} Right (ExpS of) d) is_old ∙ ap (λ (x : Msg P). after_take Right x old) (sym is_m)
 
-at_left-S-core : (P : Type 0) (l r : LaneState) (lq rq : LeavingState) (f : ℕ) (c : Closes) (at : EventNo) (row : P) → seen l (with_arrivals (filter_map (after_part at.0 Row)) r) lq rq f c ≡ after_take {P = P} Left (S at row) (seen l r lq rq f c)
+at_left-S-core : (P : Type 0) (l r : LaneState) (lq rq : LeavingState) (f : ℕ) (c : Closes) (at : EventNo) (row : P) → seen l (with_arrivals (filter_map (after_departure at.0 Row)) r) lq rq f c ≡ after_take {P = P} Left (S at row) (seen l r lq rq f c)
 at_left-S-core P l r lq rq f c at row = simp (filter-true, filter_map-some) refl
 
-pub at_left-S : {P : Type 0} (m : Msg P) (l r after : LaneState) (lq rq : LeavingState) (f : ℕ) (c : Closes) (old : DriverState) (at : EventNo) (row : P) → m ≡ S at row → seen l r lq rq f c ≡ old → after ≡ with_arrivals (filter_map (after_part at.0 Row)) r → seen l after lq rq f c ≡ after_take Left m old
+pub at_left-S : {P : Type 0} (m : Msg P) (l r after : LaneState) (lq rq : LeavingState) (f : ℕ) (c : Closes) (old : DriverState) (at : EventNo) (row : P) → m ≡ S at row → seen l r lq rq f c ≡ old → after ≡ with_arrivals (filter_map (after_departure at.0 Row)) r → seen l after lq rq f c ≡ after_take Left m old
 at_left-S {P} m l r after lq rq f c old at row is_m is_old e = ap (λ (x : LaneState). seen l x lq rq f c) e ∙ at_left-S-core P l r lq rq f c at row ∙ ap (λ (d : DriverState). after_take {P = P} Left (S at row) d) is_old ∙ ap (λ (x : Msg P). after_take Left x old) (sym is_m)
 
-at_left-EndR-core : (P : Type 0) (l r : LaneState) (lq rq : LeavingState) (f : ℕ) (c : Closes) (at : EventNo) → seen (with_arrivals (filter_map (after_part at.0 End)) l) r lq rq f c ≡ after_take {P = P} Left (EndR at) (seen l r lq rq f c)
+at_left-EndR-core : (P : Type 0) (l r : LaneState) (lq rq : LeavingState) (f : ℕ) (c : Closes) (at : EventNo) → seen (with_arrivals (filter_map (after_departure at.0 End)) l) r lq rq f c ≡ after_take {P = P} Left (EndR at) (seen l r lq rq f c)
 at_left-EndR-core P l r lq rq f c at = simp (filter-true, filter_map-some) refl
 
-pub at_left-EndR : {P : Type 0} (m : Msg P) (l r after : LaneState) (lq rq : LeavingState) (f : ℕ) (c : Closes) (old : DriverState) (at : EventNo) → m ≡ EndR at → seen l r lq rq f c ≡ old → after ≡ with_arrivals (filter_map (after_part at.0 End)) l → seen after r lq rq f c ≡ after_take Left m old
+pub at_left-EndR : {P : Type 0} (m : Msg P) (l r after : LaneState) (lq rq : LeavingState) (f : ℕ) (c : Closes) (old : DriverState) (at : EventNo) → m ≡ EndR at → seen l r lq rq f c ≡ old → after ≡ with_arrivals (filter_map (after_departure at.0 End)) l → seen after r lq rq f c ≡ after_take Left m old
 at_left-EndR {P} m l r after lq rq f c old at is_m is_old e = ap (λ (x : LaneState). seen x r lq rq f c) e ∙ at_left-EndR-core P l r lq rq f c at ∙ ap (λ (d : DriverState). after_take {P = P} Left (EndR at) d) is_old ∙ ap (λ (x : Msg P). after_take Left x old) (sym is_m)
 
 at_left-ExpR-core : (P : Type 0) (l r : LaneState) (lq rq : LeavingState) (f : ℕ) (c : Closes) (of : EventNo) → seen (with_expiries (filter (is_other of.0)) l) r lq rq f c ≡ after_take {P = P} Left (ExpR of) (seen l r lq rq f c)
@@ -180,22 +180,22 @@ neither : (a b : Bool) → a || b ≡ false → (a ≡ false) × (b ≡ false)
 neither true b none = absurd (false≢true (sym none))
 neither false b none = (refl, none)
 
-not_waited-if : (same : Bool) (part : Part) (a : Arrival) (taken : Option Part) → same && not (is_taken part taken) ≡ false → cond same (with_part part a taken) (Some a) ≡ Some a
-not_waited-if false part a taken unwaited = refl
-not_waited-if true part a None unwaited = absurd (false≢true (sym unwaited))
+not_waited-if : (same : Bool) (departure : Departure) (a : Arrival) (taken : Option Departure) → same && not (is_taken departure taken) ≡ false → cond same (with_departure departure a taken) (Some a) ≡ Some a
+not_waited-if false departure a taken unwaited = refl
+not_waited-if true departure a None unwaited = absurd (false≢true (sym unwaited))
 not_waited-if true Row a (Some Row) unwaited = refl
 not_waited-if true Row a (Some End) unwaited = absurd (false≢true (sym unwaited))
 not_waited-if true End a (Some Row) unwaited = absurd (false≢true (sym unwaited))
 not_waited-if true End a (Some End) unwaited = refl
 
-not_waited : (number : ℕ) (part : Part) (a : Arrival) → waits_for number part a ≡ false → after_part number part a ≡ Some a
-not_waited number part a unwaited = not_waited-if (number == a.no.0) part a a.taken unwaited
+not_waited : (number : ℕ) (departure : Departure) (a : Arrival) → waits_for number departure a ≡ false → after_departure number departure a ≡ Some a
+not_waited number departure a unwaited = not_waited-if (number == a.no.0) departure a a.taken unwaited
 
-unwaited_arrivals : (number : ℕ) (part : Part) (l : List Arrival) → list_any (waits_for number part) l ≡ false → filter_map (after_part number part) l ≡ l
-unwaited_arrivals number part [] none = refl
-unwaited_arrivals number part (a ∷ l) none =
-    let w = neither (waits_for number part a) (list_any (waits_for number part) l) none in
-    ap (λ o. cons_option o (filter_map (after_part number part) l)) (not_waited number part a w.0) ∙ ap (λ (ys : List Arrival). a ∷ ys) (unwaited_arrivals number part l w.1)
+unwaited_arrivals : (number : ℕ) (departure : Departure) (l : List Arrival) → list_any (waits_for number departure) l ≡ false → filter_map (after_departure number departure) l ≡ l
+unwaited_arrivals number departure [] none = refl
+unwaited_arrivals number departure (a ∷ l) none =
+    let w = neither (waits_for number departure a) (list_any (waits_for number departure) l) none in
+    ap (λ o. cons_option o (filter_map (after_departure number departure) l)) (not_waited number departure a w.0) ∙ ap (λ (ys : List Arrival). a ∷ ys) (unwaited_arrivals number departure l w.1)
 
 unwaited_numbers : (number : ℕ) (l : List EventNo) → is_awaited number l ≡ false → filter (is_other number) l ≡ l
 unwaited_numbers number [] none = refl

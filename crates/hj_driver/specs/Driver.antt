@@ -18,9 +18,9 @@ use Rattle.hj_driver.specs.declared.answers.Closing.{Closing}
 use Rattle.hj_driver.specs.declared.answers.Closing.TheVariants as closing
 use Rattle.hj_driver.specs.declared.closes.Closes.{Closes}
 use Rattle.hj_driver.specs.declared.closes.Closes.TheVariants.{Unsent, Sent}
-use Rattle.hj_driver.specs.declared.lane.Part.TheVariants.{Row, End}
+use Rattle.hj_driver.specs.declared.lane.Departure.TheVariants.{Row, End}
 use Rattle.hj_driver.specs.declared.lane.Arrival.{Arrival}
-use Rattle.hj_driver.specs.Lane.{after_part, is_other, waits_for}
+use Rattle.hj_driver.specs.Lane.{after_departure, is_other, waits_for}
 
 -- The outstanding arrivals, expiries and quiet events of each side, the closes, and how many events may be outstanding. An expiry is kept by
 -- the number of its row.
@@ -67,10 +67,10 @@ closed driver = record driver { closes = Sent false false }
 -- What becomes of an outstanding arrival of a side, and whether an outstanding expiry of it stays, where this message is taken
 -- at this port.
 abbrev pub after_message : {P : Type 0} → Side → Side → Msg P → Arrival → Option Arrival
-after_message Left Right (R at row) arrival = after_part at.0 Row arrival
-after_message Left Left (EndR at) arrival = after_part at.0 End arrival
-after_message Right Left (S at row) arrival = after_part at.0 Row arrival
-after_message Right Right (EndS at) arrival = after_part at.0 End arrival
+after_message Left Right (R at row) arrival = after_departure at.0 Row arrival
+after_message Left Left (EndR at) arrival = after_departure at.0 End arrival
+after_message Right Left (S at row) arrival = after_departure at.0 Row arrival
+after_message Right Right (EndS at) arrival = after_departure at.0 End arrival
 after_message side port message arrival = Some arrival
 
 abbrev pub stays : {P : Type 0} → Side → Side → Msg P → EventNo → Bool

@@ -3,8 +3,8 @@ use Rattle.std.specs.Prelude.{◌≡◌, ℕ, ◌<◌, ◌==◌, Bool, true, fal
 use Rattle.std.specs.declared.option.Option.{Option}
 use Rattle.std.specs.List.{All, Contains}
 use Rattle.hj_base.specs.declared.numbers.EventNo.{EventNo}
-use Rattle.hj_driver.specs.declared.lane.Part.{Part}
-use Rattle.hj_driver.specs.declared.lane.Part.TheVariants.{Row, End}
+use Rattle.hj_driver.specs.declared.lane.Departure.{Departure}
+use Rattle.hj_driver.specs.declared.lane.Departure.TheVariants.{Row, End}
 use Rattle.hj_driver.specs.declared.lane.Arrival.{Arrival}
 
 -- the arrivals and the expiries, each by the number of its row, and how many of each kind there is room for
@@ -24,27 +24,27 @@ AreDistinct [] = Unit {0}
 AreDistinct (of ∷ later) = ¬ (Contains later of) × AreDistinct later
 
 -- the two messages by which an arrival leaves
-abbrev pub is_same : Part → Part → Bool
+abbrev pub is_same : Departure → Departure → Bool
 is_same Row Row = true
 is_same End End = true
-is_same part other = false
+is_same departure other = false
 
 -- Behind one of its messages an arrival has left where the other one was taken before.
-abbrev pub with_part : Part → Arrival → Option Part → Option Arrival
-with_part part arrival None = Some (record { no = arrival.no; taken = Some part })
-with_part part arrival (Some before) = if is_same before part then Some arrival else None
+abbrev pub with_departure : Departure → Arrival → Option Departure → Option Arrival
+with_departure departure arrival None = Some (record { no = arrival.no; taken = Some departure })
+with_departure departure arrival (Some before) = if is_same before departure then Some arrival else None
 
 -- what becomes of each arrival where a message of the one of this number is taken
-abbrev pub after_part : ℕ → Part → Arrival → Option Arrival
-after_part number part arrival = if number == arrival.no.0 then with_part part arrival arrival.taken else Some arrival
+abbrev pub after_departure : ℕ → Departure → Arrival → Option Arrival
+after_departure number departure arrival = if number == arrival.no.0 then with_departure departure arrival arrival.taken else Some arrival
 
 -- whether a message of the arrival of this number is still to be taken
-abbrev pub is_taken : Part → Option Part → Bool
-is_taken part None = false
-is_taken part (Some before) = is_same before part
+abbrev pub is_taken : Departure → Option Departure → Bool
+is_taken departure None = false
+is_taken departure (Some before) = is_same before departure
 
-abbrev pub waits_for : ℕ → Part → Arrival → Bool
-waits_for number part arrival = (number == arrival.no.0) && not (is_taken part arrival.taken)
+abbrev pub waits_for : ℕ → Departure → Arrival → Bool
+waits_for number departure arrival = (number == arrival.no.0) && not (is_taken departure arrival.taken)
 
 abbrev pub is_other : ℕ → EventNo → Bool
 is_other number of = not (number == of.0)

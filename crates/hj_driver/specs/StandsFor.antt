@@ -18,7 +18,7 @@ use Rattle.hj_driver.specs.declared.answers.Closing.{Closing}
 use Rattle.hj_driver.specs.declared.answers.Closing.TheVariants.{Send, Wait, Already}
 use Rattle.hj_driver.specs.declared.closes.Closes.{Closes}
 use Rattle.hj_driver.specs.declared.closes.Closes.TheVariants.{Unsent, Sent}
-use Rattle.hj_driver.specs.declared.lane.Part.TheVariants.{Row, End}
+use Rattle.hj_driver.specs.declared.lane.Departure.TheVariants.{Row, End}
 use Rattle.hj_driver.specs.declared.lane.Arrival.{Arrival}
 use Rattle.hj_driver.specs.Driver.{DriverState}
 

@@ -6,7 +6,7 @@ ghost use Rattle.hj_driver.specs.Driver.{IsNew, after_put, after_take, answer_to
 ghost use Rattle.hj_driver.specs.StandsFor.{StandsFor, cause_after};
 
 use crate::closes::Closes;
-use crate::lane::{Lane, Part};
+use crate::lane::{Departure, Lane};
 use crate::leaving::Leaving;
 use crate::{Admitted, Closing, Why};
 use hj_base::{Memory, Side};
@@ -264,8 +264,8 @@ impl Driver {
         ensures { self.new ≡ after_take Side.Left msg.now self.old }
     {
         match msg {
-            Msg::S { no, .. } => self.right.take(*no, Part::Row),
-            Msg::EndR(no) => self.left.take(*no, Part::End),
+            Msg::S { no, .. } => self.right.take(*no, Departure::Row),
+            Msg::EndR(no) => self.left.take(*no, Departure::End),
             Msg::ExpR(of) => self.left.take_expiry(*of),
             Msg::QuietR(no) => self.right_quiets.take(*no),
             Msg::CloseR => self.closes = self.closes.take(Side::Right),
@@ -279,8 +279,8 @@ impl Driver {
         ensures { self.new ≡ after_take Side.Right msg.now self.old }
     {
         match msg {
-            Msg::R { no, .. } => self.left.take(*no, Part::Row),
-            Msg::EndS(no) => self.right.take(*no, Part::End),
+            Msg::R { no, .. } => self.left.take(*no, Departure::Row),
+            Msg::EndS(no) => self.right.take(*no, Departure::End),
             Msg::ExpS(of) => self.right.take_expiry(*of),
             Msg::QuietL(no) => self.left_quiets.take(*no),
             Msg::CloseL => self.closes = self.closes.take(Side::Left),

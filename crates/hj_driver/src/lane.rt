@@ -1,7 +1,7 @@
 ghost use Rattle.std.specs.Prelude.{◌≡◌, ◌+◌, ◌<◌, [], ◌∷◌, ◌++◌, ◌==◌, ◌^◌, length, not, position, IfOk, IfErr};
 ghost use Rattle.std.specs.List.{All, Contains, filter, filter_map, list_any, remove};
 ghost use Rattle.std.specs.VecDeque.{deque_capacity};
-ghost use Rattle.hj_driver.specs.Lane.{after_part, is_other, is_taken, waits_for, with_part, IsAt, IsAbsent};
+ghost use Rattle.hj_driver.specs.Lane.{after_departure, is_other, is_taken, waits_for, with_departure, IsAt, IsAbsent};
 
 use hj_base::{EventNo, Memory};
 use std::alloc::Global;
@@ -10,7 +10,7 @@ use std::marker::Model;
 
 /// One of the two messages by which an arrival leaves the chain.
 #[derive(Clone, Copy, Debug, PartialEq, Eq)]
-pub enum Part {
+pub enum Departure {
     /// The row itself, at the far end.
     Row,
     /// The mark that the row has been at every core, at the end where the row came in.
@@ -21,31 +21,33 @@ pub enum Part {
 #[derive(Clone, Copy, Debug, PartialEq, Eq)]
 pub struct Arrival {
     pub no: EventNo,
-    pub taken: Option<Part>,
+    pub taken: Option<Departure>,
 }
 
 impl Arrival {
     /// Returns whether its row is still to be taken.
     #[inline(always)]
     fn is_before_its_row(self) -> bool
-        ensures { result ≡ not (is_taken Part.Row self.taken) }
+        ensures { result ≡ not (is_taken Departure.Row self.taken) }
     {
-        !matches!(self.taken, Some(Part::Row))
+        !matches!(self.taken, Some(Departure::Row))
     }
 
     /// Returns the arrival after one of its messages; None exactly if the other one was taken before, so that it has
     /// left.
     #[inline(always)]
-    fn after(self, part: Part) -> Option<Arrival>
-        ensures { result ≡ with_part part self self.taken }
+    fn after(self, departure: Departure) -> Option<Arrival>
+        ensures { result ≡ with_departure departure self self.taken }
     {
-        match (self.taken, part) {
+        match (self.taken, departure) {
             (None, _) => Some(Arrival {
                 no: self.no,
-                taken: Some(part),
+                taken: Some(departure),
             }),
-            (Some(Part::Row), Part::Row) | (Some(Part::End), Part::End) => Some(self),
-            (Some(Part::Row), Part::End) | (Some(Part::End), Part::Row) => None,
+            (Some(Departure::Row), Departure::Row) | (Some(Departure::End), Departure::End) => Some(
+                self,
+            ),
+            (Some(Departure::Row), Departure::End) | (Some(Departure::End), Departure::Row) => None,
         }
     }
 }
@@ -100,7 +102,7 @@ impl Lane {
     /// Returns whether the row of an arrival is still to be taken.
     #[inline(always)]
     pub fn waits_for_row(&self, no: EventNo) -> bool
-        ensures { result ≡ list_any (waits_for no.0 Part.Row) self.now.arrivals }
+        ensures { result ≡ list_any (waits_for no.0 Departure.Row) self.now.arrivals }
     {
         match self.search(no) {
             Ok(at) => self.arrivals[at].is_before_its_row(),
@@ -131,35 +133,35 @@ impl Lane {
 
     /// Takes note that a message of an arrival was taken.
     #[inline(always)]
-    pub fn take(&mut self, no: EventNo, part: Part)
-        ensures { self.new ≡ record self.old { arrivals = filter_map (after_part no.0 part) self.old.arrivals } }
+    pub fn take(&mut self, no: EventNo, departure: Departure)
+        ensures { self.new ≡ record self.old { arrivals = filter_map (after_departure no.0 departure) self.old.arrivals } }
     {
         match self.arrivals.front() {
-            Some(first) if no.0 == first.no.0 => self.take_at(0, no, part),
+            Some(first) if no.0 == first.no.0 => self.take_at(0, no, departure),
             Some(first) if no.0 < first.no.0 => {}
-            _ => self.take_behind(no, part),
+            _ => self.take_behind(no, departure),
         }
     }
 
     /// Takes note of the same, where the arrival isn't the first.
     // Called, so that what is mostly done stays short.
     #[inline(never)]
-    fn take_behind(&mut self, no: EventNo, part: Part)
-        ensures { self.new ≡ record self.old { arrivals = filter_map (after_part no.0 part) self.old.arrivals } }
+    fn take_behind(&mut self, no: EventNo, departure: Departure)
+        ensures { self.new ≡ record self.old { arrivals = filter_map (after_departure no.0 departure) self.old.arrivals } }
     {
         if let Ok(at) = self.search_all(no) {
-            self.take_at(at, no, part);
+            self.take_at(at, no, departure);
         }
     }
 
     /// Takes note that a message of the arrival at a place was taken.
     #[inline(always)]
-    fn take_at(&mut self, at: usize, no: EventNo, part: Part)
+    fn take_at(&mut self, at: usize, no: EventNo, departure: Departure)
         requires { IsAt self.old.arrivals no.0 at }
-        ensures { self.new ≡ record self.old { arrivals = filter_map (after_part no.0 part) self.old.arrivals } }
+        ensures { self.new ≡ record self.old { arrivals = filter_map (after_departure no.0 departure) self.old.arrivals } }
     {
         let arrival = &mut self.arrivals[at];
-        match arrival.after(part) {
+        match arrival.after(departure) {
             Some(after) => *arrival = after,
             None => take_out(&mut self.arrivals, at),
         }

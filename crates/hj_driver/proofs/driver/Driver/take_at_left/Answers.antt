@@ -1,12 +1,12 @@
 use Rattle.std.proofs.Common.{arith}
-use Rattle.hj_driver.specs.declared.lane.Part.TheVariants.{Row, End}
-use Rattle.hj_driver.specs.Lane.{after_part, is_other}
+use Rattle.hj_driver.specs.declared.lane.Departure.TheVariants.{Row, End}
+use Rattle.hj_driver.specs.Lane.{after_departure, is_other}
 use Rattle.hj_driver.proofs.States.{at_left-S, at_left-EndR, at_left-ExpR, at_left-QuietR, at_left-CloseR, at_left-other, fewer_arrivals, fewer_expiries, fewer_numbers}
 use Rattle.hj_driver.proofs.driver.Driver.take_at_left.Goals as goal
 
 pub invariant_of-self : goal.invariant_of-self
 invariant_of-self g c =
-    let less = fewer_arrivals (after_part c.in-S.no.0 Row) c.self.inside.right c.take.new.self c.take.ensures in
+    let less = fewer_arrivals (after_departure c.in-S.no.0 Row) c.self.inside.right c.take.new.self c.take.ensures in
     record {
       left_room = c.self.invariant.left_room;
       right_room = omega (arith, less.room, c.self.invariant.right_room);
@@ -18,7 +18,7 @@ invariant_of-self g c =
 
 pub invariant_of-self-in-EndR : goal.invariant_of-self-in-EndR
 invariant_of-self-in-EndR g c =
-    let less = fewer_arrivals (after_part c.in-EndR.no.0 End) c.self.inside.left c.take-in-EndR.new.self c.take-in-EndR.ensures in
+    let less = fewer_arrivals (after_departure c.in-EndR.no.0 End) c.self.inside.left c.take-in-EndR.new.self c.take-in-EndR.ensures in
     record {
       left_room = omega (arith, less.room, c.self.invariant.left_room);
       right_room = c.self.invariant.right_room;

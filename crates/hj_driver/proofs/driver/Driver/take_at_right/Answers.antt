@@ -1,12 +1,12 @@
 use Rattle.std.proofs.Common.{arith}
-use Rattle.hj_driver.specs.declared.lane.Part.TheVariants.{Row, End}
-use Rattle.hj_driver.specs.Lane.{after_part, is_other}
+use Rattle.hj_driver.specs.declared.lane.Departure.TheVariants.{Row, End}
+use Rattle.hj_driver.specs.Lane.{after_departure, is_other}
 use Rattle.hj_driver.proofs.States.{at_right-R, at_right-EndS, at_right-ExpS, at_right-QuietL, at_right-CloseL, at_right-other, fewer_arrivals, fewer_expiries, fewer_numbers}
 use Rattle.hj_driver.proofs.driver.Driver.take_at_right.Goals as goal
 
 pub invariant_of-self : goal.invariant_of-self
 invariant_of-self g c =
-    let less = fewer_arrivals (after_part c.in-R.no.0 Row) c.self.inside.left c.take.new.self c.take.ensures in
+    let less = fewer_arrivals (after_departure c.in-R.no.0 Row) c.self.inside.left c.take.new.self c.take.ensures in
     record {
       left_room = omega (arith, less.room, c.self.invariant.left_room);
       right_room = c.self.invariant.right_room;
@@ -18,7 +18,7 @@ invariant_of-self g c =
 
 pub invariant_of-self-in-EndS : goal.invariant_of-self-in-EndS
 invariant_of-self-in-EndS g c =
-    let less = fewer_arrivals (after_part c.in-EndS.no.0 End) c.self.inside.right c.take-in-EndS.new.self c.take-in-EndS.ensures in
+    let less = fewer_arrivals (after_departure c.in-EndS.no.0 End) c.self.inside.right c.take-in-EndS.new.self c.take-in-EndS.ensures in
     record {
       left_room = c.self.invariant.left_room;
       right_room = omega (arith, less.room, c.self.invariant.right_room);

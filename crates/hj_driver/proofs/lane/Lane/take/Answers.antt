@@ -2,7 +2,7 @@ use Rattle.std.proofs.Common.{◌≡◌, ℕ, ◌<◌, List, [], ◌∷◌, get_
 use Rattle.std.specs.List.{filter_map}
 use Rattle.std.proofs.lemmas.List.Elements.{All-cons, All-nil}
 use Rattle.hj_driver.specs.declared.lane.Arrival.{Arrival}
-use Rattle.hj_driver.specs.Lane.{LaneState, IsAbsent, IsRising, after_part}
+use Rattle.hj_driver.specs.Lane.{LaneState, IsAbsent, IsRising, after_departure}
 use Rattle.hj_driver.proofs.Arrivals.{none_changes, lane_with}
 use Rattle.hj_driver.proofs.lane.Lane.take.Goals as goal
 
@@ -17,4 +17,4 @@ pub returns-in-Some-2 : goal.returns-in-Some-2
 returns-in-Some-2 c =
     let s = c.args.self.now in
     let absent = absent_below c.self.inside.arrivals.items c.self.invariant.rising c.args.no.0 c.in-Some.first.now c.in-Some.ensures.lookup c.if-no-first-2.true in
-    lane_with s s.arrivals s.arrivals s.expiries s.room (filter_map (after_part c.args.no.0 c.args.part)) refl (none_changes s.arrivals c.args.no.0 c.args.part (subst (λ (t : LaneState). IsAbsent t.arrivals c.args.no.0) c.self.view_is absent))
+    lane_with s s.arrivals s.arrivals s.expiries s.room (filter_map (after_departure c.args.no.0 c.args.departure)) refl (none_changes s.arrivals c.args.no.0 c.args.departure (subst (λ (t : LaneState). IsAbsent t.arrivals c.args.no.0) c.self.view_is absent))

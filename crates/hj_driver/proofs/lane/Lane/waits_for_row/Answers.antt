@@ -1,6 +1,6 @@
 use Rattle.std.proofs.Common.{◌∙◌, sym, subst, ap, not}
 use Rattle.std.specs.List.{list_any}
-use Rattle.hj_driver.specs.declared.lane.Part.TheVariants.{Row}
+use Rattle.hj_driver.specs.declared.lane.Departure.TheVariants.{Row}
 use Rattle.hj_driver.specs.declared.lane.Arrival.{Arrival}
 use Rattle.hj_driver.specs.Lane.{LaneState, IsAt, waits_for, is_taken}
 use Rattle.hj_driver.proofs.Arrivals.{waits-at, waits-absent}
