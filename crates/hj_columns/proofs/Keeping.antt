@@ -6,7 +6,7 @@ use Rattle.std.proofs.lemmas.List.Elements.{All-weaker}
 use Rattle.std.proofs.lemmas.Simd.{map-map}
 use Rattle.hj_base.specs.declared.numbers.Side.{Side}
 use Rattle.hj_rows.specs.declared.key_filter.KeyRange.{KeyRange}
-use Rattle.hj_rows.specs.declared.place.Rest.{Rest}
+use Rattle.hj_rows.specs.declared.place.RestingRow.{RestingRow}
 use Rattle.hj_rows.specs.Keys.{IsWithin}
 use Rattle.hj_rows.specs.Places.{place_rows, StayInPlace}
 use Rattle.hj_rows.proofs.Rows.{Places}
@@ -116,7 +116,7 @@ module _ {P F : Type 0} (key : F → P → ℕ) where
       tails a b us vs e = cc
 
 pub length-places : {P : Type 0} (es : Places P) → length (place_rows es) ≡ length es
-length-places {P} es = length-map es (λ (place : ℕ × Option (Rest P)). option_map (λ rest. rest.row) place.1)
+length-places {P} es = length-map es (λ (place : ℕ × Option (RestingRow P)). option_map (λ rest. rest.row) place.1)
 
 -- a store with no rows
 pub empty-column : {P F : Type 0} (key : F → P → ℕ) (places : List (Option P)) (column : Column F) → places ≡ [] → column.keys.items ≡ [] → IsColumn key places column

@@ -6,7 +6,7 @@ use Rattle.hj_base.specs.declared.numbers.Side.{Side}
 use Rattle.hj_msg.specs.declared.partner.Partner.{Partner}
 use Rattle.hj_msg.specs.Store.{Resting, by_number, joins, settled_matches, settled_partners}
 use Rattle.hj_rows.specs.declared.key_filter.KeyRange.{KeyRange}
-use Rattle.hj_rows.specs.declared.place.Rest.{Rest}
+use Rattle.hj_rows.specs.declared.place.RestingRow.{RestingRow}
 use Rattle.hj_rows.specs.Keys.{Keeps}
 use Rattle.hj_rows.specs.Places.{joining, place_rows, rows_of}
 use Rattle.hj_rows.proofs.Rows.{Places}
@@ -34,7 +34,7 @@ none-match {P} predicate side against rows none = ap by_number (nothing rows)
 
 -- ---- rows that joins
 
-row-place : {P : Type 0} (es : Places P) (at : ℕ) (entry : ℕ × Option (Rest P)) (rest : Rest P) → slice_get es at ≡ Some entry → entry.1 ≡ Some rest → slice_get (place_rows es) at ≡ Some (Some rest.row)
+row-place : {P : Type 0} (es : Places P) (at : ℕ) (entry : ℕ × Option (RestingRow P)) (rest : RestingRow P) → slice_get es at ≡ Some entry → entry.1 ≡ Some rest → slice_get (place_rows es) at ≡ Some (Some rest.row)
 row-place [] at entry rest e is = absurd cc
 row-place (x ∷ es) zero entry rest e is = let same : x ≡ entry = cc in rw (same, is) refl
 row-place (x ∷ es) (suc at) entry rest e is = row-place es at entry rest e is
@@ -43,7 +43,7 @@ row-place (x ∷ es) (suc at) entry rest e is = row-place es at entry rest e is
 no-join : {P : Type 0} (test : P → Bool) (es : Places P) (at : ℕ) → ((row : P) → slice_get (place_rows es) at ≡ Some (Some row) → test row ≡ true → ⊥) → joined_at test es at ≡ None
 no-join {P} test es at none = by (slice_get es at) refl
   where
-    by : (o : Option (ℕ × Option (Rest P))) → slice_get es at ≡ o → option_and_then {U = ℕ × P} (λ (place : ℕ × Option (Rest P)). option_map (λ row. (place.0, row)) (joining test place.1)) o ≡ None
+    by : (o : Option (ℕ × Option (RestingRow P))) → slice_get es at ≡ o → option_and_then {U = ℕ × P} (λ (place : ℕ × Option (RestingRow P)). option_map (λ row. (place.0, row)) (joining test place.1)) o ≡ None
     by None h = refl
     by (Some (n, None)) h = refl
     by (Some (n, Some rest)) h = of rest.settled (test rest.row) refl

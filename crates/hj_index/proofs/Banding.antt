@@ -23,7 +23,7 @@ use Rattle.hj_msg.proofs.Sorting.{from_sorted, sorted, sorted_ranked}
 use Rattle.hj_value.specs.declared.field.Field.{Field}
 use Rattle.hj_value.specs.declared.field.Field.TheVariants as field
 use Rattle.hj_index.specs.declared.ordered_index.OrderedIndex.{OrderedIndex}
-use Rattle.hj_rows.specs.declared.place.Rest.{Rest}
+use Rattle.hj_rows.specs.declared.place.RestingRow.{RestingRow}
 use Rattle.hj_index.specs.OrderedIndex.{holds_key, is_key, key_cmp, key_of, number_at, number_of, AreWithin, Key}
 use Rattle.hj_index.specs.OrderedStore.{key_at, rest_at, rest_of, AreOrdered, JoinsNear}
 use Rattle.hj_rows.specs.Places.{entry_at, joining, rows_of}
@@ -129,17 +129,17 @@ abbrev pub arrivals : List Key → List ℕ
 arrivals keys = map (λ (key : Key). key.1) keys
 
 module _ (rows : Rows) where
-  abbrev entry_of : ℕ → Rest (List Field) → Resting (List Field)
+  abbrev entry_of : ℕ → RestingRow (List Field) → Resting (List Field)
   entry_of n rest = record { no = n; row = rest.row; settled = rest.settled }
 
-  rest_found : (found : Option (Resting (List Field))) (rest : Rest (List Field)) → option_map (λ (entry : Resting (List Field)). record { row = entry.row; settled = entry.settled }) found ≡ Some rest → (n : ℕ) × (found ≡ Some (entry_of n rest))
+  rest_found : (found : Option (Resting (List Field))) (rest : RestingRow (List Field)) → option_map (λ (entry : Resting (List Field)). record { row = entry.row; settled = entry.settled }) found ≡ Some rest → (n : ℕ) × (found ≡ Some (entry_of n rest))
   rest_found None rest e = absurd cc
-  rest_found (Some entry) rest e = (entry.no, ap (λ (rest : Rest (List Field)). Some (entry_of entry.no rest)) (some_same (record { row = entry.row; settled = entry.settled }) rest e))
+  rest_found (Some entry) rest e = (entry.no, ap (λ (rest : RestingRow (List Field)). Some (entry_of entry.no rest)) (some_same (record { row = entry.row; settled = entry.settled }) rest e))
     where
-      some_same : (x y : Rest (List Field)) → Some x ≡ Some y → x ≡ y
+      some_same : (x y : RestingRow (List Field)) → Some x ≡ Some y → x ≡ y
       some_same x y e = cc
 
-  rest_entry : (n : ℕ) (rest : Rest (List Field)) → rest_at n rows ≡ Some rest → entry_at n rows ≡ Some (entry_of n rest)
+  rest_entry : (n : ℕ) (rest : RestingRow (List Field)) → rest_at n rows ≡ Some rest → entry_at n rows ≡ Some (entry_of n rest)
   rest_entry n rest is =
       let found = rest_found (entry_at n rows) rest is in
       found.1 ∙ ap (λ m. Some (entry_of m rest)) (entry_listed n rows (entry_of found.0 rest) found.1).1
@@ -149,7 +149,7 @@ module _ (rows : Rows) where
   listed_found [] entry at = absurd (Contains-nil entry at)
   listed_found (key ∷ keys) entry at = by (rest_at key.1 rows) refl at (listed_found keys entry)
     where
-      by : (place : Option (Rest (List Field))) → rest_at key.1 rows ≡ place → Contains (rows_of ((key.1, place) ∷ places_at rows keys)) entry
+      by : (place : Option (RestingRow (List Field))) → rest_at key.1 rows ≡ place → Contains (rows_of ((key.1, place) ∷ places_at rows keys)) entry
           → (Contains (rows_of (places_at rows keys)) entry → (entry_at entry.no rows ≡ Some entry) × Contains (arrivals keys) entry.no)
           → (entry_at entry.no rows ≡ Some entry) × Contains (arrivals (key ∷ keys)) entry.no
       by None is at later = ((later at).0, Contains-cons key.1 entry.no (arrivals keys) (later at).1)
@@ -164,14 +164,14 @@ module _ (rows : Rows) where
   found_listed [] key entry is at = absurd (Contains-nil key at)
   found_listed (other ∷ keys) key entry is at = by (rest_at other.1 rows) refl (Contains-cons_cases other key keys at) (found_listed keys key entry is)
     where
-      by : (place : Option (Rest (List Field))) → rest_at other.1 rows ≡ place → (other ≡ key) ⊎ Contains keys key → (Contains keys key → Contains (rows_of (places_at rows keys)) entry)
+      by : (place : Option (RestingRow (List Field))) → rest_at other.1 rows ≡ place → (other ≡ key) ⊎ Contains keys key → (Contains keys key → Contains (rows_of (places_at rows keys)) entry)
           → Contains (rows_of ((other.1, place) ∷ places_at rows keys)) entry
       by None none (inr k) later = later k
       by (Some rest) some (inr k) later = Contains-cons (entry_of other.1 rest) entry (rows_of (places_at rows keys)) (later k)
       by None none (inl e) later =
           absurd (clash (sym (ap (option_map (λ (entry : Resting (List Field)). record { row = entry.row; settled = entry.settled })) is) ∙ (ap (λ (key : Key). rest_at key.1 rows) (sym e) ∙ none)))
         where
-          clash : {rest : Rest (List Field)} → Some rest ≡ None → ⊥
+          clash : {rest : RestingRow (List Field)} → Some rest ≡ None → ⊥
           clash e = cc
       by (Some rest) some (inl e) later =
           let one : entry_of other.1 rest ≡ entry = some_same (entry_of other.1 rest) entry (sym (rest_entry other.1 rest some) ∙ (ap (λ (key : Key). entry_at key.1 rows) e ∙ is)) in
@@ -184,7 +184,7 @@ module _ (rows : Rows) where
   places_differ [] r = tt
   places_differ (key ∷ keys) r = by (rest_at key.1 rows) (places_differ keys r.1)
     where
-      by : (place : Option (Rest (List Field))) → Ranked Differs (rows_of (places_at rows keys)) → Ranked Differs (rows_of ((key.1, place) ∷ places_at rows keys))
+      by : (place : Option (RestingRow (List Field))) → Ranked Differs (rows_of (places_at rows keys)) → Ranked Differs (rows_of ((key.1, place) ∷ places_at rows keys))
       by None later = later
       by (Some rest) later = (λ entry at. r.0 entry.no (listed_found keys entry at).1, later)
 

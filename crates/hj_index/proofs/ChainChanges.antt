@@ -6,7 +6,7 @@ use Rattle.std.proofs.lemmas.Bool.{eqb-true}
 use Rattle.std.proofs.lemmas.Option.{get_or_from_slice_get, slice_get_within}
 use Rattle.hj_value.specs.declared.field.Field.{Field}
 use Rattle.hj_msg.specs.Store.{Resting, holds, with_entry, with_settled, without_entry}
-use Rattle.hj_rows.specs.declared.place.Rest.{Rest}
+use Rattle.hj_rows.specs.declared.place.RestingRow.{RestingRow}
 use Rattle.hj_rows.proofs.Rows.{without-absent}
 use Rattle.hj_index.specs.declared.chains.Chains.{Chains}
 use Rattle.hj_index.specs.declared.chains.Place.{Place}
@@ -50,7 +50,7 @@ settled-length : (n : ℕ) (rows : List (Resting (List Field))) → length (with
 settled-length n [] = refl
 settled-length n (row ∷ rows) = ap suc (settled-length n rows)
 
-module _ (old : Chains) (n at : ℕ) (place : Place) (rest : Rest (List Field)) (chained : AreChained old) (read : Reads n at old.places.items place) (some : place.rest ≡ Some rest) where
+module _ (old : Chains) (n at : ℕ) (place : Place) (rest : RestingRow (List Field)) (chained : AreChained old) (read : Reads n at old.places.items place) (some : place.rest ≡ Some rest) where
   pub settled_rows : rows_at (slice_set old.places.items at (settled place rest)) ≡ with_settled n (rows_in old)
   settled_rows = rows-settled n at old.places.items place rest chained.nearly.apart read.there some read.numbered
 
@@ -63,7 +63,7 @@ module _ (old : Chains) (n at : ℕ) (place : Place) (rest : Rest (List Field)) 
         nearly =
             nearly-changed old new chained.nearly own base last up
             (subst (λ places. AreLinked old.own old.base places (get nat_eq old.last)) (sym items)
-            (linked-set old.own old.base old.places.items (get nat_eq old.last) at place (settled place rest) chained.nearly.linked read.there refl refl (λ r is. it.keyed rest some ∙ ap (λ (r : Rest (List Field)). key_at old.own r.row) (row_same r is))))
+            (linked-set old.own old.base old.places.items (get nat_eq old.last) at place (settled place rest) chained.nearly.linked read.there refl refl (λ r is. it.keyed rest some ∙ ap (λ (r : RestingRow (List Field)). key_at old.own r.row) (row_same r is))))
             (ap number_list items ∙ set-numbers old.places.items at place.no (settled place rest) (number-at old.places.items at place read.there) refl)
             long (subst AreApart (sym (ap numbers rows ∙ numbers-settled n (rows_in old))) chained.nearly.apart) (omega (arith, many, long, empty, chained.nearly.counted));
         few_empty = omega (arith, many, empty, chained.few_empty);
@@ -71,7 +71,7 @@ module _ (old : Chains) (n at : ℕ) (place : Place) (rest : Rest (List Field)) 
         near = rw base chained.near;
       }
     where
-      row_same : (r : Rest (List Field)) → Some (record rest { settled = true }) ≡ Some r → record rest { settled = true } ≡ r
+      row_same : (r : RestingRow (List Field)) → Some (record rest { settled = true }) ≡ Some r → record rest { settled = true } ≡ r
       row_same r is = cc
 
   pub emptied_rows : rows_at (slice_set old.places.items at (emptied place)) ≡ without_entry n (rows_in old)
@@ -87,7 +87,7 @@ without-fewer n (row ∷ rows) apart h = by (nat_eq row.no n) refl (without-fewe
         omega (arith, ap length (without-absent n rows absent))
     by false e later = omega (arith, later (sym (ap (λ b. b || holds n rows) e) ∙ h))
 
-module _ (old : Chains) (n at : ℕ) (place : Place) (rest : Rest (List Field)) (chained : AreChained old) (read : Reads n at old.places.items place) (some : place.rest ≡ Some rest) (filled : option_map (is_row n) (slice_get old.places.items at) ≡ Some true) where
+module _ (old : Chains) (n at : ℕ) (place : Place) (rest : RestingRow (List Field)) (chained : AreChained old) (read : Reads n at old.places.items place) (some : place.rest ≡ Some rest) (filled : option_map (is_row n) (slice_get old.places.items at) ≡ Some true) where
   pub emptied_nearly : (new : Chains) → new.places.items ≡ slice_set old.places.items at (emptied place) → new.own ≡ old.own → new.base ≡ old.base → new.last ≡ old.last → new.empty ≡ old.empty + 1 → new.is_ascending ≡ old.is_ascending → NearlyChained new
   emptied_nearly new items own base last empty up =
       let rows : rows_in new ≡ without_entry n (rows_in old) = ap rows_at items ∙ rows-emptied n at old.places.items place rest chained.nearly.apart read.there some read.numbered in
@@ -125,7 +125,7 @@ module _ (old new : Chains) (n : ℕ) (row : List Field) (settled : Bool) (key :
       let many : length (rows_in new) ≡ length (rows_in old) + 1 = ap length rows ∙ longer (rows_in old) entry in record {
         nearly = record {
           linked = rw (own, base, items) (linked-pushed old.own old.base old.places.items (get nat_eq old.last) pushed (get nat_eq new.last) chained.nearly.linked
-              (λ rest is. keyed ∙ ap (λ (r : Rest (List Field)). key_at old.own r.row) (row_same rest is)) known (λ other. ap known_place (moves other) ∙ by other (is_key other key)));
+              (λ rest is. keyed ∙ ap (λ (r : RestingRow (List Field)). key_at old.own r.row) (row_same rest is)) known (λ other. ap known_place (moves other) ∙ by other (is_key other key)));
           ascending = λ rises. rw items (ascending-pushed 0 old.places.items pushed (omega arith) (chained.nearly.ascending (sym up ∙ rises)) (above (sym up ∙ rises)));
           apart = rw rows (apart-pushed entry (rows_in old) absent chained.nearly.apart);
           counted = omega (arith, many, long, empty, chained.nearly.counted);
@@ -136,17 +136,17 @@ module _ (old new : Chains) (n : ℕ) (row : List Field) (settled : Bool) (key :
         near = rw base chained.near;
       }
     where
-      row_same : (rest : Rest (List Field)) → Some (record { row = row; settled = settled }) ≡ Some rest → record { row = row; settled = settled } ≡ rest
+      row_same : (rest : RestingRow (List Field)) → Some (record { row = row; settled = settled }) ≡ Some rest → record { row = row; settled = settled } ≡ rest
       row_same rest is = cc
 
       by : (other : ℕ) (b : Bool) → known_place (cond b (Some count) (get nat_eq old.last other)) ≡ cond b (old.base + suc (length old.places.items)) (known_place (get nat_eq old.last other))
       by other true = omega (arith, counted)
       by other false = refl
 
-pub held_rest : (place : Place) → is_some place.rest ≡ true → (rest : Rest (List Field)) × (place.rest ≡ Some rest)
+pub held_rest : (place : Place) → is_some place.rest ≡ true → (rest : RestingRow (List Field)) × (place.rest ≡ Some rest)
 held_rest place full = by place.rest refl
   where
-    by : (found : Option (Rest (List Field))) → place.rest ≡ found → (rest : Rest (List Field)) × (place.rest ≡ Some rest)
+    by : (found : Option (RestingRow (List Field))) → place.rest ≡ found → (rest : RestingRow (List Field)) × (place.rest ≡ Some rest)
     by None e = absurd (true≢false (sym full ∙ ap is_some e))
     by (Some rest) e = (rest, e)
 
@@ -164,7 +164,7 @@ module _ (old new : Chains) (first : Place) (nearly : NearlyChained old) (items 
       fewer [] = omega arith
       fewer (place ∷ places) = each place.rest refl (fewer places)
         where
-          each : (rest : Option (Rest (List Field))) → place.rest ≡ rest → length (rows_at places) ≤ length places → length (rows_at (place ∷ places)) ≤ suc (length places)
+          each : (rest : Option (RestingRow (List Field))) → place.rest ≡ rest → length (rows_at places) ≤ length places → length (rows_at (place ∷ places)) ≤ suc (length places)
           each None is le = rw is (omega (arith, le))
           each (Some rest) is le = rw is (omega (arith, le))
 
@@ -181,9 +181,9 @@ pub front-split : (places : List Place) → option_map (λ (place : Place). is_s
 front-split [] e = absurd cc
 front-split (first ∷ places) e = (first, refl, by first.rest refl)
   where
-    by : (rest : Option (Rest (List Field))) → first.rest ≡ rest → first.rest ≡ None
+    by : (rest : Option (RestingRow (List Field))) → first.rest ≡ rest → first.rest ≡ None
     by None is = is
-    by (Some rest) is = absurd (let bad : Some true ≡ Some false = sym (ap (λ (o : Option (Rest (List Field))). Some (is_some o)) is) ∙ e in cc)
+    by (Some rest) is = absurd (let bad : Some true ≡ Some false = sym (ap (λ (o : Option (RestingRow (List Field))). Some (is_some o)) is) ∙ e in cc)
 
 -- ---- a row that is put in the place of one
 
@@ -224,7 +224,7 @@ module _ (old : Chains) (n at : ℕ) (row : List Field) (settled : Bool) (key : 
   replaced_keyed new items keyed i place rest found is = elim (set-at old.places.items at instead i place (ap (λ places. slice_get places i) (sym items) ∙ found)) [
     | inl same ↦ linked-keyed old.own old.base old.places.items (get nat_eq old.last) chained.nearly.linked i place rest same is
     | inr here ↦
-        ap (λ (p : Place). p.key) here.1 ∙ (keyed ∙ ap (λ (r : Rest (List Field)). key_at old.own r.row) (row_same (ap (λ (p : Place). p.rest) (sym here.1) ∙ is)))
+        ap (λ (p : Place). p.key) here.1 ∙ (keyed ∙ ap (λ (r : RestingRow (List Field)). key_at old.own r.row) (row_same (ap (λ (p : Place). p.rest) (sym here.1) ∙ is)))
   ]
     where
       row_same : Some (record { row = row; settled = settled }) ≡ Some rest → record { row = row; settled = settled } ≡ rest

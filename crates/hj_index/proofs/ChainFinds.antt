@@ -10,7 +10,7 @@ use Rattle.std.proofs.lemmas.Option.{get_or_from_slice_get, slice_get-get_or, sl
 use Rattle.std.proofs.lemmas.List.Sums.{fails_before_first, passes_at_first}
 use Rattle.hj_value.specs.declared.field.Field.{Field}
 use Rattle.hj_msg.specs.Store.{holds}
-use Rattle.hj_rows.specs.declared.place.Rest.{Rest}
+use Rattle.hj_rows.specs.declared.place.RestingRow.{RestingRow}
 use Rattle.hj_index.specs.declared.chains.Place.{Place}
 use Rattle.hj_index.specs.Chains.{is_row, rows_at, FindsRow, IsAscending}
 
@@ -22,7 +22,7 @@ pub placeless : (n : ℕ) (places : List Place) → list_any (has_number n) plac
 placeless n [] h = refl
 placeless n (place ∷ places) h = let parts = or_parts (nat_eq place.no n) (list_any (has_number n) places) h in by place.rest refl parts.0 (placeless n places parts.1)
   where
-    by : (rest : Option (Rest (List Field))) → place.rest ≡ rest → nat_eq place.no n ≡ false → holds n (rows_at places) ≡ false → holds n (rows_at (place ∷ places)) ≡ false
+    by : (rest : Option (RestingRow (List Field))) → place.rest ≡ rest → nat_eq place.no n ≡ false → holds n (rows_at places) ≡ false → holds n (rows_at (place ∷ places)) ≡ false
     by None is other later = rw is later
     by (Some rest) is other later = rw is (or_from (nat_eq place.no n) (holds n (rows_at places)) other later)
 
@@ -30,7 +30,7 @@ pub rowless : (n : ℕ) (places : List Place) → list_any (is_row n) places ≡
 rowless n [] h = refl
 rowless n (place ∷ places) h = let parts = or_parts (is_row n place) (list_any (is_row n) places) h in by place.rest refl parts.0 (rowless n places parts.1)
   where
-    by : (rest : Option (Rest (List Field))) → place.rest ≡ rest → is_row n place ≡ false → holds n (rows_at places) ≡ false → holds n (rows_at (place ∷ places)) ≡ false
+    by : (rest : Option (RestingRow (List Field))) → place.rest ≡ rest → is_row n place ≡ false → holds n (rows_at places) ≡ false → holds n (rows_at (place ∷ places)) ≡ false
     by None is other later = rw is later
     by (Some rest) is other later = rw is (or_from (nat_eq place.no n) (holds n (rows_at places)) (whole (nat_eq place.no n) (is_some place.rest) (ap is_some is) other) later)
       where
@@ -55,7 +55,7 @@ empty-absent n low zero (first ∷ places) place up e numbered none = by first.r
     same : first ≡ place
     same = cc
 
-    by : (rest : Option (Rest (List Field))) → first.rest ≡ rest → holds n (rows_at (first ∷ places)) ≡ false
+    by : (rest : Option (RestingRow (List Field))) → first.rest ≡ rest → holds n (rows_at (first ∷ places)) ≡ false
     by None is = rw is (placeless n places (higher-absent n (first.no + 1) places (omega (arith, ap (λ (p : Place). p.no) same, numbered)) up.1))
     by (Some rest) is = absurd (true≢false (sym (ap is_some is) ∙ (ap (λ (p : Place). is_some p.rest) same ∙ none)))
 empty-absent n low (suc at) (first ∷ places) place up e numbered none = by first.rest refl (empty-absent n (first.no + 1) at places place up.1 e numbered none)
@@ -73,7 +73,7 @@ empty-absent n low (suc at) (first ∷ places) place up e numbered none = by fir
         apart true e' = absurd (omega (arith, above (first.no + 1) at places up.1 e, numbered, eqb-true first.no n e'))
         apart false e' = e'
 
-    by : (rest : Option (Rest (List Field))) → first.rest ≡ rest → holds n (rows_at places) ≡ false → holds n (rows_at (first ∷ places)) ≡ false
+    by : (rest : Option (RestingRow (List Field))) → first.rest ≡ rest → holds n (rows_at places) ≡ false → holds n (rows_at (first ∷ places)) ≡ false
     by None is later = rw is later
     by (Some rest) is later = rw is (or_from (nat_eq first.no n) (holds n (rows_at places)) other later)
 

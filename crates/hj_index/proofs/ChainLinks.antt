@@ -4,7 +4,7 @@ use Rattle.std.specs.Cmp.{nat_eq_equiv}
 use Rattle.std.specs.List.{slice_set}
 use Rattle.std.proofs.lemmas.Bool.{eqb-true}
 use Rattle.hj_value.specs.declared.field.Field.{Field}
-use Rattle.hj_rows.specs.declared.place.Rest.{Rest}
+use Rattle.hj_rows.specs.declared.place.RestingRow.{RestingRow}
 use Rattle.hj_index.specs.declared.chains.Place.{Place}
 use Rattle.hj_index.specs.Chains.{counted_on, has_key, known_place, last_place, AreKeyed, AreKnown, AreLinked, IsAscending, IsLinked}
 use Rattle.hj_index.specs.Keys.{key_at}
@@ -39,7 +39,7 @@ pushed-at (first ∷ places) new (suc at) place e =
     ]
 
 pub linked-pushed : (own base : ℕ) (places : List Place) (last : ℕ → Option ℕ) (new : Place) (now : ℕ → Option ℕ) → AreLinked own base places last
-    → ((rest : Rest (List Field)) → new.rest ≡ Some rest → new.key ≡ key_at own rest.row)
+    → ((rest : RestingRow (List Field)) → new.rest ≡ Some rest → new.key ≡ key_at own rest.row)
     → ((key : ℕ) → new.key ≡ Some key → new.before ≡ known_place (last key))
     → ((key : ℕ) → known_place (now key) ≡ cond (has_key key new) (base + suc (length places)) (known_place (last key)))
     → AreLinked own base (places ++ new ∷ []) now
@@ -95,7 +95,7 @@ cut-keys (first ∷ places) zero old new (suc at) e same = let is : first ≡ ol
 cut-keys (first ∷ places) (suc i) old new (suc at) e same = ap (λ ks. first.key ∷ ks) (cut-keys places i old new at e same)
 
 pub linked-set : (own base : ℕ) (places : List Place) (last : ℕ → Option ℕ) (i : ℕ) (old new : Place) → AreLinked own base places last → slice_get places i ≡ Some old → new.key ≡ old.key → new.before ≡ old.before
-    → ((rest : Rest (List Field)) → new.rest ≡ Some rest → new.key ≡ key_at own rest.row) → AreLinked own base (slice_set places i new) last
+    → ((rest : RestingRow (List Field)) → new.rest ≡ Some rest → new.key ≡ key_at own rest.row) → AreLinked own base (slice_set places i new) last
 linked-set own base places last i old new linked e key before keyed = record {
   placed = λ at place found. elim (set-at places i new at place found) [
     | inl same ↦ let it = linked.placed at place same in record {

@@ -7,7 +7,7 @@ use Rattle.std.proofs.lemmas.List.Elements.{All-nil, All-cons}
 use Rattle.std.proofs.lemmas.List.Kept.{AllPairs-cons}
 use Rattle.hj_value.specs.declared.field.Field.{Field}
 use Rattle.hj_msg.specs.Store.{Resting, AreDistinct, holds, with_entry, with_settled, without_entry}
-use Rattle.hj_rows.specs.declared.place.Rest.{Rest}
+use Rattle.hj_rows.specs.declared.place.RestingRow.{RestingRow}
 use Rattle.hj_rows.proofs.Rows.{settled-absent, without-absent, row_of}
 use Rattle.hj_index.specs.declared.chains.Place.{Place}
 use Rattle.hj_index.specs.Chains.{is_member, is_row, numbers, rows_at, AreApart, IsAbove, IsAscending}
@@ -45,7 +45,7 @@ pub rows-pushed : (places others : List Place) → rows_at (places ++ others) �
 rows-pushed [] others = refl
 rows-pushed (place ∷ places) others = by place.rest refl (rows-pushed places others)
   where
-    by : (rest : Option (Rest (List Field))) → place.rest ≡ rest → rows_at (places ++ others) ≡ rows_at places ++ rows_at others → rows_at (place ∷ places ++ others) ≡ rows_at (place ∷ places) ++ rows_at others
+    by : (rest : Option (RestingRow (List Field))) → place.rest ≡ rest → rows_at (places ++ others) ≡ rows_at places ++ rows_at others → rows_at (place ∷ places ++ others) ≡ rows_at (place ∷ places) ++ rows_at others
     by None is later = rw is later
     by (Some rest) is later = rw is (ap (λ rows. row_of place.no rest ∷ rows) later)
 
@@ -73,7 +73,7 @@ and_parts : (a b : Bool) → (a && b) ≡ true → (a ≡ true) × (b ≡ true)
 and_parts true b e = (refl, e)
 and_parts false b e = absurd cc
 
-some_rest : (rest : Option (Rest (List Field))) → is_some rest ≡ true → (r : Rest (List Field)) × (rest ≡ Some r)
+some_rest : (rest : Option (RestingRow (List Field))) → is_some rest ≡ true → (r : RestingRow (List Field)) × (rest ≡ Some r)
 some_rest None e = absurd cc
 some_rest (Some r) e = (r, refl)
 
@@ -86,7 +86,7 @@ row-held n zero (place ∷ places) e =
     rw some.1 (or_left (nat_eq place.no n) (holds n (rows_at places)) parts.0)
 row-held n (suc at) (place ∷ places) e = by place.rest refl (row-held n at places e)
   where
-    by : (rest : Option (Rest (List Field))) → place.rest ≡ rest → holds n (rows_at places) ≡ true → holds n (rows_at (place ∷ places)) ≡ true
+    by : (rest : Option (RestingRow (List Field))) → place.rest ≡ rest → holds n (rows_at places) ≡ true → holds n (rows_at (place ∷ places)) ≡ true
     by None is later = rw is later
     by (Some rest) is later = rw is (or_right (nat_eq place.no n) (holds n (rows_at places)) later)
 
@@ -98,13 +98,13 @@ or-false : (b : Bool) → (b || false) ≡ b
 or-false true = refl
 or-false false = refl
 
-abbrev pub settled : Place → Rest (List Field) → Place
+abbrev pub settled : Place → RestingRow (List Field) → Place
 settled place rest = record place { rest = Some (record rest { settled = true }) }
 
 abbrev pub emptied : Place → Place
 emptied place = record place { rest = None }
 
-pub rows-settled : (n at : ℕ) (places : List Place) (place : Place) (rest : Rest (List Field)) → AreApart (numbers (rows_at places)) → slice_get places at ≡ Some place → place.rest ≡ Some rest → place.no ≡ n
+pub rows-settled : (n at : ℕ) (places : List Place) (place : Place) (rest : RestingRow (List Field)) → AreApart (numbers (rows_at places)) → slice_get places at ≡ Some place → place.rest ≡ Some rest → place.no ≡ n
     → rows_at (slice_set places at (settled place rest)) ≡ with_settled n (rows_at places)
 rows-settled n at [] place rest apart e is numbered = absurd cc
 rows-settled n zero (first ∷ places) place rest apart e is numbered =
@@ -123,14 +123,14 @@ rows-settled n (suc at) (first ∷ places) place rest apart e is numbered = by f
         row-here : nat_eq place.no n ≡ true → is_some place.rest ≡ true → is_row n place ≡ true
         row-here a b = rw (a, b) refl
 
-    by : (other : Option (Rest (List Field))) → first.rest ≡ other → (AreApart (numbers (rows_at places)) → rows_at (slice_set places at (settled place rest)) ≡ with_settled n (rows_at places))
+    by : (other : Option (RestingRow (List Field))) → first.rest ≡ other → (AreApart (numbers (rows_at places)) → rows_at (slice_set places at (settled place rest)) ≡ with_settled n (rows_at places))
         → rows_at (first ∷ slice_set places at (settled place rest)) ≡ with_settled n (rows_at (first ∷ places))
     by None here later = rw here (later (rw here at apart))
     by (Some other) here later =
         let apart' : AreApart (numbers (row_of first.no other ∷ rows_at places)) = rw here at apart in
         rw (here, differ n first.no (rows_at places) held apart'.0, or-false other.settled) (ap (λ rows. row_of first.no other ∷ rows) (later apart'.1))
 
-pub rows-emptied : (n at : ℕ) (places : List Place) (place : Place) (rest : Rest (List Field)) → AreApart (numbers (rows_at places)) → slice_get places at ≡ Some place → place.rest ≡ Some rest → place.no ≡ n
+pub rows-emptied : (n at : ℕ) (places : List Place) (place : Place) (rest : RestingRow (List Field)) → AreApart (numbers (rows_at places)) → slice_get places at ≡ Some place → place.rest ≡ Some rest → place.no ≡ n
     → rows_at (slice_set places at (emptied place)) ≡ without_entry n (rows_at places)
 rows-emptied n at [] place rest apart e is numbered = absurd cc
 rows-emptied n zero (first ∷ places) place rest apart e is numbered =
@@ -149,18 +149,18 @@ rows-emptied n (suc at) (first ∷ places) place rest apart e is numbered = by f
         row-here : nat_eq place.no n ≡ true → is_some place.rest ≡ true → is_row n place ≡ true
         row-here a b = rw (a, b) refl
 
-    by : (other : Option (Rest (List Field))) → first.rest ≡ other → (AreApart (numbers (rows_at places)) → rows_at (slice_set places at (emptied place)) ≡ without_entry n (rows_at places))
+    by : (other : Option (RestingRow (List Field))) → first.rest ≡ other → (AreApart (numbers (rows_at places)) → rows_at (slice_set places at (emptied place)) ≡ without_entry n (rows_at places))
         → rows_at (first ∷ slice_set places at (emptied place)) ≡ without_entry n (rows_at (first ∷ places))
     by None here later = rw here (later (rw here at apart))
     by (Some other) here later =
         let apart' : AreApart (numbers (row_of first.no other ∷ rows_at places)) = rw here at apart in
         rw (here, differ n first.no (rows_at places) held apart'.0) (ap (λ rows. row_of first.no other ∷ rows) (later apart'.1))
 
-head-replaced : (n : ℕ) (first new : Place) (places : List Place) (rest held : Rest (List Field)) → first.rest ≡ Some held → nat_eq first.no n ≡ true → new.rest ≡ Some rest → new.no ≡ n → rows_at (new ∷ places) ≡ with_entry (row_of n rest) (rows_at (first ∷ places))
+head-replaced : (n : ℕ) (first new : Place) (places : List Place) (rest held : RestingRow (List Field)) → first.rest ≡ Some held → nat_eq first.no n ≡ true → new.rest ≡ Some rest → new.no ≡ n → rows_at (new ∷ places) ≡ with_entry (row_of n rest) (rows_at (first ∷ places))
 head-replaced n first new places rest held some equal is numbered = rw (some, is, numbered) (rw equal refl)
 
 -- another row in the place of one
-pub rows-replaced : (n at : ℕ) (places : List Place) (new : Place) (rest : Rest (List Field)) → AreApart (numbers (rows_at places)) → option_map (is_row n) (slice_get places at) ≡ Some true → new.rest ≡ Some rest → new.no ≡ n
+pub rows-replaced : (n at : ℕ) (places : List Place) (new : Place) (rest : RestingRow (List Field)) → AreApart (numbers (rows_at places)) → option_map (is_row n) (slice_get places at) ≡ Some true → new.rest ≡ Some rest → new.no ≡ n
     → rows_at (slice_set places at new) ≡ with_entry (row_of n rest) (rows_at places)
 rows-replaced n at [] new rest apart e is numbered = absurd cc
 rows-replaced n zero (first ∷ places) new rest apart e is numbered =
@@ -169,7 +169,7 @@ rows-replaced n zero (first ∷ places) new rest apart e is numbered =
     head-replaced n first new places rest some.0 some.1 parts.0 is numbered
 rows-replaced n (suc at) (first ∷ places) new rest apart e is numbered = by first.rest refl (λ apart. rows-replaced n at places new rest apart e is numbered)
   where
-    by : (other : Option (Rest (List Field))) → first.rest ≡ other → (AreApart (numbers (rows_at places)) → rows_at (slice_set places at new) ≡ with_entry (row_of n rest) (rows_at places))
+    by : (other : Option (RestingRow (List Field))) → first.rest ≡ other → (AreApart (numbers (rows_at places)) → rows_at (slice_set places at new) ≡ with_entry (row_of n rest) (rows_at places))
         → rows_at (first ∷ slice_set places at new) ≡ with_entry (row_of n rest) (rows_at (first ∷ places))
     by None here later = rw here (later (rw here at apart))
     by (Some other) here later =
@@ -222,7 +222,7 @@ above-absent n (place ∷ places) h = by place.rest refl (above-absent n places 
         each true e = absurd (omega (arith, h.0, eqb-true place.no n e))
         each false e = e
 
-    by : (rest : Option (Rest (List Field))) → place.rest ≡ rest → holds n (rows_at places) ≡ false → holds n (rows_at (place ∷ places)) ≡ false
+    by : (rest : Option (RestingRow (List Field))) → place.rest ≡ rest → holds n (rows_at places) ≡ false → holds n (rows_at (place ∷ places)) ≡ false
     by None is later = rw is later
     by (Some rest) is later = rw is (or_from (nat_eq place.no n) (holds n (rows_at places)) apart later)
 

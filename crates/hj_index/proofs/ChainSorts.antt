@@ -8,7 +8,7 @@ use Rattle.std.specs.Ordering.{nat_cmp}
 use Rattle.std.proofs.lemmas.Bool.{or_parts}
 use Rattle.hj_value.specs.declared.field.Field.{Field}
 use Rattle.hj_msg.specs.Store.{by_number, settled_partners}
-use Rattle.hj_rows.specs.declared.place.Rest.{Rest}
+use Rattle.hj_rows.specs.declared.place.RestingRow.{RestingRow}
 use Rattle.hj_rows.specs.Places.{joining, rows_of}
 use Rattle.hj_rows.proofs.Rows.{Places}
 use Rattle.hj_rows.proofs.SortedProbes.{sorts-joined, sorts-nothing, sorts-passed, Sorts}
@@ -49,7 +49,7 @@ module _ (test : List Field → Bool) (places : List Place) where
       (sorts-nothing test rows (full_places (rows_at places)) (full_places (rows_at places)) none refl (full-distinct (rows_at places) apart))
 
   -- what is left before and after a place
-  before : (at : ℕ) (place : Place) (rest : Rest (List Field)) → slice_get places at ≡ Some place → place.rest ≡ Some rest → left_at at places ≡ (place.no, Some rest) ∷ left_at (suc at) places
+  before : (at : ℕ) (place : Place) (rest : RestingRow (List Field)) → slice_get places at ≡ Some place → place.rest ≡ Some rest → left_at at places ≡ (place.no, Some rest) ∷ left_at (suc at) places
   before at place rest e is = ap (λ ps. full_places (rows_at ps)) (drop-at places at place e) ∙ rw is refl
 
   before-empty : (at : ℕ) (place : Place) → slice_get places at ≡ Some place → place.rest ≡ None → left_at at places ≡ left_at (suc at) places
@@ -58,7 +58,7 @@ module _ (test : List Field → Bool) (places : List Place) where
   pub sort-passed : (rows : List (ℕ × List Field)) (at : ℕ) (place : Place) → slice_get places at ≡ Some place → joining test place.rest ≡ None → IsSorting rows at → IsSorting rows (at + 1)
   sort-passed rows at place e none sorting = subst (IsSorting rows) (let n : suc at ≡ at + 1 = omega arith in n) (by place.rest refl none)
     where
-      by : (rest : Option (Rest (List Field))) → place.rest ≡ rest → joining test rest ≡ None → IsSorting rows (suc at)
+      by : (rest : Option (RestingRow (List Field))) → place.rest ≡ rest → joining test rest ≡ None → IsSorting rows (suc at)
       by None is none = subst (Sorts test (by_number (matches test places)) rows) (before-empty at place e is) sorting
       by (Some rest) is none = sorts-passed test (by_number (matches test places)) rows place.no (Some rest) (left_at at places) (left_at (suc at) places) none (before at place rest e is) sorting
 
@@ -66,7 +66,7 @@ module _ (test : List Field → Bool) (places : List Place) where
       → new ≡ insert_entry nat_cmp rows place.no row → ((k : ℕ) → lookup (is_at (nat_cmp k)) new ≡ cond (is_at (nat_cmp place.no) k) (Some row) (lookup (is_at (nat_cmp k)) rows)) → IsSorting new (at + 1)
   sort-joined rows new at place row e some sorting inserts looks = subst (IsSorting new) (let n : suc at ≡ at + 1 = omega arith in n) (by place.rest refl some)
     where
-      by : (rest : Option (Rest (List Field))) → place.rest ≡ rest → joining test rest ≡ Some row → IsSorting new (suc at)
+      by : (rest : Option (RestingRow (List Field))) → place.rest ≡ rest → joining test rest ≡ Some row → IsSorting new (suc at)
       by None is some = absurd cc
       by (Some rest) is some = sorts-joined test (by_number (matches test places)) rows new place.no (Some rest) (left_at at places) (left_at (suc at) places) row some (before at place rest e is) sorting inserts looks
 

@@ -6,7 +6,7 @@ use Rattle.std.specs.Map.{keys_of, lookup}
 use Rattle.std.proofs.lemmas.Bool.{ltb-true, ltb-false, eqb-true, or_parts, or_from, or_left, or_right}
 use Rattle.std.proofs.lemmas.Map.Entries.{option_filter}
 use Rattle.hj_value.specs.declared.field.Field.{Field}
-use Rattle.hj_rows.specs.declared.place.Rest.{Rest}
+use Rattle.hj_rows.specs.declared.place.RestingRow.{RestingRow}
 use Rattle.hj_index.specs.declared.chains.Place.{Place}
 use Rattle.hj_index.specs.Chains.{counted_on, has_key, is_member, known_place, last_place, rows_at, AreApart, AreKeyed, AreKnown, AreLinked, IsAscending}
 use Rattle.hj_index.proofs.ChainLinks.{ascending-same, linked-pushed, key-is}
@@ -82,7 +82,7 @@ linking-dropped own start rising items last count at l more place rest e none =
 rows-full : (done : List Place) (new : Place) → is_some new.rest ≡ true → length done ≡ length (rows_at done) → length (done ++ new ∷ []) ≡ length (rows_at (done ++ new ∷ []))
 rows-full [] new some full = by new.rest refl
   where
-    by : (rest : Option (Rest (List Field))) → new.rest ≡ rest → 1 ≡ length (rows_at (new ∷ []))
+    by : (rest : Option (RestingRow (List Field))) → new.rest ≡ rest → 1 ≡ length (rows_at (new ∷ []))
     by None is = absurd (true≢false (sym some ∙ ap is_some is))
     by (Some rest) is = rw is refl
 rows-full (first ∷ done) new some full = by first.rest refl (rows-full done new some)
@@ -91,11 +91,11 @@ rows-full (first ∷ done) new some full = by first.rest refl (rows-full done ne
     fewer [] = omega arith
     fewer (place ∷ places) = each place.rest refl (fewer places)
       where
-        each : (rest : Option (Rest (List Field))) → place.rest ≡ rest → length (rows_at places) ≤ length places → length (rows_at (place ∷ places)) ≤ suc (length places)
+        each : (rest : Option (RestingRow (List Field))) → place.rest ≡ rest → length (rows_at places) ≤ length places → length (rows_at (place ∷ places)) ≤ suc (length places)
         each None is le = rw is (omega (arith, le))
         each (Some rest) is le = rw is (omega (arith, le))
 
-    by : (rest : Option (Rest (List Field))) → first.rest ≡ rest → (length done ≡ length (rows_at done) → length (done ++ new ∷ []) ≡ length (rows_at (done ++ new ∷ []))) → suc (length (done ++ new ∷ [])) ≡ length (rows_at (first ∷ done ++ new ∷ []))
+    by : (rest : Option (RestingRow (List Field))) → first.rest ≡ rest → (length done ≡ length (rows_at done) → length (done ++ new ∷ []) ≡ length (rows_at (done ++ new ∷ []))) → suc (length (done ++ new ∷ [])) ≡ length (rows_at (first ∷ done ++ new ∷ []))
     by None is later = absurd (let short : suc (length done) ≡ length (rows_at done) = rw is at full in omega (arith, short, fewer done))
     by (Some rest) is later = rw is (ap suc (later (let tail : suc (length done) ≡ suc (length (rows_at done)) = rw is at full in omega (arith, tail))))
 
@@ -297,6 +297,6 @@ pub still-some : (place : Option ℕ) → is_some {T = ℕ} (option_map (λ (n :
 still-some None = refl
 still-some (Some n) = refl
 
-pub none-here : (rest : Option (Rest (List Field))) → is_some rest ≡ false → rest ≡ None
+pub none-here : (rest : Option (RestingRow (List Field))) → is_some rest ≡ false → rest ≡ None
 none-here None e = refl
 none-here (Some rest) e = absurd cc

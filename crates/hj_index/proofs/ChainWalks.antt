@@ -6,7 +6,7 @@ use Rattle.hj_value.specs.declared.field.Field.{Field}
 use Rattle.hj_msg.specs.declared.partner.Partner.{Partner}
 use Rattle.hj_msg.specs.Order.{insert_by}
 use Rattle.hj_msg.specs.Store.{by_number, settled_partners}
-use Rattle.hj_rows.specs.declared.place.Rest.{Rest}
+use Rattle.hj_rows.specs.declared.place.RestingRow.{RestingRow}
 use Rattle.hj_rows.specs.Places.{joining}
 use Rattle.hj_index.specs.declared.chains.Place.{Place}
 use Rattle.hj_index.specs.Chains.{counted_on, has_key, known_place, last_place, nth_place, rows_at, AreKeyed, AreLinked, IsAscending}
@@ -28,7 +28,7 @@ module _ (test : List Field → Bool) where
   pub matches-joined : (place : Place) (places : List Place) (row : List Field) → joining test place.rest ≡ Some row → matches test (place ∷ places) ≡ partner place.no row ∷ matches test places
   matches-joined place places row e = by place.rest refl e
     where
-      by : (rest : Option (Rest (List Field))) → place.rest ≡ rest → joining test rest ≡ Some row → matches test (place ∷ places) ≡ partner place.no row ∷ matches test places
+      by : (rest : Option (RestingRow (List Field))) → place.rest ≡ rest → joining test rest ≡ Some row → matches test (place ∷ places) ≡ partner place.no row ∷ matches test places
       by None is e = absurd cc
       by (Some rest) is e = passes (rest.settled && test rest.row) refl e
         where
@@ -39,7 +39,7 @@ module _ (test : List Field → Bool) where
   pub matches-passed : (place : Place) (places : List Place) → joining test place.rest ≡ None → matches test (place ∷ places) ≡ matches test places
   matches-passed place places e = by place.rest refl e
     where
-      by : (rest : Option (Rest (List Field))) → place.rest ≡ rest → joining test rest ≡ None → matches test (place ∷ places) ≡ matches test places
+      by : (rest : Option (RestingRow (List Field))) → place.rest ≡ rest → joining test rest ≡ None → matches test (place ∷ places) ≡ matches test places
       by None is e = rw is refl
       by (Some rest) is e = passes (rest.settled && test rest.row) refl e
         where
@@ -49,10 +49,10 @@ module _ (test : List Field → Bool) where
 
   module _ (own key : ℕ) (joins_key : (row : List Field) → test row ≡ true → key_at own row ≡ Some key) where
     -- a place of another key doesn't join
-    other-key : (place : Place) → ((rest : Rest (List Field)) → place.rest ≡ Some rest → place.key ≡ key_at own rest.row) → has_key key place ≡ false → joining test place.rest ≡ None
+    other-key : (place : Place) → ((rest : RestingRow (List Field)) → place.rest ≡ Some rest → place.key ≡ key_at own rest.row) → has_key key place ≡ false → joining test place.rest ≡ None
     other-key place keyed no_key = by place.rest refl
       where
-        by : (rest : Option (Rest (List Field))) → place.rest ≡ rest → joining test rest ≡ None
+        by : (rest : Option (RestingRow (List Field))) → place.rest ≡ rest → joining test rest ≡ None
         by None is = refl
         by (Some rest) is = passes rest.settled (test rest.row) refl
           where

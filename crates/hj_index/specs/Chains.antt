@@ -5,7 +5,7 @@ use Rattle.std.specs.List.{filter_map, list_any}
 use Rattle.std.specs.Option.{option_map_or, unwrap_or}
 use Rattle.hj_value.specs.declared.field.Field.{Field}
 use Rattle.hj_msg.specs.Store.{Resting, holds}
-use Rattle.hj_rows.specs.declared.place.Rest.{Rest}
+use Rattle.hj_rows.specs.declared.place.RestingRow.{RestingRow}
 use Rattle.hj_rows.specs.Places.{resting}
 use Rattle.hj_index.specs.declared.chains.Chains.{Chains}
 use Rattle.hj_index.specs.declared.chains.Place.{Place}
@@ -63,7 +63,7 @@ nth_place (suc at) places = slice_get places at
 
 -- A place behind others: its row has its key, and the place that it names is the last before it with that key.
 pub record IsLinked (own base : ℕ) (earlier : List Place) (place : Place) : Type 0 where
-  pub keyed : (rest : Rest (List Field)) → place.rest ≡ Some rest → place.key ≡ key_at own rest.row
+  pub keyed : (rest : RestingRow (List Field)) → place.rest ≡ Some rest → place.key ≡ key_at own rest.row
   pub linked : (key : ℕ) → place.key ≡ Some key → place.before - base ≡ last_place key earlier
 
 -- each place is linked, and of each key the last place is known
@@ -77,7 +77,7 @@ AreKnown places last = (at key : ℕ) (place : Place) → slice_get places at �
 
 -- the row of each place has its key
 abbrev pub AreKeyed : ℕ → List Place → Type 0
-AreKeyed own places = (at : ℕ) (place : Place) (rest : Rest (List Field)) → slice_get places at ≡ Some place → place.rest ≡ Some rest → place.key ≡ key_at own rest.row
+AreKeyed own places = (at : ℕ) (place : Place) (rest : RestingRow (List Field)) → slice_get places at ≡ Some place → place.rest ≡ Some rest → place.key ≡ key_at own rest.row
 
 -- ---- numbers
 

@@ -9,7 +9,7 @@ use Rattle.hj_eval.specs.declared.store_plan.StorePlan.TheVariants as plans
 use Rattle.hj_eval.specs.Plan.{AreNear}
 use Rattle.hj_msg.specs.Store.{Resting, joins, AreDistinct}
 use Rattle.hj_index.specs.declared.ordered_index.OrderedIndex.{OrderedIndex}
-use Rattle.hj_rows.specs.declared.place.Rest.{Rest}
+use Rattle.hj_rows.specs.declared.place.RestingRow.{RestingRow}
 use Rattle.hj_index.specs.OrderedIndex.{is_key, key_of, stands, Key}
 use Rattle.hj_rows.specs.Places.{entry_at, row_at}
 
@@ -34,11 +34,11 @@ pub record AreOrdered (own : ℕ) (rows : List (Resting (List Field))) (index : 
   pub indexed : (key : Key) → stands index key ≡ is_key key (key_at own rows key.1)
 
 -- the row of a number
-abbrev pub rest_at : ℕ → List (Resting (List Field)) → Option (Rest (List Field))
+abbrev pub rest_at : ℕ → List (Resting (List Field)) → Option (RestingRow (List Field))
 rest_at number rows = option_map (λ entry. record { row = entry.row; settled = entry.settled }) (entry_at number rows)
 
 -- the row for which a key stands in the index; none for a key that stands there for no row
-abbrev pub rest_of : List (Resting (List Field)) → Option Key → Key → Option (Rest (List Field))
+abbrev pub rest_of : List (Resting (List Field)) → Option Key → Key → Option (RestingRow (List Field))
 rest_of rows reserved key = if is_key key reserved then None else rest_at key.1 rows
 
 -- A row of this side joins only with rows of which the number is near its own: it in the one column, they in the other.

@@ -7,7 +7,7 @@ ghost use Rattle.hj_index.specs.Chains.{known_place, nth_place, rows_in, AreChai
 
 use crate::keys::key_at;
 use hj_base::Memory;
-use hj_rows::Rest;
+use hj_rows::RestingRow;
 use hj_value::SharedRow;
 use std::alloc::Global;
 use std::collections::{HashMap, VecDeque};
@@ -25,7 +25,7 @@ pub struct Place {
     pub(crate) key: Option<u64>,
     /// The last place before it that has its key; one that isn't there any more, or 0, where there is none.
     pub(crate) before: u64,
-    pub(crate) rest: Option<Rest<SharedRow>>,
+    pub(crate) rest: Option<RestingRow<SharedRow>>,
 }
 
 /// Rows in the order in which their numbers came, of which those of one key are a chain: each knows the one before it.

@@ -2,19 +2,19 @@
 use Rattle.std.proofs.Common.{◌≡◌, ℕ, zero, suc, Bool, true, false, cond, nat_eq, List, [], ◌∷◌, ◌++◌, map, None, Some, Option, filter, option_map, slice_get, length, ◌≤◌, ◌+◌, arith, refl, sym, ap, subst, ◌∙◌}
 use Rattle.std.specs.Map.{lookup, set_value, remove_entry}
 use Rattle.indexmap.specs.IndexMap.{insert_entry}
-use Rattle.hj_rows.specs.declared.place.Rest.{Rest}
+use Rattle.hj_rows.specs.declared.place.RestingRow.{RestingRow}
 use Rattle.hj_rows.specs.Places.{place_rows, settled_place, StayInPlace}
 use Rattle.hj_rows.proofs.Rows.{inserted-removed, Places}
 
-abbrev row_in : {P : Type 0} → Option (Rest P) → Option P
+abbrev row_in : {P : Type 0} → Option (RestingRow P) → Option P
 row_in place = option_map (λ rest. rest.row) place
 
-settled_row : {P : Type 0} (place : Option (Rest P)) → row_in (settled_place place) ≡ row_in place
+settled_row : {P : Type 0} (place : Option (RestingRow P)) → row_in (settled_place place) ≡ row_in place
 settled_row None = refl
 settled_row (Some rest) = refl
 
 -- a place that is settled
-pub settled-stays : {P : Type 0} (k : ℕ) (place : Option (Rest P)) (es : Places P) → lookup (nat_eq k) es ≡ Some place → place_rows (set_value (nat_eq k) es (settled_place place)) ≡ place_rows es
+pub settled-stays : {P : Type 0} (k : ℕ) (place : Option (RestingRow P)) (es : Places P) → lookup (nat_eq k) es ≡ Some place → place_rows (set_value (nat_eq k) es (settled_place place)) ≡ place_rows es
 settled-stays k place [] at = refl
 settled-stays {P = P} k place ((n, other) ∷ es) at = by (nat_eq k n) refl at (settled-stays k place es)
   where
@@ -84,7 +84,7 @@ pub moved-le : {X : Type 0} (k : ℕ) (v w : X) (es : List (ℕ × X)) → looku
 moved-le k v w es at = omega (arith, inserted-le k w (remove_entry (nat_eq k) es), removed-fewer k v es at)
 
 -- a row that is put under a number which had an empty place, behind all others
-pub put-again : {P : Type 0} (k : ℕ) (place : Option (Rest P)) (es new last : Places P) (v : Option (Rest P)) → lookup (nat_eq k) es ≡ Some v → new ≡ insert_entry nat_eq es k place
+pub put-again : {P : Type 0} (k : ℕ) (place : Option (RestingRow P)) (es new last : Places P) (v : Option (RestingRow P)) → lookup (nat_eq k) es ≡ Some v → new ≡ insert_entry nat_eq es k place
     → last ≡ insert_entry nat_eq (remove_entry (nat_eq k) new) k place → length last ≤ length es
 put-again {P} k place es new last v at puts moves =
     subst (λ (ys : Places P). length ys ≤ length es) (sym (moves ∙ ap (λ ys. insert_entry nat_eq (remove_entry (nat_eq k) ys) k place) puts ∙ ap (λ ys. insert_entry nat_eq ys k place) (inserted-removed k place es)))
@@ -95,11 +95,11 @@ map-last f [] x = refl
 map-last f (y ∷ xs) x = ap (λ ys. f y ∷ ys) (map-last f xs x)
 
 -- a row that is put under a new number
-pub put-last : {P : Type 0} (k : ℕ) (rest : Rest P) (es new : Places P) → new ≡ insert_entry nat_eq es k (Some rest) → length new ≡ length es + 1
+pub put-last : {P : Type 0} (k : ℕ) (rest : RestingRow P) (es new : Places P) → new ≡ insert_entry nat_eq es k (Some rest) → length new ≡ length es + 1
     → place_rows new ≡ place_rows es ++ Some rest.row ∷ []
 put-last {P} k rest es new puts long =
     ap place_rows (puts ∙ inserted-last k (Some rest) es (sym (ap length puts) ∙ long))
-    ∙ map-last (λ (place : ℕ × Option (Rest P)). row_in place.1) es (k, Some rest)
+    ∙ map-last (λ (place : ℕ × Option (RestingRow P)). row_in place.1) es (k, Some rest)
 
 length-set : {X : Type 0} (k : ℕ) (v : X) (es : List (ℕ × X)) → length (set_value (nat_eq k) es v) ≡ length es
 length-set k v [] = refl

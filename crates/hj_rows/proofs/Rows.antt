@@ -11,13 +11,13 @@ use Rattle.std.proofs.lemmas.Map.Entries.{none_past_head}
 use Rattle.std.proofs.lemmas.Map.Keys.{IsDistinct-head, IsDistinct-tail}
 use Rattle.indexmap.specs.IndexMap.{insert_entry}
 use Rattle.hj_msg.specs.Store.{Resting, AreDistinct, holds, with_entry, with_settled, without_entry}
-use Rattle.hj_rows.specs.declared.place.Rest.{Rest}
+use Rattle.hj_rows.specs.declared.place.RestingRow.{RestingRow}
 use Rattle.hj_rows.specs.Places.{entry_at, is_empty_place, row_at, rows_of, settled_place}
 
 abbrev pub Places : Type 0 → Type 0
-Places P = List (ℕ × Option (Rest P))
+Places P = List (ℕ × Option (RestingRow P))
 
-abbrev pub row_of : {P : Type 0} → ℕ → Rest P → Resting P
+abbrev pub row_of : {P : Type 0} → ℕ → RestingRow P → Resting P
 row_of number rest = record { no = number; row = rest.row; settled = rest.settled }
 
 -- ---- numbers of places
@@ -58,7 +58,7 @@ holds-empty k ((n, Some rest) ∷ es) unique at = by (nat_eq k n) refl at (holds
     by true p h later = cc
     by false p h later = or_from (nat_eq n k) (holds k (rows_of es)) (flipped k n false p) (later h)
 
-pub holds-row : {P : Type 0} (k : ℕ) (rest : Rest P) (es : Places P) → lookup (nat_eq k) es ≡ Some (Some rest) → holds k (rows_of es) ≡ true
+pub holds-row : {P : Type 0} (k : ℕ) (rest : RestingRow P) (es : Places P) → lookup (nat_eq k) es ≡ Some (Some rest) → holds k (rows_of es) ≡ true
 holds-row k rest [] at = cc
 holds-row k rest ((n, None) ∷ es) at = by (nat_eq k n) refl at (holds-row k rest es)
   where
@@ -95,11 +95,11 @@ or-true : (b : Bool) → (b || true) ≡ true
 or-true true = refl
 or-true false = refl
 
-abbrev settled_rest : {P : Type 0} → Rest P → Rest P
+abbrev settled_rest : {P : Type 0} → RestingRow P → RestingRow P
 settled_rest rest = record rest { settled = true }
 
 -- a place whose row is settled
-pub rows-settled : {P : Type 0} (k : ℕ) (rest : Rest P) (es : Places P) → IsDistinct nat_eq (keys_of es) → lookup (nat_eq k) es ≡ Some (Some rest)
+pub rows-settled : {P : Type 0} (k : ℕ) (rest : RestingRow P) (es : Places P) → IsDistinct nat_eq (keys_of es) → lookup (nat_eq k) es ≡ Some (Some rest)
     → rows_of (set_value (nat_eq k) es (Some (record rest { settled = true }))) ≡ with_settled k (rows_of es)
 rows-settled k rest [] unique at = cc
 rows-settled {P = P} k rest ((n, None) ∷ es) unique at = by (nat_eq k n) refl at (rows-settled k rest es (IsDistinct-tail nat_eq n (keys_of es) unique))
@@ -134,7 +134,7 @@ rows-emptied {P = P} k ((n, Some row) ∷ es) unique = by (nat_eq k n) refl (row
     by false p later = rw (p, flipped k n false p) (ap (λ rows. row_of n row ∷ rows) later)
 
 -- a row that is put under a number whose place isn't empty
-pub rows-inserted : {P : Type 0} (k : ℕ) (rest : Rest P) (es : Places P) → is_empty_place (lookup (nat_eq k) es) ≡ false
+pub rows-inserted : {P : Type 0} (k : ℕ) (rest : RestingRow P) (es : Places P) → is_empty_place (lookup (nat_eq k) es) ≡ false
     → rows_of (insert_entry nat_eq es k (Some rest)) ≡ with_entry (row_of k rest) (rows_of es)
 rows-inserted k rest [] full = refl
 rows-inserted {P = P} k rest ((n, None) ∷ es) full = by (nat_eq k n) refl full (rows-inserted k rest es)
@@ -178,13 +178,13 @@ inserted-removed {X = X} k v ((n, w) ∷ es) = by (nat_eq k n) refl (inserted-re
     by true p later = rw p (rw p refl)
     by false p later = rw p (rw p (ap (λ rest. (n, w) ∷ rest) later))
 
-pub found-empty : {P : Type 0} (place : Option (Option (Rest P))) → is_empty_place place ≡ true → place ≡ Some None
+pub found-empty : {P : Type 0} (place : Option (Option (RestingRow P))) → is_empty_place place ≡ true → place ≡ Some None
 found-empty None h = cc
 found-empty (Some None) h = refl
 found-empty (Some (Some rest)) h = cc
 
 -- a row that is put under a number whose place is empty, and moved behind all others
-pub rows-moved : {P : Type 0} (k : ℕ) (rest : Rest P) (es : Places P) → IsDistinct nat_eq (keys_of es) → is_empty_place (lookup (nat_eq k) es) ≡ true
+pub rows-moved : {P : Type 0} (k : ℕ) (rest : RestingRow P) (es : Places P) → IsDistinct nat_eq (keys_of es) → is_empty_place (lookup (nat_eq k) es) ≡ true
     → rows_of (insert_entry nat_eq (remove_entry (nat_eq k) (insert_entry nat_eq es k (Some rest))) k (Some rest)) ≡ with_entry (row_of k rest) (rows_of es)
 rows-moved {P = P} k rest es unique empty =
     let at = found-empty (lookup (nat_eq k) es) empty in
@@ -216,7 +216,7 @@ rows-distinct {P = P} ((n, Some row) ∷ es) unique =
 
 -- ---- a place that was found
 
-pub held-at : {P : Type 0} (k : ℕ) (place : Option (Rest P)) (es : Places P) → IsDistinct nat_eq (keys_of es) → lookup (nat_eq k) es ≡ Some place → is_some place ≡ holds k (rows_of es)
+pub held-at : {P : Type 0} (k : ℕ) (place : Option (RestingRow P)) (es : Places P) → IsDistinct nat_eq (keys_of es) → lookup (nat_eq k) es ≡ Some place → is_some place ≡ holds k (rows_of es)
 held-at k None es unique at = sym (holds-empty k es unique at)
 held-at k (Some rest) es unique at = sym (holds-row k rest es at)
 
@@ -229,7 +229,7 @@ same-empty {P = P} k ((n, place) ∷ es) at = by (nat_eq k n) refl at (same-empt
     by true p h later = let same : place ≡ None = cc in rw (p, same) refl
     by false p h later = rw p (ap (λ rest. (n, place) ∷ rest) (later h))
 
-pub settled-at : {P : Type 0} (k : ℕ) (place : Option (Rest P)) (es : Places P) → IsDistinct nat_eq (keys_of es) → lookup (nat_eq k) es ≡ Some place
+pub settled-at : {P : Type 0} (k : ℕ) (place : Option (RestingRow P)) (es : Places P) → IsDistinct nat_eq (keys_of es) → lookup (nat_eq k) es ≡ Some place
     → rows_of (set_value (nat_eq k) es (settled_place place)) ≡ with_settled k (rows_of es)
 settled-at k None es unique at = rw (same-empty k es at) (sym (settled-absent k (rows_of es) (holds-empty k es unique at)))
 settled-at k (Some rest) es unique at = rows-settled k rest es unique at
@@ -243,7 +243,7 @@ entry-absent k ((n, Some rest) ∷ es) at =
     let t = none-tail k n (Some rest) es at in
     rw (flipped k n false t.0) (entry-absent k es t.1)
 
-pub entry-found : {P : Type 0} (k : ℕ) (place : Option (Rest P)) (es : Places P) → IsDistinct nat_eq (keys_of es) → lookup (nat_eq k) es ≡ Some place
+pub entry-found : {P : Type 0} (k : ℕ) (place : Option (RestingRow P)) (es : Places P) → IsDistinct nat_eq (keys_of es) → lookup (nat_eq k) es ≡ Some place
     → entry_at k (rows_of es) ≡ option_map (row_of k) place
 entry-found k place [] unique at = cc
 entry-found {P = P} k place ((n, None) ∷ es) unique at = by (nat_eq k n) refl at (entry-found k place es (IsDistinct-tail nat_eq n (keys_of es) unique))
@@ -270,21 +270,21 @@ fewer-rows ((n, Some row) ∷ es) = omega (arith, fewer-rows es)
 
 -- a row that was found first under its number, or none
 pub row-taken : {P : Type 0} (k : ℕ) (es : Places P) → is_empty_place (lookup (nat_eq k) es) ≡ false
-    → row_at k (rows_of es) ≡ option_map (λ (rest : Rest P). rest.row) (option_and_then (λ (place : Option (Rest P)). place) (lookup (nat_eq k) es))
+    → row_at k (rows_of es) ≡ option_map (λ (rest : RestingRow P). rest.row) (option_and_then (λ (place : Option (RestingRow P)). place) (lookup (nat_eq k) es))
 row-taken k [] full = refl
 row-taken {P = P} k ((n, None) ∷ es) full = by (nat_eq k n) refl full (row-taken k es)
   where
     by : (b : Bool) → nat_eq k n ≡ b → is_empty_place (cond b (Some None) (lookup (nat_eq k) es)) ≡ false
-        → (is_empty_place (lookup (nat_eq k) es) ≡ false → row_at k (rows_of es) ≡ option_map (λ (rest : Rest P). rest.row) (option_and_then (λ (place : Option (Rest P)). place) (lookup (nat_eq k) es)))
-        → row_at k (rows_of es) ≡ option_map (λ (rest : Rest P). rest.row) (option_and_then (λ (place : Option (Rest P)). place) (cond b (Some None) (lookup (nat_eq k) es)))
+        → (is_empty_place (lookup (nat_eq k) es) ≡ false → row_at k (rows_of es) ≡ option_map (λ (rest : RestingRow P). rest.row) (option_and_then (λ (place : Option (RestingRow P)). place) (lookup (nat_eq k) es)))
+        → row_at k (rows_of es) ≡ option_map (λ (rest : RestingRow P). rest.row) (option_and_then (λ (place : Option (RestingRow P)). place) (cond b (Some None) (lookup (nat_eq k) es)))
     by true p h later = cc
     by false p h later = later h
 row-taken {P = P} k ((n, Some row) ∷ es) full = by (nat_eq k n) refl full (row-taken k es)
   where
     by : (b : Bool) → nat_eq k n ≡ b → is_empty_place (cond b (Some (Some row)) (lookup (nat_eq k) es)) ≡ false
-        → (is_empty_place (lookup (nat_eq k) es) ≡ false → row_at k (rows_of es) ≡ option_map (λ (rest : Rest P). rest.row) (option_and_then (λ (place : Option (Rest P)). place) (lookup (nat_eq k) es)))
+        → (is_empty_place (lookup (nat_eq k) es) ≡ false → row_at k (rows_of es) ≡ option_map (λ (rest : RestingRow P). rest.row) (option_and_then (λ (place : Option (RestingRow P)). place) (lookup (nat_eq k) es)))
         → option_map (λ (entry : Resting P). entry.row) (cond (nat_eq n k) (Some (row_of n row)) (entry_at k (rows_of es)))
-        ≡ option_map (λ (rest : Rest P). rest.row) (option_and_then (λ (place : Option (Rest P)). place) (cond b (Some (Some row)) (lookup (nat_eq k) es)))
+        ≡ option_map (λ (rest : RestingRow P). rest.row) (option_and_then (λ (place : Option (RestingRow P)). place) (cond b (Some (Some row)) (lookup (nat_eq k) es)))
     by true p h later = rw (flipped k n true p) refl
     by false p h later = rw (flipped k n false p) (later h)
 
@@ -294,7 +294,7 @@ no-some (Some x) e = absurd cc
 
 -- a place that is found at an index
 pub row-indexed : {P : Type 0} (k at : ℕ) (es : Places P) → IsDistinct nat_eq (keys_of es) → slice_get (map (λ e. e.1) es) at ≡ lookup (nat_eq k) es
-    → (entry : ℕ × Option (Rest P)) → slice_get es at ≡ Some entry → entry_at k (rows_of es) ≡ option_map (row_of k) entry.1
+    → (entry : ℕ × Option (RestingRow P)) → slice_get es at ≡ Some entry → entry_at k (rows_of es) ≡ option_map (row_of k) entry.1
 row-indexed k at es unique same entry found = entry-found k entry.1 es unique (sym same ∙ mapped es at found)
   where
     mapped : {A B : Type 0} → (xs : List (A × B)) (at : ℕ) {x : A × B} → slice_get xs at ≡ Some x → slice_get (map (λ (e : A × B). e.1) xs) at ≡ Some x.1

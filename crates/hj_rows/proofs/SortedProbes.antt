@@ -8,7 +8,7 @@ use Rattle.std.specs.Ordering.{nat_cmp}
 use Rattle.std.specs.Cmp.{nat_eq_equiv}
 use Rattle.std.proofs.lemmas.Map.Keys.{IsDistinct-tail}
 use Rattle.hj_msg.specs.declared.partner.Partner.{Partner}
-use Rattle.hj_rows.specs.declared.place.Rest.{Rest}
+use Rattle.hj_rows.specs.declared.place.RestingRow.{RestingRow}
 use Rattle.hj_rows.specs.Places.{joining, partner_of, rows_of}
 use Rattle.hj_rows.proofs.Rows.{Places, none-tail, past-head, flipped}
 use Rattle.hj_msg.proofs.Gathering.{insert_after}
@@ -46,7 +46,7 @@ module _ {P : Type 0} (test : P → Bool) (target : List (Partner P)) where
   abbrev pub Sorts : List (ℕ × P) → Places P → Type 0
   Sorts rows es = Finds test target (map partner_of rows) es × IsDistinct nat_eq (keys_of es) × ((k : ℕ) → is_some (lookup (is_at (nat_cmp k)) rows) ≡ true → lookup (nat_eq k) es ≡ None)
 
-  pub sorts-passed : (rows : List (ℕ × P)) (n : ℕ) (place : Option (Rest P)) (before es : Places P) → joining test place ≡ None → before ≡ (n, place) ∷ es → Sorts rows before → Sorts rows es
+  pub sorts-passed : (rows : List (ℕ × P)) (n : ℕ) (place : Option (RestingRow P)) (before es : Places P) → joining test place ≡ None → before ≡ (n, place) ∷ es → Sorts rows before → Sorts rows es
   sorts-passed rows n place before es none is sorts =
       let unique = subst (λ places. IsDistinct nat_eq (keys_of places)) is sorts.1 in (
         finds-passed test target (map partner_of rows) n place before es none is sorts.0,
@@ -55,14 +55,14 @@ module _ {P : Type 0} (test : P → Bool) (target : List (Partner P)) where
       )
 
   -- the number of the next place is new
-  new-number : (rows : List (ℕ × P)) (n : ℕ) (place : Option (Rest P)) (es : Places P) → ((k : ℕ) → is_some (lookup (is_at (nat_cmp k)) rows) ≡ true → lookup (nat_eq k) ((n, place) ∷ es) ≡ None) → lookup (is_at (nat_cmp n)) rows ≡ None
+  new-number : (rows : List (ℕ × P)) (n : ℕ) (place : Option (RestingRow P)) (es : Places P) → ((k : ℕ) → is_some (lookup (is_at (nat_cmp k)) rows) ≡ true → lookup (nat_eq k) ((n, place) ∷ es) ≡ None) → lookup (is_at (nat_cmp n)) rows ≡ None
   new-number rows n place es apart = by (lookup (is_at (nat_cmp n)) rows) refl
     where
       by : (found : Option P) → lookup (is_at (nat_cmp n)) rows ≡ found → lookup (is_at (nat_cmp n)) rows ≡ None
       by None h = h
       by (Some row) h = let t = none-tail n n place es (apart n (ap is_some h)) in absurd (true≢false (sym (nat_eq_equiv.refl n) ∙ t.0))
 
-  pub sorts-joined : (rows new : List (ℕ × P)) (n : ℕ) (place : Option (Rest P)) (before es : Places P) (row : P) → joining test place ≡ Some row → before ≡ (n, place) ∷ es → Sorts rows before
+  pub sorts-joined : (rows new : List (ℕ × P)) (n : ℕ) (place : Option (RestingRow P)) (before es : Places P) (row : P) → joining test place ≡ Some row → before ≡ (n, place) ∷ es → Sorts rows before
       → new ≡ insert_entry nat_cmp rows n row → ((k : ℕ) → lookup (is_at (nat_cmp k)) new ≡ cond (is_at (nat_cmp n) k) (Some row) (lookup (is_at (nat_cmp k)) rows)) → Sorts new es
   sorts-joined rows new n place before es row some is sorts inserts looks =
       let unique = subst (λ places. IsDistinct nat_eq (keys_of places)) is sorts.1 in

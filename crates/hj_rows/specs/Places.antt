@@ -4,19 +4,19 @@ use Rattle.std.specs.List.{filter_map}
 use Rattle.std.specs.declared.option.Option.{Option}
 use Rattle.hj_msg.specs.declared.partner.Partner.{Partner}
 use Rattle.hj_msg.specs.Store.{Resting}
-use Rattle.hj_rows.specs.declared.place.Rest.{Rest}
+use Rattle.hj_rows.specs.declared.place.RestingRow.{RestingRow}
 
 -- the row of a place, under its number
-abbrev pub resting : {P : Type 0} → ℕ → Option (Rest P) → Option (Resting P)
+abbrev pub resting : {P : Type 0} → ℕ → Option (RestingRow P) → Option (Resting P)
 resting number None = None
 resting number (Some rest) = Some (record { no = number; row = rest.row; settled = rest.settled })
 
 -- the rows of the places that aren't empty, in order
-abbrev pub rows_of : {P : Type 0} → List (ℕ × Option (Rest P)) → List (Resting P)
+abbrev pub rows_of : {P : Type 0} → List (ℕ × Option (RestingRow P)) → List (Resting P)
 rows_of places = filter_map (λ place. resting place.0 place.1) places
 
 -- the row of each place, in order; none for an empty place
-abbrev pub place_rows : {P : Type 0} → List (ℕ × Option (Rest P)) → List (Option P)
+abbrev pub place_rows : {P : Type 0} → List (ℕ × Option (RestingRow P)) → List (Option P)
 place_rows places = map (λ place. option_map (λ rest. rest.row) place.1) places
 
 -- each row that a place has after, it had before
@@ -32,17 +32,17 @@ abbrev pub row_at : {P : Type 0} → ℕ → List (Resting P) → Option P
 row_at at rows = option_map (λ entry. entry.row) (entry_at at rows)
 
 -- a place, with its row settled
-abbrev pub settled_place : {P : Type 0} → Option (Rest P) → Option (Rest P)
+abbrev pub settled_place : {P : Type 0} → Option (RestingRow P) → Option (RestingRow P)
 settled_place None = None
 settled_place (Some rest) = Some (record rest { settled = true })
 
 -- the row of a place, where it is settled and passes a test
-abbrev pub joining : {P : Type 0} → (P → Bool) → Option (Rest P) → Option P
+abbrev pub joining : {P : Type 0} → (P → Bool) → Option (RestingRow P) → Option P
 joining test None = None
 joining test (Some rest) = if rest.settled && test rest.row then Some rest.row else None
 
 -- there is a place, and it is empty
-abbrev pub is_empty_place : {P : Type 0} → Option (Option (Rest P)) → Bool
+abbrev pub is_empty_place : {P : Type 0} → Option (Option (RestingRow P)) → Bool
 is_empty_place None = false
 is_empty_place (Some None) = true
 is_empty_place (Some (Some rest)) = false

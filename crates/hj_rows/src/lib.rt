@@ -9,4 +9,4 @@ mod place;
 pub use key_filter::{KeyFilter, KeyRange};
 pub use list_store::{ListStore, is_joined, joining_row, partners_of, probe_sorted};
 pub use numbered::Numbered;
-pub use place::Rest;
+pub use place::RestingRow;

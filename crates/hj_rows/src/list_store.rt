@@ -6,7 +6,7 @@ ghost use Rattle.hj_rows.specs.Numbered.{room_in, rows_in};
 ghost use Rattle.hj_rows.specs.Places.{joining, partner_of};
 
 use crate::numbered::Numbered;
-use crate::place::Rest;
+use crate::place::RestingRow;
 use hj_base::{EventNo, Memory, Share, Side};
 use hj_msg::{Join, Partner, Partners, Store};
 use std::alloc::Global;
@@ -124,7 +124,7 @@ pub fn partners_of<P: Drop>(alloc: Global, rows: BTreeMap<u64, P>) -> Result<Par
 /// Gives the row of a place, where it is settled and joins with `against`, a row of the other side; `side` is that of the place.
 #[inline(always)]
 pub fn joining_row<'a, P, J: Join<P>>(
-    place: &'a Option<Rest<P>>,
+    place: &'a Option<RestingRow<P>>,
     side: Side,
     against: &P,
     join: &J,

@@ -4,7 +4,7 @@ ghost use Rattle.hj_msg.specs.Store.{AreDistinct, holds, with_entry, with_settle
 ghost use Rattle.hj_rows.specs.Numbered.{places_in, room_in, rows_in};
 ghost use Rattle.hj_rows.specs.Places.{entry_at, row_at, rows_of, StayInPlace};
 
-use crate::place::{Rest, settle_place, taken_place, was_empty};
+use crate::place::{RestingRow, settle_place, taken_place, was_empty};
 use hj_base::Memory;
 use indexmap::IndexMap;
 use std::alloc::Global;
@@ -15,7 +15,7 @@ use std::alloc::Global;
 #[derive(Drop)]
 pub struct Numbered<P> {
     /// The place of each number.
-    pub places: IndexMap<u64, Option<Rest<P>>>,
+    pub places: IndexMap<u64, Option<RestingRow<P>>>,
     /// How many places are empty.
     empty: usize,
 }
@@ -42,7 +42,7 @@ impl<P> Numbered<P> {
     }
 
     /// Returns the row of a number; None exactly where there is none.
-    pub fn get(&self, no: u64) -> Option<&Rest<P>>
+    pub fn get(&self, no: u64) -> Option<&RestingRow<P>>
         ensures { option_map (λ rest. record { no = no; row = rest.now.row; settled = rest.now.settled }) result ≡ entry_at no (rows_in self.now) }
     {
         let at = self.places.get_index_of(&no)?;
@@ -74,7 +74,7 @@ impl<P: Drop> Numbered<P> {
         ensures appended { length self.new.places.entries ≡ length self.old.places.entries + 1 → places_in self.new ≡ places_in self.old ++ Some row ∷ [] }
         ensures distinct { AreDistinct (rows_in self.new) }
     {
-        let Ok(old) = self.places.insert(no, Some(Rest { row, settled })) else {
+        let Ok(old) = self.places.insert(no, Some(RestingRow { row, settled })) else {
             unreachable!()
         };
         if was_empty(&old) {

@@ -6,7 +6,7 @@ ghost use Rattle.hj_index.specs.Chains.{is_key, is_row, known_place, rows_in, Ar
 
 use crate::chains::{Chains, Place};
 use crate::keys::key_at;
-use hj_rows::Rest;
+use hj_rows::RestingRow;
 use hj_value::SharedRow;
 use std::collections::HashMap;
 
@@ -30,7 +30,7 @@ impl Chains {
             no,
             key,
             before,
-            rest: Some(Rest { row, settled }),
+            rest: Some(RestingRow { row, settled }),
         });
     }
 
@@ -49,7 +49,7 @@ impl Chains {
             no,
             key,
             before: 0,
-            rest: Some(Rest { row, settled }),
+            rest: Some(RestingRow { row, settled }),
         };
         self.set_place(at, place);
         self.link_anew();

@@ -1,7 +1,7 @@
 use Rattle.std.proofs.Common.{◌≡◌, ℕ, None, Some, Option, Bor, is_some, nat_eq, option_map, sym, ap, ◌∙◌}
 use Rattle.std.specs.Map.{lookup}
 use Rattle.std.specs.Option.{option_copied}
-use Rattle.hj_rows.specs.declared.place.Rest.{Rest}
+use Rattle.hj_rows.specs.declared.place.RestingRow.{RestingRow}
 use Rattle.hj_rows.proofs.Rows.{entry-absent, row-indexed, row_of, no-some}
 use Rattle.hj_rows.proofs.numbered.Numbered.get.Goals as goal
 
@@ -10,8 +10,8 @@ returns-in_err-at g c =
     let absent : lookup (nat_eq c.args.no) c.args.self.now.places.entries ≡ None = no-some _ (sym c.get_index_of.ensures.found ∙ ap is_some c.in_err-at.was) in
     ap (option_map _) c.from_residual.ensures ∙ sym (entry-absent c.args.no c.args.self.now.places.entries absent)
 
-shown : {P : Type 0} (k : ℕ) (found : Option (Bor (Rest P))) (place : Option (Rest P)) → option_copied found ≡ place
-    → option_map (λ (rest : Bor (Rest P)). row_of k rest.now) found ≡ option_map (row_of k) place
+shown : {P : Type 0} (k : ℕ) (found : Option (Bor (RestingRow P))) (place : Option (RestingRow P)) → option_copied found ≡ place
+    → option_map (λ (rest : Bor (RestingRow P)). row_of k rest.now) found ≡ option_map (row_of k) place
 shown k None place e = ap (option_map (row_of k)) e
 shown k (Some rest) place e = ap (option_map (row_of k)) e
 

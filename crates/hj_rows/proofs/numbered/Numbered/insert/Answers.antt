@@ -5,7 +5,7 @@ use Rattle.indexmap.specs.IndexMap.{insert_entry}
 use Rattle.indexmap.proofs.CallerLemmas.{keys-insert_entry-present}
 use Rattle.hj_msg.specs.Store.{Resting}
 use Rattle.hj_rows.specs.Places.{rows_of, is_empty_place}
-use Rattle.hj_rows.specs.declared.place.Rest.{Rest}
+use Rattle.hj_rows.specs.declared.place.RestingRow.{RestingRow}
 use Rattle.hj_rows.proofs.Rows.{entry-found, found-empty, row-taken, rows-distinct, rows-inserted, rows-moved}
 use Rattle.hj_rows.proofs.InPlace.{inserted-le, put-again, put-last}
 use Rattle.hj_rows.proofs.numbered.Numbered.insert.Goals as goal
@@ -16,7 +16,7 @@ returns-then-was_empty-clause-rows g c =
     let m = c.args.self.now.places in
     let new = c.insert.new.self.entries in
     let last = c.move_last.new.self.places.entries in
-    let rest : Rest g.row.P.Denot = record { row = c.args.row; settled = c.args.settled } in
+    let rest : RestingRow g.row.P.Denot = record { row = c.args.row; settled = c.args.settled } in
     let moved = subst (λ held. IfSome held (λ place. last ≡ insert_entry nat_eq (remove_entry (nat_eq k) new) k place)) c.in-Ok.ensures.updates.1 c.move_last.ensures.moved in
     let empty : is_empty_place (lookup (nat_eq k) m.entries) ≡ true = ap is_empty_place (sym c.in-Ok.ensures.old) ∙ sym c.if-was_empty.ensures in
     let unique = subst (IsDistinct nat_eq) (ap keys_of c.in-Ok.ensures.entries ∙ keys-insert_entry-present nat_eq m k (Some rest) (ap is_some (found-empty (lookup (nat_eq k) m.entries) empty))) c.in-Ok.ensures.unique in
@@ -29,7 +29,7 @@ pub returns-clause-rows : goal.returns-clause-rows
 returns-clause-rows g c =
     let k = c.args.no in
     let es = c.args.self.now.places.entries in
-    let rest : Rest g.row.P.Denot = record { row = c.args.row; settled = c.args.settled } in
+    let rest : RestingRow g.row.P.Denot = record { row = c.args.row; settled = c.args.settled } in
     let full : is_empty_place (lookup (nat_eq k) es) ≡ false = ap is_empty_place (sym c.in-Ok.ensures.old) ∙ sym c.if-was_empty.ensures in
     ap rows_of c.in-Ok.ensures.entries ∙ rows-inserted k rest es full
 
@@ -40,7 +40,7 @@ pub returns-then-was_empty-clause-replaced : goal.returns-then-was_empty-clause-
 returns-then-was_empty-clause-replaced g c =
     let k = c.args.no in
     let m = c.args.self.now.places in
-    let rest : Rest g.row.P.Denot = record { row = c.args.row; settled = c.args.settled } in
+    let rest : RestingRow g.row.P.Denot = record { row = c.args.row; settled = c.args.settled } in
     let empty : is_empty_place (lookup (nat_eq k) m.entries) ≡ true = ap is_empty_place (sym c.in-Ok.ensures.old) ∙ sym c.if-was_empty.ensures in
     let found = found-empty (lookup (nat_eq k) m.entries) empty in
     let unique = subst (IsDistinct nat_eq) (ap keys_of c.in-Ok.ensures.entries ∙ keys-insert_entry-present nat_eq m k (Some rest) (ap is_some found)) c.in-Ok.ensures.unique in
@@ -51,7 +51,7 @@ returns-clause-replaced g c =
     let k = c.args.no in
     let es = c.args.self.now.places.entries in
     let full : is_empty_place (lookup (nat_eq k) es) ≡ false = ap is_empty_place (sym c.in-Ok.ensures.old) ∙ sym c.if-was_empty.ensures in
-    c.taken_place.ensures ∙ ap (λ (o : Option (Option (Rest g.row.P.Denot))). option_map (λ (rest : Rest g.row.P.Denot). rest.row) (option_and_then (λ (place : Option (Rest g.row.P.Denot)). place) o)) c.in-Ok.ensures.old
+    c.taken_place.ensures ∙ ap (λ (o : Option (Option (RestingRow g.row.P.Denot))). option_map (λ (rest : RestingRow g.row.P.Denot). rest.row) (option_and_then (λ (place : Option (RestingRow g.row.P.Denot)). place) o)) c.in-Ok.ensures.old
     ∙ sym (row-taken k es full)
 
 pub returns-then-was_empty-clause-appended : goal.returns-then-was_empty-clause-appended
@@ -60,7 +60,7 @@ returns-then-was_empty-clause-appended g c = λ long.
     let m = c.args.self.now.places in
     let new = c.insert.new.self.entries in
     let last = c.move_last.new.self.places.entries in
-    let rest : Rest g.row.P.Denot = record { row = c.args.row; settled = c.args.settled } in
+    let rest : RestingRow g.row.P.Denot = record { row = c.args.row; settled = c.args.settled } in
     let moved = subst (λ held. IfSome held (λ place. last ≡ insert_entry nat_eq (remove_entry (nat_eq k) new) k place)) c.in-Ok.ensures.updates.1 c.move_last.ensures.moved in
     let empty : is_empty_place (lookup (nat_eq k) m.entries) ≡ true = ap is_empty_place (sym c.in-Ok.ensures.old) ∙ sym c.if-was_empty.ensures in
     let no_longer = put-again k (Some rest) m.entries new last None (found-empty (lookup (nat_eq k) m.entries) empty) c.in-Ok.ensures.entries moved in
@@ -70,7 +70,7 @@ pub returns-clause-appended : goal.returns-clause-appended
 returns-clause-appended g c = λ long.
     let k = c.args.no in
     let es = c.args.self.now.places.entries in
-    let rest : Rest g.row.P.Denot = record { row = c.args.row; settled = c.args.settled } in
+    let rest : RestingRow g.row.P.Denot = record { row = c.args.row; settled = c.args.settled } in
     put-last k rest es c.insert.new.self.entries c.in-Ok.ensures.entries long
 
 pub returns-then-was_empty-clause-few : goal.returns-then-was_empty-clause-few
@@ -79,7 +79,7 @@ returns-then-was_empty-clause-few g c =
     let m = c.args.self.now.places in
     let new = c.insert.new.self.entries in
     let last = c.move_last.new.self.places.entries in
-    let rest : Rest g.row.P.Denot = record { row = c.args.row; settled = c.args.settled } in
+    let rest : RestingRow g.row.P.Denot = record { row = c.args.row; settled = c.args.settled } in
     let moved = subst (λ held. IfSome held (λ place. last ≡ insert_entry nat_eq (remove_entry (nat_eq k) new) k place)) c.in-Ok.ensures.updates.1 c.move_last.ensures.moved in
     let empty : is_empty_place (lookup (nat_eq k) m.entries) ≡ true = ap is_empty_place (sym c.in-Ok.ensures.old) ∙ sym c.if-was_empty.ensures in
     let no_longer = put-again k (Some rest) m.entries new last None (found-empty (lookup (nat_eq k) m.entries) empty) c.in-Ok.ensures.entries moved in
@@ -87,5 +87,5 @@ returns-then-was_empty-clause-few g c =
 
 pub returns-clause-few : goal.returns-clause-few
 returns-clause-few g c =
-    let rest : Rest g.row.P.Denot = record { row = c.args.row; settled = c.args.settled } in
+    let rest : RestingRow g.row.P.Denot = record { row = c.args.row; settled = c.args.settled } in
     subst (λ (n : ℕ). n ≤ length c.args.self.now.places.entries + 1) (sym (ap length c.in-Ok.ensures.entries)) (inserted-le c.args.no (Some rest) c.args.self.now.places.entries)
