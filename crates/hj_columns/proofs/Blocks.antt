@@ -5,13 +5,13 @@ use Rattle.std.proofs.lemmas.Nat.Bits.{bit_at-trailing_zeros, bit_at-zero}
 use Rattle.std.proofs.lemmas.Bool.{eqb-false, eqb-true, ltb-false, ltb-true}
 use Rattle.std.proofs.lemmas.List.{append-nil}
 use Rattle.hj_rows.proofs.Rows.{Places}
-use Rattle.hj_columns.specs.declared.found.Found.{Found}
+use Rattle.hj_columns.specs.declared.found_rows.FoundRows.{FoundRows}
 use Rattle.hj_columns.specs.Probing.{as_partner, joined_at, partners_in, IsInOrder}
 use Rattle.hj_columns.proofs.Finding.{partners-more, partners-skipped}
 
 -- What a mask still names: some places of the block are done, and its bits below are 0; a place behind with bit 0 has no row that
 -- passes.
-pub record IsLeft {P : Type 0} (test : P → Bool) (es : Places P) (from : ℕ) (start : Found P) (mask : ℕ) (found : Found P) : Type 0 where
+pub record IsLeft {P : Type 0} (test : P → Bool) (es : Places P) (from : ℕ) (start : FoundRows P) (mask : ℕ) (found : FoundRows P) : Type 0 where
   pub done : ℕ
   pub few : done ≤ 64
   pub fits : mask < 2 ^ 64
@@ -37,7 +37,7 @@ lower k bit next mask h low cleared others unset = by (nat_eq k bit) refl
 joined : {A : Type 0} (start done before after one : List A) → done ≡ before → after ≡ before ++ one → (start ++ done) ++ one ≡ start ++ after
 joined start done before after one same more = append_assoc start done one ∙ ap (λ xs. start ++ xs) (ap (λ xs. xs ++ one) same ∙ sym more)
 
-module _ {P : Type 0} (test : P → Bool) (es : Places P) (from : ℕ) (start : Found P) where
+module _ {P : Type 0} (test : P → Bool) (es : Places P) (from : ℕ) (start : FoundRows P) where
   pub left-first : (mask : ℕ) → mask < 2 ^ 64 → ((k : ℕ) → k < 64 → bit_at mask k ≡ 0 → joined_at test es (from + k) ≡ None) → IsLeft test es from start mask start
   left-first mask fits named = record {
     done = 0;
@@ -50,7 +50,7 @@ module _ {P : Type 0} (test : P → Bool) (es : Places P) (from : ℕ) (start : 
   }
 
   -- the lowest bit of a mask
-  lowest-new : (mask : ℕ) (found : Found P) (left : IsLeft test es from start mask found) → 0 < mask → mask < 2 ^ 64 → left.done ≤ trailing_zeros w64 mask
+  lowest-new : (mask : ℕ) (found : FoundRows P) (left : IsLeft test es from start mask found) → 0 < mask → mask < 2 ^ 64 → left.done ≤ trailing_zeros w64 mask
   lowest-new mask found left some fits =
       let lowest = bit_at-trailing_zeros w64 mask some fits in
       by lowest.1 (λ h. left.below (trailing_zeros w64 mask) h)
@@ -58,7 +58,7 @@ module _ {P : Type 0} (test : P → Bool) (es : Places P) (from : ℕ) (start : 
       by : bit_at mask (trailing_zeros w64 mask) ≡ 1 → (trailing_zeros w64 mask < left.done → bit_at mask (trailing_zeros w64 mask) ≡ 0) → left.done ≤ trailing_zeros w64 mask
       by set unset = not-above (trailing_zeros w64 mask) left.done (bit_at mask (trailing_zeros w64 mask)) set unset
 
-  pub left-next : (mask next bit : ℕ) (found more : Found P) → IsLeft test es from start mask found → 0 < mask → bit ≡ trailing_zeros w64 mask → next < mask
+  pub left-next : (mask next bit : ℕ) (found more : FoundRows P) → IsLeft test es from start mask found → 0 < mask → bit ≡ trailing_zeros w64 mask → next < mask
       → bit_at next bit ≡ 0 → ((k : ℕ) → k < 64 → (k ≡ bit → ⊥) → bit_at next k ≡ bit_at mask k)
       → more.partners ≡ found.partners ++ as_partner (joined_at test es (from + bit)) → (IsInOrder found → IsInOrder more)
       → IsLeft test es from start next more
@@ -85,7 +85,7 @@ module _ {P : Type 0} (test : P → Bool) (es : Places P) (from : ℕ) (start : 
       }
 
   -- at the end of a mask the whole block is done
-  pub left-last : (mask : ℕ) (found : Found P) → IsLeft test es from start mask found → mask ≡ 0 → found.partners ≡ start.partners ++ partners_in test (take 64 (drop from es))
+  pub left-last : (mask : ℕ) (found : FoundRows P) → IsLeft test es from start mask found → mask ≡ 0 → found.partners ≡ start.partners ++ partners_in test (take 64 (drop from es))
   left-last mask found left none =
       let whole : left.done + (64 - left.done) ≡ 64 = let few = left.few in omega arith in
       let skipped = partners-skipped test es from left.done (64 - left.done) (λ k high below. left.named k (omega arith) high (ap (λ n. bit_at n k) none ∙ bit_at-zero k)) in

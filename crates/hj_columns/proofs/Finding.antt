@@ -8,7 +8,7 @@ use Rattle.hj_msg.proofs.Gathering.{gather-sorted, insert_after, insert_after-la
 use Rattle.hj_rows.specs.Places.{joining}
 use Rattle.hj_rows.proofs.Probes.{number, partner, partners-joined, partners-passed}
 use Rattle.hj_rows.proofs.Rows.{Places}
-use Rattle.hj_columns.specs.declared.found.Found.{Found}
+use Rattle.hj_columns.specs.declared.found_rows.FoundRows.{FoundRows}
 use Rattle.hj_columns.specs.Probing.{as_partner, joined_at, partners_in, IsInOrder}
 
 module _ {P : Type 0} (test : P → Bool) where
@@ -90,7 +90,7 @@ sorted-push found p sorted below =
     ∙ ap (λ ps. insert_after number p ps) sorted
     ∙ insert_after-last number p found below
 
-pub in_order-push : {P : Type 0} (found : Found P) (pushed : List (Partner P)) (n : ℕ) (row : P) → found.last ≤ n → pushed ≡ found.partners ++ partner n row ∷ [] → IsInOrder found
+pub in_order-push : {P : Type 0} (found : FoundRows P) (pushed : List (Partner P)) (n : ℕ) (row : P) → found.last ≤ n → pushed ≡ found.partners ++ partner n row ∷ [] → IsInOrder found
     → (by_number pushed ≡ pushed) × All (λ other. number other ≤ n) pushed
 in_order-push found pushed n row above pushes order =
     let lower : All (λ other. number other ≤ n) found.partners = All-weaker (λ other. number other ≤ found.last) (λ other. number other ≤ n) (λ other h. omega arith) found.partners order.below in (
@@ -98,7 +98,7 @@ in_order-push found pushed n row above pushes order =
       subst (All (λ other. number other ≤ n)) (sym pushes) (All-push (λ other. number other ≤ n) found.partners (partner n row) lower (omega arith)),
     )
 
-pub in_order-empty : {P : Type 0} (found : Found P) → found.partners ≡ [] → IsInOrder found
+pub in_order-empty : {P : Type 0} (found : FoundRows P) → found.partners ≡ [] → IsInOrder found
 in_order-empty {P} found none = record {
   sorted = subst (λ (ps : List (Partner P)). by_number ps ≡ ps) (sym none) refl;
   below = subst (All (λ (other : Partner P). number other ≤ found.last)) (sym none) (All-nil (λ other. number other ≤ found.last));

@@ -10,7 +10,7 @@ use Rattle.hj_rows.specs.declared.place.RestingRow.{RestingRow}
 use Rattle.hj_rows.specs.Keys.{IsWithin}
 use Rattle.hj_rows.specs.Places.{place_rows, StayInPlace}
 use Rattle.hj_rows.proofs.Rows.{Places}
-use Rattle.hj_columns.specs.declared.column.Column.{Column}
+use Rattle.hj_columns.specs.declared.key_column.KeyColumn.{KeyColumn}
 use Rattle.hj_columns.specs.Columns.{filters_of, AreIn, AreLetIn, HasRoom, IsColumn, Waits}
 use Rattle.hj_columns.specs.Masks.{is_in}
 use Rattle.hj_columns.specs.Store.{keys_behind}
@@ -18,7 +18,7 @@ use Rattle.hj_columns.proofs.Listing.{agree-map, map-agree, within-length}
 
 module _ {P F : Type 0} (key : F → P → ℕ) where
   -- a key that is put behind all places
-  pub put-keeps : (places : List (Option P)) (at : ℕ) (old new : Column F) → length places ≡ at → IsColumn key places old → new.filter ≡ old.filter
+  pub put-keeps : (places : List (Option P)) (at : ℕ) (old new : KeyColumn F) → length places ≡ at → IsColumn key places old → new.filter ≡ old.filter
       → ((k : ℕ) → k < at → slice_get new.keys.items k ≡ slice_get old.keys.items k) → length old.keys.items ≤ length new.keys.items → length new.keys.items % 64 ≡ 0
       → IsColumn key places new
   put-keeps places at old new long column same before room blocks = record {
@@ -27,29 +27,29 @@ module _ {P F : Type 0} (key : F → P → ℕ) where
         before k (let low = within-length places k (Some row) e in omega (arith, low, long)) ∙ column.keyed k row e ∙ ap (λ filter. Some (key filter row)) (sym same);
   }
 
-  pub put-waits : (places : List (Option P)) (at : ℕ) (row : P) (old new : Column F) (k : ℕ) → length places ≡ at → new.filter ≡ old.filter → k ≡ key old.filter row → slice_get new.keys.items at ≡ Some k → Waits key places row new
+  pub put-waits : (places : List (Option P)) (at : ℕ) (row : P) (old new : KeyColumn F) (k : ℕ) → length places ≡ at → new.filter ≡ old.filter → k ≡ key old.filter row → slice_get new.keys.items at ≡ Some k → Waits key places row new
   put-waits places at row old new k long same is put = ap (slice_get new.keys.items) long ∙ put ∙ ap Some is ∙ ap (λ filter. Some (key filter row)) (sym same)
 
   -- keys that were made anew, below a place
-  pub filled : (places : List (Option P)) (column : Column F) → HasRoom places column
+  pub filled : (places : List (Option P)) (column : KeyColumn F) → HasRoom places column
       → ((at : ℕ) (row : P) → at < length places → slice_get places at ≡ Some (Some row) → slice_get column.keys.items at ≡ Some (key column.filter row)) → IsColumn key places column
   filled places column room keyed = record { room = room; keyed = λ at row e. keyed at row (within-length places at (Some row) e) e }
 
   -- rows that stay in their places
-  stays : (before after : List (Option P)) → length after ≡ length before → StayInPlace before after → (column : Column F) → IsColumn key before column → IsColumn key after column
+  stays : (before after : List (Option P)) → length after ≡ length before → StayInPlace before after → (column : KeyColumn F) → IsColumn key before column → IsColumn key after column
   stays before after long stay column is = record {
     room = record { keys = let keys = is.room.keys in omega (arith, keys, long); blocks = is.room.blocks };
     keyed = λ at row e. is.keyed at row (stay at row e);
   }
 
-  pub all-stay : (before after : List (Option P)) (columns : List (Column F)) → length after ≡ length before → StayInPlace before after → All (IsColumn key before) columns → All (IsColumn key after) columns
+  pub all-stay : (before after : List (Option P)) (columns : List (KeyColumn F)) → length after ≡ length before → StayInPlace before after → All (IsColumn key before) columns → All (IsColumn key after) columns
   all-stay before after columns long stay all = All-weaker (IsColumn key before) (IsColumn key after) (stays before after long stay) columns all
 
   -- fewer places, whatever rows they have
-  roomy : (before after : List (Option P)) → length after ≤ length before → (column : Column F) → IsColumn key before column → HasRoom after column
+  roomy : (before after : List (Option P)) → length after ≤ length before → (column : KeyColumn F) → IsColumn key before column → HasRoom after column
   roomy before after few column is = record { keys = let keys = is.room.keys in omega (arith, keys, few); blocks = is.room.blocks }
 
-  pub all-roomy : (before after : List (Option P)) (columns : List (Column F)) → length after ≤ length before → All (IsColumn key before) columns → All (HasRoom after) columns
+  pub all-roomy : (before after : List (Option P)) (columns : List (KeyColumn F)) → length after ≤ length before → All (IsColumn key before) columns → All (HasRoom after) columns
   all-roomy before after columns few all = All-weaker (IsColumn key before) (HasRoom after) (roomy before after few) columns all
 
   get-append : {A : Type 0} (xs : List A) (x y : A) (k : ℕ) → slice_get (xs ++ x ∷ []) k ≡ Some y → (P : Type 0) → (slice_get xs k ≡ Some y → P) → (k ≡ length xs → x ≡ y → P) → P
@@ -62,7 +62,7 @@ module _ {P F : Type 0} (key : F → P → ℕ) where
   get-append (z ∷ xs) x y (suc k) e P first last = get-append xs x y k e P first (λ at same. last (ap suc at) same)
 
   -- a row more behind the last place, whose key waits there
-  appends : (places : List (Option P)) (row : P) (column : Column F) → IsColumn key places column → Waits key places row column → IsColumn key (places ++ Some row ∷ []) column
+  appends : (places : List (Option P)) (row : P) (column : KeyColumn F) → IsColumn key places column → Waits key places row column → IsColumn key (places ++ Some row ∷ []) column
   appends places row column is waits = record {
     room = record {
       keys = let low = within-length column.keys.items (length places) (key column.filter row) waits in omega (arith, low, length-append places (Some row ∷ []));
@@ -76,12 +76,12 @@ module _ {P F : Type 0} (key : F → P → ℕ) where
       some_same : (x y : P) → Some x ≡ Some y → x ≡ y
       some_same x y e = cc
 
-  pub all-append : (places after : List (Option P)) (row : P) (columns : List (Column F)) → after ≡ places ++ Some row ∷ [] → All (IsColumn key places) columns → All (Waits key places row) columns → All (IsColumn key after) columns
+  pub all-append : (places after : List (Option P)) (row : P) (columns : List (KeyColumn F)) → after ≡ places ++ Some row ∷ [] → All (IsColumn key places) columns → All (Waits key places row) columns → All (IsColumn key after) columns
   all-append places after row columns is all waits =
       subst (λ ps. All (IsColumn key ps) columns) (sym is) (λ k d low. appends places row (get_or columns k d) (all k d low) (waits k d low))
 
   -- a row that all filters let in has its keys in all ranges
-  pub let-in : (range : F → Option KeyRange) (places : List (Option P)) (columns : List (Column F)) (ranges : List KeyRange) (at : ℕ) (row : P)
+  pub let-in : (range : F → Option KeyRange) (places : List (Option P)) (columns : List (KeyColumn F)) (ranges : List KeyRange) (at : ℕ) (row : P)
       → All (IsColumn key places) columns → map (λ r. Some r) ranges ≡ map (λ column. range column.filter) columns → slice_get places at ≡ Some (Some row)
       → AreLetIn range key row columns → AreIn columns ranges at
   let-in range places [] ranges at row all same here lets j column r low = absurd (omega arith)
@@ -119,7 +119,7 @@ pub length-places : {P : Type 0} (es : Places P) → length (place_rows es) ≡ 
 length-places {P} es = length-map es (λ (place : ℕ × Option (RestingRow P)). option_map (λ rest. rest.row) place.1)
 
 -- a store with no rows
-pub empty-column : {P F : Type 0} (key : F → P → ℕ) (places : List (Option P)) (column : Column F) → places ≡ [] → column.keys.items ≡ [] → IsColumn key places column
+pub empty-column : {P F : Type 0} (key : F → P → ℕ) (places : List (Option P)) (column : KeyColumn F) → places ≡ [] → column.keys.items ≡ [] → IsColumn key places column
 empty-column {P} {F} key places column none empty = subst (λ (ps : List (Option P)). IsColumn key ps column) (sym none) (record {
   room = record { keys = omega arith; blocks = ap (λ (keys : List ℕ). length keys % 64) empty };
   keyed = λ at row e. absurd (no_place at row e);
@@ -132,15 +132,15 @@ pub fewer-places : {P : Type 0} (before after : Places P) (a b : ℕ) → a ≡ 
 fewer-places before after a b ea eb few apart = grind (arith, length-places before, length-places after)
 
 -- the keys that stand behind the last place wait for a row
-pub waits-behind : {P F : Type 0} (key : F → P → ℕ) (places : List (Option P)) (columns : List (Column F)) (row : P) → keys_behind places columns ≡ map (λ filter. Some (key filter row)) (filters_of columns) → All (Waits key places row) columns
+pub waits-behind : {P F : Type 0} (key : F → P → ℕ) (places : List (Option P)) (columns : List (KeyColumn F)) (row : P) → keys_behind places columns ≡ map (λ filter. Some (key filter row)) (filters_of columns) → All (Waits key places row) columns
 waits-behind {P} {F} key places columns row e =
-    agree-map (λ (column : Column F). slice_get column.keys.items (length places)) (λ (column : Column F). Some (key column.filter row)) columns
-    (e ∙ map-map (λ (filter : F). Some (key filter row)) (λ (column : Column F). column.filter) columns)
+    agree-map (λ (column : KeyColumn F). slice_get column.keys.items (length places)) (λ (column : KeyColumn F). Some (key column.filter row)) columns
+    (e ∙ map-map (λ (filter : F). Some (key filter row)) (λ (column : KeyColumn F). column.filter) columns)
 
-pub behind-waits : {P F : Type 0} (key : F → P → ℕ) (places : List (Option P)) (columns : List (Column F)) (row : P) → All (Waits key places row) columns → keys_behind places columns ≡ map (λ filter. Some (key filter row)) (filters_of columns)
+pub behind-waits : {P F : Type 0} (key : F → P → ℕ) (places : List (Option P)) (columns : List (KeyColumn F)) (row : P) → All (Waits key places row) columns → keys_behind places columns ≡ map (λ filter. Some (key filter row)) (filters_of columns)
 behind-waits {P} {F} key places columns row waits =
-    map-agree (λ (column : Column F). slice_get column.keys.items (length places)) (λ (column : Column F). Some (key column.filter row)) columns waits
-    ∙ sym (map-map (λ (filter : F). Some (key filter row)) (λ (column : Column F). column.filter) columns)
+    map-agree (λ (column : KeyColumn F). slice_get column.keys.items (length places)) (λ (column : KeyColumn F). Some (key column.filter row)) columns waits
+    ∙ sym (map-map (λ (filter : F). Some (key filter row)) (λ (column : KeyColumn F). column.filter) columns)
 
 -- probes may be made by the same joins, where the filters are the same
 pub suits-kept : {F : Type 0} (K : F → Type 0) (new old : Side) (after before : List F) (side : Side) → new ≡ old → after ≡ before

@@ -10,8 +10,8 @@ use Rattle.hj_rows.specs.declared.place.RestingRow.{RestingRow}
 use Rattle.hj_rows.specs.Keys.{Keeps}
 use Rattle.hj_rows.specs.Places.{joining, place_rows, rows_of}
 use Rattle.hj_rows.proofs.Rows.{Places}
-use Rattle.hj_columns.specs.declared.column.Column.{Column}
-use Rattle.hj_columns.specs.declared.found.Found.{Found}
+use Rattle.hj_columns.specs.declared.key_column.KeyColumn.{KeyColumn}
+use Rattle.hj_columns.specs.declared.found_rows.FoundRows.{FoundRows}
 use Rattle.hj_columns.specs.Columns.{filters_of, AreIn, AreLetIn, IsColumn}
 use Rattle.hj_columns.specs.Probing.{joined_at, partners_in, IsInOrder}
 use Rattle.hj_columns.proofs.Finding.{partners-block}
@@ -54,7 +54,7 @@ no-join {P} test es at none = by (slice_get es at) refl
         of true false e = rw e refl
 
 -- the keys of a row that joins lie in all ranges
-pub let-all : {P F : Type 0} (predicate : P → P → Bool) (side : Side) (against : P) (key : F → Side → P → ℕ) (range : F → Side → P → Option KeyRange) (columns : List (Column F))
+pub let-all : {P F : Type 0} (predicate : P → P → Bool) (side : Side) (against : P) (key : F → Side → P → ℕ) (range : F → Side → P → Option KeyRange) (columns : List (KeyColumn F))
     → All (λ filter. Keeps predicate (key filter) (range filter)) (filters_of columns) → (row : P) → joins predicate side row against ≡ true
     → AreLetIn (λ filter. range filter side against) (λ filter. key filter side) row columns
 let-all predicate side against key range [] keeps row joined k d low = absurd (omega arith)
@@ -62,7 +62,7 @@ let-all predicate side against key range (c ∷ columns) keeps row joined zero d
 let-all predicate side against key range (c ∷ columns) keeps row joined (suc k) d low = let-all predicate side against key range columns (λ k d low. keeps (suc k) d (omega arith)) row joined k d (omega arith)
 
 -- what is left out doesn't join
-pub left-out : {P F : Type 0} (key : F → Side → P → ℕ) (range : F → Side → P → Option KeyRange) (predicate : P → P → Bool) (side : Side) (against : P) (columns : List (Column F)) (ranges : List KeyRange) (es : Places P) (at bit : ℕ)
+pub left-out : {P F : Type 0} (key : F → Side → P → ℕ) (range : F → Side → P → Option KeyRange) (predicate : P → P → Bool) (side : Side) (against : P) (columns : List (KeyColumn F)) (ranges : List KeyRange) (es : Places P) (at bit : ℕ)
     → All (IsColumn (λ filter. key filter side) (place_rows es)) columns → map (λ r. Some r) ranges ≡ map (λ column. range column.filter side against) columns
     → All (λ filter. Keeps predicate (key filter) (range filter)) (filters_of columns) → (AreIn columns ranges at → bit ≡ 1) → bit ≡ 0
     → joined_at (λ row. joins predicate side row against) es at ≡ None
@@ -76,17 +76,17 @@ left-out {P} {F} key range predicate side against columns ranges es at bit all s
 
 -- ---- blocks
 
-pub block-room : {P F : Type 0} (key : F → P → ℕ) (places : List (Option P)) (columns : List (Column F)) (block blocks : ℕ) → 64 * blocks < length places + 64 → block < blocks
+pub block-room : {P F : Type 0} (key : F → P → ℕ) (places : List (Option P)) (columns : List (KeyColumn F)) (block blocks : ℕ) → 64 * blocks < length places + 64 → block < blocks
     → All (IsColumn key places) columns → All (λ column. 64 * block + 64 ≤ length column.keys.items) columns
-block-room {P} {F} key places columns block blocks most low all = All-weaker (IsColumn key places) (λ (column : Column F). 64 * block + 64 ≤ length column.keys.items) roomy columns all
+block-room {P} {F} key places columns block blocks most low all = All-weaker (IsColumn key places) (λ (column : KeyColumn F). 64 * block + 64 ≤ length column.keys.items) roomy columns all
   where
     whole : (block keys places : ℕ) → keys % 64 ≡ 0 → places ≤ keys → 64 * block < places → 64 * block + 64 ≤ keys
     whole block keys places blocks le lt = omega arith
 
-    roomy : (column : Column F) → IsColumn key places column → 64 * block + 64 ≤ length column.keys.items
+    roomy : (column : KeyColumn F) → IsColumn key places column → 64 * block + 64 ≤ length column.keys.items
     roomy column is = whole block (length column.keys.items) (length places) is.room.blocks is.room.keys (omega arith)
 
-pub same-count : {F : Type 0} (f : Column F → Option KeyRange) (ranges : List KeyRange) (columns : List (Column F)) → map (λ r. Some r) ranges ≡ map f columns → length ranges ≡ length columns
+pub same-count : {F : Type 0} (f : KeyColumn F → Option KeyRange) (ranges : List KeyRange) (columns : List (KeyColumn F)) → map (λ r. Some r) ranges ≡ map f columns → length ranges ≡ length columns
 same-count f ranges columns e = sym (length-map ranges (λ r. Some r)) ∙ ap length e ∙ length-map columns f
 
 pub next-block : {P : Type 0} (test : P → Bool) (es : Places P) (block : ℕ) (before after : List (Partner P)) → before ≡ partners_in test (take (64 * block) es) → after ≡ before ++ partners_in test (take 64 (drop (64 * block) es))
@@ -96,7 +96,7 @@ next-block test es block before after is adds =
     adds ∙ ap (λ ps. ps ++ partners_in test (take 64 (drop (64 * block) es))) is ∙ sym (partners-block test es (64 * block)) ∙ ap (λ n. partners_in test (take n es)) next
 
 -- all blocks have been looked at
-pub all-blocks : {P : Type 0} (predicate : P → P → Bool) (side : Side) (against : P) (es : Places P) (block : ℕ) (found : Found P) → length es ≤ 64 * block
+pub all-blocks : {P : Type 0} (predicate : P → P → Bool) (side : Side) (against : P) (es : Places P) (block : ℕ) (found : FoundRows P) → length es ≤ 64 * block
     → found.partners ≡ partners_in (λ row. joins predicate side row against) (take (64 * block) es) → IsInOrder found
     → found.partners ≡ settled_matches predicate side against (rows_of es)
 all-blocks predicate side against es block found enough is order =

@@ -5,7 +5,7 @@ use Rattle.hj_msg.specs.declared.partner.Partner.{Partner}
 use Rattle.hj_msg.specs.Store.{by_number, settled_partners}
 use Rattle.hj_rows.specs.declared.place.RestingRow.{RestingRow}
 use Rattle.hj_rows.specs.Places.{joining, partner_of, rows_of}
-use Rattle.hj_columns.specs.declared.found.Found.{Found}
+use Rattle.hj_columns.specs.declared.found_rows.FoundRows.{FoundRows}
 
 -- the row of a place, under its number, where it is settled and passes a test
 abbrev pub joined_at : {P : Type 0} → (P → Bool) → List (ℕ × Option (RestingRow P)) → ℕ → Option (ℕ × P)
@@ -21,6 +21,6 @@ abbrev pub partners_in : {P : Type 0} → (P → Bool) → List (ℕ × Option (
 partners_in test places = settled_partners test (rows_of places)
 
 -- what was found stands in the order of numbers, and none of them is above the last one
-pub record IsInOrder {P : Type 0} (found : Found P) : Type 0 where
+pub record IsInOrder {P : Type 0} (found : FoundRows P) : Type 0 where
   pub sorted : by_number found.partners ≡ found.partners
   pub below : All (λ partner. partner.no.0 ≤ found.last) found.partners

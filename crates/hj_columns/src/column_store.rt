@@ -3,7 +3,7 @@ ghost use Rattle.hj_base.specs.declared.numbers.Side.{Side};
 ghost use Rattle.hj_msg.specs.Store.{joins, settled_matches};
 ghost use Rattle.hj_rows.specs.Keys.{Keeps};
 
-use crate::column::{Column, fill, new_columns, reserve_keys};
+use crate::key_column::{KeyColumn, fill, new_columns, reserve_keys};
 use crate::probing::probe_columns;
 use hj_base::{EventNo, Memory, Share, Side};
 use hj_msg::{Join, Partners, Store};
@@ -19,7 +19,7 @@ pub struct ColumnStore<P, F: KeyFilter<P>> {
     /// The side of the rows at rest.
     side: Side,
     rows: Numbered<P>,
-    columns: Vec<Column<F>>,
+    columns: Vec<KeyColumn<F>>,
 }
 
 impl<P, F: KeyFilter<P>> Model for ColumnStore<P, F> {

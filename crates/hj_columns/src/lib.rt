@@ -2,9 +2,9 @@
 //! where all keys lie in its ranges.
 #![tactic(auto)]
 
-mod column;
 mod column_store;
-mod found;
+mod found_rows;
+mod key_column;
 mod mask;
 mod probing;
 

@@ -6,8 +6,8 @@ ghost use Rattle.hj_rows.specs.Numbered.{places_in, rows_in};
 ghost use Rattle.hj_columns.specs.Columns.{filters_of, IsColumn};
 ghost use Rattle.hj_columns.specs.Probing.{as_partner, joined_at, partners_in, IsInOrder};
 
-use crate::column::{Column, mask_of, ranges_for};
-use crate::found::Found;
+use crate::found_rows::FoundRows;
+use crate::key_column::{KeyColumn, mask_of, ranges_for};
 use hj_base::{Memory, Share, Side};
 use hj_msg::{Join, Partners};
 use hj_rows::{KeyFilter, KeyRange, Numbered, joining_row, probe_sorted};
@@ -17,7 +17,7 @@ use std::alloc::Global;
 pub(crate) fn probe_columns<P: Share + Drop, F: KeyFilter<P>, J: Join<P>>(
     alloc: Global,
     rows: &Numbered<P>,
-    columns: &[Column<F>],
+    columns: &[KeyColumn<F>],
     side: Side,
     against: &P,
     join: &J,
@@ -42,7 +42,7 @@ pub(crate) fn probe_columns<P: Share + Drop, F: KeyFilter<P>, J: Join<P>>(
 fn probe_blocks<P: Share + Drop, F: KeyFilter<P>, J: Join<P>>(
     alloc: Global,
     rows: &Numbered<P>,
-    columns: &[Column<F>],
+    columns: &[KeyColumn<F>],
     ranges: &[KeyRange],
     side: Side,
     against: &P,
@@ -54,7 +54,7 @@ fn probe_blocks<P: Share + Drop, F: KeyFilter<P>, J: Join<P>>(
     ensures { IfOk result (λ found. IfSome found (λ partners. partners ≡ settled_matches (J.predicate join.now) side against.now (rows_in rows.now))) }
 {
     let partners = Partners::new(alloc);
-    let mut found = Found { partners, last: 0 };
+    let mut found = FoundRows { partners, last: 0 };
     for block in 0..blocks_of(rows) {
         let from = 64 * block;
         let mask = mask_of(columns, ranges, from);
@@ -83,7 +83,7 @@ fn probe_block<P: Share + Drop, J: Join<P>>(
     side: Side,
     against: &P,
     join: &J,
-    found: &mut Found<P>,
+    found: &mut FoundRows<P>,
 ) -> Result<bool, Memory>
     requires room { from + 64 < 2 ^ 64 }
     requires named { (k : ℕ) → k < 64 → bit_at mask k ≡ 0 → joined_at (λ row. joins (J.predicate join.now) side row against.now) rows.now.places.entries (from + k) ≡ None }
@@ -110,7 +110,7 @@ fn probe_place<P: Share + Drop, J: Join<P>>(
     side: Side,
     against: &P,
     join: &J,
-    found: &mut Found<P>,
+    found: &mut FoundRows<P>,
 ) -> Result<bool, Memory>
     ensures found { IfOk result (λ in_order. in_order ≡ true → found.new.partners
         ≡ found.old.partners ++ as_partner (joined_at (λ row. joins (J.predicate join.now) side row against.now) rows.now.places.entries at)) }

@@ -2,7 +2,7 @@ use Rattle.std.proofs.Common.{◌+◌, ◌*◌, arith}
 use Rattle.std.specs.Int.{bit_at}
 use Rattle.hj_msg.specs.Store.{joins}
 use Rattle.hj_rows.specs.Numbered.{places_in}
-use Rattle.hj_columns.specs.declared.column.Column.{Column}
+use Rattle.hj_columns.specs.declared.key_column.KeyColumn.{KeyColumn}
 use Rattle.hj_columns.proofs.Finding.{in_order-empty}
 use Rattle.hj_columns.proofs.Keeping.{length-places}
 use Rattle.hj_columns.proofs.Probes.{all-blocks, block-room, left-out, next-block, same-count}
@@ -10,7 +10,7 @@ use Rattle.hj_columns.proofs.probing.probe_blocks.Goals as goal
 
 pub mask_of-mask-requires : goal.mask_of-mask-requires
 mask_of-mask-requires g c = record {
-  count = same-count (λ (column : Column g.row.F.Denot). g.F.KeyFilter.range column.filter c.args.side c.args.against.now) c.args.ranges.now c.args.columns.now c.requires.ranges;
+  count = same-count (λ (column : KeyColumn g.row.F.Denot). g.F.KeyFilter.range column.filter c.args.side c.args.against.now) c.args.ranges.now c.args.columns.now c.requires.ranges;
   keys =
       block-room (λ (filter : g.row.F.Denot). g.F.KeyFilter.key filter c.args.side) (places_in c.args.rows.now) c.args.columns.now c.loop-block.block c.blocks_of-block-end.result c.blocks_of-block-end.ensures.most
       c.loop-block-test.true c.requires.columns;

@@ -5,12 +5,12 @@ use hj_msg::{Partner, Partners};
 
 /// What a probe has found so far, and the last number among it.
 #[derive(Drop)]
-pub struct Found<P> {
+pub struct FoundRows<P> {
     pub(crate) partners: Partners<P>,
     pub(crate) last: u64,
 }
 
-impl<P: Drop> Found<P> {
+impl<P: Drop> FoundRows<P> {
     ghost use Rattle.hj_columns.specs.Probing.{IsInOrder};
 
     /// Adds a row at the end; returns false where a greater number stands there, and adds nothing.

@@ -12,7 +12,7 @@ use std::alloc::Global;
 /// The keys of rows by a filter, in the order of the rows' places, in blocks of 64. A key at an empty place or after the last one
 /// is that of no row.
 #[derive(Drop)]
-pub struct Column<F> {
+pub struct KeyColumn<F> {
     pub(crate) filter: F,
     pub(crate) keys: Vec<u64>,
 }
@@ -21,13 +21,13 @@ pub struct Column<F> {
 pub(crate) fn new_columns<F: Copy + Drop>(
     alloc: Global,
     filters: &[F],
-) -> Result<Vec<Column<F>>, Memory>
+) -> Result<Vec<KeyColumn<F>>, Memory>
     ensures filters { IfOk result (λ columns. filters_of columns.items ≡ filters.now) }
     ensures empty { IfOk result (λ columns. All (λ column. column.keys.items ≡ []) columns.items) }
 {
     let mut columns = Vec::with_capacity(alloc, filters.len())?;
     for filter in filters {
-        columns.push(Column {
+        columns.push(KeyColumn {
             filter: *filter,
             keys: Vec::new(alloc),
         })?;
@@ -37,7 +37,7 @@ pub(crate) fn new_columns<F: Copy + Drop>(
 
 /// Puts the keys of a row of `side` after the last place, where they are those of no row.
 pub(crate) fn reserve_keys<P, F: KeyFilter<P>>(
-    columns: &mut Vec<Column<F>>,
+    columns: &mut Vec<KeyColumn<F>>,
     rows: &Numbered<P>,
     side: Side,
     row: &P,
@@ -57,7 +57,11 @@ pub(crate) fn reserve_keys<P, F: KeyFilter<P>>(
 }
 
 /// Makes all keys anew, of rows of `side`.
-pub(crate) fn fill<P, F: KeyFilter<P>>(columns: &mut Vec<Column<F>>, rows: &Numbered<P>, side: Side)
+pub(crate) fn fill<P, F: KeyFilter<P>>(
+    columns: &mut Vec<KeyColumn<F>>,
+    rows: &Numbered<P>,
+    side: Side,
+)
     requires { All (HasRoom (places_in rows.now)) columns.old.items }
     ensures columns { All (IsColumn (λ filter. F.key filter side) (places_in rows.now)) columns.new.items }
     ensures filters { filters_of columns.new.items ≡ filters_of columns.old.items }
@@ -68,7 +72,7 @@ pub(crate) fn fill<P, F: KeyFilter<P>>(columns: &mut Vec<Column<F>>, rows: &Numb
     }
 }
 
-impl<F> Column<F> {
+impl<F> KeyColumn<F> {
     /// Puts a key at a place, which is at most the next after all keys.
     fn put(&mut self, at: usize, key: u64) -> Result<(), Memory>
         requires room { at ≤ length self.old.keys.items }
@@ -119,7 +123,7 @@ fn row_at<P>(rows: &Numbered<P>, at: usize) -> Option<&P>
 /// where no such row may.
 pub(crate) fn ranges_for<P, F: KeyFilter<P>>(
     alloc: Global,
-    columns: &[Column<F>],
+    columns: &[KeyColumn<F>],
     side: Side,
     against: &P,
 ) -> Result<Option<Vec<KeyRange>>, Memory>
@@ -140,7 +144,7 @@ pub(crate) fn ranges_for<P, F: KeyFilter<P>>(
 /// Tells which of the 64 places from `from` on have keys in all ranges, of which there is one for each column: bit k is about place
 /// `from + k`.
 #[inline(always)]
-pub(crate) fn mask_of<F>(columns: &[Column<F>], ranges: &[KeyRange], from: usize) -> u64
+pub(crate) fn mask_of<F>(columns: &[KeyColumn<F>], ranges: &[KeyRange], from: usize) -> u64
     requires count { length ranges.now ≡ length columns.now }
     requires keys { All (λ column. from + 64 ≤ length column.keys.items) columns.now }
     ensures { (k : ℕ) → k < 64 → AreIn columns.now ranges.now (from + k) → bit_at result k ≡ 1 }

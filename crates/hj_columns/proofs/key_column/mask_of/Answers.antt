@@ -2,7 +2,7 @@ use Rattle.std.proofs.Common.{◌≡◌, ◌+◌, ℕ, arith, subst}
 use Rattle.std.specs.Int.{bit_at}
 use Rattle.std.proofs.lemmas.Nat.Bits.{bit_at_ones}
 use Rattle.hj_columns.proofs.Covering.{all-in, covered}
-use Rattle.hj_columns.proofs.column.mask_of.Goals as goal
+use Rattle.hj_columns.proofs.key_column.mask_of.Goals as goal
 
 pub loop-at-init : goal.loop-at-init
 loop-at-init g c = λ k low _. bit_at_ones 64 k low

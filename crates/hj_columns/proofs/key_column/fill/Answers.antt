@@ -1,10 +1,10 @@
 use Rattle.std.proofs.Common.{◌≤◌, length, ◌∙◌, rules}
 use Rattle.std.proofs.lemmas.List.Elements.{All-set}
 use Rattle.hj_rows.specs.Numbered.{places_in}
-use Rattle.hj_columns.specs.declared.column.Column.{Column}
+use Rattle.hj_columns.specs.declared.key_column.KeyColumn.{KeyColumn}
 use Rattle.hj_columns.specs.Columns.{HasRoom, IsColumn}
 use Rattle.hj_columns.proofs.Listing.{all-more, all-taken, map-set}
-use Rattle.hj_columns.proofs.column.fill.Goals as goal
+use Rattle.hj_columns.proofs.key_column.fill.Goals as goal
 
 pub loop-at-preserved : goal.loop-at-preserved
 loop-at-preserved g c =
@@ -14,7 +14,7 @@ loop-at-preserved g c =
     let at = c.loop-at.at in
     record {
       room = All-set (HasRoom places) items at c.fill.new.self c.fill.ensures.column.room c.loop-at.invariant.room;
-      filters = map-set (λ (column : Column g.row.F.Denot). column.filter) items at c.index_mut-column.result.now c.fill.new.self c.index_mut-column.ensures.value c.fill.ensures.filter ∙ c.loop-at.invariant.filters;
+      filters = map-set (λ (column : KeyColumn g.row.F.Denot). column.filter) items at c.index_mut-column.result.now c.fill.new.self c.index_mut-column.ensures.value c.fill.ensures.filter ∙ c.loop-at.invariant.filters;
       columns = all-more (IsColumn key places) items at c.fill.new.self c.fill.ensures.column c.loop-at.invariant.columns;
     }
 

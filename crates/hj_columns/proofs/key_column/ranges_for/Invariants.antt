@@ -1,5 +1,5 @@
 use Rattle.std.proofs.Common.{◌≡◌, Some, map, take}
-use Rattle.hj_columns.proofs.column.ranges_for.Given as goal
+use Rattle.hj_columns.proofs.key_column.ranges_for.Given as goal
 
 abbrev pub invariant-loop-column : goal.invariant-loop-column
 invariant-loop-column g l =

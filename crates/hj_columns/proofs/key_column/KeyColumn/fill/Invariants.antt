@@ -1,6 +1,6 @@
 use Rattle.std.proofs.Common.{◌≡◌, ◌<◌, ℕ, Some, length, slice_get}
 use Rattle.hj_rows.specs.Numbered.{places_in}
-use Rattle.hj_columns.proofs.column.Column.fill.Given as goal
+use Rattle.hj_columns.proofs.key_column.KeyColumn.fill.Given as goal
 
 abbrev pub invariant-loop-at : goal.invariant-loop-at
 invariant-loop-at g l = record {

@@ -1,7 +1,7 @@
 use Rattle.std.proofs.Common.{◌≡◌, All, take}
 use Rattle.hj_rows.specs.Numbered.{places_in}
 use Rattle.hj_columns.specs.Columns.{filters_of, HasRoom, IsColumn}
-use Rattle.hj_columns.proofs.column.fill.Given as goal
+use Rattle.hj_columns.proofs.key_column.fill.Given as goal
 
 abbrev pub invariant-loop-at : goal.invariant-loop-at
 invariant-loop-at g l = record {

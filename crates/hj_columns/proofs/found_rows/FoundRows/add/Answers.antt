@@ -1,5 +1,5 @@
 use Rattle.hj_columns.proofs.Finding.{in_order-push}
-use Rattle.hj_columns.proofs.found.Found.add.Goals as goal
+use Rattle.hj_columns.proofs.found_rows.FoundRows.add.Goals as goal
 
 pub returns-clause-order : goal.returns-clause-order
 returns-clause-order g c = λ _ order.

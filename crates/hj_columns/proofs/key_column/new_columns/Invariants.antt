@@ -1,6 +1,6 @@
 use Rattle.std.proofs.Common.{◌≡◌, [], All, take}
 use Rattle.hj_columns.specs.Columns.{filters_of}
-use Rattle.hj_columns.proofs.column.new_columns.Given as goal
+use Rattle.hj_columns.proofs.key_column.new_columns.Given as goal
 
 abbrev pub invariant-loop-filter : goal.invariant-loop-filter
 invariant-loop-filter g l = record {
