@@ -5,4 +5,4 @@ pub mod Collected
 pub mod RealOutside
 pub mod RealSink
 pub mod Roles
-pub mod Source
+pub mod RoleStream

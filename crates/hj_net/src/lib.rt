@@ -7,8 +7,8 @@ mod channel;
 mod collected;
 mod output;
 mod outside;
+mod role_stream;
 mod sink;
-mod source;
 #[cfg(test)]
 mod tests;
 

@@ -6,7 +6,7 @@ ghost use Rattle.hj_net.specs.Answers.{as_read};
 
 use crate::Output;
 use crate::channel::{Channel, open};
-use crate::source::Source;
+use crate::role_stream::RoleStream;
 use hj_base::{Got, Opened, Outside, Role};
 use std::alloc::Global;
 use std::io::Write;
@@ -14,7 +14,9 @@ use std::net::Net;
 use std::rt::Files;
 
 /// The stream of a role.
-type RealSource<R> = Source<Channel<<R as Files>::File, <R as Net>::Listener, <R as Net>::Stream>>;
+type RealRoleStream<R> = RoleStream<
+    Channel<<R as Files>::File, <R as Net>::Listener, <R as Net>::Stream>,
+>;
 
 /// The streams of the system: each name is a file's, or `listen:PORT`, a port of this machine whose first peer is read. It
 /// counts the faults of each role, and tells no bytes. Before each read it hands on the output, so that all that was
@@ -24,13 +26,13 @@ pub struct RealOutside<'a, R: Files + Net + Drop, W: Write + Drop> {
     rt: R,
     alloc: Global,
     standard: &'a Output<W>,
-    query: RealSource<R>,
-    second_query: RealSource<R>,
-    left: RealSource<R>,
-    right: RealSource<R>,
-    third: RealSource<R>,
-    trace: RealSource<R>,
-    output: RealSource<R>,
+    query: RealRoleStream<R>,
+    second_query: RealRoleStream<R>,
+    left: RealRoleStream<R>,
+    right: RealRoleStream<R>,
+    third: RealRoleStream<R>,
+    trace: RealRoleStream<R>,
+    output: RealRoleStream<R>,
 }
 
 impl<'a, R: Files + Net + Drop, W: Write + Drop> RealOutside<'a, R, W> {
@@ -46,13 +48,13 @@ impl<'a, R: Files + Net + Drop, W: Write + Drop> RealOutside<'a, R, W> {
             rt,
             alloc,
             standard: output,
-            query: Source::new(),
-            second_query: Source::new(),
-            left: Source::new(),
-            right: Source::new(),
-            third: Source::new(),
-            trace: Source::new(),
-            output: Source::new(),
+            query: RoleStream::new(),
+            second_query: RoleStream::new(),
+            left: RoleStream::new(),
+            right: RoleStream::new(),
+            third: RoleStream::new(),
+            trace: RoleStream::new(),
+            output: RoleStream::new(),
         }
     }
 }

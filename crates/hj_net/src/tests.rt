@@ -1,11 +1,11 @@
 ghost use Rattle.std.specs.Prelude.{◌≡◌, ◌<◌, length};
 ghost use Rattle.hj_base.specs.Outside.{unbegun, IsOpen};
 ghost use Rattle.hj_base.specs.declared.outside.Role.TheVariants as role;
-ghost use Rattle.hj_net.specs.Source.{role_of};
+ghost use Rattle.hj_net.specs.RoleStream.{role_of};
 
 use crate::address::{Address, address_of};
 use crate::channel::{Channel, open};
-use crate::source::Source;
+use crate::role_stream::RoleStream;
 use crate::{Output, RealOutside, RealSink};
 use hj_base::{Got, Opened, Outside, Put, Role, Sink};
 use std::alloc::Global;
@@ -18,14 +18,14 @@ use std::{fs, io};
 
 /// How many writes there were, and how many bytes they took.
 #[derive(Drop)]
-struct Taken {
+struct Written {
     writes: Cell<usize>,
     bytes: Cell<usize>,
 }
 
-impl Taken {
-    fn new() -> Taken {
-        Taken {
+impl Written {
+    fn new() -> Written {
+        Written {
             writes: Cell::new(0),
             bytes: Cell::new(0),
         }
@@ -41,13 +41,13 @@ impl Taken {
 /// A writer that takes at most 3,000 bytes per write, and counts them.
 #[derive(Drop)]
 struct Counting<'a> {
-    taken: &'a Taken,
+    written: &'a Written,
 }
 
 impl Write for Counting<'_> {
     fn write(&mut self, piece: &[u8]) -> io::Result<usize> {
         let count = piece.len().min(3_000);
-        self.taken.count(count);
+        self.written.count(count);
         Ok(count)
     }
 
@@ -59,16 +59,16 @@ impl Write for Counting<'_> {
 /// A writer whose first write fails, and which takes all later ones.
 #[derive(Drop)]
 struct Refusing<'a> {
-    taken: &'a Taken,
+    written: &'a Written,
 }
 
 impl Write for Refusing<'_> {
     fn write(&mut self, piece: &[u8]) -> io::Result<usize> {
-        if self.taken.writes.get() == 0 {
-            self.taken.count(0);
+        if self.written.writes.get() == 0 {
+            self.written.count(0);
             return Err(io::Error::from(ErrorKind::BrokenPipe));
         }
-        self.taken.count(piece.len());
+        self.written.count(piece.len());
         Ok(piece.len())
     }
 
@@ -78,13 +78,16 @@ impl Write for Refusing<'_> {
 }
 
 /// Asserts what the counts are.
-fn has_taken(rt: &impl Abort, taken: &Taken, writes: usize, bytes: usize) {
-    assert_eq!(rt; (taken.writes.get(), taken.bytes.get()), (writes, bytes));
+fn has_written(rt: &impl Abort, written: &Written, writes: usize, bytes: usize) {
+    assert_eq!(rt;
+        (written.writes.get(), written.bytes.get()),
+        (writes, bytes)
+    );
 }
 
 /// Makes an output whose writes are counted.
-fn counted<'a>(rt: &impl Abort, alloc: Global, taken: &'a Taken) -> Output<Counting<'a>> {
-    Output::new(alloc, Counting { taken }).expect(rt, "memory")
+fn counted<'a>(rt: &impl Abort, alloc: Global, written: &'a Written) -> Output<Counting<'a>> {
+    Output::new(alloc, Counting { written }).expect(rt, "memory")
 }
 
 /// Writes a piece once, and asserts the answer.
@@ -111,22 +114,22 @@ fn hands_on<W: Write + Drop>(rt: &impl Abort, output: &Output<W>) {
 
 #[test]
 fn collects_until_handed_on(rt: HostRuntime) {
-    let taken = Taken::new();
-    let output = counted(&rt, rt.alloc(), &taken);
+    let written = Written::new();
+    let output = counted(&rt, rt.alloc(), &written);
     puts_lines(&rt, &output);
-    has_taken(&rt, &taken, 0, 0);
+    has_written(&rt, &written, 0, 0);
     hands_on(&rt, &output);
     hands_on(&rt, &output);
-    has_taken(&rt, &taken, 3, 8_000);
+    has_written(&rt, &written, 3, 8_000);
 }
 
 #[test]
 fn tells_how_much_was_taken(rt: HostRuntime) {
-    let taken = Taken::new();
-    let output = counted(&rt, rt.alloc(), &taken);
+    let written = Written::new();
+    let output = counted(&rt, rt.alloc(), &written);
     let mut sink = RealSink::output(&output);
     puts(&rt, &mut sink, &[b'x'; 10_000], Put::Wrote(3_000));
-    has_taken(&rt, &taken, 1, 3_000);
+    has_written(&rt, &written, 1, 3_000);
 }
 
 /// Writes lines past the room of the output, which has 5 bytes, and notes after it.
@@ -200,29 +203,29 @@ fn is_refused_once<W: Write + Drop>(rt: &impl Abort, output: Output<W>) {
 
 #[test]
 fn hands_on_what_waits_at_its_end(rt: HostRuntime) {
-    let taken = Taken::new();
-    lets_go(&rt, counted(&rt, rt.alloc(), &taken));
-    has_taken(&rt, &taken, 1, 7);
+    let written = Written::new();
+    lets_go(&rt, counted(&rt, rt.alloc(), &written));
+    has_written(&rt, &written, 1, 7);
 }
 
 #[test]
 fn hands_on_nothing_after_a_refusal(rt: HostRuntime) {
-    let taken = Taken::new();
-    let writer = Refusing { taken: &taken };
+    let written = Written::new();
+    let writer = Refusing { written: &written };
     let output = Output::new(rt.alloc(), writer).expect(&rt, "memory");
     is_refused_once(&rt, output);
-    has_taken(&rt, &taken, 1, 0);
+    has_written(&rt, &written, 1, 0);
 }
 
 #[test]
 fn hands_on_before_it_reads(rt: HostRuntime) {
     let name = "hands_on_before_it_reads.csv";
     makes_a_file(&rt, name);
-    let taken = Taken::new();
-    let output = counted(&rt, rt.alloc(), &taken);
+    let written = Written::new();
+    let output = counted(&rt, rt.alloc(), &written);
     puts_a_pair(&rt, &output);
     reads_a_file(&rt, rt.alloc(), &output, name);
-    has_taken(&rt, &taken, 1, 7);
+    has_written(&rt, &written, 1, 7);
     assert!(rt; fs::remove_file(&rt, name).is_ok());
 }
 
@@ -230,8 +233,8 @@ fn hands_on_before_it_reads(rt: HostRuntime) {
 fn opens_a_file_under_exactly_its_name(rt: HostRuntime) {
     let name = " with a blank at each end ";
     makes_a_file(&rt, name);
-    let taken = Taken::new();
-    let output = counted(&rt, rt.alloc(), &taken);
+    let written = Written::new();
+    let output = counted(&rt, rt.alloc(), &written);
     reads_a_file(&rt, rt.alloc(), &output, name);
     assert!(rt; fs::remove_file(&rt, name).is_ok());
 }
@@ -332,24 +335,29 @@ impl OpenListener for Lonely {
 /// A channel over readers and listeners that fail.
 type FailingChannel = Channel<Interrupted<'static>, Lonely, Interrupted<'static>>;
 
-/// Begins a source, and asserts that it is ready.
-fn begun<S: Read + Drop>(rt: &impl Abort, alloc: Global, stream: S) -> Source<S>
+/// Begins a role with a stream, and asserts that it is ready.
+fn begun<S: Read + Drop>(rt: &impl Abort, alloc: Global, stream: S) -> RoleStream<S>
     ensures { IsOpen (role_of result).phase }
 {
-    let mut source = Source::new();
+    let mut role_stream = RoleStream::new();
     let name = String::from_str(alloc, "name").expect(rt, "memory");
-    let opened = source.begin(name, Some(stream));
+    let opened = role_stream.begin(name, Some(stream));
     assert!(rt; matches!(opened, Opened::Ready));
-    source
+    role_stream
 }
 
-/// Reads a source once, and asserts the answer.
-fn reads_once<S: Read + Drop>(rt: &impl Abort, source: &mut Source<S>, buf: &mut [u8], got: Got)
-    requires open { IsOpen (role_of source.old).phase }
+/// Reads the stream of a role once, and asserts the answer.
+fn reads_once<S: Read + Drop>(
+    rt: &impl Abort,
+    role_stream: &mut RoleStream<S>,
+    buf: &mut [u8],
+    got: Got,
+)
+    requires open { IsOpen (role_of role_stream.old).phase }
     requires room { 0 < length buf.old }
-    ensures { IsOpen (role_of source.new).phase }
+    ensures { IsOpen (role_of role_stream.new).phase }
 {
-    assert_eq!(rt; source.read(buf), got);
+    assert_eq!(rt; role_stream.read(buf), got);
 }
 
 #[test]
@@ -359,22 +367,22 @@ fn reads_on_after_a_failed_read(rt: HostRuntime) {
         bytes: b"abcd",
     };
     let channel: FailingChannel = Channel::File(stream);
-    let mut source = begun(&rt, rt.alloc(), channel);
+    let mut role_stream = begun(&rt, rt.alloc(), channel);
     let mut buf = [0; 3];
-    reads_once(&rt, &mut source, &mut buf, Got::Bytes(3));
-    reads_once(&rt, &mut source, &mut buf, Got::Failed);
-    reads_once(&rt, &mut source, &mut buf, Got::Bytes(1));
+    reads_once(&rt, &mut role_stream, &mut buf, Got::Bytes(3));
+    reads_once(&rt, &mut role_stream, &mut buf, Got::Failed);
+    reads_once(&rt, &mut role_stream, &mut buf, Got::Bytes(1));
     holds(&rt, &buf, b"dbc");
-    reads_once(&rt, &mut source, &mut buf, Got::End);
+    reads_once(&rt, &mut role_stream, &mut buf, Got::End);
 }
 
 #[test]
 fn fails_where_no_peer_comes(rt: HostRuntime) {
     let channel: FailingChannel = Channel::Listening(Lonely);
-    let mut source = begun(&rt, rt.alloc(), channel);
+    let mut role_stream = begun(&rt, rt.alloc(), channel);
     let mut buf = [0; 3];
-    reads_once(&rt, &mut source, &mut buf, Got::Failed);
-    reads_once(&rt, &mut source, &mut buf, Got::Failed);
+    reads_once(&rt, &mut role_stream, &mut buf, Got::Failed);
+    reads_once(&rt, &mut role_stream, &mut buf, Got::Failed);
 }
 
 /// Makes the name under which a role listens to a port.

@@ -9,7 +9,7 @@ use std::io::Read;
 
 /// How far a role has come.
 #[derive(Drop)]
-enum Stage<S> {
+enum RoleStage<S> {
     Unbegun,
     Opened {
         name: String,
@@ -21,21 +21,21 @@ enum Stage<S> {
 
 /// A role, and the stream that it reads.
 #[derive(Drop)]
-pub struct Source<S: Read + Drop> {
-    stage: Stage<S>,
+pub struct RoleStream<S: Read + Drop> {
+    stage: RoleStage<S>,
     faults: u64,
 }
 
-impl<S: Read + Drop> Source<S> {
+impl<S: Read + Drop> RoleStream<S> {
     ghost use Rattle.hj_net.specs.Roles.{new_role};
-    ghost use Rattle.hj_net.specs.Source.{remaining, role_of, stream_of};
+    ghost use Rattle.hj_net.specs.RoleStream.{remaining, role_of, stream_of};
 
     /// Makes a role that isn't begun.
-    pub fn new() -> Source<S>
+    pub fn new() -> RoleStream<S>
         ensures { role_of result ≡ new_role }
     {
-        Source {
-            stage: Stage::Unbegun,
+        RoleStream {
+            stage: RoleStage::Unbegun,
             faults: 0,
         }
     }
@@ -49,7 +49,7 @@ impl<S: Read + Drop> Source<S> {
     {
         match opened {
             Some(stream) => {
-                self.stage = Stage::Opened {
+                self.stage = RoleStage::Opened {
                     name,
                     ended: false,
                     stream,
@@ -57,7 +57,7 @@ impl<S: Read + Drop> Source<S> {
                 Opened::Ready
             }
             None => {
-                self.stage = Stage::Refused(name);
+                self.stage = RoleStage::Refused(name);
                 self.faults = self.faults.saturating_add(1);
                 Opened::Failed
             }
@@ -73,7 +73,7 @@ impl<S: Read + Drop> Source<S> {
             (as_read result) buf.new }
         ensures fault { result ≡ Got.Failed → (role_of self.new).faults ≡ one_more (role_of self.old).faults }
     {
-        let Stage::Opened { stream, ended, .. } = &mut self.stage else {
+        let RoleStage::Opened { stream, ended, .. } = &mut self.stage else {
             unreachable!();
         };
         match stream.read(buf) {
