@@ -6,7 +6,7 @@ use std::simd::prelude::*;
 
 /// What of some bytes decides how they stand in a line.
 #[derive(Clone, Copy)]
-pub(crate) struct Marks {
+pub(crate) struct ByteMarks {
     /// One of them is a comma, a quote, a carriage return or a line feed.
     pub(crate) special: bool,
     /// One of them is a quote.
@@ -16,7 +16,7 @@ pub(crate) struct Marks {
 /// Looks at the bytes of a text, many in one step. Of those between the first and the last ones some are looked at twice, so
 /// that none is left over.
 #[inline(always)]
-pub(crate) fn marks_in(bytes: &[u8]) -> Marks
+pub(crate) fn marks_in(bytes: &[u8]) -> ByteMarks
     ensures special { result.special ≡ needs_quotes default_writer bytes.now }
     ensures quote { result.quote ≡ list_any (λ byte. byte == 34) bytes.now }
 {
@@ -36,7 +36,7 @@ pub(crate) fn marks_in(bytes: &[u8]) -> Marks
 
 /// Looks at 16 to 32 bytes.
 #[inline(always)]
-fn marks_of_ends(bytes: &[u8]) -> Marks
+fn marks_of_ends(bytes: &[u8]) -> ByteMarks
     requires { (16 ≤ length bytes.now) × (length bytes.now ≤ 32) }
     ensures special { result.special ≡ needs_quotes default_writer bytes.now }
     ensures quote { result.quote ≡ list_any (λ byte. byte == 34) bytes.now }
@@ -47,7 +47,7 @@ fn marks_of_ends(bytes: &[u8]) -> Marks
 }
 
 /// Looks at 16 bytes or more.
-fn marks_of_many(bytes: &[u8]) -> Marks
+fn marks_of_many(bytes: &[u8]) -> ByteMarks
     requires { 16 ≤ length bytes.now }
     ensures special { result.special ≡ needs_quotes default_writer bytes.now }
     ensures quote { result.quote ≡ list_any (λ byte. byte == 34) bytes.now }
@@ -65,11 +65,11 @@ fn marks_of_many(bytes: &[u8]) -> Marks
 
 /// Looks at a few bytes, one by one.
 #[inline(always)]
-fn marks_of_few(bytes: &[u8]) -> Marks
+fn marks_of_few(bytes: &[u8]) -> ByteMarks
     ensures special { result.special ≡ needs_quotes default_writer bytes.now }
     ensures quote { result.quote ≡ list_any (λ byte. byte == 34) bytes.now }
 {
-    let mut marks = Marks {
+    let mut marks = ByteMarks {
         special: false,
         quote: false,
     };
@@ -81,14 +81,14 @@ fn marks_of_few(bytes: &[u8]) -> Marks
 
 /// Returns the marks of some bytes and one more.
 #[inline(always)]
-fn marks_with(marks: Marks, byte: u8) -> Marks
+fn marks_with(marks: ByteMarks, byte: u8) -> ByteMarks
     ensures special { result.special ≡ (marks.special || needs_byte default_writer byte) }
     ensures quote { result.quote ≡ (marks.quote || byte == 34) }
 {
     if !is_special(byte) {
         return marks;
     }
-    Marks {
+    ByteMarks {
         special: true,
         quote: marks.quote | (byte == b'"'),
     }
@@ -129,12 +129,12 @@ fn ends_of_8(bytes: &[u8]) -> u8x16
 
 /// Looks at 16 bytes in one step.
 #[inline(always)]
-fn marks_of_16(lanes: u8x16) -> Marks
+fn marks_of_16(lanes: u8x16) -> ByteMarks
     ensures special { result.special ≡ needs_quotes default_writer lanes }
     ensures quote { result.quote ≡ list_any (λ byte. byte == 34) lanes }
 {
     let quote = has_16(lanes, b'"');
-    Marks {
+    ByteMarks {
         special: has_16(lanes, b',') | quote | has_16(lanes, b'\r') | has_16(lanes, b'\n'),
         quote,
     }
@@ -142,12 +142,12 @@ fn marks_of_16(lanes: u8x16) -> Marks
 
 /// Looks at 8 bytes in one step.
 #[inline(always)]
-fn marks_of_8(lanes: u8x8) -> Marks
+fn marks_of_8(lanes: u8x8) -> ByteMarks
     ensures special { result.special ≡ needs_quotes default_writer lanes }
     ensures quote { result.quote ≡ list_any (λ byte. byte == 34) lanes }
 {
     let quote = has_8(lanes, b'"');
-    Marks {
+    ByteMarks {
         special: has_8(lanes, b',') | quote | has_8(lanes, b'\r') | has_8(lanes, b'\n'),
         quote,
     }
@@ -171,11 +171,11 @@ fn has_8(lanes: u8x8, byte: u8) -> bool
 
 /// Returns the marks of two parts together.
 #[inline(always)]
-fn marks_of_both(one: Marks, other: Marks) -> Marks
+fn marks_of_both(one: ByteMarks, other: ByteMarks) -> ByteMarks
     ensures special { result.special ≡ (one.special || other.special) }
     ensures quote { result.quote ≡ (one.quote || other.quote) }
 {
-    Marks {
+    ByteMarks {
         special: one.special | other.special,
         quote: one.quote | other.quote,
     }
