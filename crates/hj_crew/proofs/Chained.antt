@@ -181,11 +181,13 @@ module _ {P F O : Type 0} (gives : F → Given P → F → Type 0) (state : F �
       record {
         answers = answers;
         feed = feed;
-        links = many_links matches desk lefts rights senders chain;
-        queues = many_queues matches desk lefts rights senders chain;
-        flight = refl;
-        run = run.0;
-        complete = λ done. run.1 (so done).0;
+        made = record {
+          links = many_links matches desk lefts rights senders chain;
+          queues = many_queues matches desk lefts rights senders chain;
+          flight = refl;
+          run = run.0;
+          complete = λ done. run.1 (so done).0;
+        };
         taken = taken;
         are = taken-shown matches desk lefts rights senders chain (state to) happened stood some links_agree queues_agree each;
         lists = lists-shown matches desk lefts rights senders chain (state to) happened stood some links_agree queues_agree each;

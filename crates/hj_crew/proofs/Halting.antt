@@ -8,11 +8,10 @@ use Rattle.hj_msg.specs.declared.feed.Given.{Given}
 use Rattle.hj_msg.specs.Feed.{FeedState}
 use Rattle.hj_collect.specs.Collector.{CollectorState}
 use Rattle.hj_raw.specs.Items.{Taken}
-use Rattle.hj_desk.specs.declared.caller.Round.{Round}
 use Rattle.hj_desk.specs.Caller.{GoesRound, answer_of}
 use Rattle.hj_desk.proofs.Going.{goes-stands}
 use Rattle.hj_crew.specs.declared.drive.Halt.{Halt}
-use Rattle.hj_crew.specs.declared.run.Begun.{Begun}
+use Rattle.hj_crew.specs.declared.begun.Begun.{Begun}
 use Rattle.hj_crew.specs.declared.team.Team.{Team}
 use Rattle.hj_crew.specs.Begun.{CanStart, HasHalted}
 use Rattle.hj_crew.specs.Halt.{round_of}

@@ -61,13 +61,11 @@ module _ {P F D : Type 0} (gives : F → Given P → F → Type 0) (state : F �
     feed = crew.feed;
     taken = given.pairs;
     drain = subst (λ (d : D). TakesAll takes d given.pairs now.drain) drain given.drain;
-    links = crew.links;
-    queues = crew.queues;
-    flight = crew.flight;
-    run = crew.run;
-    in_order = subst (λ (lists : List (List (Report P))). IsPrefix (pairs_in given.pairs) (emitted lists)) (sym crew.lists) (given.released.in_order _ crew.run crew.reports.of_run);
-    ends = ends-join _ crew.run (lists_of cores crew.taken) crew.reports (state to).stopped crew.over now given.pairs given.released ran.ended given.answered (λ done. (crew.complete done, crew.done done));
-    complete = crew.complete;
+    made = crew.made;
+    in_order = subst (λ (lists : List (List (Report P))). IsPrefix (pairs_in given.pairs) (emitted lists)) (sym crew.lists) (given.released.in_order _ crew.made.run crew.reports.of_run);
+    ends =
+        ends-join _ crew.made.run (lists_of cores crew.taken) crew.reports (state to).stopped crew.over now given.pairs given.released ran.ended given.answered
+        (λ done. (crew.made.complete done, crew.done done));
   }
 
 module _ {P F D E : Type 0} (gives : F → Given P → F → Type 0) (state : F → FeedState) (takes : D → Pair P → Drained → D → Type 0) (matches : P → P → Bool) (cores in_flight : ℕ) (from to : F) (begun now : InOrder P D) (unfilled : D) (drain : begun.drain ≡ unfilled) where

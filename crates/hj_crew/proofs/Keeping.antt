@@ -17,6 +17,7 @@ use Rattle.hj_crew.specs.Ends.{FormChain}
 use Rattle.hj_desk.specs.Ports.{KeepsLinks}
 use Rattle.hj_crew.specs.Teams.{TeamStays, workers_in}
 use Rattle.hj_crew.proofs.Dealing.{related-gathered}
+use Rattle.hj_crew.proofs.Linking.{related-as}
 
 -- ---- lists whose items are related
 
@@ -25,12 +26,6 @@ related-map f R [] [] related = tt
 related-map f R [] (y ∷ ys) related = absurd related
 related-map f R (x ∷ xs) [] related = absurd related
 related-map f R (x ∷ xs) (y ∷ ys) related = (related.0, related-map f R xs ys related.1)
-
-related-weaker : {X : Type 0} (R S : X → X → Type 0) → ((x y : X) → R x y → S x y) → (xs ys : List X) → AllZip R xs ys → AllZip S xs ys
-related-weaker R S weaker [] [] related = tt
-related-weaker R S weaker [] (y ∷ ys) related = absurd related
-related-weaker R S weaker (x ∷ xs) [] related = absurd related
-related-weaker R S weaker (x ∷ xs) (y ∷ ys) related = (weaker x y related.0, related-weaker R S weaker xs ys related.1)
 
 -- what is the same of each item
 related-from_map : {X Y : Type 0} (f : X → Y) (xs ys : List X) → map f ys ≡ map f xs → AllZip (λ x y. f y ≡ f x) xs ys
@@ -76,13 +71,13 @@ stay-cores join n place (worker ∷ workers) (other ∷ others) are same =
 module _ {P J : Type 0} (old new : Desk P) (workers others : List (WorkerSeen P J)) (chain : FormChain old (left_of workers) (right_of workers) (reports_of workers)) (ports : KeepsLinks old.ports new.ports)
     (queues : KeepsQueues old.reports.items new.reports.items) (flight : new.driver.flight ≡ old.driver.flight) (same : AllZip StaysItself workers others) where
   lefts : AllZip SameEnd (left_of workers) (left_of others)
-  lefts = related-map (λ (w : WorkerSeen P J). w.ends.left) SameEnd workers others (related-weaker StaysItself (λ v w. SameEnd v.ends.left w.ends.left) (λ v w stays. stays.links.left) workers others same)
+  lefts = related-map (λ (w : WorkerSeen P J). w.ends.left) SameEnd workers others (related-as StaysItself (λ v w. SameEnd v.ends.left w.ends.left) (λ v w stays. stays.links.left) workers others same)
 
   rights : AllZip SameEnd (right_of workers) (right_of others)
-  rights = related-map (λ (w : WorkerSeen P J). w.ends.right) SameEnd workers others (related-weaker StaysItself (λ v w. SameEnd v.ends.right w.ends.right) (λ v w stays. stays.links.right) workers others same)
+  rights = related-map (λ (w : WorkerSeen P J). w.ends.right) SameEnd workers others (related-as StaysItself (λ v w. SameEnd v.ends.right w.ends.right) (λ v w stays. stays.links.right) workers others same)
 
   reports : AllZip SameSender (reports_of workers) (reports_of others)
-  reports = related-map (λ (w : WorkerSeen P J). w.ends.reports) SameSender workers others (related-weaker StaysItself (λ v w. SameSender v.ends.reports w.ends.reports) (λ v w stays. stays.links.reports) workers others same)
+  reports = related-map (λ (w : WorkerSeen P J). w.ends.reports) SameSender workers others (related-as StaysItself (λ v w. SameSender v.ends.reports w.ends.reports) (λ v w stays. stays.links.reports) workers others same)
 
   all_left : AllZip SameEnd (old.ports.left ∷ right_of workers) (new.ports.left ∷ right_of others)
   all_left = ((ports.left, ports.left_capacity), rights)

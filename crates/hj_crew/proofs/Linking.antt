@@ -1,33 +1,43 @@
--- Links and queues that are made, and those that are closed one after another.
-use Rattle.std.proofs.Common.{◌≡◌, ◌⊎◌, inl, inr, List, [], ◌∷◌, ◌++◌, length, map, All, arith, ap, ap₂, sym, ◌∙◌, subst, append_assoc, append-nil}
+-- What has two ends: made one after another, and closed.
+use Rattle.std.proofs.Common.{◌≡◌, ◌⊎◌, inl, inr, zero, suc, List, [], ◌∷◌, ◌++◌, length, map, All, arith, refl, sym, ap₂, subst}
 use Rattle.std.specs.List.{AllZip, zip}
-use Rattle.std.proofs.lemmas.List.Elements.{All-push}
 use Rattle.std.proofs.lemmas.Slice.Zip.{all_zipped_more}
 
-module _ {X Y : Type 0} {xs₀ xs : List X} {ys₀ ys : List Y} {x : X} {y : Y} (first : xs₀ ≡ x ∷ xs) (second : ys₀ ≡ y ∷ ys) where
-  -- of two lists whose items are related the first ones are, and the later ones
-  pub related-later : (R : X → Y → Type 0) → AllZip R xs₀ ys₀ → R x y × AllZip R xs ys
-  related-later R related = subst (λ (l : List Y). AllZip R (x ∷ xs) l) second (subst (λ (l : List X). AllZip R l ys₀) first related)
+-- where nothing is left of one of two lists, nothing is left to join
+pub none-zipped : {X Y Z : Type 0} (R : X × Y → Z → Type 0) (xs : List X) (ys : List Y) → length xs ≡ 0 ⊎ length ys ≡ 0 → AllZip R (zip xs ys) []
+none-zipped R [] ys none = tt
+none-zipped R (x ∷ xs) [] none = tt
+none-zipped R (x ∷ xs) (y ∷ ys) (inl none) = absurd (omega (arith, none))
+none-zipped R (x ∷ xs) (y ∷ ys) (inr none) = absurd (omega (arith, none))
 
-  -- the first ones are joined, and stand behind those that are
-  pub joined-later : {Z : Type 0} (join : X → Y → Z) (all done more : List Z) (z : Z) → z ≡ join x y → more ≡ done ++ z ∷ [] → all ≡ done ++ map (λ p. join p.0 p.1) (zip xs₀ ys₀)
-      → all ≡ more ++ map (λ p. join p.0 p.1) (zip xs ys)
-  joined-later join all done more z joined pushed are =
-      are
-      ∙ ap₂ (λ (l : List X) (m : List Y). done ++ map (λ p. join p.0 p.1) (zip l m)) first second
-      ∙ sym (append_assoc done (join x y ∷ []) (map (λ p. join p.0 p.1) (zip xs ys)))
-      ∙ ap (λ l. l ++ map (λ p. join p.0 p.1) (zip xs ys)) (ap (λ w. done ++ w ∷ []) (sym joined) ∙ sym pushed)
+-- ---- what is so of items of two lists that are related
 
--- where nothing is left to join, all is joined
-pub none-left : {X Y Z : Type 0} (join : X → Y → Z) (all done : List Z) (xs : List X) (ys : List Y) → length xs ≡ 0 ⊎ length ys ≡ 0 → all ≡ done ++ map (λ p. join p.0 p.1) (zip xs ys) → done ≡ all
-none-left join all done [] ys none are = sym (are ∙ append-nil done)
-none-left join all done (x ∷ xs) [] none are = sym (are ∙ append-nil done)
-none-left join all done (x ∷ xs) (y ∷ ys) (inl none) are = absurd (omega (arith, none))
-none-left join all done (x ∷ xs) (y ∷ ys) (inr none) are = absurd (omega (arith, none))
+module _ {X Y : Type 0} (R : X → Y → Type 0) where
+  pub related-as : (S : X → Y → Type 0) → ((x : X) (y : Y) → R x y → S x y) → (xs : List X) (ys : List Y) → AllZip R xs ys → AllZip S xs ys
+  related-as S so [] [] related = tt
+  related-as S so [] (y ∷ ys) related = absurd related
+  related-as S so (x ∷ xs) [] related = absurd related
+  related-as S so (x ∷ xs) (y ∷ ys) related = (so x y related.0, related-as S so xs ys related.1)
 
--- one item more of which something is so
-pub all-with : {X : Type 0} (P : X → Type 0) (xs more : List X) (x : X) → more ≡ xs ++ x ∷ [] → All P xs → P x → All P more
-all-with P xs more x pushed all is = subst (All P) (sym pushed) (All-push P xs x all is)
+  pub firsts-are : (Q : X → Type 0) → ((x : X) (y : Y) → R x y → Q x) → (xs : List X) (ys : List Y) → AllZip R xs ys → All Q xs
+  firsts-are Q so [] ys related k d low = absurd (omega (arith, low))
+  firsts-are Q so (x ∷ xs) [] related k d low = absurd related
+  firsts-are Q so (x ∷ xs) (y ∷ ys) related zero d low = so x y related.0
+  firsts-are Q so (x ∷ xs) (y ∷ ys) related (suc k) d low = firsts-are Q so xs ys related.1 k d (omega (arith, low))
+
+  pub seconds-are : (Q : Y → Type 0) → ((x : X) (y : Y) → R x y → Q y) → (xs : List X) (ys : List Y) → AllZip R xs ys → All Q ys
+  seconds-are Q so [] [] related k d low = absurd (omega (arith, low))
+  seconds-are Q so [] (y ∷ ys) related k d low = absurd related
+  seconds-are Q so (x ∷ xs) [] related k d low = absurd related
+  seconds-are Q so (x ∷ xs) (y ∷ ys) related zero d low = so x y related.0
+  seconds-are Q so (x ∷ xs) (y ∷ ys) related (suc k) d low = seconds-are Q so xs ys related.1 k d (omega (arith, low))
+
+  -- where the second of two is a function of the first one
+  pub seconds-by : (f : X → Y) → ((x : X) (y : Y) → R x y → y ≡ f x) → (xs : List X) (ys : List Y) → AllZip R xs ys → ys ≡ map f xs
+  seconds-by f so [] [] related = refl
+  seconds-by f so [] (y ∷ ys) related = absurd related
+  seconds-by f so (x ∷ xs) [] related = absurd related
+  seconds-by f so (x ∷ xs) (y ∷ ys) related = ap₂ (λ (z : Y) (zs : List Y). z ∷ zs) (so x y related.0) (seconds-by f so xs ys related.1)
 
 -- two lists whose items are related, with one item more each
 pub related-with : {X Y : Type 0} (R : X → Y → Type 0) (xs more_xs : List X) (ys more_ys : List Y) (x : X) (y : Y) → more_xs ≡ xs ++ x ∷ [] → more_ys ≡ ys ++ y ∷ [] → AllZip R xs ys → R x y → AllZip R more_xs more_ys

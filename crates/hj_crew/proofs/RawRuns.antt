@@ -82,7 +82,7 @@ module _ {P D : Type 0} (takes : D → Item P → Drained → D → Type 0) wher
     events = events_in crew.answers
 
     all_reports : AreAllReportsOf (run_of matches events ran) (lists_of (length ran.queues) crew.taken)
-    all_reports = subst (λ (n : ℕ). AreAllReportsOf (run_of matches events ran) (lists_of n crew.taken)) (sym crew.queues) crew.reports
+    all_reports = subst (λ (n : ℕ). AreAllReportsOf (run_of matches events ran) (lists_of n crew.taken)) (sym crew.made.queues) crew.reports
 
     of_run : AreTakenOf (run_of matches events ran) crew.taken
     of_run = taken_of (run_of matches events ran) ran.queues refl crew.taken crew.are all_reports
@@ -93,18 +93,15 @@ module _ {P D : Type 0} (takes : D → Item P → Drained → D → Type 0) wher
       feed = crew.feed;
       offers = given.offers;
       drain = subst (λ (d : D). TakesItems takes d given.offers now.drain) drain given.drain;
-      links = crew.links;
-      queues = crew.queues;
-      flight = crew.flight;
-      run = crew.run;
-      complete = crew.complete;
+      made = crew.made;
       taken = crew.taken;
       are = crew.are;
       lists = crew.lists;
       ends = ends-raw begun cores crew.taken (state to).stopped crew.over now ran.ended given crew.done;
-      tells = subst (λ (n : ℕ). TellsMatches matches events (raw_items n crew.taken)) crew.queues (tells (run_of matches events ran) crew.run crew.taken of_run);
+      tells = subst (λ (n : ℕ). TellsMatches matches events (raw_items n crew.taken)) crew.made.queues (tells (run_of matches events ran) crew.made.run crew.taken of_run);
       tells_all = λ done.
-          subst (λ (n : ℕ). TellsAll matches events (raw_items n crew.taken)) crew.queues (tells_all (run_of matches events ran) crew.run crew.taken of_run (crew.complete done) all_reports);
+          subst (λ (n : ℕ). TellsAll matches events (raw_items n crew.taken)) crew.made.queues
+          (tells_all (run_of matches events ran) crew.made.run crew.taken of_run (crew.made.complete done) all_reports);
     }
 
   module _ {F E : Type 0} (gives : F → Given P → F → Type 0) (state : F → FeedState) (matches : P → P → Bool) (cores in_flight : ℕ) (from to : F) (begun now : Raw P D) (unfilled : D) (drain : begun.drain ≡ unfilled) where

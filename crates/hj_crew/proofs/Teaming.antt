@@ -4,16 +4,12 @@ use Rattle.std.specs.Prelude.{MatchOption, IfNone}
 use Rattle.std.specs.List.{AllZip}
 use Rattle.std.proofs.lemmas.List.{same_from_push}
 use Rattle.std.proofs.lemmas.Slice.Zip.{AllZip-long, all_zipped_more}
-use Rattle.hj_worker.specs.Turning.{StaysItself}
 use Rattle.hj_crew.specs.declared.team.Team.{Team}
 use Rattle.hj_crew.specs.Teams.{AppendsTeams, TeamStays}
 use Rattle.hj_crew.proofs.Dealing.{EndsRelated, ends_related}
-use Rattle.hj_crew.proofs.Staying.{related-trans, stays-on}
+use Rattle.hj_crew.proofs.Staying.{team-stays-on}
 
 module _ {P J L R : Type 0} where
-  pub team-stays_on : (first second third : Team P J L R) → TeamStays first second → TeamStays second third → TeamStays first third
-  team-stays_on first second third one two = related-trans StaysItself stays-on first.workers.items second.workers.items third.workers.items one two
-
   pub length-appended : (teams old new : List (Team P J L R)) → AppendsTeams teams old new → length new ≡ length old + length teams
   length-appended teams old new more = omega (arith, ap length more.behind, length-append old more.back, AllZip-long TeamStays teams more.back more.same)
 
@@ -79,7 +75,7 @@ module _ {P J L R : Type 0} where
   comes-back None given team own with more left back put same taken =
       let one = only-one team put.back put.same in
       let pushed : with ≡ own ++ one.0 ∷ [] = put.behind ∙ ap (λ (l : List (Team P J L R)). own ++ l) one.1 in (
-        team-stays_on team one.0 back one.2 (last_stays own with more left one.0 back pushed same taken),
+        team-stays-on team one.0 back one.2 (last_stays own with more left one.0 back pushed same taken),
         others_stay own with more left one.0 back pushed same taken,
       )
 

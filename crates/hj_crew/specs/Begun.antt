@@ -11,8 +11,8 @@ use Rattle.hj_desk.specs.Desk.{Stands, StandsFor, nothing_happened}
 use Rattle.hj_crew.specs.declared.drive.Halt.{Halt}
 use Rattle.hj_crew.specs.declared.making.Crew.{Crew}
 use Rattle.hj_crew.specs.declared.plan.CrewSize.{CrewSize}
-use Rattle.hj_crew.specs.declared.run.Begun.{Begun}
-use Rattle.hj_crew.specs.declared.run.Returned.{Returned}
+use Rattle.hj_crew.specs.declared.begun.Begun.{Begun}
+use Rattle.hj_crew.specs.declared.begun.Returned.{Returned}
 use Rattle.hj_crew.specs.Cores.{AreCrew}
 use Rattle.hj_crew.specs.Halt.{round_of}
 use Rattle.hj_crew.specs.Room.{IsRoomOf}

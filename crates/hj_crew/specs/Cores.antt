@@ -1,5 +1,5 @@
 -- The workers of the cores of a chain.
-use Rattle.std.specs.Prelude.{◌≡◌, ℕ, ◌+◌, ◌*◌, ◌/◌, Bool, List, [], ◌∷◌, ◌++◌, All, Contains, length, map, None}
+use Rattle.std.specs.Prelude.{◌≡◌, ℕ, ◌+◌, ◌*◌, ◌/◌, ◌≤◌, Bool, List, [], ◌∷◌, ◌++◌, All, Contains, length, map, None}
 use Rattle.hj_base.specs.Journals.{puts}
 use Rattle.hj_base.specs.Link.{Agrees, AgreesOneWay}
 use Rattle.hj_msg.specs.declared.message.Msg.{Msg}
@@ -51,6 +51,15 @@ pub record AreEndsFor {P : Type 0} (cores : ℕ) (ends : ChainEnds P) : Type 0 w
   pub left : length ends.left.items ≡ cores + 1
   pub right : length ends.right.items ≡ cores
   pub senders : length ends.senders.items ≡ cores
+
+-- These are the ends that the cores left for the desk, one left end and the receivers, and the last right end. Nothing was put or taken
+-- at them.
+pub record AreForDesk {P : Type 0} (ends : ChainEnds P) (last : EndSeen (Msg P)) : Type 0 where
+  pub first : length ends.left.items ≡ 1
+  pub left_unused : All (λ end. end.journal ≡ []) ends.left.items
+  pub last_unused : last.journal ≡ []
+  pub few : length ends.receivers.items ≤ 64
+  pub receivers_unused : All (λ receiver. receiver.journal ≡ []) ends.receivers.items
 
 -- The workers of the cores from a place on are made, and dealt to teams. Those of the cores before it go to the teams up to one, before
 -- which no team has a worker.

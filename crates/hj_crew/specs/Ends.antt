@@ -7,14 +7,14 @@ use Rattle.hj_desk.specs.declared.desk.Desk.{Desk}
 use Rattle.hj_crew.specs.declared.ends.ChainEnds.{ChainEnds}
 use Rattle.hj_crew.specs.Links.{AreLinked, AreQueues}
 
--- The ends of the links and queues of so many cores, at which nothing was put or taken yet.
-pub record AreNew {P : Type 0} (cores capacity : ℕ) (ends : ChainEnds P) : Type 0 where
+-- The ends of the links and queues of so many cores, at which nothing was put or taken yet. The last right end stands beside them.
+pub record AreNew {P : Type 0} (cores capacity : ℕ) (ends : ChainEnds P) (last : EndSeen (Msg P)) : Type 0 where
   pub links : length ends.left.items ≡ cores + 1
   pub queues : length ends.senders.items ≡ cores
-  pub linked : AreLinked ends.left.items ends.right.items
+  pub linked : AreLinked ends.left.items (ends.right.items ++ last ∷ [])
   pub queued : AreQueues ends.senders.items ends.receivers.items
   pub left : All (λ end. (end.journal ≡ []) × (end.capacity ≡ capacity)) ends.left.items
-  pub right : All (λ end. (end.journal ≡ []) × (end.capacity ≡ capacity)) ends.right.items
+  pub right : All (λ end. (end.journal ≡ []) × (end.capacity ≡ capacity)) (ends.right.items ++ last ∷ [])
   pub senders : All (λ end. (end.journal ≡ []) × (end.capacity ≡ capacity)) ends.senders.items
   pub receivers : All (λ end. (end.journal ≡ []) × (end.capacity ≡ capacity)) ends.receivers.items
 

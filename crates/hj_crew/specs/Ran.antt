@@ -51,6 +51,15 @@ module _ {P : Type 0} where
   abbrev pub reports_of : RanSeen P → List (List (Report P))
   reports_of ran = map (λ queue. takes queue.way.receiver) ran.queues
 
+  -- The journals of the links and queues of so many cores, with so many events outstanding at most, make a run over these events, for
+  -- this join. It is complete where all was done.
+  pub record MakesRun (matches : P → P → Bool) (events : List (Event P)) (cores in_flight : ℕ) (ran : RanSeen P) : Type 0 where
+    pub links : length ran.links ≡ cores + 1
+    pub queues : length ran.queues ≡ cores
+    pub flight : ran.flight ≡ in_flight
+    pub run : IsRun (run_of matches events ran)
+    pub complete : ran.ended ≡ Done → IsComplete run
+
   -- What a run on threads of so many cores did, with so many events outstanding at most: it took what a feed gave, and gave the
   -- pairs to a drain.
   pub record RunsOnThreads {F D : Type 0} (gives : F → Given P → F → Type 0) (state : F → FeedState) (takes_pair : D → Pair P → Drained → D → Type 0) (matches : P → P → Bool)
@@ -60,12 +69,8 @@ module _ {P : Type 0} where
     pub feed : GoesOverAnswers gives from answers to
     pub taken : List (Drainage P)
     pub drain : TakesAll takes_pair unfilled taken filled
-    -- the journals of the links and queues make a run over the events among these answers
-    pub links : length ran.links ≡ cores + 1
-    pub queues : length ran.queues ≡ cores
-    pub flight : ran.flight ≡ in_flight
-    pub run : IsRun (run_of matches (events_in answers) ran)
+    -- it made a run over the events among these answers
+    pub made : MakesRun matches (events_in answers) cores in_flight ran
     -- the pairs are the first ones of those that the reports which were taken let through, and of the sequential join
     pub in_order : IsPrefix (pairs_in taken) (emitted (reports_of ran))
     pub ends : EndsJoin ran.ended (state to).stopped taken (kang matches (events_in answers))
-    pub complete : ran.ended ≡ Done → IsComplete run

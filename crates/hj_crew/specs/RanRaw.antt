@@ -1,16 +1,15 @@
 -- A run on threads whose reports were written as they were taken.
-use Rattle.std.specs.Prelude.{◌≡◌, ℕ, ◌+◌, Bool, List, length, map}
+use Rattle.std.specs.Prelude.{◌≡◌, ℕ, Bool, List, map}
 use Rattle.hj_msg.specs.declared.drain.Drained.{Drained}
 use Rattle.hj_msg.specs.declared.feed.Given.{Given}
 use Rattle.hj_msg.specs.declared.fin.Fin.TheVariants as fin
 use Rattle.hj_msg.specs.Feed.{FeedState, GoesOverAnswers, events_in}
-use Rattle.hj_msg.specs.Run.{IsRun, IsComplete}
 use Rattle.hj_raw.specs.Drain.{Offer, TakesItems}
 use Rattle.hj_raw.specs.Ending.{EndsRaw}
 use Rattle.hj_raw.specs.Items.{Item, Taken, lists_of, raw_items}
 use Rattle.hj_raw.specs.Telling.{TellsAll, TellsMatches}
 use Rattle.hj_desk.specs.Taken.{AreTaken}
-use Rattle.hj_crew.specs.Ran.{RanSeen, reports_of, run_of}
+use Rattle.hj_crew.specs.Ran.{MakesRun, RanSeen, reports_of}
 
 -- What a run on threads of so many cores did, with so many events outstanding at most: it took what a feed gave, and gave the raw
 -- items of the reports that it took to a drain.
@@ -21,12 +20,8 @@ pub record RunsRaw {P F D : Type 0} (gives : F → Given P → F → Type 0) (st
   pub feed : GoesOverAnswers gives from answers to
   pub offers : List (Offer P)
   pub drain : TakesItems takes_item unfilled offers filled
-  -- the journals of the links and queues make a run over the events among these answers
-  pub links : length ran.links ≡ cores + 1
-  pub queues : length ran.queues ≡ cores
-  pub flight : ran.flight ≡ in_flight
-  pub run : IsRun (run_of matches (events_in answers) ran)
-  pub complete : ran.ended ≡ fin.Done → IsComplete run
+  -- it made a run over the events among these answers
+  pub made : MakesRun matches (events_in answers) cores in_flight ran
   -- the reports that were taken in this run, in the order of their turns, and what the drain got of them
   pub taken : List (Taken P)
   pub are : AreTaken (map (λ queue. queue.way.receiver) ran.queues) taken

@@ -1,5 +1,5 @@
 -- What a crew did between a feed and an outlet, up to the end of a run.
-use Rattle.std.specs.Prelude.{◌≡◌, ℕ, ◌+◌, Bool, true, false, List, [], length, map}
+use Rattle.std.specs.Prelude.{◌≡◌, ℕ, Bool, true, false, List, [], map}
 use Rattle.hj_msg.specs.declared.drain.Drained.{Drained}
 use Rattle.hj_msg.specs.declared.drain.Drained.TheVariants.{Kept}
 use Rattle.hj_msg.specs.declared.feed.Given.{Given}
@@ -7,13 +7,12 @@ use Rattle.hj_msg.specs.declared.fin.Fin.TheVariants.{Done}
 use Rattle.hj_msg.specs.declared.message.Report.{Report}
 use Rattle.hj_msg.specs.Feed.{FeedState, GoesOverAnswers, events_in}
 use Rattle.hj_msg.specs.Met.{AreAllReportsOf}
-use Rattle.hj_msg.specs.Run.{IsRun, IsComplete}
 use Rattle.hj_collect.specs.Collector.{CollectorState, has_ended}
 use Rattle.hj_collect.specs.StandsFor as collect
 use Rattle.hj_raw.specs.Items.{Taken, lists_of}
 use Rattle.hj_desk.specs.Caller.{last_answer}
 use Rattle.hj_desk.specs.Taken.{AreTaken}
-use Rattle.hj_crew.specs.Ran.{RanSeen, run_of, reports_of}
+use Rattle.hj_crew.specs.Ran.{MakesRun, RanSeen, reports_of, run_of}
 
 -- All is done: the feed has stopped, memory didn't run out, each core's end was reported, and nothing more is due.
 pub record IsAllDone {P O : Type 0} (is_at_rest : O → CollectorState → Type 0) (lists : List (List (Report P))) (has_stopped over : Bool) (outlet : O) : Type 0 where
@@ -30,12 +29,8 @@ pub record RunsCrew {P F O : Type 0} (gives : F → Given P → F → Type 0) (s
     (cores in_flight : ℕ) (from to : F) (begun now : O) (ran : RanSeen P) : Type 0 where
   pub answers : List (Given P)
   pub feed : GoesOverAnswers gives from answers to
-  -- the journals of the links and queues make a run over the events among these answers
-  pub links : length ran.links ≡ cores + 1
-  pub queues : length ran.queues ≡ cores
-  pub flight : ran.flight ≡ in_flight
-  pub run : IsRun (run_of matches (events_in answers) ran)
-  pub complete : ran.ended ≡ Done → IsComplete run
+  -- it made a run over the events among these answers
+  pub made : MakesRun matches (events_in answers) cores in_flight ran
   -- the reports that were taken, as the journals of their queues tell
   pub taken : List (Taken P)
   pub are : AreTaken (map (λ queue. queue.way.receiver) ran.queues) taken

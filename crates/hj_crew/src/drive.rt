@@ -20,12 +20,67 @@ use std::sync::atomic::Ordering;
 use std::time::{Clock, Instant};
 
 /// Where the calling thread's rounds halt.
-#[derive(Clone, Copy, Debug)]
+#[derive(Clone, Copy)]
 pub(crate) enum Halt {
     /// The run has ended.
     Over(Fin),
     /// The run goes on, and this was seen of it.
     GoesOn(Seen),
+}
+
+/// What stands beside the calling thread while it makes its rounds: threads, or none.
+trait Beside<T> {
+    /// Returns what is seen of the run, up to which so many turns were made, where the rounds are to halt before its end.
+    fn look(&self, rt: &T, load: &mut Load, turns: u64) -> Option<Seen>;
+
+    /// Is told that a round got on.
+    fn got_on(&mut self);
+
+    /// Waits after a round that found nothing to do.
+    fn wait(&mut self, rt: &T);
+}
+
+/// The threads that turn teams, and the calling thread's pause.
+#[derive(Drop)]
+struct AtWork<'s> {
+    signals: &'s [Signals],
+    pause: Pause<'s>,
+}
+
+impl<T: Wait + Clock> Beside<T> for AtWork<'_> {
+    fn look(&self, rt: &T, load: &mut Load, turns: u64) -> Option<Seen> {
+        if load.is_told() && self.pause.is_crowded() {
+            return Some(Seen::Crowded);
+        }
+        load.end_round(rt, turns)
+    }
+
+    fn got_on(&mut self) {
+        ring_teams(self.signals);
+        self.pause.reset();
+    }
+
+    fn wait(&mut self, rt: &T) {
+        self.pause.wait(rt, Awaits::Message);
+    }
+}
+
+/// No thread: the calling thread turns all teams.
+#[derive(Drop)]
+struct Nobody;
+
+impl<T: Clock> Beside<T> for Nobody {
+    fn look(&self, rt: &T, load: &mut Load, turns: u64) -> Option<Seen> {
+        match load.end_round(rt, turns) {
+            Some(Seen::Busy(pace)) => Some(Seen::Busy(pace)),
+            // a thread alone waits for the feed too
+            _ => None,
+        }
+    }
+
+    fn got_on(&mut self) {}
+
+    fn wait(&mut self, _rt: &T) {}
 }
 
 /// Makes rounds until the run has ended, and tells how. Between them it turns the teams of its `own`. After a round that got on it
@@ -47,51 +102,14 @@ pub(crate) fn drive<
     ensures goes { GoesRound F.gives F.state O.gave O.rests (round_of result) caller.old caller.new }
     ensures own { AllZip TeamStays own.old own.new }
 {
-    let halt = drive_threads(shared, caller, own);
+    let mut threads = AtWork {
+        signals: shared.signals,
+        pause: Pause::new(shared.bell),
+    };
+    let mut load = Load::new(shared.windows);
+    let halt = make_rounds(shared.rt, caller, own, shared.gate, &mut load, &mut threads);
     call_back(shared);
     halt
-}
-
-/// Makes the rounds of `drive`, but leaves the threads at work where it halts.
-fn drive_threads<
-    P: Share + Drop,
-    J: Join<P> + Drop,
-    L: Store<P, J> + Drop,
-    R: Store<P, J> + Drop,
-    F: Feed<P>,
-    O: Outlet<P>,
-    G: Gate,
-    T: Wait + Clock,
->(shared: &Shared<'_, G, T>, caller: &mut Caller<P, F, O>, own: &mut [Team<P, J, L, R>]) -> Halt
-    requires stands { Stands caller.old.desk (F.state caller.old.feed) }
-    requires few { length caller.old.desk.reports.items ≤ 64 }
-    ensures goes { GoesRound F.gives F.state O.gave O.rests (round_of result) caller.old caller.new }
-    ensures own { AllZip TeamStays own.old own.new }
-{
-    let mut pause = Pause::new(shared.bell);
-    let mut load = Load::new(shared.windows);
-    for _ in shared.rt.forever() {
-        if let Some(seen) = look(shared.rt, &pause, &mut load, caller.desk.turns) {
-            return Halt::GoesOn(seen);
-        }
-        match round_of_all(shared.rt, caller, own, shared.gate, &mut load) {
-            Round::Over(fin) => return Halt::Over(fin),
-            Round::GotOn => {
-                ring_teams(shared.signals);
-                pause.reset();
-            }
-            Round::Waits => pause.wait(shared.rt, Awaits::Message),
-        }
-    }
-    unreachable!()
-}
-
-/// Returns what is seen of a run on threads by which it is to be chosen anew who turns the teams.
-fn look<T: Clock>(rt: &T, pause: &Pause<'_>, load: &mut Load, turns: u64) -> Option<Seen> {
-    if load.is_told() && pause.is_crowded() {
-        return Some(Seen::Crowded);
-    }
-    load.end_round(rt, turns)
 }
 
 /// Makes rounds until the run has ended, and tells how. Between them it turns these teams, which are all: no thread turns one. With
@@ -118,14 +136,43 @@ pub(crate) fn drive_alone<
     ensures teams { AllZip TeamStays teams.old teams.new }
 {
     let mut load = Load::new(windows);
+    let mut nobody = Nobody;
+    make_rounds(rt, caller, teams, gate, &mut load, &mut nobody)
+}
+
+/// Makes rounds until the run has ended, or what is seen of it says that they are to halt. Between them it turns the teams of the
+/// calling thread's `own`.
+fn make_rounds<
+    P: Share + Drop,
+    J: Join<P> + Drop,
+    L: Store<P, J> + Drop,
+    R: Store<P, J> + Drop,
+    F: Feed<P>,
+    O: Outlet<P>,
+    G: Gate,
+    T: Wait + Clock,
+    B: Beside<T>,
+>(
+    rt: &T,
+    caller: &mut Caller<P, F, O>,
+    own: &mut [Team<P, J, L, R>],
+    gate: &G,
+    load: &mut Load,
+    beside: &mut B,
+) -> Halt
+    requires stands { Stands caller.old.desk (F.state caller.old.feed) }
+    requires few { length caller.old.desk.reports.items ≤ 64 }
+    ensures goes { GoesRound F.gives F.state O.gave O.rests (round_of result) caller.old caller.new }
+    ensures own { AllZip TeamStays own.old own.new }
+{
     for _ in rt.forever() {
-        if let Some(Seen::Busy(pace)) = load.end_round(rt, caller.desk.turns) {
-            return Halt::GoesOn(Seen::Busy(pace));
+        if let Some(seen) = beside.look(rt, load, caller.desk.turns) {
+            return Halt::GoesOn(seen);
         }
-        match round_of_all(rt, caller, teams, gate, &mut load) {
+        match round_of_all(rt, caller, own, gate, load) {
             Round::Over(fin) => return Halt::Over(fin),
-            Round::GotOn => (),
-            Round::Waits => (),
+            Round::GotOn => beside.got_on(),
+            Round::Waits => beside.wait(rt),
         }
     }
     unreachable!()

@@ -4,10 +4,12 @@ ghost use Rattle.hj_base.specs.Link.{Agrees, AgreesOneWay};
 ghost use Rattle.hj_crew.specs.Links.{AreLinked, AreQueues, closed_links, closed_queues};
 ghost use Rattle.hj_crew.specs.Room.{IsRoomOf};
 
-use crate::links::{close_all, close_queues, make_links, make_queues};
+use crate::links::{close_all, make_all};
 use crate::ran::Ran;
 use hj_base::Memory;
-use hj_link::{Closed, ClosedWay, LeftEnd, Receiver, RightEnd, Sender};
+use hj_link::{
+    Closed, ClosedWay, LeftEnd, Receiver, RightEnd, Sender, close, close_way, duplex, one_way,
+};
 use hj_msg::{Fin, Msg, Report};
 use std::alloc::Global;
 
@@ -25,21 +27,29 @@ impl<P: Drop> ChainEnds<P> {
     ghost use Rattle.hj_crew.specs.Ends.{AreNew};
 
     /// Makes the ends of new links and queues for this many cores, with room for what a chain puts that has at most
-    /// `flight` events outstanding.
-    pub(crate) fn new(alloc: Global, cores: u16, flight: u16) -> Result<Self, Memory>
+    /// `flight` events outstanding. The last right end, behind those of the cores, stands beside them.
+    pub(crate) fn new(
+        alloc: Global,
+        cores: u16,
+        flight: u16,
+    ) -> Result<(Self, RightEnd<Msg<P>>), Memory>
         requires { (0 < flight) × (flight ≤ 256) }
-        ensures { IfOk result (AreNew cores (2 * flight + 2)) }
+        ensures { IfOk result (λ ends. AreNew cores (2 * flight + 2) ends.0 ends.1) }
     {
         let cores = usize::from(cores);
         let capacity = 2 * usize::from(flight) + 2;
-        let (left, right) = make_links(alloc, cores + 1, capacity)?;
-        let (senders, receivers) = make_queues(alloc, cores, capacity)?;
-        Ok(ChainEnds {
+        let (left, mut right) = make_all(alloc, cores + 1, || duplex(alloc, capacity))?;
+        let (senders, receivers) = make_all(alloc, cores, || one_way(alloc, capacity))?;
+        let Some(last) = right.pop() else {
+            unreachable!()
+        };
+        let ends = ChainEnds {
             left,
             right,
             senders,
             receivers,
-        })
+        };
+        Ok((ends, last))
     }
 
     /// Closes the links and queues of a run with at most `flight` events outstanding, which ended
@@ -62,9 +72,12 @@ impl<P: Drop> ChainEnds<P> {
         ensures flight { result.flight ≡ flight }
         ensures ended { result.ended ≡ ended }
     {
+        // within closures, since the functions are another crate's
+        let close_link = |left, right| close(left, right);
+        let close_queue = |sender, receiver| close_way(sender, receiver);
         Ran {
-            links: close_all(self.left, self.right, links),
-            queues: close_queues(self.senders, self.receivers, queues),
+            links: close_all(self.left, self.right, links, close_link),
+            queues: close_all(self.senders, self.receivers, queues, close_queue),
             flight,
             ended,
         }

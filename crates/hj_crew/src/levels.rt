@@ -1,5 +1,6 @@
 //! The threads of a run: each is started by a level of its own, which joins it again.
-ghost use Rattle.std.specs.Prelude.{◌≡◌, ◌+◌, ◌<◌, ◌≤◌, ◌∷◌, ◌++◌, [], length, vec_capacity, vec_len, IfErr, IfOk, IfNone, MatchOption};
+ghost use Rattle.std.specs.Prelude.{◌≡◌, ◌+◌, ◌<◌, ◌≤◌, ◌∷◌, ◌++◌, [], length, vec_capacity, vec_len};
+ghost use Rattle.std.specs.Prelude.{IfErr, IfOk, IfNone, MatchOption};
 ghost use Rattle.std.specs.List.{AllZip};
 ghost use Rattle.hj_desk.specs.Caller.{GoesRound};
 ghost use Rattle.hj_desk.specs.Desk.{Stands};
@@ -89,7 +90,8 @@ pub(crate) fn levels<
     let Some(team) = teams.pop() else {
         return drive(shared, caller, own.as_mut_slice());
     };
-    let child = start_or_keep(scope, shared, teams.len(), team, own);
+    let started = start(scope, shared, teams.len(), team);
+    let child = keep_refused(started, own);
     let halt = levels(scope, shared, caller, teams, own, done);
     done.push_reserved(take_back(shared.rt, child, own));
     halt
@@ -138,45 +140,28 @@ fn neighbours_of<'s, G, T>(shared: &Shared<'s, G, T>, place: usize) -> Neighbour
     }
 }
 
-/// Starts the thread of a team, unless the calling thread is to turn it. Where it is, or no thread can be made, the team
-/// goes behind the calling thread's `own`.
-fn start_or_keep<
-    's,
-    E,
-    P: Share + Send + Drop + 's,
-    J: Join<P> + Send + Drop + 's,
-    L: Store<P, J> + Send + Drop + 's,
-    R: Store<P, J> + Send + Drop + 's,
-    G: Gate + Sync + 's,
-    T: Threads + Wait + Clock + Sync + 's,
->(
-    scope: &'s Scope<'s, E>,
-    shared: &Shared<'s, G, T>,
-    place: usize,
-    team: Team<P, J, L, R>,
+/// Puts a team that no thread turns behind the calling thread's `own`.
+fn keep_refused<P: Drop, J: Join<P> + Drop, L: Store<P, J> + Drop, R: Store<P, J> + Drop>(
+    started: Result<Child<P, J, L, R>, Team<P, J, L, R>>,
     own: &mut Vec<Team<P, J, L, R>>,
 ) -> Option<Child<P, J, L, R>>
-    requires place { place < length shared.now.signals.now }
-    requires room { vec_len own.old < vec_capacity own.old }
-    ensures started { MatchOption result (AppendsTeams (team ∷ []) own.old.items own.new.items)
+    requires { vec_len own.old < vec_capacity own.old }
+    ensures given { (team : Team P J L R) → IfOk started (λ child. child.promise.0.value ≡ team) → IfErr started (TeamStays team)
+        → MatchOption result (AppendsTeams (team ∷ []) own.old.items own.new.items)
         (λ child. (child.promise.0.value ≡ team) × (own.new.items ≡ own.old.items)) }
     ensures capacity { vec_capacity own.new ≡ vec_capacity own.old }
 {
-    let refused = if place < shared.kept {
-        shared.signals[place].leave.store(true, Ordering::SeqCst);
-        team
-    } else {
-        match start(scope, shared, place, team) {
-            Ok(child) => return Some(child),
-            Err(team) => team,
+    match started {
+        Ok(child) => Some(child),
+        Err(team) => {
+            own.push_reserved(team);
+            None
         }
-    };
-    own.push_reserved(refused);
-    None
+    }
 }
 
-/// Starts the thread of a team, which gets the signals at a place. Where none can be made, the team
-/// comes back at once.
+/// Starts the thread of a team, which gets the signals at a place. Where none can be made, or the calling thread is to turn the
+/// team, that comes back at once.
 fn start<
     's,
     E,
@@ -196,11 +181,15 @@ fn start<
     ensures started { IfOk result (λ child. child.promise.0.value ≡ team) }
     ensures refused { IfErr result (TeamStays team) }
 {
+    let signals = &shared.signals[place];
+    let is_kept = place < shared.kept;
+    // it was set where an earlier thread of the team was refused
+    signals.leave.store(is_kept, Ordering::SeqCst);
+    if is_kept {
+        return Err(team);
+    }
     let rt = shared.rt;
     let stop = shared.stop;
-    let signals = &shared.signals[place];
-    // it was set where an earlier thread of the team was refused
-    signals.leave.store(false, Ordering::SeqCst);
     let neighbours = neighbours_of(shared, place);
     let gate = shared.gate;
     let promise = SameTeam(Snapshot::of(&team));

@@ -1,10 +1,10 @@
 //! A run of the chain of cores on threads.
 #![tactic(auto)]
 
+mod begun;
 mod bell;
 mod closing;
 mod deal;
-mod drains;
 mod drive;
 mod ends;
 mod levels;
@@ -19,7 +19,6 @@ mod run;
 mod team;
 mod turners;
 
-pub use drains::{run_raw, run_threads};
 pub use plan::{CrewPlan, CrewSize, Stores};
 pub use ran::Ran;
-pub use run::run_between;
+pub use run::{run_between, run_raw, run_threads};

@@ -11,7 +11,7 @@ const TIME: u64 = 10_000;
 const TURNS: u64 = 256;
 
 /// How many turns were made at the chain's ends in how much time.
-#[derive(Clone, Copy, Debug)]
+#[derive(Clone, Copy)]
 pub(crate) struct Pace {
     turns: u64,
     took: Duration,

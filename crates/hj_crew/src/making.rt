@@ -5,7 +5,7 @@ ghost use Rattle.hj_msg.specs.Core.{empty_state};
 ghost use Rattle.hj_msg.specs.Feed.{FeedState, IsFresh};
 ghost use Rattle.hj_core.specs.Contents.{state_of};
 ghost use Rattle.hj_desk.specs.Desk.{StandsFor, nothing_happened};
-ghost use Rattle.hj_crew.specs.Cores.{AreCrew, AreEndsFor, AreUnused, GivesEnds, MakesTeams};
+ghost use Rattle.hj_crew.specs.Cores.{AreCrew, AreEndsFor, AreForDesk, AreUnused, GivesEnds, MakesTeams};
 ghost use Rattle.hj_crew.specs.Room.{IsRoomOf};
 ghost use Rattle.hj_crew.specs.Stores.{AreReadyOn};
 
@@ -110,10 +110,7 @@ fn desk_and_teams<P: Share + Drop, J: Join<P> + Drop, L: Store<P, J> + Drop, R: 
     ensures going { IfOk result (λ made. made.0.over ≡ false) }
     ensures count { IfOk result (λ made. length made.1.items ≡ count) }
 {
-    let mut ends = ChainEnds::new(alloc, size.cores, size.flight)?;
-    let Some(last) = ends.right.pop() else {
-        unreachable!()
-    };
+    let (mut ends, last) = ChainEnds::new(alloc, size.cores, size.flight)?;
     let Stores { left, right } = stores;
     let teams = make_teams(alloc, join, left, right, &mut ends, count)?;
     let desk = desk_at(alloc, size.flight, ends, last)?;
@@ -128,11 +125,7 @@ fn desk_at<P: Share + Drop>(
     ends: ChainEnds<P>,
     last: RightEnd<Msg<P>>,
 ) -> Result<Desk<P>, Memory>
-    requires first { length ends.left.items ≡ 1 }
-    requires left_unused { All (λ end. end.journal ≡ []) ends.left.items }
-    requires last_unused { last.journal ≡ [] }
-    requires few { length ends.receivers.items ≤ 64 }
-    requires receivers_unused { All (λ receiver. receiver.journal ≡ []) ends.receivers.items }
+    requires { AreForDesk ends last }
     ensures stands { IfOk result (λ desk. (feed : FeedState) → IsFresh feed
         → StandsFor desk feed nothing_happened) }
     ensures going { IfOk result (λ desk. desk.over ≡ false) }

@@ -21,7 +21,7 @@ pub(crate) struct Team<P: Drop, J: Join<P>, L: Store<P, J>, R: Store<P, J>> {
 }
 
 /// How far a round of turns came.
-#[derive(Clone, Copy, Debug, PartialEq, Eq)]
+#[derive(Clone, Copy)]
 pub(crate) enum Progress {
     /// Something may have been put, and there may be more to do at once.
     GotOn,

@@ -7,7 +7,7 @@ const FEWEST_WINDOWS: u32 = 32;
 const MOST_WINDOWS: u32 = 256;
 
 /// Who turns the teams of a run.
-#[derive(Clone, Copy, Debug)]
+#[derive(Clone, Copy)]
 pub(crate) enum Turners {
     Threads,
     /// The calling thread, all of them.
@@ -24,7 +24,7 @@ impl Turners {
 }
 
 /// What was seen of a run where the calling thread's rounds halted before its end.
-#[derive(Clone, Copy, Debug)]
+#[derive(Clone, Copy)]
 pub(crate) enum Seen {
     /// Other programs want the processors.
     Crowded,
@@ -35,7 +35,7 @@ pub(crate) enum Seen {
 }
 
 /// Says who turns the teams of a run. Now and then the others try, and those that get on faster go on.
-#[derive(Clone, Copy, Debug)]
+#[derive(Clone, Copy)]
 pub(crate) enum Choice {
     /// These turn them up to the end.
     Last(Turners),

@@ -28,18 +28,18 @@ levels-halt-requires-clause-done_room g t c κs within = omega (arith, c.require
 
 pub levels-halt-requires-clause-own_room : goal.levels-halt-requires-clause-own_room
 levels-halt-requires-clause-own_room g t c κs within =
-    let child = c.start_or_keep-child.result in
+    let child = c.keep_refused-child.result in
     omega (
       arith,
-      as-long child (λ h. h.promise.0.value) c.in-Some.team c.args.own.now.items c.start_or_keep-child.new.own.items c.start_or_keep-child.ensures.started,
-      c.start_or_keep-child.ensures.capacity,
+      as-long child (λ h. h.promise.0.value) c.in-Some.team c.args.own.now.items c.keep_refused-child.new.own.items (c.keep_refused-child.ensures.given c.in-Some.team c.start-started.ensures.started c.start-started.ensures.refused),
+      c.keep_refused-child.ensures.capacity,
       c.requires.own_room,
       c.in-Some.ensures.len,
     )
 
 pub take_back-requires : goal.take_back-requires
 take_back-requires g t c =
-    some-own c.start_or_keep-child.result (λ h. h.promise.0.value) c.in-Some.team c.args.own.now.items c.start_or_keep-child.new.own.items c.levels-halt.new.own.items c.start_or_keep-child.ensures.started c.levels-halt.ensures.own
+    some-own c.keep_refused-child.result (λ h. h.promise.0.value) c.in-Some.team c.args.own.now.items c.keep_refused-child.new.own.items c.levels-halt.new.own.items (c.keep_refused-child.ensures.given c.in-Some.team c.start-started.ensures.started c.start-started.ensures.refused) c.levels-halt.ensures.own
 
 pub push_reserved-requires : goal.push_reserved-requires
 push_reserved-requires g t c =
@@ -53,13 +53,13 @@ push_reserved-requires g t c =
 
 pub returns-clause-own : goal.returns-clause-own
 returns-clause-own g t c =
-    (comes-back c.start_or_keep-child.result (λ h. h.promise.0.value) c.in-Some.team c.args.own.now.items c.start_or_keep-child.new.own.items c.levels-halt.new.own.items c.take_back.new.own.items c.take_back.result
-    c.start_or_keep-child.ensures.started c.levels-halt.ensures.own c.take_back.ensures.back).1
+    (comes-back c.keep_refused-child.result (λ h. h.promise.0.value) c.in-Some.team c.args.own.now.items c.keep_refused-child.new.own.items c.levels-halt.new.own.items c.take_back.new.own.items c.take_back.result
+    (c.keep_refused-child.ensures.given c.in-Some.team c.start-started.ensures.started c.start-started.ensures.refused) c.levels-halt.ensures.own c.take_back.ensures.back).1
 
 pub returns-clause-done : goal.returns-clause-done
 returns-clause-done g t c =
     let back =
-    comes-back c.start_or_keep-child.result (λ h. h.promise.0.value) c.in-Some.team c.args.own.now.items c.start_or_keep-child.new.own.items c.levels-halt.new.own.items c.take_back.new.own.items c.take_back.result
-    c.start_or_keep-child.ensures.started c.levels-halt.ensures.own c.take_back.ensures.back in
+    comes-back c.keep_refused-child.result (λ h. h.promise.0.value) c.in-Some.team c.args.own.now.items c.keep_refused-child.new.own.items c.levels-halt.new.own.items c.take_back.new.own.items c.take_back.result
+    (c.keep_refused-child.ensures.given c.in-Some.team c.start-started.ensures.started c.start-started.ensures.refused) c.levels-halt.ensures.own c.take_back.ensures.back in
     appends-with c.args.teams.now.items c.pop.new.self.items c.args.done.now.items c.levels-halt.new.done.items c.push_reserved.new.self.items c.in-Some.team c.take_back.result c.in-Some.ensures.items
     c.levels-halt.ensures.done back.0 c.push_reserved.ensures.items

@@ -1,71 +1,25 @@
-use Rattle.std.proofs.Common.{◌+◌, ◌*◌, arith, refl, subst, sym, ℕ}
-use Rattle.hj_crew.specs.declared.ends.ChainEnds.{ChainEnds}
+use Rattle.std.proofs.Common.{◌+◌, ◌*◌, refl, subst, sym, ℕ}
 use Rattle.hj_crew.specs.Cores.{AreEndsFor, MakesTeams}
-use Rattle.hj_crew.proofs.Manning.{IsTakenOff, crew, ends_for, few_receivers, last_unused, left_unused, one_left, others_unused, receivers_unused}
+use Rattle.hj_crew.proofs.Manning.{crew, ends_for, ends_unused, for_desk}
 use Rattle.hj_crew.proofs.making.desk_and_teams.Goals as goal
 
 pub make_teams-requires-clause-unused : goal.make_teams-requires-clause-unused
-make_teams-requires-clause-unused g c =
-    let ends = c.in_ok-ends.ends in
-    let others : ChainEnds g.row.P.Denot = record ends { right = c.pop.new.self } in
-    let off : IsTakenOff c.in-Some.last ends others = record { right = c.in-Some.ensures.items; left = refl; senders = refl; receivers = refl } in
-    others_unused c.args.size.cores (2 * c.args.size.flight + 2) ends others c.in-Some.last c.in_ok-ends.ensures off
+make_teams-requires-clause-unused g c = ends_unused c.args.size.cores (2 * c.args.size.flight + 2) c.in_ok-ends.ends c.in_ok-ends.last c.in_ok-ends.ensures
 
 pub make_teams-requires-clause-ends : goal.make_teams-requires-clause-ends
 make_teams-requires-clause-ends g c =
-    let ends = c.in_ok-ends.ends in
-    let others : ChainEnds g.row.P.Denot = record ends { right = c.pop.new.self } in
-    let off : IsTakenOff c.in-Some.last ends others = record { right = c.in-Some.ensures.items; left = refl; senders = refl; receivers = refl } in
-    subst (λ (n : ℕ). AreEndsFor n others) (sym c.requires.left.count) (ends_for c.args.size.cores (2 * c.args.size.flight + 2) ends others c.in-Some.last c.in_ok-ends.ensures off)
+    subst (λ (n : ℕ). AreEndsFor n c.in_ok-ends.ends) (sym c.requires.left.count) (ends_for c.args.size.cores (2 * c.args.size.flight + 2) c.in_ok-ends.ends c.in_ok-ends.last c.in_ok-ends.ensures)
 
-pub desk_at-requires-clause-first : goal.desk_at-requires-clause-first
-desk_at-requires-clause-first g c =
-    let ends = c.in_ok-ends.ends in
-    let others : ChainEnds g.row.P.Denot = record ends { right = c.pop.new.self } in
-    let off : IsTakenOff c.in-Some.last ends others = record { right = c.in-Some.ensures.items; left = refl; senders = refl; receivers = refl } in
-    let makes =
-    subst (λ (n : ℕ). MakesTeams c.args.join.now n 0 others c.make_teams.new.ends c.in_ok-teams.teams.items) c.requires.left.count c.in_ok-teams.ensures.teams in
-    one_left c.args.size.cores (2 * c.args.size.flight + 2) ends others c.in-Some.last c.in_ok-ends.ensures off c.args.join.now c.make_teams.new.ends c.in_ok-teams.teams.items makes
-
-pub desk_at-requires-clause-left_unused : goal.desk_at-requires-clause-left_unused
-desk_at-requires-clause-left_unused g c =
-    let ends = c.in_ok-ends.ends in
-    let others : ChainEnds g.row.P.Denot = record ends { right = c.pop.new.self } in
-    let off : IsTakenOff c.in-Some.last ends others = record { right = c.in-Some.ensures.items; left = refl; senders = refl; receivers = refl } in
-    let makes =
-    subst (λ (n : ℕ). MakesTeams c.args.join.now n 0 others c.make_teams.new.ends c.in_ok-teams.teams.items) c.requires.left.count c.in_ok-teams.ensures.teams in
-    left_unused c.args.size.cores (2 * c.args.size.flight + 2) ends others c.in-Some.last c.in_ok-ends.ensures off c.args.join.now c.make_teams.new.ends c.in_ok-teams.teams.items makes
-
-pub desk_at-requires-clause-last_unused : goal.desk_at-requires-clause-last_unused
-desk_at-requires-clause-last_unused g c =
-    let ends = c.in_ok-ends.ends in
-    let others : ChainEnds g.row.P.Denot = record ends { right = c.pop.new.self } in
-    let off : IsTakenOff c.in-Some.last ends others = record { right = c.in-Some.ensures.items; left = refl; senders = refl; receivers = refl } in
-    last_unused c.args.size.cores (2 * c.args.size.flight + 2) ends others c.in-Some.last c.in_ok-ends.ensures off
-
-pub desk_at-requires-clause-few : goal.desk_at-requires-clause-few
-desk_at-requires-clause-few g c =
-    let ends = c.in_ok-ends.ends in
-    let others : ChainEnds g.row.P.Denot = record ends { right = c.pop.new.self } in
-    let off : IsTakenOff c.in-Some.last ends others = record { right = c.in-Some.ensures.items; left = refl; senders = refl; receivers = refl } in
-    let makes =
-    subst (λ (n : ℕ). MakesTeams c.args.join.now n 0 others c.make_teams.new.ends c.in_ok-teams.teams.items) c.requires.left.count c.in_ok-teams.ensures.teams in
-    omega (arith, few_receivers c.args.size.cores (2 * c.args.size.flight + 2) ends others c.in-Some.last c.in_ok-ends.ensures off c.args.join.now c.make_teams.new.ends c.in_ok-teams.teams.items makes, c.args.size.few_cores)
-
-pub desk_at-requires-clause-receivers_unused : goal.desk_at-requires-clause-receivers_unused
-desk_at-requires-clause-receivers_unused g c =
-    let ends = c.in_ok-ends.ends in
-    let others : ChainEnds g.row.P.Denot = record ends { right = c.pop.new.self } in
-    let off : IsTakenOff c.in-Some.last ends others = record { right = c.in-Some.ensures.items; left = refl; senders = refl; receivers = refl } in
-    let makes =
-    subst (λ (n : ℕ). MakesTeams c.args.join.now n 0 others c.make_teams.new.ends c.in_ok-teams.teams.items) c.requires.left.count c.in_ok-teams.ensures.teams in
-    receivers_unused c.args.size.cores (2 * c.args.size.flight + 2) ends others c.in-Some.last c.in_ok-ends.ensures off c.args.join.now c.make_teams.new.ends c.in_ok-teams.teams.items makes
+pub desk_at-requires : goal.desk_at-requires
+desk_at-requires g c =
+    let teams = c.in_ok-teams.teams.items in
+    let makes = subst (λ (n : ℕ). MakesTeams c.args.join.now n 0 c.in_ok-ends.ends c.make_teams.new.ends teams) c.requires.left.count c.in_ok-teams.ensures.teams in
+    for_desk c.args.size.cores (2 * c.args.size.flight + 2) c.in_ok-ends.ends c.in_ok-ends.last c.in_ok-ends.ensures c.args.join.now c.make_teams.new.ends teams makes c.args.size.few_cores
 
 pub returns-clause-crew : goal.returns-clause-crew
 returns-clause-crew g c =
-    let ends = c.in_ok-ends.ends in
-    let others : ChainEnds g.row.P.Denot = record ends { right = c.pop.new.self } in
-    let off : IsTakenOff c.in-Some.last ends others = record { right = c.in-Some.ensures.items; left = refl; senders = refl; receivers = refl } in
-    let makes =
-    subst (λ (n : ℕ). MakesTeams c.args.join.now n 0 others c.make_teams.new.ends c.in_ok-teams.teams.items) c.requires.left.count c.in_ok-teams.ensures.teams in
-    crew c.args.size.cores (2 * c.args.size.flight + 2) ends others c.in-Some.last c.in_ok-ends.ensures off c.args.join.now c.make_teams.new.ends c.in_ok-teams.teams.items makes c.args.size.flight c.in_ok-desk.desk refl c.in_ok-desk.ensures.left c.in_ok-desk.ensures.right c.in_ok-desk.ensures.reports c.in_ok-desk.ensures.flight
+    let teams = c.in_ok-teams.teams.items in
+    let makes = subst (λ (n : ℕ). MakesTeams c.args.join.now n 0 c.in_ok-ends.ends c.make_teams.new.ends teams) c.requires.left.count c.in_ok-teams.ensures.teams in
+    let desk = c.in_ok-desk in
+    crew c.args.size.cores (2 * c.args.size.flight + 2) c.in_ok-ends.ends c.in_ok-ends.last c.in_ok-ends.ensures c.args.join.now c.make_teams.new.ends teams makes c.args.size.flight desk.desk refl
+    desk.ensures.left desk.ensures.right desk.ensures.reports desk.ensures.flight

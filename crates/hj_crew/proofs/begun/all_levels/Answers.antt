@@ -3,7 +3,7 @@ use Rattle.std.proofs.lemmas.Slice.Zip.{AllZip-long}
 use Rattle.hj_crew.specs.Teams.{TeamStays}
 use Rattle.hj_crew.proofs.Halting.{has-halted, stays-empty}
 use Rattle.hj_crew.proofs.Teaming.{all-back}
-use Rattle.hj_crew.proofs.run.all_levels.Goals as goal
+use Rattle.hj_crew.proofs.begun.all_levels.Goals as goal
 
 pub returns : goal.returns
 returns g c =

@@ -2,7 +2,7 @@ use Rattle.hj_desk.specs.declared.caller.Round.TheVariants.{GotOn, Over}
 use Rattle.hj_crew.specs.Teams.{TeamStays}
 use Rattle.hj_desk.proofs.Rounds.{no-round, round-behind, waited}
 use Rattle.hj_crew.proofs.Staying.{related-refl, related-trans, team-stays, team-stays-on}
-use Rattle.hj_crew.proofs.drive.drive_threads.Goals as goal
+use Rattle.hj_crew.proofs.drive.make_rounds.Goals as goal
 
 pub loop-init : goal.loop-init
 loop-init g c = record { goes = no-round g.F.Feed.gives g.F.Feed.state g.O.Outlet.gave g.O.Outlet.rests c.args.caller.now; own = related-refl TeamStays team-stays c.args.own.now }

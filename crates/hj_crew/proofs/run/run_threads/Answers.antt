@@ -1,7 +1,7 @@
 use Rattle.hj_desk.specs.declared.in_order.InOrder.{InOrder}
 use Rattle.hj_crew.proofs.InOrder.{ran-in_order}
 use Rattle.hj_crew.proofs.Refusing.{refused-within}
-use Rattle.hj_crew.proofs.drains.run_threads.Goals as goal
+use Rattle.hj_crew.proofs.run.run_threads.Goals as goal
 
 pub returns-clause-runs : goal.returns-clause-runs
 returns-clause-runs g c =

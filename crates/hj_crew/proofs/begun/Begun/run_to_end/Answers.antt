@@ -6,12 +6,12 @@ use Rattle.hj_crew.specs.Halt.{round_of}
 use Rattle.hj_crew.specs.Teams.{TeamStays}
 use Rattle.hj_desk.proofs.Rounds.{no-round, round-behind}
 use Rattle.hj_crew.proofs.Staying.{related-refl, related-trans, team-stays, team-stays-on}
-use Rattle.hj_crew.proofs.run.run_to_end.Goals as goal
+use Rattle.hj_crew.proofs.begun.Begun.run_to_end.Goals as goal
 
 pub loop-init : goal.loop-init
 loop-init g c = record {
-  goes = no-round g.F.Feed.gives g.F.Feed.state g.O.Outlet.gave g.O.Outlet.rests c.args.begun.caller;
-  teams = related-refl TeamStays team-stays c.args.begun.teams.items;
+  goes = no-round g.F.Feed.gives g.F.Feed.state g.O.Outlet.gave g.O.Outlet.rests c.args.self.caller;
+  teams = related-refl TeamStays team-stays c.args.self.teams.items;
   ready = c.requires;
 }
 
@@ -21,8 +21,8 @@ returns-in-Over g c =
     let goes : GoesRound g.F.Feed.gives g.F.Feed.state g.O.Outlet.gave g.O.Outlet.rests (Over c.in-Over.fin) c.loop.begun.caller back.caller =
     subst (λ (halt : Halt). GoesRound g.F.Feed.gives g.F.Feed.state g.O.Outlet.gave g.O.Outlet.rests (round_of halt) c.loop.begun.caller back.caller) c.in-Over.is c.run_under-halt.ensures.goes in
     record {
-      ends = round-behind g.F.Feed.gives g.F.Feed.state g.O.Outlet.gave g.O.Outlet.rests (Over c.in-Over.fin) c.args.begun.caller c.loop.begun.caller back.caller c.loop.invariant.goes goes;
-      teams = related-trans TeamStays team-stays-on c.args.begun.teams.items c.loop.begun.teams.items back.teams.items c.loop.invariant.teams c.run_under-halt.ensures.teams;
+      ends = round-behind g.F.Feed.gives g.F.Feed.state g.O.Outlet.gave g.O.Outlet.rests (Over c.in-Over.fin) c.args.self.caller c.loop.begun.caller back.caller c.loop.invariant.goes goes;
+      teams = related-trans TeamStays team-stays-on c.args.self.teams.items c.loop.begun.teams.items back.teams.items c.loop.invariant.teams c.run_under-halt.ensures.teams;
     }
 
 pub loop-preserved : goal.loop-preserved
@@ -31,7 +31,7 @@ loop-preserved g c =
     let goes : GoesRound g.F.Feed.gives g.F.Feed.state g.O.Outlet.gave g.O.Outlet.rests GotOn c.loop.begun.caller back.caller =
     subst (λ (halt : Halt). GoesRound g.F.Feed.gives g.F.Feed.state g.O.Outlet.gave g.O.Outlet.rests (round_of halt) c.loop.begun.caller back.caller) c.in-GoesOn.is c.run_under-halt.ensures.goes in
     record {
-      goes = round-behind g.F.Feed.gives g.F.Feed.state g.O.Outlet.gave g.O.Outlet.rests GotOn c.args.begun.caller c.loop.begun.caller back.caller c.loop.invariant.goes goes;
-      teams = related-trans TeamStays team-stays-on c.args.begun.teams.items c.loop.begun.teams.items back.teams.items c.loop.invariant.teams c.run_under-halt.ensures.teams;
+      goes = round-behind g.F.Feed.gives g.F.Feed.state g.O.Outlet.gave g.O.Outlet.rests GotOn c.args.self.caller c.loop.begun.caller back.caller c.loop.invariant.goes goes;
+      teams = related-trans TeamStays team-stays-on c.args.self.teams.items c.loop.begun.teams.items back.teams.items c.loop.invariant.teams c.run_under-halt.ensures.teams;
       ready = c.run_under-halt.ensures.ready (length c.args.signals.now) c.loop.invariant.ready;
     }

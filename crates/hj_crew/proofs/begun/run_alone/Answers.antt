@@ -6,7 +6,7 @@ use Rattle.hj_crew.specs.declared.team.Team.{Team}
 use Rattle.hj_crew.specs.Teams.{TeamStays}
 use Rattle.hj_crew.proofs.Halting.{has-halted}
 use Rattle.hj_crew.proofs.Staying.{written_back}
-use Rattle.hj_crew.proofs.run.run_alone.Goals as goal
+use Rattle.hj_crew.proofs.begun.run_alone.Goals as goal
 
 pub returns : goal.returns
 returns g c =

@@ -1,7 +1,7 @@
 use Rattle.hj_desk.specs.declared.raw.Raw.{Raw}
 use Rattle.hj_crew.proofs.RawRuns.{ran-raw}
 use Rattle.hj_crew.proofs.Refusing.{refused-within}
-use Rattle.hj_crew.proofs.drains.run_raw.Goals as goal
+use Rattle.hj_crew.proofs.run.run_raw.Goals as goal
 
 pub returns-clause-runs : goal.returns-clause-runs
 returns-clause-runs g c =
