@@ -3,7 +3,7 @@ use Rattle.std.specs.List.{zip}
 use Rattle.hj_base.specs.Link.{Agrees, AgreesOneWay}
 use Rattle.hj_msg.specs.declared.message.Msg.{Msg}
 use Rattle.hj_msg.specs.declared.message.Report.{Report}
-use Rattle.hj_link.specs.Seen.{EndSeen, LinkSeen, EndSeen, EndSeen, WaySeen, closed, closed_way}
+use Rattle.hj_link.specs.Seen.{EndSeen, LinkSeen, WaySeen, closed, closed_way}
 use Rattle.hj_crew.proofs.Linking.{related-as, seconds-are, seconds-by}
 use Rattle.hj_crew.proofs.ends.ChainEnds.close.Goals as goal
 
