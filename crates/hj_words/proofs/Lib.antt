@@ -6,3 +6,4 @@ pub mod Turns
 pub mod Law
 pub mod Found
 pub mod Given
+pub mod Looking

@@ -2,8 +2,8 @@
 use Rattle.std.specs.Prelude.{ℕ, Bool, not, ◌&&◌, ◌==◌, List, [], ◌∷◌, nat_le, nat_lt, length, codes, if◌then◌else◌, Option, Some, None, option_map, option_and_then}
 use Rattle.std.specs.Str.{all_ascii_digits, bytes_eq}
 use Rattle.std.specs.Str.Parse.{digits_value}
-use Rattle.hj_words.specs.Values.{Text, Value, given, text_of}
-use Rattle.hj_words.specs.Verbs.{names_of, options_of}
+use Rattle.hj_words.specs.Values.{Text, given, text_of}
+use Rattle.hj_words.specs.Verbs.{names_of, options_of, verb_of}
 use Rattle.hj_words.specs.declared.verb.Verb.{Verb}
 use Rattle.hj_words.specs.declared.verb.Verb.TheVariants as verb
 use Rattle.hj_words.specs.declared.order.Order.{Order}
@@ -47,14 +47,14 @@ abbrev pub most_seed : ℕ
 most_seed = 18446744073709551615
 
 -- `equi W LEFT RIGHT`
-abbrev pub equi_of : List Value → Option Order
-equi_of values =
+abbrev pub equi_of : (Text → Option Text) → Option Order
+equi_of texts =
     option_and_then (λ w.
     option_and_then (λ left.
     option_map (λ right. Equi w left right)
-    (name_in (text_of (codes "right") values)))
-    (name_in (text_of (codes "left") values)))
-    (number_in 1 most_rows (text_of (codes "w") values))
+    (name_in (texts (codes "right"))))
+    (name_in (texts (codes "left"))))
+    (number_in 1 most_rows (texts (codes "w")))
 
 -- a schedule needs a run without threads
 abbrev pub schedule_of : ℕ → Option Text → Option (Option ℕ)
@@ -81,14 +81,14 @@ join_numbers fewest cores threads flight limit schedule =
     (number_or 4 1 64 cores)
 
 -- the numbers that the words give a join with these texts for its threads, of which it has at least this many, and for its schedule
-abbrev pub numbers_among : ℕ → Option Text → Option Text → List Value → Option JoinNumbers
-numbers_among fewest threads schedule values =
-    join_numbers fewest (text_of (codes "cores") values) threads (text_of (codes "flight") values)
-    (text_of (codes "max-events") values) schedule
+abbrev pub numbers_among : ℕ → Option Text → Option Text → (Text → Option Text) → Option JoinNumbers
+numbers_among fewest threads schedule texts =
+    join_numbers fewest (texts (codes "cores")) threads (texts (codes "flight"))
+    (texts (codes "max-events")) schedule
 
 -- the numbers that the words give the options of `join`
-abbrev pub all_numbers : List Value → Option JoinNumbers
-all_numbers values = numbers_among 0 (text_of (codes "threads") values) (text_of (codes "schedule") values) values
+abbrev pub all_numbers : (Text → Option Text) → Option JoinNumbers
+all_numbers texts = numbers_among 0 (texts (codes "threads")) (texts (codes "schedule")) texts
 
 -- the names of these texts, of a join's query and of its streams
 unfoldable pub names_in : Option Text → Option Text → Option Text → Option JoinNames
@@ -101,23 +101,23 @@ names_in query left right =
     (name_in query)
 
 -- the names that a join's words give
-abbrev pub names_among : List Value → Option JoinNames
-names_among values = names_in (text_of (codes "query") values) (text_of (codes "left") values) (text_of (codes "right") values)
+abbrev pub names_among : (Text → Option Text) → Option JoinNames
+names_among texts = names_in (texts (codes "query")) (texts (codes "left")) (texts (codes "right"))
 
 -- an order with numbers and names, where both are there
 abbrev pub order_with : (JoinNumbers → JoinNames → Order) → Option JoinNumbers → Option JoinNames → Option Order
 order_with make numbers names = option_and_then (λ numbers. option_map (λ names. make numbers names) names) numbers
 
 -- `join [--cores N] [--threads N] [--flight N] [--max-events N] [--schedule SEED] QUERY LEFT RIGHT`
-abbrev pub join_of : List Value → Option Order
-join_of values =
+abbrev pub join_of : (Text → Option Text) → Option Order
+join_of texts =
     order_with (λ numbers names. Join numbers.setup numbers.limit numbers.schedule names.query names.left names.right)
-    (all_numbers values) (names_among values)
+    (all_numbers texts) (names_among texts)
 
 -- `check QUERY`
-abbrev pub check_of : List Value → Option Order
-check_of values =
-    option_map (λ query. Check query) (name_in (text_of (codes "query") values))
+abbrev pub check_of : (Text → Option Text) → Option Order
+check_of texts =
+    option_map (λ query. Check query) (name_in (texts (codes "query")))
 
 -- the order of the texts of `gen`'s words
 unfoldable pub gen_order : Option Text → Option Text → Option Text → Option Text → Option Order
@@ -132,74 +132,65 @@ gen_order n keys seed w =
     (number_in 0 100000 n)
 
 -- `gen N KEYS SEED W`
-abbrev pub gen_of : List Value → Option Order
-gen_of values = gen_order (text_of (codes "n") values) (text_of (codes "keys") values)
-    (text_of (codes "seed") values) (text_of (codes "w") values)
+abbrev pub gen_of : (Text → Option Text) → Option Order
+gen_of texts = gen_order (texts (codes "n")) (texts (codes "keys"))
+    (texts (codes "seed")) (texts (codes "w"))
 
 -- `raw [--cores N] [--threads N] [--flight N] [--max-events N] QUERY LEFT RIGHT`, on one thread at least
-abbrev pub raw_of : List Value → Option Order
-raw_of values =
+abbrev pub raw_of : (Text → Option Text) → Option Order
+raw_of texts =
     order_with (λ numbers names. Raw numbers.setup numbers.limit names.query names.left names.right)
-    (numbers_among 1 (text_of (codes "threads") values) None values)
-    (names_among values)
+    (numbers_among 1 (texts (codes "threads")) None texts)
+    (names_among texts)
 
 -- `trace [--cores N] [--flight N] [--max-events N] [--schedule SEED] QUERY LEFT RIGHT`, whose numbers are those of `join` on no
 -- threads
-abbrev pub trace_of : List Value → Option Order
-trace_of values =
+abbrev pub trace_of : (Text → Option Text) → Option Order
+trace_of texts =
     order_with (λ numbers names.
     Trace numbers.setup.cores numbers.setup.flight numbers.limit numbers.schedule names.query names.left names.right)
-    (numbers_among 0 (Some (codes "0")) (text_of (codes "schedule") values) values)
-    (names_among values)
+    (numbers_among 0 (Some (codes "0")) (texts (codes "schedule")) texts)
+    (names_among texts)
 
 -- `verify [--cores N] [--flight N] [--max-events N] QUERY LEFT RIGHT TRACE OUTPUT`, whose numbers are those of `join` on no threads
-abbrev pub verify_of : List Value → Option Order
-verify_of values =
+abbrev pub verify_of : (Text → Option Text) → Option Order
+verify_of texts =
     option_and_then (λ trace.
     option_and_then (λ output.
     order_with (λ numbers names.
     Verify numbers.setup.cores numbers.setup.flight numbers.limit names.query names.left names.right trace output)
-    (numbers_among 0 (Some (codes "0")) None values) (names_among values))
-    (name_in (text_of (codes "output") values)))
-    (name_in (text_of (codes "trace") values))
+    (numbers_among 0 (Some (codes "0")) None texts) (names_among texts))
+    (name_in (texts (codes "output"))))
+    (name_in (texts (codes "trace")))
 
 -- `twice [--cores N] [--threads N] [--flight N] [--max-events N] [--schedule SEED] QUERY LEFT RIGHT QUERY THIRD`, whose options are
 -- those of `join`
-abbrev pub twice_of : List Value → Option Order
-twice_of values =
+abbrev pub twice_of : (Text → Option Text) → Option Order
+twice_of texts =
     option_and_then (λ second.
     option_and_then (λ third.
     order_with (λ numbers names.
     Twice numbers.setup numbers.limit numbers.schedule names.query names.left names.right second third)
-    (all_numbers values) (names_among values))
-    (name_in (text_of (codes "third") values)))
-    (name_in (text_of (codes "second") values))
+    (all_numbers texts) (names_among texts))
+    (name_in (texts (codes "third"))))
+    (name_in (texts (codes "second")))
 
--- the order that the values of a command's words give
-abbrev pub order_among : Verb → List Value → Option Order
-order_among verb.Equi values = equi_of values
-order_among verb.Join values = join_of values
-order_among verb.Check values = check_of values
-order_among verb.Gen values = gen_of values
-order_among verb.Raw values = raw_of values
-order_among verb.Trace values = trace_of values
-order_among verb.Verify values = verify_of values
-order_among verb.Twice values = twice_of values
+-- the order of a command whose names have these texts
+abbrev pub order_among : Verb → (Text → Option Text) → Option Order
+order_among verb.Equi texts = equi_of texts
+order_among verb.Join texts = join_of texts
+order_among verb.Check texts = check_of texts
+order_among verb.Gen texts = gen_of texts
+order_among verb.Raw texts = raw_of texts
+order_among verb.Trace texts = trace_of texts
+order_among verb.Verify texts = verify_of texts
+order_among verb.Twice texts = twice_of texts
 
 -- The order that the words behind a command spell, if they spell one.
 abbrev pub spelled : Verb → List Text → Option Order
-spelled of words = option_and_then (order_among of) (given (options_of of) (names_of of) words)
+spelled of words = option_and_then (λ values. order_among of (λ name. text_of name values)) (given (options_of of) (names_of of) words)
 
 -- The order that the words spell, if they spell one.
 abbrev pub order_of : List Text → Option Order
 order_of [] = None
-order_of (command ∷ words) =
-    if bytes_eq command (codes "equi") then spelled verb.Equi words
-    else if bytes_eq command (codes "join") then spelled verb.Join words
-    else if bytes_eq command (codes "check") then spelled verb.Check words
-    else if bytes_eq command (codes "gen") then spelled verb.Gen words
-    else if bytes_eq command (codes "raw") then spelled verb.Raw words
-    else if bytes_eq command (codes "trace") then spelled verb.Trace words
-    else if bytes_eq command (codes "verify") then spelled verb.Verify words
-    else if bytes_eq command (codes "twice") then spelled verb.Twice words
-    else None
+order_of (command ∷ words) = option_and_then (λ of. spelled of words) (verb_of command)

@@ -1,5 +1,6 @@
 -- The words of each command.
-use Rattle.std.specs.Prelude.{List, [], ◌∷◌, codes}
+use Rattle.std.specs.Prelude.{List, [], ◌∷◌, codes, if◌then◌else◌, Option, Some, None}
+use Rattle.std.specs.Str.{bytes_eq}
 use Rattle.hj_words.specs.Values.{Text}
 use Rattle.hj_words.specs.declared.verb.Verb.{Verb}
 use Rattle.hj_words.specs.declared.verb.Verb.TheVariants as verb
@@ -14,6 +15,19 @@ title_of verb.Raw = codes "raw"
 title_of verb.Trace = codes "trace"
 title_of verb.Verify = codes "verify"
 title_of verb.Twice = codes "twice"
+
+-- the command that a word calls for
+abbrev pub verb_of : Text → Option Verb
+verb_of word =
+    if bytes_eq word (title_of verb.Equi) then Some verb.Equi
+    else if bytes_eq word (title_of verb.Join) then Some verb.Join
+    else if bytes_eq word (title_of verb.Check) then Some verb.Check
+    else if bytes_eq word (title_of verb.Gen) then Some verb.Gen
+    else if bytes_eq word (title_of verb.Raw) then Some verb.Raw
+    else if bytes_eq word (title_of verb.Trace) then Some verb.Trace
+    else if bytes_eq word (title_of verb.Verify) then Some verb.Verify
+    else if bytes_eq word (title_of verb.Twice) then Some verb.Twice
+    else None
 
 abbrev pub join_options : List Text
 join_options = codes "cores" ∷ codes "threads" ∷ codes "flight" ∷ codes "max-events" ∷ codes "schedule" ∷ []

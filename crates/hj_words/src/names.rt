@@ -1,7 +1,7 @@
 //! The names of a join's query and of its streams.
-ghost use Rattle.std.specs.Prelude.{◌≡◌, IfOk, IfErr, Some, None, option_map, codes};
+ghost use Rattle.std.specs.Prelude.{◌≡◌, IfOk, IfErr, Some, None, option_map};
 ghost use Rattle.clap.specs.Words.{first_value, found_of};
-ghost use Rattle.hj_words.specs.Orders.{name_in, names_in};
+ghost use Rattle.hj_words.specs.Orders.{name_in, names_among};
 
 use crate::order::Usage;
 use crate::values::name;
@@ -20,11 +20,8 @@ pub struct JoinNames {
 /// Reads the names of a join's query and of its streams. `Words` if one of them is missing, empty or `-`.
 #[tactic(auto, unfolding(crate::specs::Orders::names_in))]
 pub fn names_among(alloc: Global, matches: &ArgMatches<'_>) -> Result<JoinNames, Usage>
-    ensures ok { IfOk result (λ names. names_in (first_value (found_of matches.now) (codes "query"))
-        (first_value (found_of matches.now) (codes "left")) (first_value (found_of matches.now) (codes "right")) ≡ Some names) }
-    ensures err { IfErr result (λ fault. fault ≡ Usage.Words
-        → names_in (first_value (found_of matches.now) (codes "query"))
-        (first_value (found_of matches.now) (codes "left")) (first_value (found_of matches.now) (codes "right")) ≡ None) }
+    ensures ok { IfOk result (λ names. names_among (first_value (found_of matches.now)) ≡ Some names) }
+    ensures err { IfErr result (λ fault. fault ≡ Usage.Words → names_among (first_value (found_of matches.now)) ≡ None) }
 {
     let query = named(alloc, matches.get_str("query"))?;
     let left = named(alloc, matches.get_str("left"))?;

@@ -1,7 +1,7 @@
 //! The numbers of a join's options.
-ghost use Rattle.std.specs.Prelude.{◌≡◌, ◌≤◌, IfSome, option_map, codes};
+ghost use Rattle.std.specs.Prelude.{◌≡◌, ◌≤◌, IfSome, option_map};
 ghost use Rattle.clap.specs.Words.{first_value, found_of};
-ghost use Rattle.hj_words.specs.Orders.{join_numbers};
+ghost use Rattle.hj_words.specs.Orders.{all_numbers, numbers_among};
 ghost use Rattle.hj_words.specs.Ranges.{AreOptions};
 
 use crate::values::{number_or, schedule};
@@ -20,9 +20,7 @@ pub struct JoinNumbers {
 
 /// Reads the numbers of all options of `join`. None if one is out of its range, or a schedule goes with threads.
 pub fn all_numbers(matches: &ArgMatches<'_>) -> Option<JoinNumbers>
-    ensures value { result ≡ join_numbers 0 (first_value (found_of matches.now) (codes "cores"))
-        (first_value (found_of matches.now) (codes "threads")) (first_value (found_of matches.now) (codes "flight"))
-        (first_value (found_of matches.now) (codes "max-events")) (first_value (found_of matches.now) (codes "schedule")) }
+    ensures value { result ≡ all_numbers (first_value (found_of matches.now)) }
     ensures range { IfSome result (λ numbers. AreOptions 0 numbers.setup numbers.limit) }
 {
     numbers_among(
@@ -43,9 +41,7 @@ pub fn numbers_among(
     seed: Option<&str>,
 ) -> Option<JoinNumbers>
     requires { fewest ≤ 4 }
-    ensures value { result ≡ join_numbers fewest (first_value (found_of matches.now) (codes "cores"))
-        (option_map (λ w. w.now) threads.entry) (first_value (found_of matches.now) (codes "flight"))
-        (first_value (found_of matches.now) (codes "max-events")) (option_map (λ w. w.now) seed.entry) }
+    ensures value { result ≡ numbers_among fewest (option_map (λ w. w.now) threads.entry) (option_map (λ w. w.now) seed.entry) (first_value (found_of matches.now)) }
     ensures range { IfSome result (λ numbers. AreOptions fewest numbers.setup numbers.limit) }
 {
     let cores = number_or(matches.get_str("cores"), 4, 1, 64)?;

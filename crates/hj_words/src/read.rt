@@ -1,5 +1,6 @@
 ghost use Rattle.std.specs.Prelude.{◌≡◌, IfOk, IfErr, IfSome, Some, None, map, option_map, string_bytes};
-ghost use Rattle.hj_words.specs.Orders.{gen_order, order_of, spelled};
+ghost use Rattle.clap.specs.Words.{first_value, found_of};
+ghost use Rattle.hj_words.specs.Orders.{check_of, equi_of, gen_of, gen_order, join_of, order_among, order_of, raw_of, trace_of, twice_of, verify_of};
 ghost use Rattle.hj_words.specs.Ranges.{IsInRange};
 ghost use Rattle.hj_words.specs.Reading.{Reads};
 
@@ -9,6 +10,7 @@ use crate::numbers::{all_numbers, numbers_among};
 use crate::order::{Order, Usage};
 use crate::values::number;
 use crate::verb::Verb;
+use clap::ArgMatches;
 use std::alloc::Global;
 
 const MOST_ROWS: u64 = 1_000_000;
@@ -22,24 +24,33 @@ pub fn read_words(alloc: Global, words: &[String]) -> Result<Order, Usage>
     let [command, rest @ ..] = words else {
         return Err(Usage::Words);
     };
-    match command.as_str() {
-        "equi" => read_equi(alloc, rest),
-        "join" => read_join(alloc, rest),
-        "check" => read_check(alloc, rest),
-        "gen" => read_gen(alloc, rest),
-        "raw" => read_raw(alloc, rest),
-        "trace" => read_trace(alloc, rest),
-        "verify" => read_verify(alloc, rest),
-        "twice" => read_twice(alloc, rest),
-        _ => Err(Usage::Words),
+    let Some(verb) = Verb::of(command.as_str()) else {
+        return Err(Usage::Words);
+    };
+    let matches = values_after(alloc, verb, rest)?;
+    read_order(alloc, verb, &matches)
+}
+
+/// Reads the order of a command whose words gave these values.
+fn read_order(alloc: Global, verb: Verb, matches: &ArgMatches<'_>) -> Result<Order, Usage>
+    ensures { Reads (order_among verb (first_value (found_of matches.now))) result }
+{
+    match verb {
+        Verb::Equi => read_equi(alloc, matches),
+        Verb::Join => read_join(alloc, matches),
+        Verb::Check => read_check(alloc, matches),
+        Verb::Gen => read_gen(matches),
+        Verb::Raw => read_raw(alloc, matches),
+        Verb::Trace => read_trace(alloc, matches),
+        Verb::Verify => read_verify(alloc, matches),
+        Verb::Twice => read_twice(alloc, matches),
     }
 }
 
-/// Reads the order of the words after `equi`.
-fn read_equi(alloc: Global, words: &[String]) -> Result<Order, Usage>
-    ensures { Reads (spelled Verb.Equi (map string_bytes words.now)) result }
+/// Reads the order of `equi`.
+fn read_equi(alloc: Global, matches: &ArgMatches<'_>) -> Result<Order, Usage>
+    ensures { Reads (equi_of (first_value (found_of matches.now))) result }
 {
-    let matches = values_after(alloc, Verb::Equi, words)?;
     let w = number(matches.get_str("w"), 1, MOST_ROWS).ok_or(Usage::Words)?;
     let left = named(alloc, matches.get_str("left"))?;
     let right = named(alloc, matches.get_str("right"))?;
@@ -50,13 +61,12 @@ fn read_equi(alloc: Global, words: &[String]) -> Result<Order, Usage>
     })
 }
 
-/// Reads the order of the words after `join`.
-fn read_join(alloc: Global, words: &[String]) -> Result<Order, Usage>
-    ensures { Reads (spelled Verb.Join (map string_bytes words.now)) result }
+/// Reads the order of `join`.
+fn read_join(alloc: Global, matches: &ArgMatches<'_>) -> Result<Order, Usage>
+    ensures { Reads (join_of (first_value (found_of matches.now))) result }
 {
-    let matches = values_after(alloc, Verb::Join, words)?;
-    let numbers = all_numbers(&matches).ok_or(Usage::Words)?;
-    let names = names_among(alloc, &matches)?;
+    let numbers = all_numbers(matches).ok_or(Usage::Words)?;
+    let names = names_among(alloc, matches)?;
     Ok(Order::Join {
         setup: numbers.setup,
         limit: numbers.limit,
@@ -67,20 +77,18 @@ fn read_join(alloc: Global, words: &[String]) -> Result<Order, Usage>
     })
 }
 
-/// Reads the order of the words after `check`.
-fn read_check(alloc: Global, words: &[String]) -> Result<Order, Usage>
-    ensures { Reads (spelled Verb.Check (map string_bytes words.now)) result }
+/// Reads the order of `check`.
+fn read_check(alloc: Global, matches: &ArgMatches<'_>) -> Result<Order, Usage>
+    ensures { Reads (check_of (first_value (found_of matches.now))) result }
 {
-    let matches = values_after(alloc, Verb::Check, words)?;
     let query = named(alloc, matches.get_str("query"))?;
     Ok(Order::Check { query })
 }
 
-/// Reads the order of the words after `gen`.
-fn read_gen(alloc: Global, words: &[String]) -> Result<Order, Usage>
-    ensures { Reads (spelled Verb.Gen (map string_bytes words.now)) result }
+/// Reads the order of `gen`.
+fn read_gen(matches: &ArgMatches<'_>) -> Result<Order, Usage>
+    ensures { Reads (gen_of (first_value (found_of matches.now))) result }
 {
-    let matches = values_after(alloc, Verb::Gen, words)?;
     gen_order(
         matches.get_str("n"),
         matches.get_str("keys"),
@@ -114,13 +122,12 @@ fn gen_order(
     })
 }
 
-/// Reads the order of the words after `raw`.
-fn read_raw(alloc: Global, words: &[String]) -> Result<Order, Usage>
-    ensures { Reads (spelled Verb.Raw (map string_bytes words.now)) result }
+/// Reads the order of `raw`.
+fn read_raw(alloc: Global, matches: &ArgMatches<'_>) -> Result<Order, Usage>
+    ensures { Reads (raw_of (first_value (found_of matches.now))) result }
 {
-    let matches = values_after(alloc, Verb::Raw, words)?;
-    let numbers = numbers_among(&matches, 1, matches.get_str("threads"), None).ok_or(Usage::Words)?;
-    let names = names_among(alloc, &matches)?;
+    let numbers = numbers_among(matches, 1, matches.get_str("threads"), None).ok_or(Usage::Words)?;
+    let names = names_among(alloc, matches)?;
     Ok(Order::Raw {
         setup: numbers.setup,
         limit: numbers.limit,
@@ -130,15 +137,14 @@ fn read_raw(alloc: Global, words: &[String]) -> Result<Order, Usage>
     })
 }
 
-/// Reads the order of the words after `trace`.
-fn read_trace(alloc: Global, words: &[String]) -> Result<Order, Usage>
-    ensures { Reads (spelled Verb.Trace (map string_bytes words.now)) result }
+/// Reads the order of `trace`.
+fn read_trace(alloc: Global, matches: &ArgMatches<'_>) -> Result<Order, Usage>
+    ensures { Reads (trace_of (first_value (found_of matches.now))) result }
 {
-    let matches = values_after(alloc, Verb::Trace, words)?;
-    let numbers = numbers_among(&matches, 0, Some("0"), matches.get_str("schedule")).ok_or(
+    let numbers = numbers_among(matches, 0, Some("0"), matches.get_str("schedule")).ok_or(
         Usage::Words,
     )?;
-    let names = names_among(alloc, &matches)?;
+    let names = names_among(alloc, matches)?;
     Ok(Order::Trace {
         cores: numbers.setup.cores,
         flight: numbers.setup.flight,
@@ -150,15 +156,14 @@ fn read_trace(alloc: Global, words: &[String]) -> Result<Order, Usage>
     })
 }
 
-/// Reads the order of the words after `verify`.
-fn read_verify(alloc: Global, words: &[String]) -> Result<Order, Usage>
-    ensures { Reads (spelled Verb.Verify (map string_bytes words.now)) result }
+/// Reads the order of `verify`.
+fn read_verify(alloc: Global, matches: &ArgMatches<'_>) -> Result<Order, Usage>
+    ensures { Reads (verify_of (first_value (found_of matches.now))) result }
 {
-    let matches = values_after(alloc, Verb::Verify, words)?;
     let trace = named(alloc, matches.get_str("trace"))?;
     let output = named(alloc, matches.get_str("output"))?;
-    let numbers = numbers_among(&matches, 0, Some("0"), None).ok_or(Usage::Words)?;
-    let names = names_among(alloc, &matches)?;
+    let numbers = numbers_among(matches, 0, Some("0"), None).ok_or(Usage::Words)?;
+    let names = names_among(alloc, matches)?;
     Ok(Order::Verify {
         cores: numbers.setup.cores,
         flight: numbers.setup.flight,
@@ -171,15 +176,14 @@ fn read_verify(alloc: Global, words: &[String]) -> Result<Order, Usage>
     })
 }
 
-/// Reads the order of the words after `twice`.
-fn read_twice(alloc: Global, words: &[String]) -> Result<Order, Usage>
-    ensures { Reads (spelled Verb.Twice (map string_bytes words.now)) result }
+/// Reads the order of `twice`.
+fn read_twice(alloc: Global, matches: &ArgMatches<'_>) -> Result<Order, Usage>
+    ensures { Reads (twice_of (first_value (found_of matches.now))) result }
 {
-    let matches = values_after(alloc, Verb::Twice, words)?;
     let second = named(alloc, matches.get_str("second"))?;
     let third = named(alloc, matches.get_str("third"))?;
-    let numbers = all_numbers(&matches).ok_or(Usage::Words)?;
-    let names = names_among(alloc, &matches)?;
+    let numbers = all_numbers(matches).ok_or(Usage::Words)?;
+    let names = names_among(alloc, matches)?;
     Ok(Order::Twice {
         setup: numbers.setup,
         limit: numbers.limit,

@@ -1,6 +1,6 @@
 //! The commands, each with the words that it takes.
 ghost use Rattle.std.specs.Prelude.{◌≡◌, map};
-ghost use Rattle.hj_words.specs.Verbs.{names_of, options_of, title_of};
+ghost use Rattle.hj_words.specs.Verbs.{names_of, options_of, title_of, verb_of};
 
 /// A command of the program.
 #[derive(Clone, Copy)]
@@ -16,6 +16,23 @@ pub enum Verb {
 }
 
 impl Verb {
+    /// Returns the command that a word calls for; None if it calls for none.
+    pub fn of(word: &str) -> Option<Self>
+        ensures { result ≡ verb_of word.now }
+    {
+        match word {
+            "equi" => Some(Verb::Equi),
+            "join" => Some(Verb::Join),
+            "check" => Some(Verb::Check),
+            "gen" => Some(Verb::Gen),
+            "raw" => Some(Verb::Raw),
+            "trace" => Some(Verb::Trace),
+            "verify" => Some(Verb::Verify),
+            "twice" => Some(Verb::Twice),
+            _ => None,
+        }
+    }
+
     /// Returns the word that calls for the command.
     pub fn title<'a>(self) -> &'a str
         ensures { result.now ≡ title_of self }
