@@ -28,12 +28,8 @@ module _ {F D : Type 0} {gives : F → Given (List Field) → F → Type 0} {sta
 
   pub shows_raw : ShowsRaw of_text cores in_flight ran
   shows_raw = record {
-    links = runs.links;
-    queues = runs.queues;
-    flight = runs.flight;
     events = events_in runs.answers;
-    run = runs.run;
-    complete = runs.complete;
+    made = runs.made;
     begins = over.begins;
     taken = runs.taken;
     are = runs.are;

@@ -1,6 +1,6 @@
 -- What the run of a join on threads shows.
 use Rattle.std.proofs.Common.{◌≡◌, ℕ, zero, suc, Bool, List, [], ◌∷◌, ◌++◌, length, map, refl, sym, ap, subst, ◌∙◌, append-nil, length-append, arith}
-use Rattle.std.proofs.lemmas.List.{length-map}
+use Rattle.std.proofs.lemmas.List.{length-map, nil_from_length}
 use Rattle.std.specs.Prelude.{slice_index_or}
 use Rattle.std.specs.declared.option.Option.{Option}
 use Rattle.hj_value.specs.declared.field.Field.{Field}
@@ -35,14 +35,10 @@ use Rattle.hj_stream.proofs.Joining.{text-front}
 use Rattle.hj_stream.proofs.Over.{JoinsOver}
 use Rattle.hj_stream.proofs.Prefixes.{IsPrefix-trans}
 
-rest_nil : {X : Type 0} (rest : List X) → length rest ≡ 0 → rest ≡ []
-rest_nil [] is = refl
-rest_nil (x ∷ rest) is = absurd (omega (arith, is))
-
 -- lists of which each begins the other
 same_lists : {X : Type 0} (xs ys : List X) → IsPrefix xs ys → IsPrefix ys xs → xs ≡ ys
 same_lists xs ys first second =
-    let none : first.rest ≡ [] = rest_nil first.rest (omega (arith, ap length first.is, ap length second.is, length-append xs first.rest, length-append ys second.rest)) in
+    let none : first.rest ≡ [] = nil_from_length first.rest (omega (arith, ap length first.is, ap length second.is, length-append xs first.rest, length-append ys second.rest)) in
     sym (first.is ∙ (ap (λ rest. xs ++ rest) none ∙ append-nil xs))
 
 -- what was taken of a queue, among what was taken of all
@@ -86,17 +82,13 @@ module _ {F D : Type 0} {gives : F → Given (List Field) → F → Type 0} {sta
   as_join = record { answers = runs.answers; feed = runs.feed; taken = runs.taken; drain = runs.drain; ends = λ well. runs.ends }
 
   all_given : ran.ended ≡ fin.Done → pairs_in runs.taken ≡ emitted (reports_of ran)
-  all_given done = all_emitted (holds query) (events_in runs.answers) ran (pairs_in runs.taken) runs.run runs.in_order (all_taken ran.ended (state to).stopped runs.taken (kang (holds query) (events_in runs.answers)) runs.ends done)
+  all_given done = all_emitted (holds query) (events_in runs.answers) ran (pairs_in runs.taken) runs.made.run runs.in_order (all_taken ran.ended (state to).stopped runs.taken (kang (holds query) (events_in runs.answers)) runs.ends done)
 
   -- what it shows of a join that it made
   pub shows : {line : Line} {made : Outcome} {limit : ℕ} {before now : Role → RoleState} {old new : Option (List ℕ)} (over : JoinsOver line made ran.ended query limit before now old new (events_in runs.answers) (pairs_in runs.taken)) → ShowsJoinBy line over.joins cores in_flight ran
   shows {line} {made} over = record {
-    links = runs.links;
-    queues = runs.queues;
-    flight = runs.flight;
     events = events_in runs.answers;
-    run = runs.run;
-    complete = runs.complete;
+    made = runs.made;
     begins = over.begins;
     writes = IsPrefix-trans over.joins.grown (text_by line (pairs_in runs.taken)) (text_by line (emitted (reports_of ran))) over.writes (text-front line (pairs_in runs.taken) (emitted (reports_of ran)) runs.in_order);
     ends = ends_whole made ran.ended _ _ _ (λ done wrote. wrote ∙ ap (text_by line) (all_given done)) over.ends;

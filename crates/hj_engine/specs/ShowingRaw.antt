@@ -1,21 +1,19 @@
 -- What the run of a join on threads shows whose pairs were written as they were met: that the text was written by it, over the events of
 -- the streams that were read, and what this text tells.
-use Rattle.std.specs.Prelude.{◌≡◌, ℕ, ◌+◌, List, length, map}
+use Rattle.std.specs.Prelude.{◌≡◌, ℕ, List, map}
 use Rattle.std.specs.declared.option.Option.{Option}
 use Rattle.hj_base.specs.declared.outside.Role.{Role}
 use Rattle.hj_base.specs.Journals.{IsPrefix}
 use Rattle.hj_base.specs.Outside.{RoleState}
 use Rattle.hj_value.specs.declared.field.Field.{Field}
 use Rattle.hj_msg.specs.declared.event.Event.{Event}
-use Rattle.hj_msg.specs.declared.fin.Fin.TheVariants as fin
-use Rattle.hj_msg.specs.Run.{IsComplete, IsRun}
 use Rattle.hj_query.specs.Parts.{Parts}
 use Rattle.hj_eval.specs.Holds.{holds}
 use Rattle.hj_raw.specs.Items.{Taken, raw_items}
 use Rattle.hj_raw.specs.Telling.{TellsAll, TellsMatches}
 use Rattle.hj_raw.specs.Text.{raw_text}
 use Rattle.hj_desk.specs.Taken.{AreTaken}
-use Rattle.hj_crew.specs.Ran.{RanSeen, run_of}
+use Rattle.hj_crew.specs.Ran.{MakesRun, RanSeen}
 use Rattle.hj_stream.specs.declared.outcome.Outcome.{Outcome}
 use Rattle.hj_stream.specs.RawJoining.{JoinsRaw}
 use Rattle.hj_stream.specs.Runs.{EndsRun, OfEvents}
@@ -26,12 +24,8 @@ module _ {ended : Outcome} {query : Parts} {limit : ℕ} {before now : Role → 
   -- written begins it. The items tell of the matches of these events. Where the events ended, the run had all of them, all of the text
   -- was written, and the items tell of every match.
   pub record ShowsRaw (joined : JoinsRaw ended query limit before now old new) (cores in_flight : ℕ) (ran : RanSeen (List Field)) : Type 0 where
-    pub links : length ran.links ≡ cores + 1
-    pub queues : length ran.queues ≡ cores
-    pub flight : ran.flight ≡ in_flight
     pub events : List (Event (List Field))
-    pub run : IsRun (run_of (holds query) events ran)
-    pub complete : ran.ended ≡ fin.Done → IsComplete run
+    pub made : MakesRun (holds query) events cores in_flight ran
     pub begins : OfEvents joined.joins (λ all. IsPrefix events all)
     -- the reports that were taken, in the order of the calling thread's turns
     pub taken : List (Taken (List Field))

@@ -66,6 +66,8 @@ fn run_planned<F: Feed<SharedRow>, D: Drain<SharedRow>, G: Gate>(
 }
 
 /// Runs the join over these stores: sequentially where there is one core and no other order of steps to play, else by a new chain.
+// Called for each kind of stores, so that the loops of chains are compiled one by one.
+#[inline(never)]
 fn run_over<
     'r,
     'q,
@@ -89,11 +91,12 @@ fn run_over<
     if plan.size.cores == 1 && matches!(plan.chooser, Chooser::InTurn) {
         return Ok(run_sequential(query, stores, feed, drain, plan.gate));
     }
-    run_chained(alloc, query, plan, stores, feed, drain)
+    let mut chain = begun(alloc, query, plan.size, stores, feed)?;
+    Ok(chain.run_serial(plan.chooser, feed, drain, plan.gate))
 }
 
 /// Runs the sequential join over the only store of each stream.
-// Called, as is the run of a chain, so that neither loop is compiled with the other one's.
+// Called, so that its loop isn't compiled with that of a chain.
 #[inline(never)]
 fn run_sequential<
     'r,
@@ -122,32 +125,6 @@ fn run_sequential<
         right,
     };
     join.run(feed, drain, gate)
-}
-
-/// Runs a new chain over these stores.
-#[inline(never)]
-fn run_chained<
-    'r,
-    'q,
-    S: Store<SharedRow, QueryJoin<'r>> + Drop,
-    F: Feed<SharedRow>,
-    D: Drain<SharedRow>,
-    G: Gate,
->(
-    alloc: Global,
-    query: &'r ReadyQuery<'q>,
-    plan: &SerialPlan<'_, G>,
-    stores: ChainStores<S>,
-    feed: &mut F,
-    drain: &mut D,
-) -> Result<Fin, Memory>
-    requires fresh { IsFresh (F.state feed.old) }
-    requires stores { AreReady S.entries S.suits query.now plan.now.size.cores stores }
-    ensures runs { IfOk result (λ fin. RunsJoin F.gives F.state D.takes (holds query.now) fin feed.old feed.new drain.old drain.new) }
-    ensures refused { OnErr result ((feed.new ≡ feed.old) × (drain.new ≡ drain.old)) }
-{
-    let mut chain = begun(alloc, query, plan.size, stores, feed)?;
-    Ok(chain.run_serial(plan.chooser, feed, drain, plan.gate))
 }
 
 /// Makes a chain of this size over these stores, and asks the feed for the first event.

@@ -1,7 +1,7 @@
 use Rattle.std.proofs.Common.{[], Some}
 use Rattle.hj_msg.specs.Feed.{event_in}
 use Rattle.hj_engine.proofs.Ran.{ran}
-use Rattle.hj_engine.proofs.run.run_chained.Goals as goal
+use Rattle.hj_engine.proofs.run.run_over.Goals as goal
 
 pub returns-clause-runs : goal.returns-clause-runs
 returns-clause-runs g c =
