@@ -37,8 +37,12 @@ module _ {P J : Type 0} (workers : List (WorkerSeen P J)) (old new : ChainEnds P
     senders = omega (arith, are.senders, fewer, ap length given.senders, length-append new.senders.items (reports_of workers), length-map workers (λ (w : WorkerSeen P J). w.ends.reports));
   }
 
+-- no worker
+pub gives-none : {P J : Type 0} (ends : ChainEnds P) → GivesEnds {P = P} {J = J} [] ends ends
+gives-none ends = record { left = sym (append-nil ends.left.items); right = sym (append-nil ends.right.items); senders = sym (append-nil ends.senders.items); receivers = refl }
+
 -- one worker more
-gives-more : {P J : Type 0} (worker : WorkerSeen P J) (workers : List (WorkerSeen P J)) (first old new : ChainEnds P) → GivesEnds workers first old → GivesEnds (worker ∷ []) old new → GivesEnds (worker ∷ workers) first new
+pub gives-more : {P J : Type 0} (worker : WorkerSeen P J) (workers : List (WorkerSeen P J)) (first old new : ChainEnds P) → GivesEnds workers first old → GivesEnds (worker ∷ []) old new → GivesEnds (worker ∷ workers) first new
 gives-more {P} worker workers first old new before given = record {
   left = before.left ∙ ap (λ (l : List (EndSeen (Msg P))). l ++ right_of workers) given.left ∙ append_assoc new.left.items (worker.ends.right ∷ []) (right_of workers);
   right = before.right ∙ ap (λ (l : List (EndSeen (Msg P))). l ++ left_of workers) given.right ∙ append_assoc new.right.items (worker.ends.left ∷ []) (left_of workers);
@@ -51,7 +55,7 @@ makes-none {P} {J} join n ends teams some none = record {
   workers = [];
   many = omega arith;
   cores = tt;
-  ends = record { left = sym (append-nil ends.left.items); right = sym (append-nil ends.right.items); senders = sym (append-nil ends.senders.items); receivers = refl };
+  ends = gives-none ends;
   dealt_out = ap (λ (hands : List (List (WorkerSeen P J))). gathered hands) none ∙ none-gathered (length teams);
   empty =
       fewer-empty (n * length teams / n) (length teams) (workers_in teams) (omega (arith, mul-div_cancel_left (length teams) {n = n} some))

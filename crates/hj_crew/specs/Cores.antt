@@ -33,7 +33,8 @@ module _ {P J : Type 0} where
   AreCores join n place [] = Unit {0}
   AreCores join n place (worker ∷ others) = (worker.join ≡ join) × (worker.place ≡ place) × (worker.cores ≡ n) × AreCores join n (place + 1) others
 
-  -- They were given the last ones of the ends: to their right the left ends of links, and to their left the right ones.
+  -- They were given the last ones of the ends: to their right the left ends of links, and to their left the right ones. Where they hand
+  -- theirs in, it is the other way round.
   pub record GivesEnds (workers : List (WorkerSeen P J)) (old new : ChainEnds P) : Type 0 where
     pub left : old.left.items ≡ new.left.items ++ right_of workers
     pub right : old.right.items ≡ new.right.items ++ left_of workers
@@ -87,13 +88,6 @@ TakesItsTurns {P} predicate worker =
     (turns : Turns P)
     × TakesTurns (predicate worker.join) worker.place worker.cores turns worker.ends.left.journal worker.ends.right.journal worker.ends.reports.journal
     × (Contains (puts worker.ends.reports.journal) Ended → turns.cut ≡ None)
-
--- The ends of a worker were handed in, behind those of others.
-pub record TakesIn {P J : Type 0} (worker : WorkerSeen P J) (old new : ChainEnds P) : Type 0 where
-  pub left : new.left.items ≡ old.left.items ++ worker.ends.right ∷ []
-  pub right : new.right.items ≡ old.right.items ++ worker.ends.left ∷ []
-  pub senders : new.senders.items ≡ old.senders.items ++ worker.ends.reports ∷ []
-  pub receivers : new.receivers ≡ old.receivers
 
 -- What a desk and workers had is closed.
 pub record AreClosed {P J : Type 0} (predicate : J → P → P → Bool) (desk : Desk P) (workers : List (WorkerSeen P J)) (ran : RanSeen P) : Type 0 where

@@ -1,6 +1,6 @@
 //! The end of a run: what the desk and the workers had is closed. It takes no memory.
-ghost use Rattle.std.specs.Prelude.{◌≡◌, ℕ, ◌+◌, length};
-ghost use Rattle.hj_crew.specs.Cores.{AreClosed, AreCrew, TakesIn, TakesItsTurns, left_of, reports_of, right_of};
+ghost use Rattle.std.specs.Prelude.{◌≡◌, ℕ, ◌+◌, ◌∷◌, [], All, length};
+ghost use Rattle.hj_crew.specs.Cores.{AreClosed, AreCrew, GivesEnds, TakesItsTurns, left_of, reports_of, right_of};
 ghost use Rattle.hj_crew.specs.Ends.{FormChain};
 ghost use Rattle.hj_crew.specs.Room.{HasEndRoom, IsChainRoomFor, IsRoomFor};
 
@@ -69,11 +69,24 @@ fn close_run<P: Share + Drop, J: Join<P> + Drop, L: Store<P, J> + Drop, R: Store
         receivers: reports,
     };
     ends.left.push_reserved(ports.left);
-    for worker in workers {
-        hand_in(&mut ends, worker);
-    }
+    hand_in_all(&mut ends, workers);
     ends.right.push_reserved(ports.right);
     ends.close(flight, ended, links, queues)
+}
+
+/// Hands in the ends of these workers, in the order of their cores, into lists that have room for them and for one right end more.
+fn hand_in_all<P: Share + Drop, J: Join<P> + Drop, L: Store<P, J> + Drop, R: Store<P, J> + Drop>(
+    ends: &mut ChainEnds<P>,
+    workers: Vec<Worker<P, J, L, R>>,
+)
+    requires { HasEndRoom (length workers.items) ends.old }
+    ensures ends { GivesEnds workers.items ends.new ends.old }
+    ensures turns { All (TakesItsTurns J.predicate) workers.items }
+    ensures room { HasEndRoom 0 ends.new }
+{
+    for worker in workers {
+        hand_in(ends, worker);
+    }
 }
 
 /// Hands in the ends of a worker, after those of the cores before it, into lists that have room for them.
@@ -82,7 +95,7 @@ fn hand_in<P: Share + Drop, J: Join<P> + Drop, L: Store<P, J> + Drop, R: Store<P
     worker: Worker<P, J, L, R>,
 )
     requires { HasEndRoom 1 ends.old }
-    ensures ends { TakesIn worker ends.old ends.new }
+    ensures ends { GivesEnds (worker ∷ []) ends.new ends.old }
     ensures turns { TakesItsTurns J.predicate worker }
     ensures room { (more : ℕ) → HasEndRoom (more + 1) ends.old → HasEndRoom more ends.new }
 {

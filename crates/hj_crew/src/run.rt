@@ -12,7 +12,7 @@ ghost use Rattle.hj_crew.specs.Stores.{AreReadyOn};
 use crate::begun::{Returned, run_crew};
 use crate::closing::close_crew;
 use crate::making::Crew;
-use crate::plan::{CrewPlan, Stores};
+use crate::plan::{CrewPlan, CrewSize, Stores};
 use crate::ran::Ran;
 use crate::room::Room;
 use hj_base::{Gate, Memory, Share};
@@ -159,14 +159,28 @@ pub fn run_between<
         plan.now.size.chain.cores plan.now.size.chain.flight feed result.1 outlet result.2) }
     ensures memory { OnErr result.0 ((result.1 ≡ feed) × (result.2 ≡ outlet)) }
 {
-    let Ok(crew) = Crew::new(alloc, plan.size, join, stores) else {
-        return (Err(Memory), feed, outlet);
-    };
-    let Ok(room) = Room::new(alloc, plan.size.chain.cores) else {
+    let Ok((crew, room)) = crew_and_room(alloc, plan.size, join, stores) else {
         return (Err(Memory), feed, outlet);
     };
     let (ran, feed, outlet) = run_and_close(plan, crew, room, feed, outlet);
     (Ok(ran), feed, outlet)
+}
+
+/// Makes the crew of a chain over these stores, and room for the end of its run.
+fn crew_and_room<P: Share + Drop, J: Join<P> + Drop, L: Store<P, J> + Drop, R: Store<P, J> + Drop>(
+    alloc: Global,
+    size: CrewSize,
+    join: &J,
+    stores: Stores<L, R>,
+) -> Result<(Crew<P, J, L, R>, Room<P, J, L, R>), Memory>
+    requires left { AreReadyOn L.entries L.suits Left join.now size.chain.cores stores.left.items }
+    requires right { AreReadyOn R.entries R.suits Right join.now size.chain.cores stores.right.items }
+    ensures crew { IfOk result (λ made. IsManned join.now size made.0) }
+    ensures room { IfOk result (λ made. IsRoomFor size.chain.cores made.1) }
+{
+    let room = Room::new(alloc, size.chain.cores)?;
+    let crew = Crew::new(alloc, size, join, stores)?;
+    Ok((crew, room))
 }
 
 /// Lets the crew of a chain run until the run has ended, and closes it.
