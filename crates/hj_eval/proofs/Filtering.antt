@@ -17,7 +17,7 @@ use Rattle.hj_value.specs.declared.field.Field.{Field}
 use Rattle.hj_value.specs.declared.field.Field.TheVariants as field
 use Rattle.hj_query.specs.declared.pred.Op.{Op}
 use Rattle.hj_query.specs.declared.pred.Op.TheVariants as ops
-use Rattle.hj_query.specs.declared.sum.Part.{Part}
+use Rattle.hj_query.specs.declared.sum.SignedTerm.{SignedTerm}
 use Rattle.hj_query.specs.declared.sum.Sum.{Sum}
 use Rattle.hj_query.specs.declared.sum.Term.{Term}
 use Rattle.hj_query.specs.declared.sum.Term.TheVariants as terms
@@ -122,7 +122,7 @@ module _ (value : Term → Option Field) (f g : Term → Option ℤ) (splits : S
   abbrev Parted : Option ℤ → Option ℤ → ℤ → Type 0
   Parted own other n = (a b : ℤ) × (own ≡ Some a) × (other ≡ Some b) × (n ≡ a +ℤ b)
 
-  split_parts : (parts : List Part) (n a b m : ℤ) → n ≡ a +ℤ b → with_parts value (Some (field.Int n)) parts ≡ Some (field.Int m)
+  split_parts : (parts : List SignedTerm) (n a b m : ℤ) → n ≡ a +ℤ b → with_parts value (Some (field.Int n)) parts ≡ Some (field.Int m)
       → Parted (with_numbers f (Some a) parts) (with_numbers g (Some b) parts) m
   split_parts [] n a b m e h = (a, b, refl, refl, same ∙ e)
     where
@@ -150,7 +150,7 @@ module _ (value : Term → Option Field) (f g : Term → Option ℤ) (splits : S
       by true None p v h again = let none = with_none value parts in absurd cc
       by false None p v h again = let none = with_none value parts in absurd cc
 
-  text_gives : {P : Type 0} (text : List ℕ) (parts : List Part) (m : ℤ) → with_parts value (Some (field.Text text)) parts ≡ Some (field.Int m) → P
+  text_gives : {P : Type 0} (text : List ℕ) (parts : List SignedTerm) (m : ℤ) → with_parts value (Some (field.Text text)) parts ≡ Some (field.Int m) → P
   text_gives text [] m h = absurd cc
   text_gives {P} text (part ∷ parts) m h = by part.plus h
     where
@@ -246,7 +246,7 @@ pub within_met : (value : Term → Option Field) (distance : ℕ) (first second 
 within_met value distance first second e = near_met value distance first second (sum_value value first) (sum_value value second) refl refl e
 
 -- a number that terms are added to and taken off is no text
-no_text_behind : (value : Term → Option Field) (parts : List Part) (n : ℤ) (text : List ℕ) → with_parts value (Some (field.Int n)) parts ≡ Some (field.Text text) → ⊥
+no_text_behind : (value : Term → Option Field) (parts : List SignedTerm) (n : ℤ) (text : List ℕ) → with_parts value (Some (field.Int n)) parts ≡ Some (field.Text text) → ⊥
 no_text_behind value [] n text e = cc
 no_text_behind value (part ∷ parts) n text e = by part.plus (value part.term) (λ m. no_text_behind value parts m text) e
   where
@@ -301,25 +301,25 @@ comparison_met columns rows op first second number e = by (sum_value (term_value
 
 -- ---- sums, term by term
 
-no_number_chosen : (number : Term → Option ℤ) (parts : List Part) (plus : Bool) → with_numbers number None parts ≡ None → with_numbers number (cond plus None None) parts ≡ None
+no_number_chosen : (number : Term → Option ℤ) (parts : List SignedTerm) (plus : Bool) → with_numbers number None parts ≡ None → with_numbers number (cond plus None None) parts ≡ None
 no_number_chosen number parts true e = e
 no_number_chosen number parts false e = e
 
 -- nothing comes of terms behind a missing number
-with_no_number : (number : Term → Option ℤ) (parts : List Part) → with_numbers number None parts ≡ None
+with_no_number : (number : Term → Option ℤ) (parts : List SignedTerm) → with_numbers number None parts ≡ None
 with_no_number number [] = refl
 with_no_number number (part ∷ parts) = no_number_chosen number parts part.plus (with_no_number number parts)
 
 pub first_missing : (number : Term → Option ℤ) (sum : Sum) → None ≡ number sum.first → None ≡ total number sum
 first_missing number sum e = sym (with_no_number number sum.rest) ∙ ap (λ (front : Option ℤ). with_numbers number front sum.rest) e
 
-pub next_number : (number : Term → Option ℤ) (parts : List Part) (at : ℕ) (part : Part) (total next : ℤ) (whole : Option ℤ) → Some part ≡ slice_get parts at
+pub next_number : (number : Term → Option ℤ) (parts : List SignedTerm) (at : ℕ) (part : SignedTerm) (total next : ℤ) (whole : Option ℤ) → Some part ≡ slice_get parts at
     → Some next ≡ with_number number (Some total) part → with_numbers number (Some total) (drop at parts) ≡ whole → with_numbers number (Some next) (drop (at + 1) parts) ≡ whole
 next_number number parts at part total next whole found e so_far =
     ap (λ (front : Option ℤ). with_numbers number front (drop (at + 1) parts)) e
     ∙ sym (ap (with_numbers number (Some total)) (drop_get parts at part found)) ∙ so_far
 
-pub part_missing : (number : Term → Option ℤ) (parts : List Part) (at : ℕ) (part : Part) (total : ℤ) (whole : Option ℤ) → Some part ≡ slice_get parts at
+pub part_missing : (number : Term → Option ℤ) (parts : List SignedTerm) (at : ℕ) (part : SignedTerm) (total : ℤ) (whole : Option ℤ) → Some part ≡ slice_get parts at
     → None ≡ with_number number (Some total) part → with_numbers number (Some total) (drop at parts) ≡ whole → None ≡ whole
 part_missing number parts at part total whole found e so_far =
     sym (with_no_number number (drop (at + 1) parts))

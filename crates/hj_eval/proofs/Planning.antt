@@ -17,7 +17,7 @@ use Rattle.hj_value.specs.declared.field.Field.{Field}
 use Rattle.hj_value.specs.declared.field.Field.TheVariants as field
 use Rattle.hj_query.specs.declared.pred.Op.TheVariants as ops
 use Rattle.hj_query.specs.declared.pred.Pred.{Pred, Or', And', Not', Compare, Within}
-use Rattle.hj_query.specs.declared.sum.Part.{Part}
+use Rattle.hj_query.specs.declared.sum.SignedTerm.{SignedTerm}
 use Rattle.hj_query.specs.declared.sum.Sum.{Sum}
 use Rattle.hj_query.specs.declared.sum.Term.{Term}
 use Rattle.hj_query.specs.declared.sum.Term.TheVariants as terms
@@ -83,7 +83,7 @@ first_gives {A} found test Gives gives (pred ∷ preds) a all e =
 some_same : {A : Type 0} (x y : A) → Some x ≡ Some y → x ≡ y
 some_same x y e = cc
 
-lone_value : (value : Term → Option Field) (first : Term) (rest : List Part) (side : Side) (at : ℕ) → lone_term first rest ≡ Some (side, at)
+lone_value : (value : Term → Option Field) (first : Term) (rest : List SignedTerm) (side : Side) (at : ℕ) → lone_term first rest ≡ Some (side, at)
     → sum_value value (record { first = first; rest = rest }) ≡ value (terms.Column side at)
 lone_value value (terms.Column s n) [] side at e =
     let same : (s, n) ≡ (side, at) = some_same (s, n) (side, at) e in

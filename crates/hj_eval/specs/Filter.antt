@@ -9,7 +9,7 @@ use Rattle.hj_value.specs.declared.field.Field.{Field}
 use Rattle.hj_value.specs.declared.field.Field.TheVariants as field
 use Rattle.hj_query.specs.declared.pred.Op.TheVariants as ops
 use Rattle.hj_query.specs.declared.pred.Pred.{Pred, Compare, Within}
-use Rattle.hj_query.specs.declared.sum.Part.{Part}
+use Rattle.hj_query.specs.declared.sum.SignedTerm.{SignedTerm}
 use Rattle.hj_query.specs.declared.sum.Sum.{Sum}
 use Rattle.hj_query.specs.declared.sum.Term.{Term}
 use Rattle.hj_query.specs.declared.sum.Term.TheVariants as terms
@@ -51,11 +51,11 @@ less (Some a) (Some b) = Some (a -ℤ b)
 less _ _ = None
 
 -- a number with a term added to it or taken off it
-abbrev pub with_number : (Term → Option ℤ) → Option ℤ → Part → Option ℤ
+abbrev pub with_number : (Term → Option ℤ) → Option ℤ → SignedTerm → Option ℤ
 with_number number front part = if part.plus then more front (number part.term) else less front (number part.term)
 
 -- a number with terms added to it and taken off it
-abbrev pub with_numbers : (Term → Option ℤ) → Option ℤ → List Part → Option ℤ
+abbrev pub with_numbers : (Term → Option ℤ) → Option ℤ → List SignedTerm → Option ℤ
 with_numbers number front [] = front
 with_numbers number front (part ∷ parts) = with_numbers number (with_number number front part) parts
 

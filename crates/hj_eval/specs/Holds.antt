@@ -11,7 +11,7 @@ use Rattle.hj_value.specs.Schema.{is_int}
 use Rattle.hj_query.specs.declared.pred.Op.{Op}
 use Rattle.hj_query.specs.declared.pred.Op.TheVariants as ops
 use Rattle.hj_query.specs.declared.pred.Pred.{Pred, Or', And', Not', Compare, Within}
-use Rattle.hj_query.specs.declared.sum.Part.{Part}
+use Rattle.hj_query.specs.declared.sum.SignedTerm.{SignedTerm}
 use Rattle.hj_query.specs.declared.sum.Sum.{Sum}
 use Rattle.hj_query.specs.declared.sum.Term.{Term}
 use Rattle.hj_query.specs.declared.sum.Term.TheVariants as terms
@@ -50,11 +50,11 @@ minus (Some (field.Int a)) (Some (field.Int b)) = Some (field.Int (a -ℤ b))
 minus _ _ = None
 
 -- a value with a term added to it or taken off it
-abbrev pub with_part : (Term → Option Field) → Option Field → Part → Option Field
+abbrev pub with_part : (Term → Option Field) → Option Field → SignedTerm → Option Field
 with_part value front part = if part.plus then plus front (value part.term) else minus front (value part.term)
 
 -- a value with terms added to it and taken off it
-abbrev pub with_parts : (Term → Option Field) → Option Field → List Part → Option Field
+abbrev pub with_parts : (Term → Option Field) → Option Field → List SignedTerm → Option Field
 with_parts value front [] = front
 with_parts value front (part ∷ parts) = with_parts value (with_part value front part) parts
 

@@ -7,7 +7,7 @@ use Rattle.hj_value.specs.declared.field.Field.{Field}
 use Rattle.hj_value.specs.declared.field.Field.TheVariants as field
 use Rattle.hj_query.specs.declared.pred.Op.TheVariants as ops
 use Rattle.hj_query.specs.declared.pred.Pred.{Pred, And', Compare, Within}
-use Rattle.hj_query.specs.declared.sum.Part.{Part}
+use Rattle.hj_query.specs.declared.sum.SignedTerm.{SignedTerm}
 use Rattle.hj_query.specs.declared.sum.Sum.{Sum}
 use Rattle.hj_query.specs.declared.sum.Term.{Term}
 use Rattle.hj_query.specs.declared.sum.Term.TheVariants as terms
@@ -21,7 +21,7 @@ abbrev pub conjuncts : Pred → List Pred
 conjuncts (And' p left q right) = conjuncts left ++ conjuncts right
 conjuncts pred = pred ∷ []
 
-abbrev pub lone_term : Term → List Part → Option (Side × ℕ)
+abbrev pub lone_term : Term → List SignedTerm → Option (Side × ℕ)
 lone_term (terms.Column side at) [] = Some (side, at)
 lone_term first rest = None
 

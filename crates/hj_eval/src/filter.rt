@@ -8,7 +8,7 @@ ghost use Rattle.hj_eval.specs.Holds.{holds};
 ghost use Rattle.hj_eval.specs.Values.{IsTotalOf};
 
 use hj_base::{Memory, Side};
-use hj_query::{Op, Part, Pred, Query, Sum, Term};
+use hj_query::{Op, Pred, Query, SignedTerm, Sum, Term};
 use hj_rows::{KeyFilter, KeyRange};
 use hj_value::{ColumnType, Field, Row, SharedRow};
 use std::alloc::Global;
@@ -225,7 +225,7 @@ impl Reading<'_> {
     }
 
     /// Gives a number with a term added to it or taken off it; None where the term has none.
-    fn with_part(&self, total: i128, part: &Part) -> Option<i128>
+    fn with_part(&self, total: i128, part: &SignedTerm) -> Option<i128>
         requires { IsTotalOf (2 ^ 64 - 1) total }
         ensures value { result ≡ with_number (number_of self.now.side self.now.row.now self.now.has_numbers) (Some total) part.now }
         ensures grows { (terms : ℕ) → IsTotalOf terms total → IfSome result (IsTotalOf (terms + 1)) }

@@ -8,7 +8,7 @@ ghost use Rattle.hj_value.specs.declared.field.Field.TheVariants as field;
 
 use crate::value::Value;
 use hj_base::Side;
-use hj_query::{Part, Query, Rest, Sum, Term};
+use hj_query::{FurtherTerms, Query, SignedTerm, Sum, Term};
 use hj_value::{ColumnType, Field, Row};
 
 /// A left and a right row, under a query.
@@ -51,7 +51,7 @@ pub fn sum_value<'a>(rows: &Rows<'a>, sum: &'a Sum) -> Option<Value<'a>>
 }
 
 /// Gives a number with the terms of `rest` added to it and taken off it; None where one of them is no number.
-fn total<'a>(rows: &Rows<'a>, front: i128, rest: &'a Rest) -> Option<i128>
+fn total<'a>(rows: &Rows<'a>, front: i128, rest: &'a FurtherTerms) -> Option<i128>
     requires { FitsSigned w64 front }
     ensures { option_map (λ number. field.Int number) result ≡ with_parts (value_in rows.now) (Some (field.Int front)) rest.now }
 {
@@ -66,7 +66,7 @@ fn total<'a>(rows: &Rows<'a>, front: i128, rest: &'a Rest) -> Option<i128>
 }
 
 /// Gives a number with a term added to it or taken off it; None where the term is no number.
-fn with_part<'a>(rows: &Rows<'a>, total: i128, part: &'a Part) -> Option<i128>
+fn with_part<'a>(rows: &Rows<'a>, total: i128, part: &'a SignedTerm) -> Option<i128>
     requires { IsTotalOf (2 ^ 64 - 1) total }
     ensures value { option_map (λ number. field.Int number) result ≡ with_part (value_in rows.now) (Some (field.Int total)) part.now }
     ensures grows { (terms : ℕ) → IsTotalOf terms total → IfSome result (IsTotalOf (terms + 1)) }

@@ -24,7 +24,7 @@ use Rattle.hj_query.specs.Lexemes.{IsNumber, IsSign, IsWord, Lexeme, behind, lex
 use Rattle.hj_query.specs.Sides.{by_side}
 use Rattle.hj_query.specs.declared.pred.Op.TheVariants as ops
 use Rattle.hj_query.specs.declared.pred.Pred.{Compare}
-use Rattle.hj_query.specs.declared.sum.Part.{Part}
+use Rattle.hj_query.specs.declared.sum.SignedTerm.{SignedTerm}
 use Rattle.hj_query.specs.declared.sum.Sum.{Sum}
 use Rattle.hj_query.specs.declared.sum.Term.TheVariants as terms
 use Rattle.hj_query.proofs.Lists.{bytes_same}
@@ -107,19 +107,19 @@ abbrev condition_line : List Lexeme
 condition_line =
     word (codes "on") ∷ word (codes "l") ∷ sign (codes ".") ∷ word (codes "key") ∷ sign (codes "=") ∷ word (codes "r") ∷ sign (codes ".") ∷ word (codes "key") ∷ sign [] ∷ []
 
-abbrev key_of : Side → List Part → Sum
+abbrev key_of : Side → List SignedTerm → Sum
 key_of side parts = record { first = terms.Column side 1; rest = parts }
 
-key_next : (columns : Side → List Column) (side : Side) (parts : List Part) (rest : List Lexeme) → columns side ≡ keyed_columns → parts ≡ []
+key_next : (columns : Side → List Column) (side : Side) (parts : List SignedTerm) (rest : List Lexeme) → columns side ≡ keyed_columns → parts ≡ []
     → IsSum columns (word (side_word side) ∷ sign (codes ".") ∷ word (codes "key") ∷ rest) (key_of side parts) rest
 key_next columns side parts rest e none =
     of_term (terms.Column side 1) _ rest
     (of_column side 1 (codes "key") _ _ (word_next (side_word side) _) (sign_next (codes ".") _) (word_next (codes "key") rest) (ap (place_of_name (codes "key")) e) refl)
     (ap (key_of side) none)
 
-key_int : (columns : Side → List Column) (side : Side) (parts : List Part) → columns side ≡ keyed_columns → parts ≡ [] → is_int_sum columns (key_of side parts) ≡ true
+key_int : (columns : Side → List Column) (side : Side) (parts : List SignedTerm) → columns side ≡ keyed_columns → parts ≡ [] → is_int_sum columns (key_of side parts) ≡ true
 key_int columns side parts e none =
-    ap (λ (parts : List Part). is_int_sum columns (key_of side parts)) none ∙ ap (λ (columns : List Column). not (is_text_at (slice_get columns 1)) && true) e
+    ap (λ (parts : List SignedTerm). is_int_sum columns (key_of side parts)) none ∙ ap (λ (columns : List Column). not (is_text_at (slice_get columns 1)) && true) e
 
 both : (a b c : Bool) → a ≡ true → b ≡ true → (a && b || c) ≡ true
 both a b c p q = ap (λ a. a && b || c) p ∙ ap (λ b. b || c) q
@@ -132,7 +132,7 @@ end_is : IsTrue (next_is kinds.Sign [] (sign [] ∷ []))
 unfolding next_is
 end_is = refl
 
-condition_next : (left right : List Column) (parts more : List Part) → left ≡ keyed_columns → right ≡ keyed_columns → parts ≡ [] → more ≡ []
+condition_next : (left right : List Column) (parts more : List SignedTerm) → left ≡ keyed_columns → right ≡ keyed_columns → parts ≡ [] → more ≡ []
     → IsCondition (by_side left right) condition_line (Compare ops.Eq (key_of sides.Left parts) (key_of sides.Right more))
 condition_next left right parts more l r none nothing =
     of_pred _ _ (word_next (codes "on") _)
@@ -177,7 +177,7 @@ window_suited side rows rest few name s = (refl, (name, (refl, ((digits_of rows 
 condition_suited : AreSuited condition_line
 condition_suited = (refl, (refl, (tt, (refl, (tt, (refl, (tt, (refl, (tt, tt)))))))))
 
-pub keyed_readable : (left right : Schema) (rows : ℕ) (parts more : List Part) → 1 ≤ rows → rows ≤ most_rows → left.columns ≡ keyed_columns → right.columns ≡ keyed_columns → parts ≡ [] → more ≡ []
+pub keyed_readable : (left right : Schema) (rows : ℕ) (parts more : List SignedTerm) → 1 ≤ rows → rows ≤ most_rows → left.columns ≡ keyed_columns → right.columns ≡ keyed_columns → parts ≡ [] → more ≡ []
     → IsReadable (record {
       left = left;
       right = right;

@@ -18,7 +18,7 @@ use Rattle.hj_value.proofs.Numbers.{list_all-digits}
 use Rattle.hj_lex.specs.declared.token.TokenKind.TheVariants as kinds
 use Rattle.hj_lex.specs.Tokens.{begins, is_digits, is_name, is_word, number_end, number_value, quoted}
 use Rattle.hj_query.specs.Canonical.{name_at, part_text, sum_text, term_text}
-use Rattle.hj_query.specs.declared.sum.Part.{Part}
+use Rattle.hj_query.specs.declared.sum.SignedTerm.{SignedTerm}
 use Rattle.hj_query.specs.declared.sum.Sum.{Sum}
 use Rattle.hj_query.specs.declared.sum.Term.{Term}
 use Rattle.hj_query.specs.declared.sum.Term.TheVariants as terms
@@ -169,10 +169,10 @@ part_spelled columns plus term spelled =
     let sign = blank_behind {More = Anything} 32 (32 ∷ part_sign plus) refl (λ more rest b. refl) (blank_before 32 (part_sign plus) refl (part_sign_spelled plus)) in
     spelled_then {Behind = Anything} _ (term_text columns term) sign spelled (λ more rest mid b t. tt)
 
-abbrev longer : Sum → Part → Sum
+abbrev longer : Sum → SignedTerm → Sum
 longer front part = record { first = front.first; rest = front.rest ++ part ∷ [] }
 
-longer_text : (columns : Side → List Column) (front : Sum) (part : Part) → sum_text columns (longer front part) ≡ sum_text columns front ++ part_text columns part
+longer_text : (columns : Side → List Column) (front : Sum) (part : SignedTerm) → sum_text columns (longer front part) ≡ sum_text columns front ++ part_text columns part
 longer_text columns front part =
     ap (λ text. term_text columns front.first ++ text)
     (flat_map-append (part_text columns) front.rest (part ∷ []) ∙ ap (λ text. flat_map (part_text columns) front.rest ++ text) (append-nil (part_text columns part)))
@@ -191,7 +191,7 @@ lone_spelled columns first spelled =
 
 longer_spelled : (columns : Side → List Column) (front : Sum) (plus : Bool) (term : Term) → SpelledSum columns front → SpelledTerm columns term → SpelledSum columns (longer front (record { plus = plus; term = term }))
 longer_spelled columns front plus term first second =
-    let part : Part = record { plus = plus; term = term } in
+    let part : SignedTerm = record { plus = plus; term = term } in
     let whole = spelled_then {Behind = EndsToken} (sum_text columns front) (part_text columns part) first (part_spelled columns plus term second) (λ more rest mid b s. refl) in
     subst (λ text. Spelled EndsToken (λ here rest. IsSum columns here (longer front part) rest) text) (sym (longer_text columns front part))
     (spelled_as (sum_text columns front ++ part_text columns part) (λ more rest b. b) (λ more here rest b s. of_part front plus term s.0 s.2.0 _ rest s.1 s.2.1 s.2.2 refl) whole)

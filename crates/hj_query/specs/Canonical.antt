@@ -12,7 +12,7 @@ use Rattle.hj_lex.specs.Tokens.{quoted}
 use Rattle.hj_query.specs.declared.pred.Pred.{Pred, Or', And', Not', Compare, Within}
 use Rattle.hj_query.specs.declared.setting.Setting.{Setting}
 use Rattle.hj_query.specs.declared.setting.Setting.TheVariants as settings
-use Rattle.hj_query.specs.declared.sum.Part.{Part}
+use Rattle.hj_query.specs.declared.sum.SignedTerm.{SignedTerm}
 use Rattle.hj_query.specs.declared.sum.Sum.{Sum}
 use Rattle.hj_query.specs.declared.sum.Term.{Term}
 use Rattle.hj_query.specs.declared.sum.Term.TheVariants as terms
@@ -51,7 +51,7 @@ term_text columns (terms.Number value) = signed_decimal value
 term_text columns (terms.Text value) = quoted value
 
 -- a sign and a term, behind other terms
-abbrev pub part_text : (Side → List Column) → Part → List ℕ
+abbrev pub part_text : (Side → List Column) → SignedTerm → List ℕ
 part_text columns part = codes " " ++ part_sign part.plus ++ codes " " ++ term_text columns part.term
 
 abbrev pub sum_text : (Side → List Column) → Sum → List ℕ

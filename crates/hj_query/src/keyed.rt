@@ -4,7 +4,7 @@ ghost use Rattle.hj_query.specs.Grammar.{most_rows};
 ghost use Rattle.hj_query.specs.Keyed.{keyed_columns, IsKeyed};
 
 use crate::schemas::Schemas;
-use crate::{Op, Pred, Query, Rest, Sum, Term};
+use crate::{FurtherTerms, Op, Pred, Query, Sum, Term};
 use hj_base::{Memory, Side, Window};
 use hj_value::{Column, ColumnType, Columns, Schema, TextBytes};
 use std::alloc::Global;
@@ -25,11 +25,11 @@ pub fn equi(alloc: Global, rows: u32) -> Result<Query, Memory>
         Op::Eq,
         Sum {
             first: Term::Column(Side::Left, 1),
-            rest: Rest::new(alloc),
+            rest: FurtherTerms::new(alloc),
         },
         Sum {
             first: Term::Column(Side::Right, 1),
-            rest: Rest::new(alloc),
+            rest: FurtherTerms::new(alloc),
         },
     );
     let window = Window::Rows(rows);

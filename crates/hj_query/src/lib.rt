@@ -25,5 +25,5 @@ pub use keyed::equi;
 pub use laws::text_is_query_or_fault;
 pub use pred::{Op, Pred};
 pub use query::Query;
-pub use sum::{Part, Rest, Sum, Term};
+pub use sum::{FurtherTerms, SignedTerm, Sum, Term};
 pub use text::{MOST_BYTES, parse};

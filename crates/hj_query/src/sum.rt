@@ -17,7 +17,7 @@ pub enum Term {
 
 /// A term that is added to a sum, or taken off it.
 #[derive(Debug, Drop)]
-pub struct Part {
+pub struct SignedTerm {
     /// Whether the term is added.
     pub plus: bool,
     pub term: Term,
@@ -25,25 +25,25 @@ pub struct Part {
 
 /// The terms of a sum after its first, seen as the list of them.
 #[derive(Debug, Drop)]
-pub struct Rest {
-    parts: Vec<Part>,
+pub struct FurtherTerms {
+    parts: Vec<SignedTerm>,
 }
 
-impl Model for Rest {
+impl Model for FurtherTerms {
     ghost use Rattle.std.specs.Prelude.{List};
-    ghost use Rattle.hj_query.specs.declared.sum.Part.{Part};
+    ghost use Rattle.hj_query.specs.declared.sum.SignedTerm.{SignedTerm};
 
-    ghost Value = { List Part };
+    ghost Value = { List SignedTerm };
 
     ghost view = { λ r. r.parts.items };
 }
 
-impl Rest {
+impl FurtherTerms {
     /// Makes a list of no terms.
     pub fn new(alloc: Global) -> Self
         ensures { result ≡ [] }
     {
-        Rest {
+        FurtherTerms {
             parts: Vec::new(alloc),
         }
     }
@@ -56,14 +56,14 @@ impl Rest {
     }
 
     /// Returns the term at a place, counted from 0; None exactly at or past the length.
-    pub fn get(&self, at: usize) -> Option<&Part>
+    pub fn get(&self, at: usize) -> Option<&SignedTerm>
         ensures { option_copied result ≡ slice_get self.now at }
     {
         self.parts.get(at)
     }
 
     /// Adds a term at the end. After a refusal nothing changed.
-    pub fn push(&mut self, part: Part) -> Result<(), Memory>
+    pub fn push(&mut self, part: SignedTerm) -> Result<(), Memory>
         ensures ok { OnOk result (self.new ≡ self.old ++ part ∷ []) }
         ensures err { OnErr result (self.new ≡ self.old) }
     {
@@ -76,5 +76,5 @@ impl Rest {
 #[derive(Debug, Drop)]
 pub struct Sum {
     pub first: Term,
-    pub rest: Rest,
+    pub rest: FurtherTerms,
 }

@@ -9,7 +9,7 @@ ghost use Rattle.hj_query.specs.Texts.{Unless};
 use crate::cursor::Cursor;
 use crate::schema::place_of_name;
 use crate::schemas::Schemas;
-use crate::{Part, QueryFault, Rest, Sum, Term, Wanted};
+use crate::{FurtherTerms, QueryFault, SignedTerm, Sum, Term, Wanted};
 use hj_base::Side;
 use std::alloc::Global;
 
@@ -21,11 +21,11 @@ pub fn sum(alloc: Global, schemas: &Schemas, cursor: &mut Cursor<'_>) -> Result<
         (λ fault. Unless fault (FaultsSum (columns_in schemas.now) cursor.old)) }
 {
     let first = term(alloc, schemas, cursor)?;
-    let mut rest = Rest::new(alloc);
+    let mut rest = FurtherTerms::new(alloc);
     'parts: while let Some(plus) = part_sign(cursor) {
         cursor.skip();
         let term = term(alloc, schemas, cursor)?;
-        rest.push(Part { plus, term })?;
+        rest.push(SignedTerm { plus, term })?;
     }
     Ok(Sum { first, rest })
 }

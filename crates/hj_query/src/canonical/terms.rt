@@ -4,7 +4,7 @@ ghost use Rattle.hj_query.specs.declared.sum.Term.TheVariants as terms;
 ghost use Rattle.hj_query.specs.Grammar.{columns_of, part_sign, side_word};
 
 use super::pieces::{push_bytes, push_number, push_quoted};
-use crate::{Part, Query, Sum, Term};
+use crate::{Query, SignedTerm, Sum, Term};
 use hj_base::{Memory, Side};
 
 /// Adds a sum to a text: its terms with signs between them.
@@ -22,7 +22,7 @@ pub fn push_sum(text: &mut Vec<u8>, query: &Query, sum: &Sum) -> Result<(), Memo
 }
 
 /// Adds a sign and a term after other terms.
-fn push_part(text: &mut Vec<u8>, query: &Query, part: &Part) -> Result<(), Memory>
+fn push_part(text: &mut Vec<u8>, query: &Query, part: &SignedTerm) -> Result<(), Memory>
     ensures { OnOk result (text.new.items ≡ text.old.items ++ part_text (columns_of query.now) part.now) }
 {
     push_bytes(text, b" ")?;

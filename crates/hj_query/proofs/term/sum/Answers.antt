@@ -1,6 +1,6 @@
 use Rattle.std.proofs.Common.{◌<◌, Bool, true, false, List, length, ap, arith}
 use Rattle.std.proofs.lemmas.Result.{err_from_is_err_and}
-use Rattle.hj_query.specs.declared.sum.Part.{Part}
+use Rattle.hj_query.specs.declared.sum.SignedTerm.{SignedTerm}
 use Rattle.hj_query.specs.declared.sum.Sum.{Sum}
 use Rattle.hj_query.specs.declared.sum.Term.{Term}
 use Rattle.hj_query.specs.Faults.{first_term, next_term}
@@ -12,7 +12,7 @@ part_some : (plus : Bool) → 0 < length (part_sign plus)
 part_some true = omega arith
 part_some false = omega arith
 
-abbrev sum_of : Term → List Part → Sum
+abbrev sum_of : Term → List SignedTerm → Sum
 sum_of first rest = record { first = first; rest = rest }
 
 pub returns-in_err-first-clause-read : goal.returns-in_err-first-clause-read
