@@ -8,7 +8,7 @@ use Rattle.hj_query.specs.Grammar.{columns_of}
 use Rattle.hj_query.specs.Sides.{by_side}
 use Rattle.hj_eval.specs.declared.value.Value.{Value}
 use Rattle.hj_eval.specs.declared.value.Value.TheVariants as values
-use Rattle.hj_eval.specs.declared.rows.Rows.{Rows}
+use Rattle.hj_eval.specs.declared.row_pair.RowPair.{RowPair}
 use Rattle.hj_eval.specs.Holds.{term_value}
 
 -- the number or the text that a value is
@@ -26,5 +26,5 @@ abbrev pub IsTotalOf : ℕ → ℤ → Type 0
 IsTotalOf terms total = (neg_ℤ (pos (2 ^ 63 * terms)) ≤ℤ total) × (total <ℤ pos (2 ^ 63 * terms))
 
 -- the value of a term in two rows
-abbrev pub value_in : Rows → Term → Option Field
+abbrev pub value_in : RowPair → Term → Option Field
 value_in rows = term_value (columns_of rows.query.now) (by_side rows.left.now rows.right.now)

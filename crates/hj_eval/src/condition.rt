@@ -3,7 +3,7 @@ ghost use Rattle.hj_query.specs.declared.pred.Pred.{Compare, Within};
 ghost use Rattle.hj_eval.specs.Holds.{holds, pred_holds};
 ghost use Rattle.hj_eval.specs.Values.{value_in};
 
-use crate::rows::{Rows, lone_number, sum_value};
+use crate::row_pair::{RowPair, lone_number, sum_value};
 use crate::value::{accepts, compares, is_within};
 use hj_query::{Op, Pred, Query, Sum};
 use hj_value::Row;
@@ -14,12 +14,12 @@ use hj_value::Row;
 pub fn holds(query: &Query, left: &Row, right: &Row) -> bool
     ensures { result ≡ holds query.now left.now right.now }
 {
-    pred_holds(&Rows { query, left, right }, query.pred())
+    pred_holds(&RowPair { query, left, right }, query.pred())
 }
 
 /// Asks whether a condition holds. The left operands may stand as deep as the condition is long, so this keeps little on the
 /// stack.
-pub(crate) fn pred_holds<'a>(rows: &Rows<'a>, pred: &'a Pred) -> bool
+pub(crate) fn pred_holds<'a>(rows: &RowPair<'a>, pred: &'a Pred) -> bool
     ensures { result ≡ pred_holds (value_in rows.now) pred.now }
 {
     match pred {
@@ -32,7 +32,7 @@ pub(crate) fn pred_holds<'a>(rows: &Rows<'a>, pred: &'a Pred) -> bool
 }
 
 /// Asks whether two sums compare so.
-fn comparison_holds<'a>(rows: &Rows<'a>, op: Op, left: &'a Sum, right: &'a Sum) -> bool
+fn comparison_holds<'a>(rows: &RowPair<'a>, op: Op, left: &'a Sum, right: &'a Sum) -> bool
     ensures { result ≡ pred_holds (value_in rows.now) (Compare op left.now right.now) }
 {
     // Most comparisons are of two numbers that stand alone, which need no wider ones.
@@ -43,7 +43,7 @@ fn comparison_holds<'a>(rows: &Rows<'a>, op: Op, left: &'a Sum, right: &'a Sum) 
 }
 
 /// Asks whether the values of two sums compare so.
-fn values_compare<'a>(rows: &Rows<'a>, op: Op, left: &'a Sum, right: &'a Sum) -> bool
+fn values_compare<'a>(rows: &RowPair<'a>, op: Op, left: &'a Sum, right: &'a Sum) -> bool
     ensures { result ≡ pred_holds (value_in rows.now) (Compare op left.now right.now) }
 {
     let Some(left) = sum_value(rows, left) else {
@@ -56,7 +56,7 @@ fn values_compare<'a>(rows: &Rows<'a>, op: Op, left: &'a Sum, right: &'a Sum) ->
 }
 
 /// Asks whether two sums are numbers that differ by at most `distance`.
-fn distance_holds<'a>(rows: &Rows<'a>, distance: u64, left: &'a Sum, right: &'a Sum) -> bool
+fn distance_holds<'a>(rows: &RowPair<'a>, distance: u64, left: &'a Sum, right: &'a Sum) -> bool
     ensures { result ≡ pred_holds (value_in rows.now) (Within distance left.now right.now) }
 {
     match (lone_number(rows, left), lone_number(rows, right)) {
@@ -66,7 +66,7 @@ fn distance_holds<'a>(rows: &Rows<'a>, distance: u64, left: &'a Sum, right: &'a 
 }
 
 /// Asks whether the values of two sums are numbers that differ by at most `distance`.
-fn values_are_within<'a>(rows: &Rows<'a>, distance: u64, left: &'a Sum, right: &'a Sum) -> bool
+fn values_are_within<'a>(rows: &RowPair<'a>, distance: u64, left: &'a Sum, right: &'a Sum) -> bool
     ensures { result ≡ pred_holds (value_in rows.now) (Within distance left.now right.now) }
 {
     let Some(left) = sum_value(rows, left) else {

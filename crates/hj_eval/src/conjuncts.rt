@@ -7,7 +7,7 @@ ghost use Rattle.hj_eval.specs.Tests.{all_hold, number_holds, texts_meet};
 
 use crate::column_test::{NumberTest, TextTest, number_test, text_test};
 use crate::condition::pred_holds;
-use crate::rows::Rows;
+use crate::row_pair::RowPair;
 use hj_base::Memory;
 use hj_query::{Pred, Query};
 use hj_value::Row;
@@ -123,7 +123,7 @@ impl<'a> Conjuncts<'a> {
     fn others_hold(&self, query: &Query, left: &Row, right: &Row) -> bool
         ensures { result ≡ list_all (λ pred. pred_on query.now pred.now left.now right.now) self.now.others.items }
     {
-        let rows = Rows { query, left, right };
+        let rows = RowPair { query, left, right };
         for pred in &self.others {
             if !pred_holds(&rows, pred) {
                 return false;

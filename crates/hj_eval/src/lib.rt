@@ -6,7 +6,7 @@ mod condition;
 mod conjuncts;
 mod filter;
 mod join;
-mod rows;
+mod row_pair;
 mod store_plan;
 mod value;
 

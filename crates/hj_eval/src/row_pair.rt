@@ -13,14 +13,14 @@ use hj_value::{ColumnType, Field, Row};
 
 /// A left and a right row, under a query.
 #[derive(Clone, Copy)]
-pub struct Rows<'a> {
+pub struct RowPair<'a> {
     pub query: &'a Query,
     pub left: &'a Row,
     pub right: &'a Row,
 }
 
 /// Gives the number of a sum that is one term; None where it is no number, or has further terms.
-pub fn lone_number<'a>(rows: &Rows<'a>, sum: &'a Sum) -> Option<i64>
+pub fn lone_number<'a>(rows: &RowPair<'a>, sum: &'a Sum) -> Option<i64>
     ensures { IfSome result (λ number. sum_value (value_in rows.now) sum.now ≡ Some (field.Int number)) }
 {
     if sum.rest.len() != 0 {
@@ -37,7 +37,7 @@ pub fn lone_number<'a>(rows: &Rows<'a>, sum: &'a Sum) -> Option<i64>
 }
 
 /// Gives the value of a sum; None where a term has none, and where a text is one of several terms.
-pub fn sum_value<'a>(rows: &Rows<'a>, sum: &'a Sum) -> Option<Value<'a>>
+pub fn sum_value<'a>(rows: &RowPair<'a>, sum: &'a Sum) -> Option<Value<'a>>
     ensures { option_map field_of result ≡ sum_value (value_in rows.now) sum.now }
 {
     let first = term_value(rows, &sum.first)?;
@@ -51,7 +51,7 @@ pub fn sum_value<'a>(rows: &Rows<'a>, sum: &'a Sum) -> Option<Value<'a>>
 }
 
 /// Gives a number with the terms of `rest` added to it and taken off it; None where one of them is no number.
-fn total<'a>(rows: &Rows<'a>, front: i128, rest: &'a FurtherTerms) -> Option<i128>
+fn total<'a>(rows: &RowPair<'a>, front: i128, rest: &'a FurtherTerms) -> Option<i128>
     requires { FitsSigned w64 front }
     ensures { option_map (λ number. field.Int number) result ≡ with_parts (value_in rows.now) (Some (field.Int front)) rest.now }
 {
@@ -66,7 +66,7 @@ fn total<'a>(rows: &Rows<'a>, front: i128, rest: &'a FurtherTerms) -> Option<i12
 }
 
 /// Gives a number with a term added to it or taken off it; None where the term is no number.
-fn with_part<'a>(rows: &Rows<'a>, total: i128, part: &'a SignedTerm) -> Option<i128>
+fn with_part<'a>(rows: &RowPair<'a>, total: i128, part: &'a SignedTerm) -> Option<i128>
     requires { IsTotalOf (2 ^ 64 - 1) total }
     ensures value { option_map (λ number. field.Int number) result ≡ with_part (value_in rows.now) (Some (field.Int total)) part.now }
     ensures grows { (terms : ℕ) → IsTotalOf terms total → IfSome result (IsTotalOf (terms + 1)) }
@@ -79,7 +79,7 @@ fn with_part<'a>(rows: &Rows<'a>, total: i128, part: &'a SignedTerm) -> Option<i
 }
 
 /// Gives the value of a term; None for a column that isn't in its row, or has another type there.
-fn term_value<'a>(rows: &Rows<'a>, term: &'a Term) -> Option<Value<'a>>
+fn term_value<'a>(rows: &RowPair<'a>, term: &'a Term) -> Option<Value<'a>>
     ensures value { option_map field_of result ≡ value_in rows.now term.now }
     ensures small { IfSome result IsSmall }
 {
@@ -94,7 +94,7 @@ fn term_value<'a>(rows: &Rows<'a>, term: &'a Term) -> Option<Value<'a>>
 }
 
 /// Returns the field of a side's row in a column; None where the row lacks it, or has another type there.
-fn column_value<'a>(rows: &Rows<'a>, side: Side, at: usize) -> Option<Field<'a>>
+fn column_value<'a>(rows: &RowPair<'a>, side: Side, at: usize) -> Option<Field<'a>>
     ensures { result ≡ column_value
         (slice_get (columns_of rows.now.query.now side) at)
         (slice_get (by_side rows.now.left.now rows.now.right.now side) at) }
@@ -107,7 +107,7 @@ fn column_value<'a>(rows: &Rows<'a>, side: Side, at: usize) -> Option<Field<'a>>
     }
 }
 
-impl<'a> Rows<'a> {
+impl<'a> RowPair<'a> {
     /// Returns the row of a side.
     fn of(&self, side: Side) -> &'a Row
         ensures { result.now ≡ by_side self.now.left.now self.now.right.now side }

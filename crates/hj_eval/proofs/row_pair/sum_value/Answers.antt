@@ -3,7 +3,7 @@ use Rattle.std.proofs.lemmas.Bool.Decides.{nat_tests}
 use Rattle.hj_eval.specs.Values.{field_of, value_in}
 use Rattle.hj_eval.specs.declared.value.Value.{Value}
 use Rattle.hj_eval.proofs.Totals.{missing_first, text_first}
-use Rattle.hj_eval.proofs.rows.sum_value.Goals as goal
+use Rattle.hj_eval.proofs.row_pair.sum_value.Goals as goal
 
 pub returns-in_err-first : goal.returns-in_err-first
 returns-in_err-first c =

@@ -4,7 +4,7 @@ use Rattle.std.specs.Prelude.{FitsSigned}
 use Rattle.std.specs.Int.{w128}
 use Rattle.hj_eval.specs.Values.{value_in}
 use Rattle.hj_eval.proofs.Totals.{missing_part, next_part}
-use Rattle.hj_eval.proofs.rows.total.Goals as goal
+use Rattle.hj_eval.proofs.row_pair.total.Goals as goal
 
 pub returns-in_err-total : goal.returns-in_err-total
 returns-in_err-total c =

@@ -2,7 +2,7 @@ use Rattle.std.proofs.Common.{◌≡◌, ◌+◌, ◌≤◌, Some, drop, length}
 use Rattle.hj_eval.specs.Holds.{with_parts}
 use Rattle.hj_eval.specs.Values.{value_in, IsTotalOf}
 use Rattle.hj_value.specs.declared.field.Field.TheVariants as field
-use Rattle.hj_eval.proofs.rows.total.Given as goal
+use Rattle.hj_eval.proofs.row_pair.total.Given as goal
 
 abbrev pub invariant-loop-at : goal.invariant-loop-at
 invariant-loop-at l =
