@@ -18,13 +18,13 @@ use Rattle.hj_event.specs.declared.fault.RecordFault.{RecordFault}
 use Rattle.hj_event.specs.declared.fault.RecordFault.TheVariants as fault
 use Rattle.hj_event.specs.declared.stop.Stop.{Stop}
 use Rattle.hj_event.specs.declared.stop.Stop.TheVariants as stop
-use Rattle.hj_event.specs.declared.stop.Found.{Found}
-use Rattle.hj_event.specs.declared.stop.Found.TheVariants as found
+use Rattle.hj_event.specs.declared.stop.ReadStep.{ReadStep}
+use Rattle.hj_event.specs.declared.stop.ReadStep.TheVariants as read_step
 use Rattle.hj_event.specs.Rows.{Rows, rows_in}
 use Rattle.hj_event.specs.Sides.{Reading, at_its_end, MayFollow, pieces_ahead, read_ahead}
 use Rattle.hj_event.specs.Reads.{reading, Fills}
 use Rattle.hj_event.specs.Roles.{IsReadOn, IsInStep}
-use Rattle.hj_event.specs.Taking.{ReadsPiece, Holds, FoundLeads, Advances, TimeGoes, stop_of}
+use Rattle.hj_event.specs.Taking.{ReadsPiece, Holds, StepLeads, Advances, TimeGoes, stop_of}
 use Rattle.hj_event.proofs.Pieces.{range_rest, range_front, range_none, ahead_of, lent_within, piece_within, lent_ahead, piece_ahead, more_ahead, bad_ahead, last_ahead}
 use Rattle.hj_event.proofs.RowLemmas.{holds_leads, bad_leads, at_end_follows, holds_ended, holds_slack, holds_time, holds_wants, stop_time}
 use Rattle.hj_event.proofs.RoleLemmas.{reads_end, reads_failed}
@@ -34,7 +34,7 @@ use Rattle.hj_event.proofs.RoleLemmas.{reads_end, reads_failed}
 part_within : (portion : List ℕ) (taken filled used : ℕ) → used ≤ length (slice_range portion taken filled) → used ≤ filled - taken
 part_within portion taken filled used le = omega (arith, le, length-take (filled - taken) (drop taken portion))
 
-holds_advances : (row : Result (Option (List Field)) RecordFault) (answer : Result Found Stop) (old mid new : Reading) (piece : List ℕ) → ReadsPiece row mid.columns mid.slack mid.time piece → Holds row answer mid new → mid.ended ≡ old.ended → mid.slack ≡ old.slack → mid.time ≡ old.time
+holds_advances : (row : Result (Option (List Field)) RecordFault) (answer : Result ReadStep Stop) (old mid new : Reading) (piece : List ℕ) → ReadsPiece row mid.columns mid.slack mid.time piece → Holds row answer mid new → mid.ended ≡ old.ended → mid.slack ≡ old.slack → mid.time ≡ old.time
     → ((stream : Stream) → MayFollow mid.ended stream → read_ahead old stream ≡ rows_in mid.columns mid.slack mid.record_no mid.time (then_pieces piece (pieces_ahead mid stream)))
     → Advances answer old new
 holds_advances row answer old mid new piece reads holds same as_late as_great is =
@@ -48,17 +48,17 @@ holds_advances row answer old mid new piece reads holds same as_late as_great is
       wants = holds_wants row answer mid new (read_ahead new) holds;
     }
 
-advances_behind : (answer : Result Found Stop) (old mid new : Reading) → ((stream : Stream) → read_ahead old stream ≡ read_ahead mid stream) → mid.ended ≡ old.ended → mid.slack ≡ old.slack → mid.time ≡ old.time → Advances answer mid new → Advances answer old new
+advances_behind : (answer : Result ReadStep Stop) (old mid new : Reading) → ((stream : Stream) → read_ahead old stream ≡ read_ahead mid stream) → mid.ended ≡ old.ended → mid.slack ≡ old.slack → mid.time ≡ old.time → Advances answer mid new → Advances answer old new
 advances_behind answer old mid new is same as_late as_great advances = record {
   ended = advances.ended ∙ same;
   slack = advances.slack ∙ as_late;
   time = subst (λ (slack : ℕ). TimeGoes answer slack old.time new.time) as_late (subst (λ (time : Option ℤ). TimeGoes answer mid.slack time new.time) as_great advances.time);
-  leads = λ stream follows. subst (λ (ahead : Rows). FoundLeads answer ahead (read_ahead new stream)) (sym (is stream)) (advances.leads stream follows);
+  leads = λ stream follows. subst (λ (ahead : Rows). StepLeads answer ahead (read_ahead new stream)) (sym (is stream)) (advances.leads stream follows);
   wants = advances.wants;
 }
 
 module _ (columns : List Column) (slack : ℕ) (record_no : ℕ) (time : Option ℤ) (ended : Bool) (portion : List ℕ) (taken filled : ℕ) (old new : Cutting) where
-  pub lent_advances : (used : ℕ) (row : Result (Option (List Field)) RecordFault) (answer : Result Found Stop) (behind : Reading)
+  pub lent_advances : (used : ℕ) (row : Result (Option (List Field)) RecordFault) (answer : Result ReadStep Stop) (behind : Reading)
       → Cuts (cut.Lent used) (slice_range portion taken filled) old new → (old.fault ≡ None → LeadsBy (cut.Lent used) (slice_range portion taken filled) old new)
       → ReadsPiece row columns slack time (slice_range portion taken (taken + used))
       → Holds row answer (reading columns slack new portion (taken + used) filled ended record_no time) behind
@@ -72,7 +72,7 @@ module _ (columns : List Column) (slack : ℕ) (record_no : ℕ) (time : Option 
       ∙ ap (λ (piece : List ℕ). then_pieces piece (ahead_of new (drop used (slice_range portion taken filled) ++ stream.bytes) stream.whole)) (sym (range_front portion taken filled used within))
       ∙ ap (λ (rest : List ℕ). then_pieces (slice_range portion taken (taken + used)) (ahead_of new (rest ++ stream.bytes) stream.whole)) (sym (range_rest portion taken filled used within))))
 
-  pub piece_advances : (used : ℕ) (row : Result (Option (List Field)) RecordFault) (answer : Result Found Stop) (behind : Reading)
+  pub piece_advances : (used : ℕ) (row : Result (Option (List Field)) RecordFault) (answer : Result ReadStep Stop) (behind : Reading)
       → Cuts (cut.Piece used) (slice_range portion taken filled) old new → (old.fault ≡ None → LeadsBy (cut.Piece used) (slice_range portion taken filled) old new)
       → ReadsPiece row columns slack time new.piece
       → Holds row answer (reading columns slack (cleared new) portion (taken + used) filled ended record_no time) behind
@@ -95,7 +95,7 @@ module _ (columns : List Column) (slack : ℕ) (record_no : ℕ) (time : Option 
       ∙ ap (λ (rest : List ℕ). ahead_of new (rest ++ stream.bytes) stream.whole) (sym (range_none portion filled)))
 
   pub more_advances : ended ≡ false → Cuts cut.More (slice_range portion taken filled) old new → (old.fault ≡ None → LeadsBy cut.More (slice_range portion taken filled) old new)
-      → Advances (Ok found.More) (reading columns slack old portion taken filled ended record_no time) (reading columns slack new portion filled filled ended record_no time)
+      → Advances (Ok read_step.More) (reading columns slack old portion taken filled ended record_no time) (reading columns slack new portion filled filled ended record_no time)
   more_advances going cuts leads =
       let goes = more_ahead old new (slice_range portion taken filled) cuts leads in
       record {
@@ -110,7 +110,7 @@ module _ (columns : List Column) (slack : ℕ) (record_no : ℕ) (time : Option 
         );
       }
 
-  pub close_advances : (answer : Result Found Stop) (behind : Reading) → Cuts cut.More (slice_range portion taken filled) old new → (old.fault ≡ None → LeadsBy cut.More (slice_range portion taken filled) old new)
+  pub close_advances : (answer : Result ReadStep Stop) (behind : Reading) → Cuts cut.More (slice_range portion taken filled) old new → (old.fault ≡ None → LeadsBy cut.More (slice_range portion taken filled) old new)
       → Advances answer (reading columns slack new portion filled filled ended record_no time) behind
       → Advances answer (reading columns slack old portion taken filled ended record_no time) behind
   close_advances answer behind cuts leads advances =
@@ -146,7 +146,7 @@ module _ (columns : List Column) (slack : ℕ) (record_no : ℕ) (time : Option 
   at_end : (cutting : Cutting) → pieces_ahead (reading columns slack cutting portion taken filled ended record_no time) at_its_end ≡ ahead_of cutting [] true
   at_end cutting = ahead_at_end (reading columns slack cutting portion taken filled ended record_no time) cutting refl refl refl none
 
-  pub last_advances : (used : ℕ) (row : Result (Option (List Field)) RecordFault) (answer : Result Found Stop) (behind : Reading)
+  pub last_advances : (used : ℕ) (row : Result (Option (List Field)) RecordFault) (answer : Result ReadStep Stop) (behind : Reading)
       → Ends (fed.Piece used) old new → (old.fault ≡ None → LeadsAtEnd (fed.Piece used) old new)
       → ReadsPiece row columns slack time new.piece
       → Holds row answer (reading columns slack (cleared new) portion taken filled ended record_no time) behind

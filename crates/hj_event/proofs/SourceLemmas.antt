@@ -12,13 +12,13 @@ use Rattle.hj_event.specs.declared.stop.Stop.{Stop}
 use Rattle.hj_event.specs.declared.stop.Stop.TheVariants as stop
 use Rattle.hj_event.specs.declared.source.Ahead.{Ahead}
 use Rattle.hj_event.specs.declared.source.Ahead.TheVariants as ahead
-use Rattle.hj_event.specs.declared.stop.Found.{Found}
-use Rattle.hj_event.specs.declared.stop.Found.TheVariants as found
+use Rattle.hj_event.specs.declared.stop.ReadStep.{ReadStep}
+use Rattle.hj_event.specs.declared.stop.ReadStep.TheVariants as read_step
 use Rattle.hj_event.specs.Rows.{Rows, no_row, then_rows, put_in, is_sure, in_order, rows_in, clean, unread}
 use Rattle.hj_event.specs.Sides.{Reading, SideState, in_front, at_its_end, cut_off, MayFollow, pieces_ahead, read_ahead, rows_ahead}
 use Rattle.hj_event.specs.Reads.{Fills}
 use Rattle.hj_event.specs.Roles.{IsReadOn, IsInStep}
-use Rattle.hj_event.specs.Taking.{IsNeeded, IsReadAsNeeded, FoundLeads, Wants, Advances, TakesLine, GoesOn, TakesRow, TakesStraight, TellsRow, TellsNext, IsTold, IsOver, IsKnown, IsNext, IsKept, refused_in, found_by, unseen, has_failed}
+use Rattle.hj_event.specs.Taking.{IsNeeded, IsReadAsNeeded, StepLeads, Wants, Advances, TakesLine, GoesOn, TakesRow, TakesStraight, TellsRow, TellsNext, IsTold, IsOver, IsKnown, IsNext, IsKept, refused_in, step_by, unseen, has_failed}
 use Rattle.hj_event.specs.Waiting.{AreInOrder, TakesSure, has_sure}
 use Rattle.hj_event.proofs.OrderLemmas.{as_read, sure_ahead}
 use Rattle.hj_event.proofs.WaitingLemmas.{none_first}
@@ -48,18 +48,18 @@ follows_going stream ended e = subst (λ (b : Bool). MayFollow b stream) (sym e)
 
 module _ (old now new : SideState) (before after : RoleState) (so_far : SoFar old now before after) where
   -- where the bytes give something, from the rows of the first state
-  from_first : (answer : Result Found Stop) → GoesOn answer now new → (stream : Stream) → MayFollow new.reading.ended stream → FoundLeads answer (rows_ahead old (in_front so_far.bytes stream)) (rows_ahead new stream)
+  from_first : (answer : Result ReadStep Stop) → GoesOn answer now new → (stream : Stream) → MayFollow new.reading.ended stream → StepLeads answer (rows_ahead old (in_front so_far.bytes stream)) (rows_ahead new stream)
   from_first answer goes stream follows =
-      subst (λ (ahead : Rows). FoundLeads answer ahead (rows_ahead new stream)) (sym (so_far.leads stream (follows_as stream new.reading.ended now.reading.ended goes.ended follows))) (goes.leads stream follows)
+      subst (λ (ahead : Rows). StepLeads answer ahead (rows_ahead new stream)) (sym (so_far.leads stream (follows_as stream new.reading.ended now.reading.ended goes.ended follows))) (goes.leads stream follows)
 
-  reads_on : (answer : Result Found Stop) → GoesOn answer now new → IsReadOn false so_far.bytes old.reading.ended new.reading.ended before after
+  reads_on : (answer : Result ReadStep Stop) → GoesOn answer now new → IsReadOn false so_far.bytes old.reading.ended new.reading.ended before after
   reads_on answer goes = read_as false so_far.bytes old.reading.ended now.reading.ended new.reading.ended before after goes.ended so_far.reads
 
-  pub so_far-no_record : GoesOn (Ok found.NoRecord) now new → SoFar old new before after
-  so_far-no_record goes = record { bytes = so_far.bytes; reads = reads_on (Ok found.NoRecord) goes; leads = from_first (Ok found.NoRecord) goes; needed = so_far.needed }
+  pub so_far-no_record : GoesOn (Ok read_step.NoRecord) now new → SoFar old new before after
+  so_far-no_record goes = record { bytes = so_far.bytes; reads = reads_on (Ok read_step.NoRecord) goes; leads = from_first (Ok read_step.NoRecord) goes; needed = so_far.needed }
 
-  pub so_far-more : GoesOn (Ok found.More) now new → SoFar old new before after
-  so_far-more goes = record { bytes = so_far.bytes; reads = reads_on (Ok found.More) goes; leads = from_first (Ok found.More) goes; needed = so_far.needed }
+  pub so_far-more : GoesOn (Ok read_step.More) now new → SoFar old new before after
+  so_far-more goes = record { bytes = so_far.bytes; reads = reads_on (Ok read_step.More) goes; leads = from_first (Ok read_step.More) goes; needed = so_far.needed }
 
   some_follows : (ended : Bool) → (stream : Stream) × MayFollow ended stream
   some_follows true = (at_its_end, refl)
@@ -76,13 +76,13 @@ stops_unread why old new None role none step goes = takes_stop old old new role 
 stops_unread why old new (Some row) role none step goes = absurd (true≢false none)
 
 -- Nothing is read of a side whose next row is known, or whose line is read straight.
-pub takes_unread : (row : List Field) (old new : SideState) (head : Option (List Field)) (role : RoleState) → is_some head ≡ false → IsInStep old.reading.ended role → GoesOn (Ok (found.Row row)) old new → TakesRow (Ok (Some row)) (record old { head = head }) (record new { head = None }) role role
+pub takes_unread : (row : List Field) (old new : SideState) (head : Option (List Field)) (role : RoleState) → is_some head ≡ false → IsInStep old.reading.ended role → GoesOn (Ok (read_step.Row row)) old new → TakesRow (Ok (Some row)) (record old { head = head }) (record new { head = None }) role role
 takes_unread row old new None role none step goes =
     let so_far = so_far-none old role step in
     record {
       bytes = so_far.bytes;
-      reads = reads_on old old new role role so_far (Ok (found.Row row)) goes;
-      leads = from_first old old new role role so_far (Ok (found.Row row)) goes;
+      reads = reads_on old old new role role so_far (Ok (read_step.Row row)) goes;
+      leads = from_first old old new role role so_far (Ok (read_step.Row row)) goes;
       ended = tt;
       needed = so_far.needed;
     }
@@ -158,20 +158,20 @@ rows_as_read reading none stream =
     subst (λ (slack : ℕ). in_order slack reading.time [] (rows_in reading.columns slack reading.record_no reading.time pieces) ≡ rows_in reading.columns slack reading.record_no reading.time pieces) (sym none)
     (as_read reading.columns reading.record_no reading.time pieces)
 
-leads_as_read : (answer : Result Found Stop) (old new : Reading) → old.slack ≡ 0 → new.slack ≡ 0 → (stream : Stream) → FoundLeads answer (read_ahead old stream) (read_ahead new stream) → FoundLeads answer (rows_ahead (source old [] None) stream) (rows_ahead (source new [] None) stream)
+leads_as_read : (answer : Result ReadStep Stop) (old new : Reading) → old.slack ≡ 0 → new.slack ≡ 0 → (stream : Stream) → StepLeads answer (read_ahead old stream) (read_ahead new stream) → StepLeads answer (rows_ahead (source old [] None) stream) (rows_ahead (source new [] None) stream)
 leads_as_read answer old new was is stream leads =
-    subst (λ (ahead : Rows). FoundLeads answer ahead (rows_ahead (source new [] None) stream)) (sym (rows_as_read old was stream))
-    (subst (λ (behind : Rows). FoundLeads answer (read_ahead old stream) behind) (sym (rows_as_read new is stream)) leads)
+    subst (λ (ahead : Rows). StepLeads answer ahead (rows_ahead (source new [] None) stream)) (sym (rows_as_read old was stream))
+    (subst (λ (behind : Rows). StepLeads answer (read_ahead old stream) behind) (sym (rows_as_read new is stream)) leads)
 
-wants_as_read : (answer : Result Found Stop) (new : Reading) → new.slack ≡ 0 → Wants answer new (read_ahead new) → Wants answer new (rows_ahead (source new [] None))
-wants_as_read (Ok found.More) new none wants = (wants.0, wants.1, rows_as_read new none cut_off ∙ wants.2)
-wants_as_read (Ok found.End) new none wants = wants
-wants_as_read (Ok found.NoRecord) new none wants = tt
-wants_as_read (Ok (found.Row row)) new none wants = tt
+wants_as_read : (answer : Result ReadStep Stop) (new : Reading) → new.slack ≡ 0 → Wants answer new (read_ahead new) → Wants answer new (rows_ahead (source new [] None))
+wants_as_read (Ok read_step.More) new none wants = (wants.0, wants.1, rows_as_read new none cut_off ∙ wants.2)
+wants_as_read (Ok read_step.End) new none wants = wants
+wants_as_read (Ok read_step.NoRecord) new none wants = tt
+wants_as_read (Ok (read_step.Row row)) new none wants = tt
 wants_as_read (Err why) new none wants = tt
 
 -- A piece, where there is no slack.
-pub goes_on_as_read : (answer : Result Found Stop) (old new : Reading) → old.slack ≡ 0 → Advances answer old new → GoesOn answer (source old [] None) (source new [] None)
+pub goes_on_as_read : (answer : Result ReadStep Stop) (old new : Reading) → old.slack ≡ 0 → Advances answer old new → GoesOn answer (source old [] None) (source new [] None)
 goes_on_as_read answer old new none advances =
     let still = advances.slack ∙ none in
     record {
@@ -183,7 +183,7 @@ goes_on_as_read answer old new none advances =
 as_source : (reading : Reading) (waiting : List (List Field)) (known : Ahead) → (waiting ≡ []) × (known ≡ ahead.Unknown) → source reading waiting (refused_in known) ≡ source reading [] None
 as_source reading waiting known none = ap (λ (rows : List (List Field)). source reading rows (refused_in known)) none.0 ∙ ap (λ (k : Ahead). source reading [] (refused_in k)) none.1
 
-pub goes_on_without : (answer : Result Found Stop) (old new : Reading) (next : Option (List Field)) (waiting : List (List Field)) (known : Ahead) → IsKept old next waiting known → old.slack ≡ 0 → Advances answer old new
+pub goes_on_without : (answer : Result ReadStep Stop) (old new : Reading) (next : Option (List Field)) (waiting : List (List Field)) (known : Ahead) → IsKept old next waiting known → old.slack ≡ 0 → Advances answer old new
     → GoesOn answer (source old (option_to_list next ++ waiting) (refused_in known)) (source new (option_to_list next ++ waiting) (refused_in known))
 goes_on_without answer old new next waiting known kept none advances =
     let all = option_to_list next ++ waiting in
@@ -193,7 +193,7 @@ goes_on_without answer old new next waiting known kept none advances =
 -- A line that is read straight, where there is no slack.
 pub straight_without : (answer : Result (Option (List Field)) Memory) (old new : Reading) (next : Option (List Field)) (waiting : List (List Field)) (known : Ahead) → IsKept old next waiting known → old.slack ≡ 0 → TakesLine answer old new
     → TakesStraight answer (source old (option_to_list next ++ waiting) (refused_in known)) (source new (option_to_list next ++ waiting) (refused_in known))
-straight_without (Ok (Some row)) old new next waiting known kept none takes = goes_on_without (Ok (found.Row row)) old new next waiting known kept none takes
+straight_without (Ok (Some row)) old new next waiting known kept none takes = goes_on_without (Ok (read_step.Row row)) old new next waiting known kept none takes
 straight_without (Ok None) old new next waiting known kept none takes = ap (λ (r : Reading). source r (option_to_list next ++ waiting) (refused_in known)) takes
 straight_without (Err why) old new next waiting known kept none takes = record { ended = ap (λ (r : Reading). r.ended) takes; leads = λ stream follows. tt; wants = tt }
 
@@ -227,7 +227,7 @@ module _ (old new : Reading) (waiting : List (List Field)) where
       ap (λ (s : ℕ). in_order s new.time waiting (read_ahead new stream)) late ∙ ap (λ (t : Option ℤ). in_order slack t waiting (read_ahead new stream)) great
 
   -- A row that was read is put among those that wait.
-  pub puts_row : (row : List Field) → Advances (Ok (found.Row row)) old new → GoesOn (Ok found.NoRecord) (source old waiting None) (source new (put_in row waiting) None)
+  pub puts_row : (row : List Field) → Advances (Ok (read_step.Row row)) old new → GoesOn (Ok read_step.NoRecord) (source old waiting None) (source new (put_in row waiting) None)
   puts_row row advances = record {
     ended = advances.ended;
     leads = λ stream follows.
@@ -237,7 +237,7 @@ module _ (old new : Reading) (waiting : List (List Field)) where
     wants = tt;
   }
 
-  pub puts_none : Advances (Ok found.NoRecord) old new → GoesOn (Ok found.NoRecord) (source old waiting None) (source new waiting None)
+  pub puts_none : Advances (Ok read_step.NoRecord) old new → GoesOn (Ok read_step.NoRecord) (source old waiting None) (source new waiting None)
   puts_none advances = record {
     ended = advances.ended;
     leads = λ stream follows. ap (in_order old.slack old.time waiting) (advances.leads stream follows) ∙ sym (as_late old.slack old.time advances.slack advances.time stream);
@@ -245,7 +245,7 @@ module _ (old new : Reading) (waiting : List (List Field)) where
   }
 
   -- No row is sure, so more bytes are wanted.
-  pub wants_more : filter (is_sure new.slack new.time) waiting ≡ [] → Advances (Ok found.More) old new → GoesOn (Ok found.More) (source old waiting None) (source new waiting None)
+  pub wants_more : filter (is_sure new.slack new.time) waiting ≡ [] → Advances (Ok read_step.More) old new → GoesOn (Ok read_step.More) (source old waiting None) (source new waiting None)
   wants_more none advances = record {
     ended = advances.ended;
     leads = λ stream follows. ap (in_order old.slack old.time waiting) (advances.leads stream follows) ∙ sym (as_late old.slack old.time advances.slack advances.time stream);
@@ -260,7 +260,7 @@ module _ (old new : Reading) (waiting : List (List Field)) where
       no_more rows = record { rows = rows; ending = unread }
 
   -- The record that was read is refused: the rows that wait come first.
-  pub refuses : (at : ℕ) (why : RecordFault) → Advances (Err (stop.Bad at why)) old new → GoesOn (Ok found.NoRecord) (source old waiting None) (source new waiting (Some (at, why)))
+  pub refuses : (at : ℕ) (why : RecordFault) → Advances (Err (stop.Bad at why)) old new → GoesOn (Ok read_step.NoRecord) (source old waiting None) (source new waiting (Some (at, why)))
   refuses at why advances = record {
     ended = advances.ended;
     leads = λ stream follows. ap (in_order old.slack old.time waiting) (advances.leads stream follows);
@@ -271,11 +271,11 @@ module _ (old new : Reading) (waiting : List (List Field)) where
   runs_out after advances = record { ended = advances.ended; leads = λ stream follows. tt; wants = tt }
 
   -- memory ran out for a row
-  pub puts_nowhere : (row : List Field) (after : List (List Field)) → Advances (Ok (found.Row row)) old new → GoesOn (Err stop.Memory) (source old waiting None) (source new after None)
+  pub puts_nowhere : (row : List Field) (after : List (List Field)) → Advances (Ok (read_step.Row row)) old new → GoesOn (Err stop.Memory) (source old waiting None) (source new after None)
   puts_nowhere row after advances = record { ended = advances.ended; leads = λ stream follows. tt; wants = tt }
 
   -- At the end of the stream each row that waits comes.
-  pub gives_last : (row : List Field) → Advances (Ok found.End) old new → GoesOn (Ok (found.Row row)) (source old (row ∷ waiting) None) (source new waiting None)
+  pub gives_last : (row : List Field) → Advances (Ok read_step.End) old new → GoesOn (Ok (read_step.Row row)) (source old (row ∷ waiting) None) (source new waiting None)
   gives_last row advances = record {
     ended = advances.ended;
     leads = λ stream follows.
@@ -284,7 +284,7 @@ module _ (old new : Reading) (waiting : List (List Field)) where
     wants = tt;
   }
 
-pub gives_end : (old new : Reading) → Advances (Ok found.End) old new → GoesOn (Ok found.End) (source old [] None) (source new [] None)
+pub gives_end : (old new : Reading) → Advances (Ok read_step.End) old new → GoesOn (Ok read_step.End) (source old [] None) (source new [] None)
 gives_end old new advances = record {
   ended = advances.ended;
   leads = λ stream follows. (ap (in_order old.slack old.time []) (advances.leads stream follows).0, ap (in_order new.slack new.time []) (advances.leads stream follows).1);
@@ -340,30 +340,30 @@ next_sure (Some row) side old new takes = (refl, takes.1)
 
 -- The first row that waits is given where it is sure.
 pub gives_first : (reading : Reading) (row : List Field) (waiting after : List (List Field)) (refused : Option (ℕ × RecordFault)) → refused ≡ None → has_sure reading.slack reading.time waiting ≡ true → waiting ≡ row ∷ after
-    → GoesOn (Ok (found.Row row)) (source reading waiting refused) (source reading after refused)
+    → GoesOn (Ok (read_step.Row row)) (source reading waiting refused) (source reading after refused)
 gives_first reading row waiting after refused none sure is =
     rw (none, is) (gives_sure_row (subst (λ (rows : List (List Field)). has_sure reading.slack reading.time rows ≡ true) is sure))
   where
-    gives_sure_row : is_sure reading.slack reading.time row ≡ true → GoesOn (Ok (found.Row row)) (source reading (row ∷ after) None) (source reading after None)
+    gives_sure_row : is_sure reading.slack reading.time row ≡ true → GoesOn (Ok (read_step.Row row)) (source reading (row ∷ after) None) (source reading after None)
     gives_sure_row sure = record { ended = refl; leads = λ stream follows. sure_ahead reading.columns reading.slack row reading.record_no reading.time after (pieces_ahead reading stream) sure; wants = tt }
 
-pub gives_next : (reading : Reading) (row : List Field) (waiting : List (List Field)) (known : Ahead) → IsNext (Some row) reading known → GoesOn (Ok (found.Row row)) (source reading (row ∷ waiting) (refused_in known)) (source reading waiting (refused_in known))
+pub gives_next : (reading : Reading) (row : List Field) (waiting : List (List Field)) (known : Ahead) → IsNext (Some row) reading known → GoesOn (Ok (read_step.Row row)) (source reading (row ∷ waiting) (refused_in known)) (source reading waiting (refused_in known))
 gives_next reading row waiting known is = gives_first reading row (row ∷ waiting) waiting (refused_in known) (ap refused_in is.0) is.1 refl
 
 -- No row waits, and nothing is given.
-pub gives_none : (reading : Reading) (waiting after : List (List Field)) (refused : Option (ℕ × RecordFault)) → (waiting ≡ []) × (after ≡ []) → GoesOn (Ok found.NoRecord) (source reading waiting refused) (source reading after refused)
+pub gives_none : (reading : Reading) (waiting after : List (List Field)) (refused : Option (ℕ × RecordFault)) → (waiting ≡ []) × (after ≡ []) → GoesOn (Ok read_step.NoRecord) (source reading waiting refused) (source reading after refused)
 gives_none reading waiting after refused none = rw (none.0, none.1) (record { ended = refl; leads = λ stream follows. refl; wants = tt })
 
 -- All that was read is looked at: a row that waits is sure, or more bytes are wanted.
-pub looked_at : (old new : Reading) (waiting : List (List Field)) (refused : Option (ℕ × RecordFault)) → refused ≡ None → Advances (Ok found.More) old new → GoesOn (Ok found.NoRecord) (source old waiting refused) (source new waiting refused)
+pub looked_at : (old new : Reading) (waiting : List (List Field)) (refused : Option (ℕ × RecordFault)) → refused ≡ None → Advances (Ok read_step.More) old new → GoesOn (Ok read_step.NoRecord) (source old waiting refused) (source new waiting refused)
 looked_at old new waiting refused none advances = rw none (record {
   ended = advances.ended;
   leads = λ stream follows. ap (in_order old.slack old.time waiting) (advances.leads stream follows) ∙ sym (as_late old new waiting old.slack old.time advances.slack advances.time stream);
   wants = tt;
 })
 
-pub wants_bytes : (old new : Reading) (waiting : List (List Field)) (refused : Option (ℕ × RecordFault)) → refused ≡ None → AreInOrder waiting → has_sure new.slack new.time waiting ≡ false → Advances (Ok found.More) old new
-    → GoesOn (Ok found.More) (source old waiting refused) (source new waiting refused)
+pub wants_bytes : (old new : Reading) (waiting : List (List Field)) (refused : Option (ℕ × RecordFault)) → refused ≡ None → AreInOrder waiting → has_sure new.slack new.time waiting ≡ false → Advances (Ok read_step.More) old new
+    → GoesOn (Ok read_step.More) (source old waiting refused) (source new waiting refused)
 wants_bytes old new waiting refused none ordered unsure advances = rw none (wants_more old new waiting (none_first new.slack new.time waiting ordered unsure) advances)
 
 -- Where all was read, the rows that wait come, and then the end.
@@ -372,14 +372,14 @@ over_ahead reading waiting refused over none stream follows =
     ap (λ (r : Option (ℕ × RecordFault)). rows_ahead (source reading waiting r) stream) none
     ∙ (ap (rows_ahead (source reading waiting None)) (at_end_follows reading.ended stream over.0 follows) ∙ ap (in_order reading.slack reading.time waiting) over.1)
 
-pub gives_over : (reading : Reading) (row : List Field) (waiting after : List (List Field)) (refused : Option (ℕ × RecordFault)) → IsOver reading → refused ≡ None → waiting ≡ row ∷ after → GoesOn (Ok (found.Row row)) (source reading waiting refused) (source reading after refused)
+pub gives_over : (reading : Reading) (row : List Field) (waiting after : List (List Field)) (refused : Option (ℕ × RecordFault)) → IsOver reading → refused ≡ None → waiting ≡ row ∷ after → GoesOn (Ok (read_step.Row row)) (source reading waiting refused) (source reading after refused)
 gives_over reading row waiting after refused over none is = record {
   ended = refl;
   leads = λ stream follows. over_ahead reading waiting refused over none stream follows ∙ (ap (λ (rows : List (List Field)). record { rows = rows; ending = clean }) is ∙ ap (then_rows row) (sym (over_ahead reading after refused over none stream follows)));
   wants = tt;
 }
 
-pub ends_over : (reading : Reading) (waiting after : List (List Field)) (refused : Option (ℕ × RecordFault)) → IsOver reading → refused ≡ None → (waiting ≡ []) × (after ≡ []) → GoesOn (Ok found.End) (source reading waiting refused) (source reading after refused)
+pub ends_over : (reading : Reading) (waiting after : List (List Field)) (refused : Option (ℕ × RecordFault)) → IsOver reading → refused ≡ None → (waiting ≡ []) × (after ≡ []) → GoesOn (Ok read_step.End) (source reading waiting refused) (source reading after refused)
 ends_over reading waiting after refused over none is = record {
   ended = refl;
   leads = λ stream follows. (
@@ -390,43 +390,43 @@ ends_over reading waiting after refused over none is = record {
 }
 
 -- All was read.
-pub comes_to_end : (old new : Reading) (waiting : List (List Field)) (refused : Option (ℕ × RecordFault)) → refused ≡ None → Advances (Ok found.End) old new → GoesOn (Ok found.NoRecord) (source old waiting refused) (source new waiting refused)
+pub comes_to_end : (old new : Reading) (waiting : List (List Field)) (refused : Option (ℕ × RecordFault)) → refused ≡ None → Advances (Ok read_step.End) old new → GoesOn (Ok read_step.NoRecord) (source old waiting refused) (source new waiting refused)
 comes_to_end old new waiting refused none advances = rw none (record {
   ended = advances.ended;
   leads = λ stream follows. ap (in_order old.slack old.time waiting) (advances.leads stream follows).0 ∙ sym (ap (in_order new.slack new.time waiting) (advances.leads stream follows).1);
   wants = tt;
 })
 
-is_over : (old new : Reading) → Advances (Ok found.End) old new → IsOver new
+is_over : (old new : Reading) → Advances (Ok read_step.End) old new → IsOver new
 is_over old new advances = (advances.wants, (advances.leads at_its_end (subst (λ (ended : Bool). MayFollow ended at_its_end) (sym advances.wants) refl)).1)
 
 -- What is kept where rows may be late.
 pub kept_late : (old new : Reading) (next : Option (List Field)) (waiting : List (List Field)) (known : Ahead) → (old.slack ≡ 0 → ⊥) → new.slack ≡ old.slack → IsKnown known new → IsNext next new known → IsKept new next waiting known
 kept_late old new next waiting known late same is is_next = record { without = λ none. absurd (late (sym same ∙ none)); is_known = is; is_next = is_next }
 
-pub kept_at_end : (old new : Reading) (next : Option (List Field)) (waiting : List (List Field)) → is_some next ≡ false → (old.slack ≡ 0 → ⊥) → Advances (Ok found.End) old new → IsKept new next waiting ahead.Over
+pub kept_at_end : (old new : Reading) (next : Option (List Field)) (waiting : List (List Field)) → is_some next ≡ false → (old.slack ≡ 0 → ⊥) → Advances (Ok read_step.End) old new → IsKept new next waiting ahead.Over
 kept_at_end old new None waiting none late advances = kept_late old new None waiting ahead.Over late advances.slack (is_over old new advances) tt
 kept_at_end old new (Some row) waiting none late advances = absurd (true≢false none)
 
 -- More bytes are wanted where no row that waits is sure.
-looks_at : (old new : Reading) (waiting after : List (List Field)) (next : Option (List Field)) (wants : Bool) → AreInOrder waiting → TakesSure next new.slack new.time waiting after → is_some next ≡ not wants → Advances (Ok found.More) old new
-    → GoesOn (found_by (Ok wants)) (source old waiting None) (source new (option_to_list next ++ after) None)
+looks_at : (old new : Reading) (waiting after : List (List Field)) (next : Option (List Field)) (wants : Bool) → AreInOrder waiting → TakesSure next new.slack new.time waiting after → is_some next ≡ not wants → Advances (Ok read_step.More) old new
+    → GoesOn (step_by (Ok wants)) (source old waiting None) (source new (option_to_list next ++ after) None)
 looks_at old new waiting after None true ordered takes is advances =
-    subst (λ (rows : List (List Field)). GoesOn (Ok found.More) (source old waiting None) (source new rows None)) (sym takes.0) (wants_bytes old new waiting None refl ordered takes.1 advances)
+    subst (λ (rows : List (List Field)). GoesOn (Ok read_step.More) (source old waiting None) (source new rows None)) (sym takes.0) (wants_bytes old new waiting None refl ordered takes.1 advances)
 looks_at old new waiting after None false ordered takes is advances = absurd (true≢false (sym is))
 looks_at old new waiting after (Some row) true ordered takes is advances = absurd (true≢false is)
 looks_at old new waiting after (Some row) false ordered takes is advances =
-    subst (λ (rows : List (List Field)). GoesOn (Ok found.NoRecord) (source old waiting None) (source new rows None)) takes.0 (looked_at old new waiting None refl advances)
+    subst (λ (rows : List (List Field)). GoesOn (Ok read_step.NoRecord) (source old waiting None) (source new rows None)) takes.0 (looked_at old new waiting None refl advances)
 
 pub looks : (old new : Reading) (was : Option (List Field)) (waiting after : List (List Field)) (next : Option (List Field)) (refused : Option (ℕ × RecordFault)) (wants : Bool) → is_some was ≡ false → refused ≡ None → AreInOrder waiting
-    → TakesSure next new.slack new.time waiting after → is_some next ≡ not wants → Advances (Ok found.More) old new
-    → GoesOn (found_by (Ok wants)) (source old (option_to_list was ++ waiting) refused) (source new (option_to_list next ++ after) refused)
+    → TakesSure next new.slack new.time waiting after → is_some next ≡ not wants → Advances (Ok read_step.More) old new
+    → GoesOn (step_by (Ok wants)) (source old (option_to_list was ++ waiting) refused) (source new (option_to_list next ++ after) refused)
 looks old new None waiting after next refused wants none going ordered takes is advances = rw going (looks_at old new waiting after next wants ordered takes is advances)
 looks old new (Some row) waiting after next refused wants none going ordered takes is advances = absurd (true≢false none)
 
 -- After a row is given, rows are read that were there already.
-pub then_read : (row : List Field) (old between new : SideState) → GoesOn (Ok (found.Row row)) old between → new.reading.ended ≡ between.reading.ended → ((stream : Stream) → MayFollow new.reading.ended stream → rows_ahead between stream ≡ rows_ahead new stream)
-    → GoesOn (Ok (found.Row row)) old new
+pub then_read : (row : List Field) (old between new : SideState) → GoesOn (Ok (read_step.Row row)) old between → new.reading.ended ≡ between.reading.ended → ((stream : Stream) → MayFollow new.reading.ended stream → rows_ahead between stream ≡ rows_ahead new stream)
+    → GoesOn (Ok (read_step.Row row)) old new
 then_read row old between new goes ended same = record {
   ended = ended ∙ goes.ended;
   leads = λ stream follows. goes.leads stream (follows_as stream new.reading.ended between.reading.ended ended follows) ∙ ap (then_rows row) (same stream follows);
@@ -436,16 +436,16 @@ then_read row old between new goes ended same = record {
 -- The next row is given, and rows are read until another one is known.
 pub gives_taken : (reading : Reading) (next after : Option (List Field)) (row : List Field) (waiting : List (List Field)) (known : Ahead) (new : SideState) → next ≡ Some row → after ≡ None → IsNext next reading known → new.reading.ended ≡ reading.ended
     → ((stream : Stream) → MayFollow new.reading.ended stream → rows_ahead (source reading (option_to_list after ++ waiting) (refused_in known)) stream ≡ rows_ahead new stream)
-    → GoesOn (Ok (found.Row row)) (source reading (option_to_list next ++ waiting) (refused_in known)) new
+    → GoesOn (Ok (read_step.Row row)) (source reading (option_to_list next ++ waiting) (refused_in known)) new
 gives_taken reading None after row waiting known new is none is_next ended same = cc
 gives_taken reading (Some one) (Some other) row waiting known new is none is_next ended same = cc
 gives_taken reading (Some one) None row waiting known new is none is_next ended same =
     let one_row : one ≡ row = cc in
-    subst (λ (r : List Field). GoesOn (Ok (found.Row r)) (source reading (one ∷ waiting) (refused_in known)) new) one_row
+    subst (λ (r : List Field). GoesOn (Ok (read_step.Row r)) (source reading (one ∷ waiting) (refused_in known)) new) one_row
     (then_read one (source reading (one ∷ waiting) (refused_in known)) (source reading waiting (refused_in known)) new (gives_next reading one waiting known is_next) ended same)
 
 -- Rows are read that were there already.
-pub reads_rows : (more : Bool) (old now new : SideState) → GoesOn (found_by (Ok more)) now new → now.reading.ended ≡ old.reading.ended → ((stream : Stream) → MayFollow now.reading.ended stream → rows_ahead old stream ≡ rows_ahead now stream)
+pub reads_rows : (more : Bool) (old now new : SideState) → GoesOn (step_by (Ok more)) now new → now.reading.ended ≡ old.reading.ended → ((stream : Stream) → MayFollow now.reading.ended stream → rows_ahead old stream ≡ rows_ahead now stream)
     → (new.reading.ended ≡ old.reading.ended) × ((stream : Stream) → MayFollow new.reading.ended stream → rows_ahead old stream ≡ rows_ahead new stream)
 reads_rows true old now new goes ended same =
     (goes.ended ∙ ended, λ stream follows. same stream (follows_as stream new.reading.ended now.reading.ended goes.ended follows) ∙ goes.leads stream follows)

@@ -11,7 +11,7 @@ use Rattle.hj_record.specs.Cuts.{Cuts, LeadsBy}
 use Rattle.hj_record.specs.Line.{most_in_next}
 use Rattle.hj_record.specs.Pieces.{IsPiece}
 use Rattle.hj_schema.specs.Lines.{IsLineOf}
-use Rattle.hj_event.specs.declared.stop.Found.TheVariants as found
+use Rattle.hj_event.specs.declared.stop.ReadStep.TheVariants as read_step
 use Rattle.hj_event.specs.declared.stop.Stop.TheVariants as stop
 use Rattle.hj_event.specs.Rows.{in_time, record_row, row_at, row_in_time, with_time}
 use Rattle.hj_event.specs.Sides.{Reading}
@@ -38,7 +38,7 @@ module _ (columns : List Column) (slack record_no : ℕ) (time : Option ℤ) (en
       → is_late slack time (time_of row) ≡ false
       → ((bytes : List ℕ) → used ≤ length bytes → IsPiece (take used bytes) → Cuts (cut.Lent used) bytes old new)
       → ((bytes : List ℕ) → used ≤ length bytes → IsPiece (take used bytes) → LeadsBy (cut.Lent used) bytes old new)
-      → Advances (Ok (found.Row row)) (reading columns slack old portion taken filled ended record_no time) (reading columns slack new portion (taken + used) filled ended (record_no + 1) (Some (with_time time (time_of row))))
+      → Advances (Ok (read_step.Row row)) (reading columns slack old portion taken filled ended record_no time) (reading columns slack new portion (taken + used) filled ended (record_no + 1) (Some (with_time time (time_of row))))
   straight_advances row used line none cuts leads =
       let rest = slice_range portion taken filled in
       let most = min (most_in_next old) (length rest) in
@@ -47,7 +47,7 @@ module _ (columns : List Column) (slack record_no : ℕ) (time : Option ℤ) (en
       let same : take used (take most rest) ≡ take used rest = take-take used most rest (omega (arith, line.within)) in
       let is_piece : IsPiece (take used rest) = subst IsPiece same line.piece in
       let piece : take used rest ≡ slice_range portion taken (taken + used) = sym (range_front portion taken filled used (omega (arith, enough, length-take (filled - taken) (drop taken portion)))) in
-      lent_advances columns slack record_no time ended portion taken filled old new used (Ok (Some row)) (Ok (found.Row row)) _ (cuts rest enough is_piece) (λ _. leads rest enough is_piece)
+      lent_advances columns slack record_no time ended portion taken filled old new used (Ok (Some row)) (Ok (read_step.Row row)) _ (cuts rest enough is_piece) (λ _. leads rest enough is_piece)
       (row_of_line columns slack time row used (take most rest) (slice_range portion taken (taken + used)) line (same ∙ piece) none)
       (inr (refl, refl))
 

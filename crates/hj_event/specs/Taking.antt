@@ -18,8 +18,8 @@ use Rattle.hj_event.specs.declared.stop.Stop.{Stop}
 use Rattle.hj_event.specs.declared.stop.Stop.TheVariants as stop
 use Rattle.hj_event.specs.declared.source.Ahead.{Ahead}
 use Rattle.hj_event.specs.declared.source.Ahead.TheVariants as ahead
-use Rattle.hj_event.specs.declared.stop.Found.{Found}
-use Rattle.hj_event.specs.declared.stop.Found.TheVariants as found
+use Rattle.hj_event.specs.declared.stop.ReadStep.{ReadStep}
+use Rattle.hj_event.specs.declared.stop.ReadStep.TheVariants as read_step
 use Rattle.hj_event.specs.Rows.{Rows, no_row, then_rows, row_at, in_time, with_time, is_sure, clean, bad, unread}
 use Rattle.hj_event.specs.Sides.{Reading, SideState, in_front, at_its_end, cut_off, MayFollow, Follows, read_ahead, rows_ahead, side_ahead}
 use Rattle.hj_event.specs.Roles.{IsReadOn, IsUnread}
@@ -61,51 +61,51 @@ abbrev pub counted : List Field → Reading → Reading
 counted row side = record side { record_no = side.record_no + 1; time = Some (with_time side.time (time_of row)) }
 
 -- What a piece that was read holds.
-abbrev pub Holds : Result (Option (List Field)) RecordFault → Result Found Stop → Reading → Reading → Type 0
-Holds (Ok None) answer old new = (answer ≡ Ok found.NoRecord) × (new ≡ old)
-Holds (Ok (Some row)) answer old new = ((answer ≡ Err stop.Memory) × (new ≡ old)) ⊎ ((answer ≡ Ok (found.Row row)) × (new ≡ counted row old))
+abbrev pub Holds : Result (Option (List Field)) RecordFault → Result ReadStep Stop → Reading → Reading → Type 0
+Holds (Ok None) answer old new = (answer ≡ Ok read_step.NoRecord) × (new ≡ old)
+Holds (Ok (Some row)) answer old new = ((answer ≡ Err stop.Memory) × (new ≡ old)) ⊎ ((answer ≡ Ok (read_step.Row row)) × (new ≡ counted row old))
 Holds (Err why) answer old new = (answer ≡ Err (stop_of old.record_no why)) × (new ≡ old)
 
 -- Looking at the bytes that were read, up to the end of a piece: of the rows to come before and after. After a stop nothing
 -- is said of those after.
-abbrev pub FoundLeads : Result Found Stop → Rows → Rows → Type 0
-FoundLeads (Ok (found.Row row)) ahead behind = ahead ≡ then_rows row behind
-FoundLeads (Ok found.NoRecord) ahead behind = ahead ≡ behind
-FoundLeads (Ok found.More) ahead behind = ahead ≡ behind
-FoundLeads (Ok found.End) ahead behind = (ahead ≡ no_row clean) × (behind ≡ no_row clean)
-FoundLeads (Err (stop.Bad at why)) ahead behind = ahead ≡ no_row (bad at why)
-FoundLeads (Err stop.Failed) ahead behind = ⊥
-FoundLeads (Err stop.Memory) ahead behind = Unit {0}
+abbrev pub StepLeads : Result ReadStep Stop → Rows → Rows → Type 0
+StepLeads (Ok (read_step.Row row)) ahead behind = ahead ≡ then_rows row behind
+StepLeads (Ok read_step.NoRecord) ahead behind = ahead ≡ behind
+StepLeads (Ok read_step.More) ahead behind = ahead ≡ behind
+StepLeads (Ok read_step.End) ahead behind = (ahead ≡ no_row clean) × (behind ≡ no_row clean)
+StepLeads (Err (stop.Bad at why)) ahead behind = ahead ≡ no_row (bad at why)
+StepLeads (Err stop.Failed) ahead behind = ⊥
+StepLeads (Err stop.Memory) ahead behind = Unit {0}
 
 -- More bytes are wanted only before the end: nothing is left to look at, and a stream that is cut off here has no more rows.
-abbrev pub Wants : Result Found Stop → Reading → (Stream → Rows) → Type 0
-Wants (Ok found.More) side ahead = (side.ended ≡ false) × (side.rest ≡ []) × (ahead cut_off ≡ no_row unread)
-Wants (Ok found.End) side ahead = side.ended ≡ true
+abbrev pub Wants : Result ReadStep Stop → Reading → (Stream → Rows) → Type 0
+Wants (Ok read_step.More) side ahead = (side.ended ≡ false) × (side.rest ≡ []) × (ahead cut_off ≡ no_row unread)
+Wants (Ok read_step.End) side ahead = side.ended ≡ true
 Wants answer side ahead = Unit {0}
 
 -- The greatest time goes on with a row, which is in time.
-abbrev pub TimeGoes : Result Found Stop → ℕ → Option ℤ → Option ℤ → Type 0
-TimeGoes (Ok (found.Row row)) slack before after = (in_time slack before row ≡ Ok (Some row)) × (after ≡ Some (with_time before (time_of row)))
+abbrev pub TimeGoes : Result ReadStep Stop → ℕ → Option ℤ → Option ℤ → Type 0
+TimeGoes (Ok (read_step.Row row)) slack before after = (in_time slack before row ≡ Ok (Some row)) × (after ≡ Some (with_time before (time_of row)))
 TimeGoes answer slack before after = after ≡ before
 
 -- The bytes of a side are looked at up to the end of a piece.
-pub record Advances (answer : Result Found Stop) (old new : Reading) : Type 0 where
+pub record Advances (answer : Result ReadStep Stop) (old new : Reading) : Type 0 where
   pub ended : new.ended ≡ old.ended
   pub slack : new.slack ≡ old.slack
   pub time : TimeGoes answer old.slack old.time new.time
-  pub leads : (stream : Stream) → MayFollow new.ended stream → FoundLeads answer (read_ahead old stream) (read_ahead new stream)
+  pub leads : (stream : Stream) → MayFollow new.ended stream → StepLeads answer (read_ahead old stream) (read_ahead new stream)
   pub wants : Wants answer new (read_ahead new)
 
 -- The row of the next line is taken, or nothing changes.
 abbrev pub TakesLine : Result (Option (List Field)) Memory → Reading → Reading → Type 0
-TakesLine (Ok (Some row)) old new = Advances (Ok (found.Row row)) old new
+TakesLine (Ok (Some row)) old new = Advances (Ok (read_step.Row row)) old new
 TakesLine (Ok None) old new = new ≡ old
 TakesLine (Err why) old new = new ≡ old
 
 -- A side goes on by a piece, or by a row that waited.
-pub record GoesOn (answer : Result Found Stop) (old new : SideState) : Type 0 where
+pub record GoesOn (answer : Result ReadStep Stop) (old new : SideState) : Type 0 where
   pub ended : new.reading.ended ≡ old.reading.ended
-  pub leads : (stream : Stream) → MayFollow new.reading.ended stream → FoundLeads answer (rows_ahead old stream) (rows_ahead new stream)
+  pub leads : (stream : Stream) → MayFollow new.reading.ended stream → StepLeads answer (rows_ahead old stream) (rows_ahead new stream)
   pub wants : Wants answer new.reading (rows_ahead new)
 
 -- Taking the next row, or coming to the end.
@@ -154,10 +154,10 @@ pub record IsKept (side : Reading) (next : Option (List Field)) (waiting : List 
   pub is_next : IsNext next side known
 
 -- what was found where rows wait: more bytes are wanted, or what was read is kept
-abbrev pub found_by : Result Bool Memory → Result Found Stop
-found_by (Ok true) = Ok found.More
-found_by (Ok false) = Ok found.NoRecord
-found_by (Err why) = Err stop.Memory
+abbrev pub step_by : Result Bool Memory → Result ReadStep Stop
+step_by (Ok true) = Ok read_step.More
+step_by (Ok false) = Ok read_step.NoRecord
+step_by (Err why) = Err stop.Memory
 
 -- These bytes were needed: the side hadn't ended, and without the last ones, of at most one read, what was read of it gives no row.
 pub record IsNeeded (side : SideState) (bytes : List ℕ) : Type 0 where
@@ -199,7 +199,7 @@ LooksAt (Err why) old new before now = TakesRow (Err why) old new before now
 
 -- The next row is taken, where it is known, or its line is read straight. Else nothing changes.
 abbrev pub TakesStraight : Result (Option (List Field)) Memory → SideState → SideState → Type 0
-TakesStraight (Ok (Some row)) old new = GoesOn (Ok (found.Row row)) old new
+TakesStraight (Ok (Some row)) old new = GoesOn (Ok (read_step.Row row)) old new
 TakesStraight (Ok None) old new = new ≡ old
 TakesStraight (Err why) old new = GoesOn (Err stop.Memory) old new
 

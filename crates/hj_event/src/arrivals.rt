@@ -15,12 +15,12 @@ use std::marker::Model;
 
 /// The rows of one side, of which the first may have been looked at.
 #[derive(Drop)]
-struct Rows {
+struct PeekedRows {
     source: Source,
     head: Option<SharedRow>,
 }
 
-impl Model for Rows {
+impl Model for PeekedRows {
     ghost use Rattle.hj_event.specs.Sides.{SideState};
 
     ghost Value = { SideState };
@@ -28,12 +28,12 @@ impl Model for Rows {
     ghost view = { λ r. record r.source { head = r.head } };
 }
 
-impl Rows {
+impl PeekedRows {
     /// Makes a side of which nothing was read.
     fn new(alloc: Global, schema: Schema, slack: u64) -> Self
         ensures { result ≡ new_side schema.columns slack }
     {
-        Rows {
+        PeekedRows {
             source: Source::new(alloc, schema, slack),
             head: None,
         }
@@ -102,8 +102,8 @@ impl Rows {
 /// The rows of two streams in the order in which they arrive.
 #[derive(Drop)]
 pub(crate) struct Arrivals {
-    left: Rows,
-    right: Rows,
+    left: PeekedRows,
+    right: PeekedRows,
 }
 
 impl Model for Arrivals {
@@ -120,8 +120,8 @@ impl Arrivals {
         ensures { result ≡ new_sides left.columns right.columns slack }
     {
         Arrivals {
-            left: Rows::new(alloc, left, slack),
-            right: Rows::new(alloc, right, slack),
+            left: PeekedRows::new(alloc, left, slack),
+            right: PeekedRows::new(alloc, right, slack),
         }
     }
 

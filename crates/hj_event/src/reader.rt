@@ -10,7 +10,7 @@ ghost use Rattle.hj_event.specs.Sides.{new_reading};
 ghost use Rattle.hj_event.specs.Taking.{stop_of, ReadsPiece, Holds, Advances, IsNextLine, TakesLine, TellsRow, most_in_line};
 
 use crate::record::{is_late, read_record};
-use crate::stop::{Found, Stop};
+use crate::stop::{ReadStep, Stop};
 use crate::{RecordFault, RowFault};
 use hj_base::{Got, Memory, Outside, Side};
 use hj_record::{CARRIAGE_RETURN, Cut, Cutter, Fed, Fields, LINE_FEED, PieceFault, QUOTE};
@@ -249,7 +249,7 @@ impl Reader {
 
     /// Goes on to the end of the next piece in the bytes that were read, in whatever form it is.
     #[inline(never)]
-    pub(crate) fn cut(&mut self) -> Result<Found, Stop>
+    pub(crate) fn cut(&mut self) -> Result<ReadStep, Stop>
         ensures { Advances result self.old self.new }
     {
         let portion: &[u8] = &self.portion;
@@ -284,7 +284,7 @@ impl Reader {
                 if self.ended {
                     self.close()
                 } else {
-                    Ok(Found::More)
+                    Ok(ReadStep::More)
                 }
             }
             Cut::Bad(fault) => Err(stop(self.record_no, RecordFault::Piece(fault))),
@@ -292,7 +292,7 @@ impl Reader {
     }
 
     /// Comes to the end of the stream, once all its bytes were looked at.
-    fn close(&mut self) -> Result<Found, Stop>
+    fn close(&mut self) -> Result<ReadStep, Stop>
         requires ended { self.old.ended ≡ true }
         requires rest { self.old.rest ≡ [] }
         ensures { Advances result self.old self.new }
@@ -309,26 +309,26 @@ impl Reader {
                 );
                 self.hold(row)
             }
-            Fed::More => Ok(Found::End),
+            Fed::More => Ok(ReadStep::End),
             Fed::Bad(fault) => Err(stop(self.record_no, RecordFault::Piece(fault))),
         }
     }
 
     /// Counts the row of a piece, and gives it to be shared.
     #[inline(always)]
-    fn hold(&mut self, row: Result<Option<Row>, RecordFault>) -> Result<Found, Stop>
+    fn hold(&mut self, row: Result<Option<Row>, RecordFault>) -> Result<ReadStep, Stop>
         ensures { Holds row result self.old self.new }
     {
         let row = match row {
             Ok(Some(row)) => row,
-            Ok(None) => return Ok(Found::NoRecord),
+            Ok(None) => return Ok(ReadStep::NoRecord),
             Err(fault) => return Err(stop(self.record_no, fault)),
         };
         let time = row.time();
         let shared = SharedRow::new(self.alloc, row)?;
         self.record_no = self.record_no.checked_add(1).ok_or(Stop::Memory)?;
         self.greatest = Some(later(self.greatest, time));
-        Ok(Found::Row(shared))
+        Ok(ReadStep::Row(shared))
     }
 }
 

@@ -6,11 +6,11 @@ ghost use Rattle.hj_event.specs.Roles.{IsInStep};
 ghost use Rattle.hj_event.specs.Reads.{Fills};
 ghost use Rattle.hj_event.specs.Sides.{new_side, rows_ahead, MayFollow};
 ghost use Rattle.hj_event.specs.Waiting.{AreInOrder, TakesSure};
-ghost use Rattle.hj_event.specs.Taking.{found_by, unseen, GoesOn, TakesRow, TakesStraight, IsTold};
+ghost use Rattle.hj_event.specs.Taking.{step_by, unseen, GoesOn, TakesRow, TakesStraight, IsTold};
 
 use crate::RecordFault;
 use crate::reader::Reader;
-use crate::stop::{Found, Stop};
+use crate::stop::{ReadStep, Stop};
 use crate::waiting::Waiting;
 use hj_base::{Memory, Outside, Side};
 use hj_value::{Schema, SharedRow};
@@ -79,10 +79,10 @@ impl Source {
     {
         for _ in 0..u64::MAX {
             match self.go_on()? {
-                Found::Row(row) => return Ok(Some(row)),
-                Found::NoRecord => (),
-                Found::More => self.fill(side, outside)?,
-                Found::End => return Ok(None),
+                ReadStep::Row(row) => return Ok(Some(row)),
+                ReadStep::NoRecord => (),
+                ReadStep::More => self.fill(side, outside)?,
+                ReadStep::End => return Ok(None),
             }
         }
         Err(Stop::Memory)
@@ -152,7 +152,7 @@ impl Source {
 
     /// Goes on by a piece of what was read, in whatever form it is, or by a row that waits.
     #[inline(always)]
-    fn go_on(&mut self) -> Result<Found, Stop>
+    fn go_on(&mut self) -> Result<ReadStep, Stop>
         ensures { GoesOn result self.old self.new }
     {
         if self.reader.slack() == 0 {
@@ -160,25 +160,25 @@ impl Source {
         }
         if let Some(row) = self.next.take() {
             self.read_on()?;
-            return Ok(Found::Row(row));
+            return Ok(ReadStep::Row(row));
         }
         self.go_on_in_order()
     }
 
     /// Goes on where rows may be late and none is known to be the next one.
     #[inline(never)]
-    fn go_on_in_order(&mut self) -> Result<Found, Stop>
+    fn go_on_in_order(&mut self) -> Result<ReadStep, Stop>
         requires { self.old.reading.slack ≢ 0 }
         ensures { GoesOn result self.old self.new }
     {
         match self.ahead {
             Ahead::Unknown => self.read_more(),
             Ahead::Over => match self.waiting.take() {
-                Some(row) => Ok(Found::Row(row)),
-                None => Ok(Found::End),
+                Some(row) => Ok(ReadStep::Row(row)),
+                None => Ok(ReadStep::End),
             },
             Ahead::Refused { at, fault } => match self.waiting.take() {
-                Some(row) => Ok(Found::Row(row)),
+                Some(row) => Ok(ReadStep::Row(row)),
                 None => Err(Stop::Bad { at, fault }),
             },
         }
@@ -186,19 +186,19 @@ impl Source {
 
     /// Reads rows in the bytes that were read, until it is known what comes next or more bytes are wanted.
     #[inline(always)]
-    fn read_more(&mut self) -> Result<Found, Stop>
+    fn read_more(&mut self) -> Result<ReadStep, Stop>
         requires late { self.old.reading.slack ≢ 0 }
         requires going { self.old.stop ≡ None }
         ensures { GoesOn result self.old self.new }
     {
         self.read_on()?;
         if self.knows_next() {
-            return Ok(Found::NoRecord);
+            return Ok(ReadStep::NoRecord);
         }
         if self.read_row()? {
-            Ok(Found::More)
+            Ok(ReadStep::More)
         } else {
-            Ok(Found::NoRecord)
+            Ok(ReadStep::NoRecord)
         }
     }
 
@@ -231,7 +231,7 @@ impl Source {
     fn read_row(&mut self) -> Result<bool, Memory>
         requires late { self.old.reading.slack ≢ 0 }
         requires going { self.old.stop ≡ None }
-        ensures goes_on { GoesOn (found_by result) self.old self.new }
+        ensures goes_on { GoesOn (step_by result) self.old self.new }
         ensures slack { self.new.reading.slack ≡ self.old.reading.slack }
     {
         if is_known(&self.next, &self.ahead) {
@@ -251,23 +251,23 @@ impl Source {
     fn read_other(&mut self) -> Result<bool, Memory>
         requires late { self.old.reading.slack ≢ 0 }
         requires going { self.old.stop ≡ None }
-        ensures goes_on { GoesOn (found_by result) self.old self.new }
+        ensures goes_on { GoesOn (step_by result) self.old self.new }
         ensures slack { self.new.reading.slack ≡ self.old.reading.slack }
     {
         if is_known(&self.next, &self.ahead) {
             return Ok(false);
         }
         match self.reader.cut() {
-            Ok(Found::Row(row)) => {
+            Ok(ReadStep::Row(row)) => {
                 self.waiting.put(row)?;
                 self.next = take_sure(&self.reader, &mut self.waiting);
             }
-            Ok(Found::NoRecord) => (),
-            Ok(Found::More) => {
+            Ok(ReadStep::NoRecord) => (),
+            Ok(ReadStep::More) => {
                 self.next = take_sure(&self.reader, &mut self.waiting);
                 return Ok(self.next.is_none());
             }
-            Ok(Found::End) => self.ahead = Ahead::Over,
+            Ok(ReadStep::End) => self.ahead = Ahead::Over,
             Err(Stop::Bad { at, fault }) => self.ahead = Ahead::Refused { at, fault },
             // Nothing is read from outside here, so no read fails.
             Err(Stop::Failed | Stop::Memory) => return Err(Memory),

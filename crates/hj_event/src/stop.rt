@@ -15,7 +15,7 @@ pub(crate) enum Stop {
 
 /// What the bytes of a side that were read give, up to the end of a piece.
 #[derive(Drop)]
-pub(crate) enum Found {
+pub(crate) enum ReadStep {
     Row(SharedRow),
     NoRecord,
     /// The piece goes on after them.

@@ -1,7 +1,7 @@
 use Rattle.std.proofs.Common.{◌≡◌, ◌+◌, ◌<◌, ℕ, ℤ, false, List, Ok, Some, of_z, sym, subst, to_z, w64, arith, rules}
 use Rattle.hj_value.specs.declared.field.Field.{Field}
 use Rattle.hj_value.specs.Row.{time_of}
-use Rattle.hj_event.specs.declared.stop.Found.TheVariants as found
+use Rattle.hj_event.specs.declared.stop.ReadStep.TheVariants as read_step
 use Rattle.hj_event.specs.Reads.{reading}
 use Rattle.hj_event.specs.Rows.{with_time}
 use Rattle.hj_event.specs.Sides.{Reading}
@@ -21,10 +21,10 @@ returns c =
     let none : is_late s.slack s.greatest (time_of row) ≡ false = search rules in
     let time : to_z w64 (of_z w64 c.later-greatest.result) ≡ with_time s.greatest (time_of row) = search rules in
     let taken = straight_advances s.schema.columns s.slack s.record_no s.greatest s.ended s.portion s.taken s.filled s.cutter c.pass.new.self row used line none c.pass.ensures.takes c.pass.ensures.leads in
-    subst (λ (t : ℤ). Advances (Ok (found.Row c.in_ok-shared.shared)) c.args.self.now (reading s.schema.columns s.slack c.pass.new.self s.portion (s.taken + used) s.filled s.ended c.in_ok-next.next (Some t))) (sym time)
-    (subst (λ (n : ℕ). Advances (Ok (found.Row c.in_ok-shared.shared)) c.args.self.now (reading s.schema.columns s.slack c.pass.new.self s.portion (s.taken + used) s.filled s.ended n (Some (with_time s.greatest (time_of row))))) (sym next)
-    (subst (λ (r : List Field). Advances (Ok (found.Row r)) c.args.self.now (reading s.schema.columns s.slack c.pass.new.self s.portion (s.taken + used) s.filled s.ended (s.record_no + 1) (Some (with_time s.greatest (time_of row))))) (sym same)
-    (subst (λ (side : Reading). Advances (Ok (found.Row row)) side (reading s.schema.columns s.slack c.pass.new.self s.portion (s.taken + used) s.filled s.ended (s.record_no + 1) (Some (with_time s.greatest (time_of row))))) c.self.view_is taken)))
+    subst (λ (t : ℤ). Advances (Ok (read_step.Row c.in_ok-shared.shared)) c.args.self.now (reading s.schema.columns s.slack c.pass.new.self s.portion (s.taken + used) s.filled s.ended c.in_ok-next.next (Some t))) (sym time)
+    (subst (λ (n : ℕ). Advances (Ok (read_step.Row c.in_ok-shared.shared)) c.args.self.now (reading s.schema.columns s.slack c.pass.new.self s.portion (s.taken + used) s.filled s.ended n (Some (with_time s.greatest (time_of row))))) (sym next)
+    (subst (λ (r : List Field). Advances (Ok (read_step.Row r)) c.args.self.now (reading s.schema.columns s.slack c.pass.new.self s.portion (s.taken + used) s.filled s.ended (s.record_no + 1) (Some (with_time s.greatest (time_of row))))) (sym same)
+    (subst (λ (side : Reading). Advances (Ok (read_step.Row row)) side (reading s.schema.columns s.slack c.pass.new.self s.portion (s.taken + used) s.filled s.ended (s.record_no + 1) (Some (with_time s.greatest (time_of row))))) c.self.view_is taken)))
 
 pub invariant_of-self-2 : goal.invariant_of-self-2
 invariant_of-self-2 c =

@@ -6,7 +6,7 @@ use Rattle.hj_event.specs.declared.stop.Stop.TheVariants as stop
 use Rattle.hj_event.proofs.ArrivalLemmas.{sees_known}
 use Rattle.hj_event.specs.Taking.{TakesStraight}
 use Rattle.hj_event.proofs.SourceLemmas.{stops_unread, takes_unread}
-use Rattle.hj_event.proofs.arrivals.Rows.look.Goals as goal
+use Rattle.hj_event.proofs.arrivals.PeekedRows.look.Goals as goal
 
 pub returns-then-is_some-clause-looks : goal.returns-then-is_some-clause-looks
 returns-then-is_some-clause-looks g c =

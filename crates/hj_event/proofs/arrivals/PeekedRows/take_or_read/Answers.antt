@@ -3,7 +3,7 @@ use Rattle.hj_value.specs.declared.field.Field.{Field}
 use Rattle.hj_base.specs.Outside.{role_of}
 use Rattle.hj_event.specs.Taking.{TakesStraight}
 use Rattle.hj_event.proofs.SourceLemmas.{takes_unread}
-use Rattle.hj_event.proofs.arrivals.Rows.take_or_read.Goals as goal
+use Rattle.hj_event.proofs.arrivals.PeekedRows.take_or_read.Goals as goal
 
 pub returns-in-Some-clause-looks : goal.returns-in-Some-clause-looks
 returns-in-Some-clause-looks g c =
