@@ -14,7 +14,7 @@ use Rattle.hj_engine.specs.Showing.{ShowsJoin}
 use Rattle.hj_engine.specs.ShowingRaw.{ShowsRaw}
 use Rattle.hj_notes.specs.declared.note.Note.{Note}
 use Rattle.hj_opening.specs.Calls.{Call, call}
-use Rattle.hj_app.specs.Crew.{CameToJoin, Crew, ShowsOrder, ShowsRawStreams, ShowsStreams}
+use Rattle.hj_app.specs.Crew.{CameToJoin, Crew, ShowsKind, ShowsOrder, ShowsStreams}
 use Rattle.hj_notes.specs.NoteText.{status_of, status_of_end}
 use Rattle.hj_app.specs.OnCrew.{RunsOnCrew}
 use Rattle.hj_opening.specs.Joining.{JoinsKind}
@@ -22,12 +22,25 @@ use Rattle.hj_opening.specs.Ready.{EndsEarly, IsReady}
 use Rattle.hj_opening.specs.Run.{RunsOrder, end_of}
 use Rattle.hj_opening.specs.Serve.{Accepts}
 use Rattle.hj_opening.specs.Words.{Names, Order, Source, TextKind, join_streams, pair_lines, raw_items}
-use Rattle.hj_opening.proofs.Joined.{joins_lines, query_stays}
+use Rattle.hj_opening.proofs.Joined.{query_stays}
 use Rattle.hj_opening.proofs.Phases.{Roles, open-opened}
 use Rattle.hj_opening.proofs.Endings.{End}
 
 abbrev Shown : Type 0
 Shown = Option (RanSeen (List Field))
+
+-- ---- what a run shows, by the text of its join
+
+module _ (crew : Crew) {ended : Outcome} {query : Parts} {limit : ℕ} {before now : Roles} {old new : Option (List ℕ)} where
+  pub shows_lines : (joins : Joins ended query limit before now old new) (ran : Shown) → IfSome ran (ShowsJoin joins crew.cores crew.flight)
+      → IfSome ran (ShowsKind pair_lines crew ended query limit before now old new)
+  shows_lines joins None shows = tt
+  shows_lines joins (Some ran) shows = (joins, shows)
+
+  pub shows_items : (joins : JoinsRaw ended query limit before now old new) (ran : Shown) → IfSome ran (ShowsRaw joins crew.cores crew.flight)
+      → IfSome ran (ShowsKind raw_items crew ended query limit before now old new)
+  shows_items joins None shows = tt
+  shows_items joins (Some ran) shows = (joins, shows)
 
 -- ---- an order that ended before its join
 
@@ -91,36 +104,16 @@ module _ (crew : Crew) (kind : TextKind) (source : Source) (names : Names) (limi
       subst (λ (e : End). RunsOrder e this_join this_call → RunsOnCrew crew (record { end = e; ran = ran }) this_join this_call) (sym is)
       (λ so. record { runs = so; ran = λ other. ((λ some. all_came), (λ back. handed ran memory other back)); shows = shows }) runs
 
--- ---- what the run shows
-
-module _ (crew : Crew) (source : Source) (names : Names) (limit : ℕ) (under : List ℕ → Option (List ℕ)) (before mid now : Roles) (old new : Option (List ℕ)) (query : Parts) (ready : IsReady query source names under before mid)
-    (ended : Outcome) (faults faults' : ℕ) where
-  -- of a join that wrote the line of each pair
-  pub shows_lines : (joins : Joins ended query limit mid now old new) (ran : Shown) → IfSome ran (ShowsJoin joins crew.cores crew.flight)
-      → IfSome ran (ShowsStreams crew source names limit (status_of_end (end_of limit ended)) (call under before now old new faults faults'))
-  shows_lines joins None shows = tt
-  shows_lines joins (Some ran) shows = record {
+  -- what the run shows
+  pub shows_streams : (ran : Shown) → IfSome ran (ShowsKind kind crew ended query limit mid now old new)
+      → IfSome ran (ShowsStreams kind crew source names limit ends_with this_call)
+  shows_streams None shows = tt
+  shows_streams (Some ran) shows = record {
     query = query;
-    accepted = accepted crew pair_lines source names limit under before mid now old new query ready ended (joins_lines joins) faults faults';
+    accepted = accepted;
     opened = mid;
     are_opened = ready.opened;
     outcome = ended;
     status_of_outcome = refl;
-    joins = joins;
-    shows = shows;
-  }
-
-  -- of one whose pairs were written as they were met
-  pub shows_items : (joins : JoinsRaw ended query limit mid now old new) (ran : Shown) → JoinsKind raw_items ended query limit mid now old new → IfSome ran (ShowsRaw joins crew.cores crew.flight)
-      → IfSome ran (ShowsRawStreams crew source names limit (status_of_end (end_of limit ended)) (call under before now old new faults faults'))
-  shows_items joins None kind shows = tt
-  shows_items joins (Some ran) kind shows = record {
-    query = query;
-    accepted = accepted crew raw_items source names limit under before mid now old new query ready ended kind faults faults';
-    opened = mid;
-    are_opened = ready.opened;
-    outcome = ended;
-    status_of_outcome = refl;
-    joins = joins;
     shows = shows;
   }

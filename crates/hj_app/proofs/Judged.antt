@@ -24,7 +24,7 @@ use Rattle.hj_opening.specs.ReadyToCheck.{IsReadyToCheck, RunsVerify}
 use Rattle.hj_opening.specs.Keeping as keeping
 use Rattle.hj_opening.specs.Streams.{Fails, IsBegunUnder}
 use Rattle.hj_opening.specs.Queries.{IsAccepted}
-use Rattle.hj_opening.specs.Verifying.{BeginsCheck, FindsNone, IsCheckRole, IsChecked, ServesVerify}
+use Rattle.hj_opening.specs.Verifying.{BeginsCheck, Checked, FindsNone, IsCheckRole, ServesVerify}
 use Rattle.hj_opening.specs.Verifying as tells
 use Rattle.hj_opening.specs.Words.{Chain, CheckedNames, check_trace}
 use Rattle.hj_opening.proofs.Joined.{Behind, behind, fails_of, fails_or_none, phase_of}
@@ -89,8 +89,13 @@ module _ (chain : Chain) (name : List ℕ) (names : CheckedNames) (limit : ℕ) 
   accepted : IsAccepted query name (under name) (before role.Query) (now role.Query)
   accepted = subst (λ (s : RoleState). IsAccepted query name (under name) (before role.Query) s) (sym (made.others role.Query (λ read. read))) ready.accepted
 
-  checked : IsChecked name names this query left right trace output
+  abbrev checked : Checked name names this
   checked = record {
+    query = query;
+    left = left;
+    right = right;
+    trace = trace;
+    output = output;
     accepted = accepted;
     of_streams = record { of_left = behind_left.is; of_right = behind_right.is };
     of_trace = behind_trace.is;
@@ -101,11 +106,6 @@ module _ (chain : Chain) (name : List ℕ) (names : CheckedNames) (limit : ℕ) 
 
   finds : (ending : Ending) → all.ending ≡ ending → JudgedRight query chain.cores chain.flight all trace.bytes output.bytes → FindsNone (λ e. e ≡ ending) chain name names limit this
   finds ending is so = record {
-    query = query;
-    left = left;
-    right = right;
-    trace = trace;
-    output = output;
     checked = checked;
     ending = is;
     are_right = record { right = so.right; none = so.nothing };
@@ -125,7 +125,7 @@ module _ (chain : Chain) (name : List ℕ) (names : CheckedNames) (limit : ℕ) 
 
   ends : (v : Verdict) → judged ≡ v → Judges v query chain.cores chain.flight all trace.bytes output.bytes → EndsCheckOf chain name names limit this (status_with v) (text_of_verify (end_of_verdict limit v))
   ends (verdict.Accepted events) is j = keeping.own (tells.accepted refl refl (finds clean j.0 j.2))
-  ends (verdict.Refused found) is j = keeping.own (tells.refused found refl refl (record { query = query; left = left; right = right; trace = trace; output = output; checked = checked; stands = j }))
+  ends (verdict.Refused found) is j = keeping.own (tells.refused found refl refl (record { checked = checked; stands = j }))
   ends (verdict.Ended (outcome.Done events)) is j = absurd j
   ends (verdict.Ended (outcome.Bad side at found)) is j = keeping.own (tells.bad_record side at found refl refl (finds (bad side at found) j.0 j.1))
   ends (verdict.Ended (outcome.SourceFault of)) is j = keeping.own (tells.failed_source of refl refl (check_role of j) (fails of is j))

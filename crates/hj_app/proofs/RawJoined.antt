@@ -12,7 +12,7 @@ use Rattle.hj_msg.specs.declared.event.Event.{Event}
 use Rattle.hj_query.specs.Parts.{Parts}
 use Rattle.hj_eval.specs.Holds.{holds}
 use Rattle.hj_event.specs.Events.{events_of}
-use Rattle.hj_event.specs.Sides.{Follows, in_front}
+use Rattle.hj_event.specs.Sides.{in_front}
 use Rattle.hj_msg.specs.Punctuation.{Mark}
 use Rattle.hj_raw.specs.Items.{Item, marked}
 use Rattle.hj_raw.specs.Items.{raw_items as items_taken}
@@ -23,6 +23,7 @@ use Rattle.hj_stream.specs.declared.outcome.Outcome.TheVariants as outcome
 use Rattle.hj_stream.specs.Joining.{JoinsTo, WritesText}
 use Rattle.hj_stream.specs.RawJoining.{JoinsRaw, result_with}
 use Rattle.hj_stream.specs.Runs.{EndsRun, OfEvents}
+use Rattle.hj_stream.proofs.Joining.{joins_saying}
 use Rattle.hj_engine.specs.ShowingRaw.{ShowsRaw}
 use Rattle.hj_opening.specs.Joining.{JoinsKind}
 use Rattle.hj_opening.specs.Texts.{BeginsRawText, IsRawText, WritesKind}
@@ -64,27 +65,6 @@ begins_nothing query events = record {
 module _ {ended : Outcome} {query : Parts} {limit : ℕ} {before now : Roles} {old new : Option (List ℕ)} (raw : JoinsRaw ended query limit before now old new) where
   abbrev made : JoinsTo (result_with raw.text) ended query limit before now old new
   made = raw.joins
-
-  -- the join wrote this text
-  writing : (grown : List ℕ) → Appends old new grown
-      → ((l r : Stream) → Follows made.left_failed made.left_ended l → Follows made.right_failed made.right_ended r → WritesKind raw_items ended query (in_front made.left_bytes l) (in_front made.right_bytes r) limit grown)
-      → JoinsKind raw_items ended query limit before now old new
-  writing grown written text = record {
-    left_bytes = made.left_bytes;
-    right_bytes = made.right_bytes;
-    left_failed = made.left_failed;
-    right_failed = made.right_failed;
-    left_ended = made.left_ended;
-    right_ended = made.right_ended;
-    left = made.left;
-    right = made.right;
-    failed = made.failed;
-    others = made.others;
-    grown = grown;
-    written = written;
-    text = text;
-    ends = made.ends;
-  }
 
   -- ---- a run that is handed back
 
@@ -128,13 +108,13 @@ module _ {ended : Outcome} {query : Parts} {limit : ℕ} {before now : Roles} {o
       writes outcome.Memory ends w = front _ first w
 
     by_run : JoinsKind raw_items ended query limit before now old new
-    by_run = writing made.grown made.written (λ l r l_follows r_follows.
+    by_run = joins_saying made made.grown made.written (λ l r l_follows r_follows.
         writes (in_front made.left_bytes l) (in_front made.right_bytes r) (λ had. had.0 l r l_follows r_follows) (shows.begins l r l_follows r_follows) ended shows.ends (made.text l r l_follows r_follows))
 
   -- ---- no run: memory ran out before anything was read
 
   without_run : ended ≡ outcome.Memory → new ≡ old → JoinsKind raw_items ended query limit before now old new
-  without_run memory same = writing [] (subst (λ (told : Option (List ℕ)). Appends old told []) (sym same) (Appends-nil old))
+  without_run memory same = joins_saying made [] (subst (λ (told : Option (List ℕ)). Appends old told []) (sym same) (Appends-nil old))
       (λ l r l_follows r_follows. subst (λ (how : Outcome). WritesKind raw_items how query (in_front made.left_bytes l) (in_front made.right_bytes r) limit []) (sym memory) (begins_nothing query _))
 
   pub joins_items : (cores flight : ℕ) (ran : Option (RanSeen (List Field))) → IfSome ran (ShowsRaw raw cores flight) → IfNone ran (ended ≡ outcome.Memory) → IfNone ran (new ≡ old)

@@ -24,7 +24,7 @@ use Rattle.hj_notes.specs.NoteText.{status_of_end}
 use Rattle.hj_opening.specs.Opening.{AreOpened}
 use Rattle.hj_opening.specs.Run.{end_of}
 use Rattle.hj_opening.specs.Serve.{Accepts, AreOpen}
-use Rattle.hj_opening.specs.Words.{Names, Order, Recipe, Source, asked_by, most_events}
+use Rattle.hj_opening.specs.Words.{Names, Order, Recipe, Source, TextKind, asked_by, most_events}
 use Rattle.hj_opening.specs.Words.{check_query, check_trace, join_streams, join_twice, pair_lines, raw_items, step_lines, sum_up}
 
 -- A chain that threads turn: how many cores it has, and how many events are under way in it at most.
@@ -78,29 +78,26 @@ pub record CameToJoin (crew : Option Crew) (status : ℕ) (now : Role → RoleSt
   pub query : status ≢ 2
   pub streams : status ≡ 4 → AreOpen now
 
+-- A run made this join, which writes a text of a kind.
+abbrev pub ShowsKind : TextKind → Crew → Outcome → Parts → ℕ → (Role → RoleState) → (Role → RoleState) → Option (List ℕ) → Option (List ℕ)
+    → RanSeen (List Field) → Type 0
+ShowsKind pair_lines crew ended query limit before now old new ran =
+    (joins : Joins ended query limit before now old new) × ShowsJoin joins crew.cores crew.flight ran
+ShowsKind raw_items crew ended query limit before now old new ran =
+    (joins : JoinsRaw ended query limit before now old new) × ShowsRaw joins crew.cores crew.flight ran
+ShowsKind (step_lines chain rule) crew ended query limit before now old new ran = ⊥
+
 -- A run made the join of a call: under the accepted query, of the two streams from where they were opened to where they stand now,
 -- into the output of the call; and the status is that of its outcome.
-pub record ShowsStreams (crew : Crew) (source : Source) (names : Names) (limit status : ℕ) (call : Call) (ran : RanSeen (List Field)) : Type 0 where
+pub record ShowsStreams (kind : TextKind) (crew : Crew) (source : Source) (names : Names) (limit status : ℕ) (call : Call)
+    (ran : RanSeen (List Field)) : Type 0 where
   pub query : Parts
   pub accepted : Accepts source query call
   pub opened : Role → RoleState
   pub are_opened : AreOpened names call.under call.before opened
   pub outcome : Outcome
   pub status_of_outcome : status ≡ status_of_end (end_of limit outcome)
-  pub joins : Joins outcome query limit opened call.now call.old call.new
-  pub shows : ShowsJoin joins crew.cores crew.flight ran
-
--- A run made the join of a call whose pairs were written as they were met: under the accepted query, of the two streams from where
--- they were opened to where they stand now, into the output of the call; and the status is that of its outcome.
-pub record ShowsRawStreams (crew : Crew) (source : Source) (names : Names) (limit status : ℕ) (call : Call) (ran : RanSeen (List Field)) : Type 0 where
-  pub query : Parts
-  pub accepted : Accepts source query call
-  pub opened : Role → RoleState
-  pub are_opened : AreOpened names call.under call.before opened
-  pub outcome : Outcome
-  pub status_of_outcome : status ≡ status_of_end (end_of limit outcome)
-  pub joins : JoinsRaw outcome query limit opened call.now call.old call.new
-  pub shows : ShowsRaw joins crew.cores crew.flight ran
+  pub shows : ShowsKind kind crew outcome query limit opened call.now call.old call.new ran
 
 -- the roles of the two streams of a recipe, which stand in memory; nothing was read of them
 abbrev pub made_roles : Recipe → Role → RoleState
@@ -121,9 +118,7 @@ pub record ShowsMade (crew : Crew) (recipe : Recipe) (limit : ℕ) (ran : RanSee
 
 -- A run of this crew made the join of an order.
 abbrev pub ShowsOrder : Crew → Order → ℕ → Call → RanSeen (List Field) → Type 0
-ShowsOrder crew (join_streams pair_lines source names limit) status call ran = ShowsStreams crew source names limit status call ran
-ShowsOrder crew (join_streams raw_items source names limit) status call ran = ShowsRawStreams crew source names limit status call ran
-ShowsOrder crew (join_streams (step_lines chain rule) source names limit) status call ran = ⊥
+ShowsOrder crew (join_streams kind source names limit) status call ran = ShowsStreams kind crew source names limit status call ran
 ShowsOrder crew (check_trace chain name names limit) status call ran = ⊥
 ShowsOrder crew (check_query name) status call ran = ⊥
 ShowsOrder crew (sum_up recipe) status call ran = ShowsMade crew recipe most_events ran

@@ -4,7 +4,7 @@ use Rattle.std.specs.declared.option.Option.{Option}
 use Rattle.hj_crew.specs.declared.plan.CrewSize.{CrewSize}
 use Rattle.hj_opening.specs.Orders.{chain_seen, check_seen, join_seen}
 use Rattle.hj_opening.specs.RunTwice.{twice_names}
-use Rattle.hj_opening.specs.Words.{Order, check_query, join_twice, pair_lines, raw_items, step_lines, sum_up}
+use Rattle.hj_opening.specs.Words.{Order, TextKind, check_query, join_twice, pair_lines, raw_items, step_lines, sum_up}
 use Rattle.hj_app.specs.declared.plan.AloneOrder.{AloneOrder}
 use Rattle.hj_app.specs.declared.plan.AloneOrder.TheVariants as alone
 use Rattle.hj_app.specs.declared.plan.ThreadsOrder.{ThreadsOrder}
@@ -13,6 +13,8 @@ use Rattle.hj_app.specs.declared.plan.TwicePlan.{TwicePlan}
 use Rattle.hj_app.specs.declared.plan.TwicePlan.TheVariants as plan
 use Rattle.hj_app.specs.declared.plan.Turning.{Turning}
 use Rattle.hj_app.specs.declared.plan.Turning.TheVariants as turning
+use Rattle.hj_app.specs.declared.plan.Writing.{Writing}
+use Rattle.hj_app.specs.declared.plan.Writing.TheVariants as writing
 use Rattle.hj_app.specs.Crew.{Crew}
 use Rattle.hj_app.specs.Orders.{recipe_seen}
 use Rattle.hj_app.specs.Serial.{Serial}
@@ -21,9 +23,13 @@ abbrev pub asked_alone : AloneOrder → Order
 asked_alone (alone.Check name) = check_query name.now
 asked_alone (alone.Join join size chooser) = join_seen pair_lines join
 
+-- the kind of the text that a join on threads writes
+abbrev pub kind_of : Writing → TextKind
+kind_of writing.InOrder = pair_lines
+kind_of writing.AsMet = raw_items
+
 abbrev pub asked_threads : ThreadsOrder → Order
-asked_threads (threads.Join join) = join_seen pair_lines join
-asked_threads (threads.Raw join) = join_seen raw_items join
+asked_threads (threads.Join join written) = join_seen (kind_of written) join
 asked_threads (threads.Gen recipe) = sum_up (recipe_seen recipe)
 
 abbrev pub asked_turning : Turning → Order

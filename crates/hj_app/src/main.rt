@@ -35,7 +35,7 @@ mod word_tests;
 
 use hj_base::OpenGate;
 use hj_net::{Output, RealOutside, RealSink};
-use hj_notes::{Note, write_note};
+use hj_notes::{Note, Reason};
 use serve::{Parties, serve};
 use std::env;
 use std::io::ErrorKind;
@@ -50,7 +50,7 @@ fn main(rt: HostRuntime) -> ExitCode {
     let status = match run(rt, &rt) {
         Ok(status) => status,
         Err(note) => {
-            write_note(&mut errors, &note);
+            note.write(&mut errors);
             note.status()
         }
     };

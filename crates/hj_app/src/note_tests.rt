@@ -1,7 +1,7 @@
 //! Notes as they are written to a sink that takes a few bytes at a time.
 use hj_base::{MemSink, Side};
 use hj_event::RecordFault;
-use hj_notes::{Note, write_note};
+use hj_notes::{Note, Reason};
 use hj_record::PieceFault;
 
 #[test]
@@ -19,7 +19,7 @@ fn writes_notes(rt: HostRuntime) {
     ];
     for (note, text) in table {
         let mut notes = MemSink::new(rt.alloc(), 5);
-        write_note(&mut notes, &note);
-        assert_eq!(rt; notes.bytes(), text.as_bytes(), "at {text}");
+        note.write(&mut notes);
+        assert!(rt; notes.bytes() == text.as_bytes(), "at {text}");
     }
 }

@@ -53,11 +53,18 @@ pub enum AloneOrder<'a> {
 #[derive(Clone, Copy, Debug)]
 pub enum ThreadsOrder<'a> {
     /// A join of two streams.
-    Join(JoinOrder<'a>),
-    /// A join of two streams, whose pairs are written as they are met.
-    Raw(JoinOrder<'a>),
+    Join(JoinOrder<'a>, Writing),
     /// The summary of a join of two streams that are made.
     Gen(Recipe),
+}
+
+/// When a join on threads writes a pair.
+#[derive(Clone, Copy, Debug)]
+pub enum Writing {
+    /// In the order of the join.
+    InOrder,
+    /// As it is met, with marks between the pairs.
+    AsMet,
 }
 
 /// Who makes each of two joins in a row.
@@ -161,7 +168,7 @@ fn equi_turning<'a>(w: u32, left: &'a Name, right: &'a Name) -> Turning<'a>
 {
     let source = Source::Keyed(Keyed { rows: w });
     let join = join_of(source, left, right, MOST_EVENTS);
-    Turning::Threads(ThreadsOrder::Join(join), usual_size())
+    Turning::Threads(ThreadsOrder::Join(join, Writing::InOrder), usual_size())
 }
 
 /// Gives the one who makes a join whose pairs are written as they are met, with these numbers.
@@ -174,7 +181,7 @@ fn raw_turning<'a>(join: JoinOrder<'a>, setup: &Setup) -> Turning<'a>
     ensures threads { threads_turning result ≡ setup.now.threads }
     ensures serial { serial_turning result ≡ None }
 {
-    Turning::Threads(ThreadsOrder::Raw(join), crew_size(setup))
+    Turning::Threads(ThreadsOrder::Join(join, Writing::AsMet), crew_size(setup))
 }
 
 /// Gives the one who makes two streams of so many rows, and sums up their join.
@@ -221,7 +228,7 @@ fn join_turning<'a>(join: JoinOrder<'a>, setup: &Setup, schedule: Option<u64>) -
     ensures serial { serial_turning result ≡ serial_with setup.now schedule }
 {
     if setup.threads > 0 {
-        return Turning::Threads(ThreadsOrder::Join(join), crew_size(setup));
+        return Turning::Threads(ThreadsOrder::Join(join, Writing::InOrder), crew_size(setup));
     }
     Turning::Alone(AloneOrder::Join {
         join,

@@ -13,14 +13,14 @@ ghost use Rattle.hj_opening.specs.Words.{asked_by, order_of};
 
 use crate::ended::Ended;
 use crate::generate::generate;
-use crate::join::{join_on_threads, join_raw_on_threads};
+use crate::join::join_on_threads;
 use crate::plan::{ThreadsOrder, Turning};
 use crate::serial::serve_serial;
 use crate::trace::{check_trace, trace_join};
 use crate::twice::{join_in_row, mode_of};
 use hj_base::{Gate, Outside, Sink};
 use hj_crew::{CrewPlan, Ran};
-use hj_notes::{Note, report, report_twice, report_verify};
+use hj_notes::{Note, report};
 use hj_value::SharedRow;
 use hj_words::{Order, Usage, read_words};
 use std::alloc::Global;
@@ -140,11 +140,11 @@ fn serve_order<T: Threads + Wait + Clock + Sync, O: Outside, K: Sink, N: Sink, G
             ran: None,
         },
         Turning::Verify(check) => Served {
-            status: report_verify(notes, check_trace(alloc, check, outside)),
+            status: report(notes, check_trace(alloc, check, outside)),
             ran: None,
         },
         Turning::Twice(joins, plan) => Served {
-            status: report_twice(
+            status: report(
                 notes,
                 join_in_row(alloc, joins, &mode_of(plan, parties), outside, out),
             ),
@@ -167,8 +167,9 @@ fn run_on_threads<T: Threads + Wait + Clock + Sync, O: Outside, K: Sink, G: Gate
         (K.faults out.old) (K.faults out.new)) }
 {
     match order {
-        ThreadsOrder::Join(join) => join_on_threads(alloc, join, plan, outside, out),
-        ThreadsOrder::Raw(join) => join_raw_on_threads(alloc, join, plan, outside, out),
+        ThreadsOrder::Join(join, writing) => {
+            join_on_threads(alloc, join, writing, plan, outside, out)
+        }
         ThreadsOrder::Gen(recipe) => generate(alloc, recipe, plan, out),
     }
 }

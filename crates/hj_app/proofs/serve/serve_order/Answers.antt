@@ -29,14 +29,14 @@ returns-in-Verify-clause-serves g c =
     let told = g.K.Sink.told c.args.out.now in
     let faults = g.K.Sink.faults c.args.out.now in
     let seen = call (g.O.Outside.under c.args.outside.now) (g.O.Outside.state c.args.outside.now) (g.O.Outside.state c.check_trace.new.outside) told told faults faults in
-    subst (λ (order : Order). Serves c.report_verify.result (Some order) seen (g.N.Sink.told c.args.notes.now) (g.N.Sink.told c.report_verify.new.notes) (g.N.Sink.refusals c.args.notes.now) (g.N.Sink.refusals c.report_verify.new.notes)) c.in-Verify.ensures.asked
-    (serves_check seen c.report_verify.result c.check_trace.result (check_seen c.in-Verify.check)
-    (g.N.Sink.told c.args.notes.now) (g.N.Sink.told c.report_verify.new.notes) (g.N.Sink.refusals c.args.notes.now) (g.N.Sink.refusals c.report_verify.new.notes)
-    c.report_verify.ensures.status (c.check_trace.ensures told faults) c.report_verify.ensures.note)
+    subst (λ (order : Order). Serves c.report-in-Verify.result (Some order) seen (g.N.Sink.told c.args.notes.now) (g.N.Sink.told c.report-in-Verify.new.notes) (g.N.Sink.refusals c.args.notes.now) (g.N.Sink.refusals c.report-in-Verify.new.notes)) c.in-Verify.ensures.asked
+    (serves_check seen c.report-in-Verify.result c.check_trace.result (check_seen c.in-Verify.check)
+    (g.N.Sink.told c.args.notes.now) (g.N.Sink.told c.report-in-Verify.new.notes) (g.N.Sink.refusals c.args.notes.now) (g.N.Sink.refusals c.report-in-Verify.new.notes)
+    c.report-in-Verify.ensures.status (c.check_trace.ensures told faults) c.report-in-Verify.ensures.note)
 
 pub returns-in-Twice-clause-serves : goal.returns-in-Twice-clause-serves
 returns-in-Twice-clause-serves g c =
     let seen = call (g.O.Outside.under c.args.outside.now) (g.O.Outside.state c.args.outside.now) (g.O.Outside.state c.join_in_row.new.outside) (g.K.Sink.told c.args.out.now) (g.K.Sink.told c.join_in_row.new.out) (g.K.Sink.faults c.args.out.now) (g.K.Sink.faults c.join_in_row.new.out) in
-    subst (λ (order : Order). Serves c.report_twice.result (Some order) seen (g.N.Sink.told c.args.notes.now) (g.N.Sink.told c.report_twice.new.notes) (g.N.Sink.refusals c.args.notes.now) (g.N.Sink.refusals c.report_twice.new.notes)) c.in-Twice.ensures.asked
-    (serves_twice seen c.report_twice.result c.join_in_row.result (twice_names c.in-Twice.joins) c.in-Twice.joins.limit (g.N.Sink.told c.args.notes.now) (g.N.Sink.told c.report_twice.new.notes) (g.N.Sink.refusals c.args.notes.now) (g.N.Sink.refusals c.report_twice.new.notes)
-    c.report_twice.ensures.status c.join_in_row.ensures c.report_twice.ensures.note)
+    subst (λ (order : Order). Serves c.report-in-Twice.result (Some order) seen (g.N.Sink.told c.args.notes.now) (g.N.Sink.told c.report-in-Twice.new.notes) (g.N.Sink.refusals c.args.notes.now) (g.N.Sink.refusals c.report-in-Twice.new.notes)) c.in-Twice.ensures.asked
+    (serves_twice seen c.report-in-Twice.result c.join_in_row.result (twice_names c.in-Twice.joins) c.in-Twice.joins.limit (g.N.Sink.told c.args.notes.now) (g.N.Sink.told c.report-in-Twice.new.notes) (g.N.Sink.refusals c.args.notes.now) (g.N.Sink.refusals c.report-in-Twice.new.notes)
+    c.report-in-Twice.ensures.status c.join_in_row.ensures c.report-in-Twice.ensures.note)
