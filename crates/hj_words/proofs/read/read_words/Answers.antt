@@ -1,4 +1,4 @@
-use Rattle.std.proofs.Common.{◌≡◌, Option, Some, None, IfErr, IfOk, map, string_bytes, rules, subst, sym, ◌∙◌}
+use Rattle.std.proofs.Common.{◌≡◌, Option, Some, None, IfErr, IfOk, string_bytes, rules, subst, sym, ◌∙◌}
 use Rattle.hj_words.specs.Verbs.{verb_of}
 use Rattle.hj_words.specs.declared.order.Order.{Order}
 use Rattle.hj_words.specs.declared.order.Usage.TheVariants as usage
