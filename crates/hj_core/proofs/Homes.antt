@@ -1,11 +1,9 @@
 -- The rows of a core's stores are at their home.
-use Rattle.std.proofs.Common.{◌≡◌, ℕ, ◌==◌, Bool, true, false, cond, not, ◌||◌, List, [], ◌∷◌, Option, Some, None, nat_eq, refl, ap, ap₂, sym, ◌∙◌, subst, true≢false}
-use Rattle.std.specs.Option.{MatchOption}
+use Rattle.std.proofs.Common.{◌≡◌, ℕ, ◌==◌, Bool, true, false, cond, not, ◌||◌, List, [], ◌∷◌, nat_eq, refl, ap, ap₂, sym, ◌∙◌, true≢false}
 use Rattle.std.proofs.lemmas.List.Elements.{All-cons, All-filter, All-head, All-tail}
-use Rattle.hj_msg.specs.Core.{is_home, with_home_row}
+use Rattle.hj_msg.specs.Core.{is_home}
 use Rattle.hj_msg.specs.Store.{Resting, settled_if, with_entry, with_settled, without_entry}
-use Rattle.hj_core.specs.Contents.{AreAtHome}
-use Rattle.hj_core.specs.Ready.{IsReady}
+use Rattle.hj_core.specs.Homes.{AreAtHome}
 use Rattle.std.proofs.lemmas.Bool.{eqb-true}
 
 or-false : (b : Bool) → (b || false) ≡ b
@@ -46,24 +44,9 @@ module _ {P : Type 0} (place n : ℕ) where
       go true later = All-cons Home entry entries here (All-tail Home other entries home)
       go false later = All-cons Home other (with_entry entry entries) (All-head Home other entries home) later
 
-  pub rested-home : (here : Bool) (entry : Resting P) → here ≡ is_home place n entry.no → (entries : List (Resting P)) → AreAtHome place n entries → AreAtHome place n (with_home_row here entry entries)
-  rested-home true entry is entries home = entered-home entry (sym is) entries home
-  rested-home false entry is entries home = home
-
   pub settled-home : (at : ℕ) (entries : List (Resting P)) → AreAtHome place n entries → AreAtHome place n (with_settled at entries)
   settled-home at [] home = home
   settled-home at (entry ∷ entries) home = All-cons Home (settled_if at entry) (with_settled at entries) (All-head Home entry entries home) (settled-home at entries (All-tail Home entry entries home))
 
   pub removed-home : (at : ℕ) (entries : List (Resting P)) → AreAtHome place n entries → AreAtHome place n (without_entry at entries)
   removed-home at entries home = All-filter (λ entry. not (nat_eq entry.no at)) Home entries home
-
-  must-be : (row other : P) (Place : Type 0) (here : Bool) → IsReady here row Place (Some other) → here ≡ true
-  must-be row other Place true ready = refl
-  must-be row other Place false ready = absurd (let e : Some other ≡ None = ready in cc)
-
-  -- a row that rests, if this is its home
-  pub ready-home : (at : ℕ) (row : P) (Place : Type 0) (settled here : Bool) (resting : Option P) (old new : List (Resting P)) → here ≡ is_home place n at → IsReady here row Place resting
-      → MatchOption resting (new ≡ old) (λ other. new ≡ with_entry (record { no = at; row = other; settled = settled }) old) → AreAtHome place n old → AreAtHome place n new
-  ready-home at row Place settled here None old new is ready kept home = subst (AreAtHome place n) (sym kept) home
-  ready-home at row Place settled here (Some other) old new is ready kept home =
-      subst (AreAtHome place n) (sym kept) (entered-home (record { no = at; row = other; settled = settled }) (sym is ∙ must-be row other Place here ready) old home)

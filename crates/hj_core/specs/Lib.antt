@@ -2,6 +2,8 @@ pub mod Buffer
 pub mod Contents
 pub mod Homes
 pub mod Order
+pub mod Passing
 pub mod Prepared
 pub mod Ready
+pub mod Rows
 pub mod Sent

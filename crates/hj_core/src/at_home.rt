@@ -1,10 +1,12 @@
-ghost use Rattle.std.specs.Prelude.{◌≡◌, ◌↔◌, false, OnErr, OnOk, IfOk, MatchOption};
+ghost use Rattle.std.specs.Prelude.{◌≡◌, ◌↔◌, ℕ, true, OnErr, OnOk, IfOk, MatchOption};
 ghost use Rattle.std.specs.Option.{ForSome};
 ghost use Rattle.hj_base.specs.declared.numbers.Side.{Side as Sides};
-ghost use Rattle.hj_msg.specs.Core.{with_home_row};
+ghost use Rattle.hj_msg.specs.Core.{is_home, with_home_row};
 ghost use Rattle.hj_msg.specs.Store.{with_entry, with_settled, without_entry};
+ghost use Rattle.hj_core.specs.Homes.{AreAtHome};
 ghost use Rattle.hj_core.specs.Ready.{IsReady};
 
+use crate::place::Place;
 use hj_base::{EventNo, Memory, Share};
 use hj_msg::{Join, Store};
 
@@ -12,15 +14,15 @@ use hj_msg::{Join, Store};
 #[inline(always)]
 pub(crate) fn share_at_home<P: Share + Drop, J: Join<P>, S: Store<P, J>>(
     store: &mut S,
-    home: bool,
+    place: &Place,
     no: EventNo,
     row: &P,
 ) -> Result<Option<P>, Memory>
     ensures entries { S.entries store.new ≡ S.entries store.old }
     ensures suits { (side : Sides) (join : J) → S.suits store.new side join ↔ S.suits store.old side join }
-    ensures ready { IfOk result (IsReady home row.now (S.has_place store.new no.0 row.now)) }
+    ensures ready { IfOk result (IsReady (is_home place.now.place place.now.cores no.0) row.now (S.has_place store.new no.0 row.now)) }
 {
-    if home {
+    if place.is_home(no) {
         store.reserve(no, row)?;
         Ok(Some(row.share()?))
     } else {
@@ -39,6 +41,8 @@ pub(crate) fn rest_at_home<P: Drop, J: Join<P>, S: Store<P, J>>(
     requires { ForSome resting (S.has_place store.old no.0) }
     ensures entries { MatchOption resting (S.entries store.new ≡ S.entries store.old)
         (λ row. S.entries store.new ≡ with_entry (record { no = no.0; row = row; settled = settled }) (S.entries store.old)) }
+    ensures home { (place cores : ℕ) → ForSome resting (λ row. is_home place cores no.0 ≡ true)
+        → AreAtHome place cores (S.entries store.old) → AreAtHome place cores (S.entries store.new) }
     ensures suits { (side : Sides) (join : J) → S.suits store.new side join ↔ S.suits store.old side join }
 {
     if let Some(row) = resting {
@@ -50,16 +54,18 @@ pub(crate) fn rest_at_home<P: Drop, J: Join<P>, S: Store<P, J>>(
 #[inline(always)]
 pub(crate) fn keep_at_home<P: Share + Drop, J: Join<P>, S: Store<P, J>>(
     store: &mut S,
-    home: bool,
+    place: &Place,
     no: EventNo,
     row: &P,
     settled: bool,
 ) -> Result<(), Memory>
-    ensures entries { OnOk result (S.entries store.new ≡ with_home_row home (record { no = no.0; row = row.now; settled = settled }) (S.entries store.old)) }
+    requires { AreAtHome place.now.place place.now.cores (S.entries store.old) }
+    ensures entries { OnOk result (S.entries store.new ≡ with_home_row (is_home place.now.place place.now.cores no.0) (record { no = no.0; row = row.now; settled = settled }) (S.entries store.old)) }
     ensures unchanged { OnErr result (S.entries store.new ≡ S.entries store.old) }
+    ensures home { AreAtHome place.now.place place.now.cores (S.entries store.new) }
     ensures suits { (side : Sides) (join : J) → S.suits store.new side join ↔ S.suits store.old side join }
 {
-    if home {
+    if place.is_home(no) {
         let resting = row.share()?;
         store.reserve(no, row)?;
         store.insert(no, resting, settled);
@@ -67,34 +73,36 @@ pub(crate) fn keep_at_home<P: Share + Drop, J: Join<P>, S: Store<P, J>>(
     Ok(())
 }
 
-/// Settles the row of a number in a store, which has none elsewhere than at its home.
+/// Settles the row of a number in a store, which has none but those whose home is here.
 #[inline(always)]
 pub(crate) fn settle_at_home<P: Drop, J: Join<P>, S: Store<P, J>>(
     store: &mut S,
-    home: bool,
+    place: &Place,
     no: EventNo,
 )
-    requires { home ≡ false → with_settled no.0 (S.entries store.old) ≡ S.entries store.old }
+    requires { AreAtHome place.now.place place.now.cores (S.entries store.old) }
     ensures entries { S.entries store.new ≡ with_settled no.0 (S.entries store.old) }
+    ensures home { AreAtHome place.now.place place.now.cores (S.entries store.new) }
     ensures suits { (side : Sides) (join : J) → S.suits store.new side join ↔ S.suits store.old side join }
 {
-    if home {
+    if place.is_home(no) {
         store.settle(no);
     }
 }
 
-/// Removes the row of a number from a store, which has none elsewhere than at its home.
+/// Removes the row of a number from a store, which has none but those whose home is here.
 #[inline(always)]
 pub(crate) fn remove_at_home<P: Drop, J: Join<P>, S: Store<P, J>>(
     store: &mut S,
-    home: bool,
+    place: &Place,
     no: EventNo,
 )
-    requires { home ≡ false → without_entry no.0 (S.entries store.old) ≡ S.entries store.old }
+    requires { AreAtHome place.now.place place.now.cores (S.entries store.old) }
     ensures entries { S.entries store.new ≡ without_entry no.0 (S.entries store.old) }
+    ensures home { AreAtHome place.now.place place.now.cores (S.entries store.new) }
     ensures suits { (side : Sides) (join : J) → S.suits store.new side join ↔ S.suits store.old side join }
 {
-    if home {
+    if place.is_home(no) {
         store.remove(no);
     }
 }

@@ -3,15 +3,17 @@
 #![tactic(auto)]
 
 mod at_home;
-mod cores;
 mod flight;
 mod flying;
 mod one_core;
+mod place;
 mod prepared;
+mod rows;
 mod sends;
 mod way;
 
 pub use one_core::Core;
 pub use prepared::Prepared;
+pub use rows::row_message;
 pub use sends::Sends;
 pub use way::Way;

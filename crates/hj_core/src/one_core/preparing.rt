@@ -2,18 +2,13 @@ ghost use Rattle.std.specs.Prelude.{◌≡◌, Some, IfOk};
 ghost use Rattle.hj_msg.specs.Core.{after, sends, report};
 ghost use Rattle.hj_msg.specs.declared.message.Msg.TheVariants.{R as LeftRow, S as RightRow};
 
-use super::{Core, keep_in_flight, quiet, share_in_flight};
+use super::{Core, keep_in_flight, share_in_flight};
 use crate::at_home::{rest_at_home, share_at_home};
 use crate::{Prepared, Sends};
 use hj_base::{EventNo, Memory, Share, Side};
 use hj_msg::{Join, Msg, Report, Store};
 
-impl<P: Share + Drop, J: Join<P> + Drop, L: Store<P, J> + Drop, R: Store<P, J> + Drop> Core<
-    P,
-    J,
-    L,
-    R,
-> {
+impl<P: Share + Drop, J: Join<P> + Drop, S: Store<P, J> + Drop> Core<P, J, S> {
     ghost use Rattle.hj_core.specs.Contents.{KeepsPlace, state_of};
     ghost use Rattle.hj_core.specs.Prepared.{IsPrepared};
     ghost use Rattle.hj_core.specs.Sent.{sent};
@@ -21,10 +16,10 @@ impl<P: Share + Drop, J: Join<P> + Drop, L: Store<P, J> + Drop, R: Store<P, J> +
     /// Takes all memory that a message needs, and finds the partners of its row. What the core holds stays the same.
     #[inline(always)]
     pub fn prepare(&mut self, msg: &Msg<P>) -> Result<Prepared<P>, Memory>
-        ensures state { state_of L.entries R.entries self.new ≡ state_of L.entries R.entries self.old }
+        ensures state { state_of S.entries self.new ≡ state_of S.entries self.old }
         ensures kept { KeepsPlace self.old self.new }
-        ensures prepared { IfOk result (IsPrepared (J.predicate self.new.join) self.new.place self.new.cores (state_of L.entries R.entries self.new)
-            (L.has_place self.new.left) (R.has_place self.new.right) self.new.flight.room msg.now) }
+        ensures prepared { IfOk result (IsPrepared (J.predicate self.new.join) self.new.place self.new.cores (state_of S.entries self.new)
+            (S.has_place self.new.left) (S.has_place self.new.right) self.new.flight.room msg.now) }
     {
         match msg {
             Msg::R { no, row } => self.prepare_left(*no, row),
@@ -37,11 +32,11 @@ impl<P: Share + Drop, J: Join<P> + Drop, L: Store<P, J> + Drop, R: Store<P, J> +
     /// memory.
     #[inline(always)]
     pub fn commit(&mut self, msg: Msg<P>, prepared: Prepared<P>) -> Sends<P>
-        requires { IsPrepared (J.predicate self.old.join) self.old.place self.old.cores (state_of L.entries R.entries self.old)
-            (L.has_place self.old.left) (R.has_place self.old.right) self.old.flight.room msg prepared }
-        ensures state { state_of L.entries R.entries self.new ≡ after self.old.place self.old.cores (state_of L.entries R.entries self.old) msg }
+        requires { IsPrepared (J.predicate self.old.join) self.old.place self.old.cores (state_of S.entries self.old)
+            (S.has_place self.old.left) (S.has_place self.old.right) self.old.flight.room msg prepared }
+        ensures state { state_of S.entries self.new ≡ after self.old.place self.old.cores (state_of S.entries self.old) msg }
         ensures sends { sent result ≡ sends self.old.place self.old.cores msg }
-        ensures report { result.entry ≡ report (J.predicate self.old.join) (state_of L.entries R.entries self.old) msg }
+        ensures report { result.entry ≡ report (J.predicate self.old.join) (state_of S.entries self.old) msg }
         ensures kept { KeepsPlace self.old self.new }
     {
         let entry = self.keep_prepared(&msg, prepared);
@@ -50,17 +45,16 @@ impl<P: Share + Drop, J: Join<P> + Drop, L: Store<P, J> + Drop, R: Store<P, J> +
 
     #[inline(always)]
     fn prepare_left(&mut self, no: EventNo, row: &P) -> Result<Prepared<P>, Memory>
-        ensures state { state_of L.entries R.entries self.new ≡ state_of L.entries R.entries self.old }
+        ensures state { state_of S.entries self.new ≡ state_of S.entries self.old }
         ensures kept { KeepsPlace self.old self.new }
-        ensures prepared { IfOk result (IsPrepared (J.predicate self.new.join) self.new.place self.new.cores (state_of L.entries R.entries self.new)
-            (L.has_place self.new.left) (R.has_place self.new.right) self.new.flight.room (LeftRow no row.now)) }
+        ensures prepared { IfOk result (IsPrepared (J.predicate self.new.join) self.new.place self.new.cores (state_of S.entries self.new)
+            (S.has_place self.new.left) (S.has_place self.new.right) self.new.flight.room (LeftRow no row.now)) }
     {
         let mut found = self.right.probe(Side::Right, row, &self.join)?;
         self.flight.add_partners(row, &self.join, &mut found)?;
-        let home = self.is_home(no);
         Ok(Prepared::Arrival {
             partners: found,
-            resting: share_at_home::<P, J, L>(&mut self.left, home, no, row)?,
+            resting: share_at_home::<P, J, S>(&mut self.left, &self.place, no, row)?,
             reported: row.share()?,
             flying: None,
         })
@@ -68,17 +62,16 @@ impl<P: Share + Drop, J: Join<P> + Drop, L: Store<P, J> + Drop, R: Store<P, J> +
 
     #[inline(always)]
     fn prepare_right(&mut self, no: EventNo, row: &P) -> Result<Prepared<P>, Memory>
-        ensures state { state_of L.entries R.entries self.new ≡ state_of L.entries R.entries self.old }
+        ensures state { state_of S.entries self.new ≡ state_of S.entries self.old }
         ensures kept { KeepsPlace self.old self.new }
-        ensures prepared { IfOk result (IsPrepared (J.predicate self.new.join) self.new.place self.new.cores (state_of L.entries R.entries self.new)
-            (L.has_place self.new.left) (R.has_place self.new.right) self.new.flight.room (RightRow no row.now)) }
+        ensures prepared { IfOk result (IsPrepared (J.predicate self.new.join) self.new.place self.new.cores (state_of S.entries self.new)
+            (S.has_place self.new.left) (S.has_place self.new.right) self.new.flight.room (RightRow no row.now)) }
     {
         let partners = self.left.probe(Side::Left, row, &self.join)?;
-        let home = self.is_home(no);
-        let first = self.is_first();
+        let first = self.place.is_first();
         Ok(Prepared::Arrival {
             partners,
-            resting: share_at_home::<P, J, R>(&mut self.right, home, no, row)?,
+            resting: share_at_home::<P, J, S>(&mut self.right, &self.place, no, row)?,
             flying: share_in_flight(&mut self.flight, first, row)?,
             reported: row.share()?,
         })
@@ -87,34 +80,25 @@ impl<P: Share + Drop, J: Join<P> + Drop, L: Store<P, J> + Drop, R: Store<P, J> +
     /// Handles a message for which `prepared` was made, and returns what is to be reported. The message isn't sent on.
     #[inline(always)]
     fn keep_prepared(&mut self, msg: &Msg<P>, prepared: Prepared<P>) -> Option<Report<P>>
-        requires { IsPrepared (J.predicate self.old.join) self.old.place self.old.cores (state_of L.entries R.entries self.old)
-            (L.has_place self.old.left) (R.has_place self.old.right) self.old.flight.room msg.now prepared }
-        ensures state { state_of L.entries R.entries self.new ≡ after self.old.place self.old.cores (state_of L.entries R.entries self.old) msg.now }
-        ensures report { result ≡ report (J.predicate self.old.join) (state_of L.entries R.entries self.old) msg.now }
+        requires { IsPrepared (J.predicate self.old.join) self.old.place self.old.cores (state_of S.entries self.old)
+            (S.has_place self.old.left) (S.has_place self.old.right) self.old.flight.room msg.now prepared }
+        ensures state { state_of S.entries self.new ≡ after self.old.place self.old.cores (state_of S.entries self.old) msg.now }
+        ensures report { result ≡ report (J.predicate self.old.join) (state_of S.entries self.old) msg.now }
         ensures kept { KeepsPlace self.old self.new }
     {
         match msg {
-            Msg::R { no, row } => return Some(self.commit_left(*no, row, prepared)),
-            Msg::S { no, row } => return Some(self.commit_right(*no, row, prepared)),
-            Msg::EndR(no) => self.settle_left(*no),
-            Msg::EndS(no) => self.settle_right(*no),
-            Msg::ExpR(no) => self.remove_left(*no),
-            Msg::ExpS(no) => self.remove_right(*no),
-            Msg::AckS(no) => self.flight.acknowledge(*no),
-            Msg::QuietL(no) => return Some(quiet(*no, Side::Left)),
-            Msg::QuietR(no) => return Some(quiet(*no, Side::Right)),
-            Msg::CloseL => return self.close_left(),
-            Msg::CloseR => return self.close_right(),
+            Msg::R { no, row } => Some(self.commit_left(*no, row, prepared)),
+            Msg::S { no, row } => Some(self.commit_right(*no, row, prepared)),
+            other => self.handle_other(other),
         }
-        None
     }
 
     #[inline(always)]
     fn commit_left(&mut self, no: EventNo, _row: &P, prepared: Prepared<P>) -> Report<P>
-        requires { IsPrepared (J.predicate self.old.join) self.old.place self.old.cores (state_of L.entries R.entries self.old)
-            (L.has_place self.old.left) (R.has_place self.old.right) self.old.flight.room (LeftRow no _row.now) prepared }
-        ensures state { state_of L.entries R.entries self.new ≡ after self.old.place self.old.cores (state_of L.entries R.entries self.old) (LeftRow no _row.now) }
-        ensures report { Some result ≡ report (J.predicate self.old.join) (state_of L.entries R.entries self.old) (LeftRow no _row.now) }
+        requires { IsPrepared (J.predicate self.old.join) self.old.place self.old.cores (state_of S.entries self.old)
+            (S.has_place self.old.left) (S.has_place self.old.right) self.old.flight.room (LeftRow no _row.now) prepared }
+        ensures state { state_of S.entries self.new ≡ after self.old.place self.old.cores (state_of S.entries self.old) (LeftRow no _row.now) }
+        ensures report { Some result ≡ report (J.predicate self.old.join) (state_of S.entries self.old) (LeftRow no _row.now) }
         ensures kept { KeepsPlace self.old self.new }
     {
         let Prepared::Arrival {
@@ -126,8 +110,8 @@ impl<P: Share + Drop, J: Join<P> + Drop, L: Store<P, J> + Drop, R: Store<P, J> +
         else {
             unreachable!()
         };
-        let last = self.is_last();
-        rest_at_home::<P, J, L>(&mut self.left, no, resting, last);
+        let last = self.place.is_last();
+        rest_at_home::<P, J, S>(&mut self.left, no, resting, last);
         Report::Handled {
             no,
             side: Side::Left,
@@ -138,10 +122,10 @@ impl<P: Share + Drop, J: Join<P> + Drop, L: Store<P, J> + Drop, R: Store<P, J> +
 
     #[inline(always)]
     fn commit_right(&mut self, no: EventNo, _row: &P, prepared: Prepared<P>) -> Report<P>
-        requires { IsPrepared (J.predicate self.old.join) self.old.place self.old.cores (state_of L.entries R.entries self.old)
-            (L.has_place self.old.left) (R.has_place self.old.right) self.old.flight.room (RightRow no _row.now) prepared }
-        ensures state { state_of L.entries R.entries self.new ≡ after self.old.place self.old.cores (state_of L.entries R.entries self.old) (RightRow no _row.now) }
-        ensures report { Some result ≡ report (J.predicate self.old.join) (state_of L.entries R.entries self.old) (RightRow no _row.now) }
+        requires { IsPrepared (J.predicate self.old.join) self.old.place self.old.cores (state_of S.entries self.old)
+            (S.has_place self.old.left) (S.has_place self.old.right) self.old.flight.room (RightRow no _row.now) prepared }
+        ensures state { state_of S.entries self.new ≡ after self.old.place self.old.cores (state_of S.entries self.old) (RightRow no _row.now) }
+        ensures report { Some result ≡ report (J.predicate self.old.join) (state_of S.entries self.old) (RightRow no _row.now) }
         ensures kept { KeepsPlace self.old self.new }
     {
         let Prepared::Arrival {
@@ -153,8 +137,8 @@ impl<P: Share + Drop, J: Join<P> + Drop, L: Store<P, J> + Drop, R: Store<P, J> +
         else {
             unreachable!()
         };
-        let first = self.is_first();
-        rest_at_home::<P, J, R>(&mut self.right, no, resting, first);
+        let first = self.place.is_first();
+        rest_at_home::<P, J, S>(&mut self.right, no, resting, first);
         keep_in_flight(&mut self.flight, no, flying);
         Report::Handled {
             no,
