@@ -194,24 +194,21 @@ put_in port p log = count p (puts (port_journal port log))
 abbrev pub came_out : {P : Type 0} → Side → (Msg P → Bool) → List (LogEntry P) → ℕ
 came_out port p log = count p (takes (port_journal port log))
 
--- What was put in and didn't come out is outstanding; and there is one close at each end at most.
+-- What was put in of a side and didn't come out is outstanding; and there is one close at most. Its rows go in at its own port, and
+-- so do its quiet events and its close; its expiries go in `there`, at the other one.
+pub record BalancedSide {P : Type 0} (a_row an_end an_expiry a_quiet a_close : Msg P → Bool) (here there : Side) (arrivals : List Arrival) (expiring quieted : List EventNo) (sent : Bool) (log : List (LogEntry P)) : Type 0 where
+  pub rows : put_in here a_row log ≤ waiting Row arrivals + came_out there a_row log
+  pub ends : put_in here a_row log ≤ waiting End arrivals + came_out here an_end log
+  pub expiries : put_in there an_expiry log ≤ length expiring + came_out here an_expiry log
+  pub quiets : put_in here a_quiet log ≤ length quieted + came_out there a_quiet log
+  pub close : put_in here a_close log ≤ cond sent 1 0
+  pub rising : IsRising arrivals
+  pub distinct : AreDistinct expiring
+  pub distinct_quiets : AreDistinct quieted
+
 pub record Balanced {P : Type 0} (driver : DriverState) (log : List (LogEntry P)) : Type 0 where
-  pub rows_left : put_in Left a_R log ≤ waiting Row driver.left_arrivals + came_out Right a_R log
-  pub ends_left : put_in Left a_R log ≤ waiting End driver.left_arrivals + came_out Left an_EndR log
-  pub rows_right : put_in Right an_S log ≤ waiting Row driver.right_arrivals + came_out Left an_S log
-  pub ends_right : put_in Right an_S log ≤ waiting End driver.right_arrivals + came_out Right an_EndS log
-  pub expiries_left : put_in Right an_ExpR log ≤ length driver.left_expiries + came_out Left an_ExpR log
-  pub expiries_right : put_in Left an_ExpS log ≤ length driver.right_expiries + came_out Right an_ExpS log
-  pub quiets_left : put_in Left a_QuietL log ≤ length driver.left_quiets + came_out Right a_QuietL log
-  pub quiets_right : put_in Right a_QuietR log ≤ length driver.right_quiets + came_out Left a_QuietR log
-  pub close_left : put_in Left a_CloseL log ≤ cond (is_sent driver.closes) 1 0
-  pub close_right : put_in Right a_CloseR log ≤ cond (is_sent driver.closes) 1 0
-  pub rising_left : IsRising driver.left_arrivals
-  pub rising_right : IsRising driver.right_arrivals
-  pub distinct_left : AreDistinct driver.left_expiries
-  pub distinct_right : AreDistinct driver.right_expiries
-  pub distinct_left_quiets : AreDistinct driver.left_quiets
-  pub distinct_right_quiets : AreDistinct driver.right_quiets
+  pub left : BalancedSide a_R an_EndR an_ExpR a_QuietL a_CloseL Left Right driver.left_arrivals driver.left_expiries driver.left_quiets (is_sent driver.closes) log
+  pub right : BalancedSide an_S an_EndS an_ExpS a_QuietR a_CloseR Right Left driver.right_arrivals driver.right_expiries driver.right_quiets (is_sent driver.closes) log
 
 module _ {P : Type 0} (log : List (LogEntry P)) (number : ℕ) (turn : DriverTurn P) where
   abbrev more : List (LogEntry P)
@@ -229,202 +226,89 @@ module _ {P : Type 0} (log : List (LogEntry P)) (number : ℕ) (turn : DriverTur
       ∙ ap (count p) (takes-append (port_journal port log) (entries number (took_at port turn) (sent_at port turn)) ∙ ap (λ ms. takes (port_journal port log) ++ ms) (takes-entries number (took_at port turn) (sent_at port turn)))
       ∙ count-append p (takes (port_journal port log)) (took_at port turn)
 
+  -- what is outstanding grows as much at least as what is put in, but for what comes out
+  module _ {a_row an_end an_expiry a_quiet a_close : Msg P → Bool} {here there : Side} {arrivals : List Arrival} {expiring quieted : List EventNo} {sent : Bool} (old : BalancedSide a_row an_end an_expiry a_quiet a_close here there arrivals expiring quieted sent log) where
+    moved : {arrivals' : List Arrival} {expiring' quieted' : List EventNo} {sent' : Bool}
+        → waiting Row arrivals + count a_row (sent_at here turn) ≤ waiting Row arrivals' + count a_row (took_at there turn)
+        → waiting End arrivals + count a_row (sent_at here turn) ≤ waiting End arrivals' + count an_end (took_at here turn)
+        → length expiring + count an_expiry (sent_at there turn) ≤ length expiring' + count an_expiry (took_at here turn)
+        → length quieted + count a_quiet (sent_at here turn) ≤ length quieted' + count a_quiet (took_at there turn)
+        → cond {A = ℕ} sent 1 0 + count a_close (sent_at here turn) ≤ cond {A = ℕ} sent' 1 0
+        → IsRising arrivals' → AreDistinct expiring' → AreDistinct quieted' → BalancedSide a_row an_end an_expiry a_quiet a_close here there arrivals' expiring' quieted' sent' more
+    moved rows ends expiries quiets close rising distinct distinct_quiets = record {
+      rows = omega (arith, old.rows, put_in-more here a_row, came_out-more there a_row, rows);
+      ends = omega (arith, old.ends, put_in-more here a_row, came_out-more here an_end, ends);
+      expiries = omega (arith, old.expiries, put_in-more there an_expiry, came_out-more here an_expiry, expiries);
+      quiets = omega (arith, old.quiets, put_in-more here a_quiet, came_out-more there a_quiet, quiets);
+      close = omega (arith, old.close, put_in-more here a_close, close);
+      rising = rising;
+      distinct = distinct;
+      distinct_quiets = distinct_quiets;
+    }
+
+    -- where nothing of the side is put in, all of it stays
+    stays-balanced : count a_row (sent_at here turn) ≡ 0 → count an_expiry (sent_at there turn) ≡ 0 → count a_quiet (sent_at here turn) ≡ 0 → count a_close (sent_at here turn) ≡ 0
+        → BalancedSide a_row an_end an_expiry a_quiet a_close here there arrivals expiring quieted sent more
+    stays-balanced rows expiries quiets close =
+        moved (omega (arith, rows)) (omega (arith, rows)) (omega (arith, expiries)) (omega (arith, quiets)) (omega (arith, close)) old.rising old.distinct old.distinct_quiets
+
 waiting-put : (departure : Departure) (arrivals : List Arrival) (at : EventNo) → waiting departure (arrivals ++ arrival_of at ∷ []) ≡ waiting departure arrivals + 1
 waiting-put departure arrivals at = count-append (is_waiting departure) arrivals (arrival_of at ∷ [])
 
-module _ {P : Type 0} (driver : DriverState) (log : List (LogEntry P)) (number : ℕ) (old : Balanced driver log) where
+module _ {P : Type 0} (driver : DriverState) (log : List (LogEntry P)) (number : ℕ) (old : Balanced {P = P} driver log) where
   pub balanced-receipt : (port : Side) (m : Msg P) → Balanced (after_take port m driver) (log ++ record { number = number; turn = receipt port m } ∷ [])
   balanced-receipt port m =
-      let put : (at : Side) (p : Msg P → Bool) → put_in at p (log ++ record { number = number; turn = receipt port m } ∷ []) ≡ put_in at p log + 0 = put_in-more log number (receipt port m) in
-      let came : (at : Side) (p : Msg P → Bool) → came_out at p (log ++ record { number = number; turn = receipt port m } ∷ []) ≡ came_out at p log + count p (only_at port at m) = came_out-more log number (receipt port m) in
       let sent : cond {A = ℕ} (is_sent (after_take port m driver).closes) 1 0 ≡ cond {A = ℕ} (is_sent driver.closes) 1 0 = ap (λ b. cond {A = ℕ} b 1 0) (sent-take port m driver.closes) in
       record {
-        rows_left = omega (arith, old.rows_left, put Left a_R, came Right a_R, left_rows driver.left_arrivals old.rising_left port m);
-        ends_left = omega (arith, old.ends_left, put Left a_R, came Left an_EndR, left_ends driver.left_arrivals old.rising_left port m);
-        rows_right = omega (arith, old.rows_right, put Right an_S, came Left an_S, right_rows driver.right_arrivals old.rising_right port m);
-        ends_right = omega (arith, old.ends_right, put Right an_S, came Right an_EndS, right_ends driver.right_arrivals old.rising_right port m);
-        expiries_left = omega (arith, old.expiries_left, put Right an_ExpR, came Left an_ExpR, left_expiries driver.left_expiries old.distinct_left port m);
-        expiries_right = omega (arith, old.expiries_right, put Left an_ExpS, came Right an_ExpS, right_expiries driver.right_expiries old.distinct_right port m);
-        quiets_left = omega (arith, old.quiets_left, put Left a_QuietL, came Right a_QuietL, left_quiets driver.left_quiets old.distinct_left_quiets port m);
-        quiets_right = omega (arith, old.quiets_right, put Right a_QuietR, came Left a_QuietR, right_quiets driver.right_quiets old.distinct_right_quiets port m);
-        close_left = omega (arith, old.close_left, put Left a_CloseL, sent);
-        close_right = omega (arith, old.close_right, put Right a_CloseR, sent);
-        distinct_left_quiets = left_quiets-distinct driver.left_quiets old.distinct_left_quiets port m;
-        distinct_right_quiets = right_quiets-distinct driver.right_quiets old.distinct_right_quiets port m;
-        rising_left = left_rising driver.left_arrivals old.rising_left port m;
-        rising_right = right_rising driver.right_arrivals old.rising_right port m;
-        distinct_left = left_distinct driver.left_expiries old.distinct_left port m;
-        distinct_right = right_distinct driver.right_expiries old.distinct_right port m;
+        left = moved log number (receipt port m) old.left (omega (arith, left_rows driver.left_arrivals old.left.rising port m)) (omega (arith, left_ends driver.left_arrivals old.left.rising port m)) (omega (arith, left_expiries driver.left_expiries old.left.distinct port m)) (omega (arith, left_quiets driver.left_quiets old.left.distinct_quiets port m)) (omega (arith, sent)) (left_rising driver.left_arrivals old.left.rising port m) (left_distinct driver.left_expiries old.left.distinct port m) (left_quiets-distinct driver.left_quiets old.left.distinct_quiets port m);
+        right = moved log number (receipt port m) old.right (omega (arith, right_rows driver.right_arrivals old.right.rising port m)) (omega (arith, right_ends driver.right_arrivals old.right.rising port m)) (omega (arith, right_expiries driver.right_expiries old.right.distinct port m)) (omega (arith, right_quiets driver.right_quiets old.right.distinct_quiets port m)) (omega (arith, sent)) (right_rising driver.right_arrivals old.right.rising port m) (right_distinct driver.right_expiries old.right.distinct port m) (right_quiets-distinct driver.right_quiets old.right.distinct_quiets port m);
       }
 
   pub balanced-closing : is_sent driver.closes ≡ false → Balanced (closed driver) (log ++ record { number = number; turn = closing } ∷ [])
   balanced-closing unsent =
-      let put = put_in-more log number (let turn : DriverTurn P = closing in turn) in
-      let came = came_out-more log number (let turn : DriverTurn P = closing in turn) in
       let sent : cond {A = ℕ} (is_sent driver.closes) 1 0 ≡ 0 = ap (λ b. cond {A = ℕ} b 1 0) unsent in
       record {
-        rows_left = omega (arith, old.rows_left, put Left a_R, came Right a_R);
-        ends_left = omega (arith, old.ends_left, put Left a_R, came Left an_EndR);
-        rows_right = omega (arith, old.rows_right, put Right an_S, came Left an_S);
-        ends_right = omega (arith, old.ends_right, put Right an_S, came Right an_EndS);
-        expiries_left = omega (arith, old.expiries_left, put Right an_ExpR, came Left an_ExpR);
-        expiries_right = omega (arith, old.expiries_right, put Left an_ExpS, came Right an_ExpS);
-        quiets_left = omega (arith, old.quiets_left, put Left a_QuietL, came Right a_QuietL);
-        quiets_right = omega (arith, old.quiets_right, put Right a_QuietR, came Left a_QuietR);
-        distinct_left_quiets = old.distinct_left_quiets;
-        distinct_right_quiets = old.distinct_right_quiets;
-        close_left = omega (arith, old.close_left, put Left a_CloseL, sent);
-        close_right = omega (arith, old.close_right, put Right a_CloseR, sent);
-        rising_left = old.rising_left;
-        rising_right = old.rising_right;
-        distinct_left = old.distinct_left;
-        distinct_right = old.distinct_right;
+        left = moved log number closing old.left (omega arith) (omega arith) (omega arith) (omega arith) (omega (arith, sent)) old.left.rising old.left.distinct old.left.distinct_quiets;
+        right = moved log number closing old.right (omega arith) (omega arith) (omega arith) (omega arith) (omega (arith, sent)) old.right.rising old.right.distinct old.right.distinct_quiets;
       }
 
   pub balanced-admission : (event : Event P) → IsNew event driver → Balanced (after_put event driver) (log ++ record { number = number; turn = admission event } ∷ [])
-  balanced-admission (Arrive at Left row) new =
-      let put = put_in-more log number (admission (Arrive at Left row)) in
-      let came = came_out-more log number (admission (Arrive at Left row)) in
-      record {
-        rows_left = omega (arith, old.rows_left, put Left a_R, came Right a_R, waiting-put Row driver.left_arrivals at);
-        ends_left = omega (arith, old.ends_left, put Left a_R, came Left an_EndR, waiting-put End driver.left_arrivals at);
-        rows_right = omega (arith, old.rows_right, put Right an_S, came Left an_S);
-        ends_right = omega (arith, old.ends_right, put Right an_S, came Right an_EndS);
-        expiries_left = omega (arith, old.expiries_left, put Right an_ExpR, came Left an_ExpR);
-        expiries_right = omega (arith, old.expiries_right, put Left an_ExpS, came Right an_ExpS);
-        quiets_left = omega (arith, old.quiets_left, put Left a_QuietL, came Right a_QuietL);
-        quiets_right = omega (arith, old.quiets_right, put Right a_QuietR, came Left a_QuietR);
-        distinct_left_quiets = old.distinct_left_quiets;
-        distinct_right_quiets = old.distinct_right_quiets;
-        close_left = omega (arith, old.close_left, put Left a_CloseL);
-        close_right = omega (arith, old.close_right, put Right a_CloseR);
-        rising_left = rising_push driver.left_arrivals (arrival_of at) old.rising_left new;
-        rising_right = old.rising_right;
-        distinct_left = old.distinct_left;
-        distinct_right = old.distinct_right;
-      }
-  balanced-admission (Arrive at Right row) new =
-      let put = put_in-more log number (admission (Arrive at Right row)) in
-      let came = came_out-more log number (admission (Arrive at Right row)) in
-      record {
-        rows_left = omega (arith, old.rows_left, put Left a_R, came Right a_R);
-        ends_left = omega (arith, old.ends_left, put Left a_R, came Left an_EndR);
-        rows_right = omega (arith, old.rows_right, put Right an_S, came Left an_S, waiting-put Row driver.right_arrivals at);
-        ends_right = omega (arith, old.ends_right, put Right an_S, came Right an_EndS, waiting-put End driver.right_arrivals at);
-        expiries_left = omega (arith, old.expiries_left, put Right an_ExpR, came Left an_ExpR);
-        expiries_right = omega (arith, old.expiries_right, put Left an_ExpS, came Right an_ExpS);
-        quiets_left = omega (arith, old.quiets_left, put Left a_QuietL, came Right a_QuietL);
-        quiets_right = omega (arith, old.quiets_right, put Right a_QuietR, came Left a_QuietR);
-        distinct_left_quiets = old.distinct_left_quiets;
-        distinct_right_quiets = old.distinct_right_quiets;
-        close_left = omega (arith, old.close_left, put Left a_CloseL);
-        close_right = omega (arith, old.close_right, put Right a_CloseR);
-        rising_left = old.rising_left;
-        rising_right = rising_push driver.right_arrivals (arrival_of at) old.rising_right new;
-        distinct_left = old.distinct_left;
-        distinct_right = old.distinct_right;
-      }
-  balanced-admission (Expire at Left of) new =
-      let put = put_in-more log number (admission (Expire at Left of)) in
-      let came = came_out-more log number (admission (Expire at Left of)) in
-      record {
-        rows_left = omega (arith, old.rows_left, put Left a_R, came Right a_R);
-        ends_left = omega (arith, old.ends_left, put Left a_R, came Left an_EndR);
-        rows_right = omega (arith, old.rows_right, put Right an_S, came Left an_S);
-        ends_right = omega (arith, old.ends_right, put Right an_S, came Right an_EndS);
-        expiries_left = omega (arith, old.expiries_left, put Right an_ExpR, came Left an_ExpR, length-append driver.left_expiries (of ∷ []));
-        expiries_right = omega (arith, old.expiries_right, put Left an_ExpS, came Right an_ExpS);
-        quiets_left = omega (arith, old.quiets_left, put Left a_QuietL, came Right a_QuietL);
-        quiets_right = omega (arith, old.quiets_right, put Right a_QuietR, came Left a_QuietR);
-        distinct_left_quiets = old.distinct_left_quiets;
-        distinct_right_quiets = old.distinct_right_quiets;
-        close_left = omega (arith, old.close_left, put Left a_CloseL);
-        close_right = omega (arith, old.close_right, put Right a_CloseR);
-        rising_left = old.rising_left;
-        rising_right = old.rising_right;
-        distinct_left = distinct_push driver.left_expiries of old.distinct_left new;
-        distinct_right = old.distinct_right;
-      }
-  balanced-admission (Expire at Right of) new =
-      let put = put_in-more log number (admission (Expire at Right of)) in
-      let came = came_out-more log number (admission (Expire at Right of)) in
-      record {
-        rows_left = omega (arith, old.rows_left, put Left a_R, came Right a_R);
-        ends_left = omega (arith, old.ends_left, put Left a_R, came Left an_EndR);
-        rows_right = omega (arith, old.rows_right, put Right an_S, came Left an_S);
-        ends_right = omega (arith, old.ends_right, put Right an_S, came Right an_EndS);
-        expiries_left = omega (arith, old.expiries_left, put Right an_ExpR, came Left an_ExpR);
-        expiries_right = omega (arith, old.expiries_right, put Left an_ExpS, came Right an_ExpS, length-append driver.right_expiries (of ∷ []));
-        quiets_left = omega (arith, old.quiets_left, put Left a_QuietL, came Right a_QuietL);
-        quiets_right = omega (arith, old.quiets_right, put Right a_QuietR, came Left a_QuietR);
-        distinct_left_quiets = old.distinct_left_quiets;
-        distinct_right_quiets = old.distinct_right_quiets;
-        close_left = omega (arith, old.close_left, put Left a_CloseL);
-        close_right = omega (arith, old.close_right, put Right a_CloseR);
-        rising_left = old.rising_left;
-        rising_right = old.rising_right;
-        distinct_left = old.distinct_left;
-        distinct_right = distinct_push driver.right_expiries of old.distinct_right new;
-      }
-  balanced-admission (Quiet at Left) new =
-      let put = put_in-more log number (admission (Quiet at Left)) in
-      let came = came_out-more log number (admission (Quiet at Left)) in
-      record {
-        rows_left = omega (arith, old.rows_left, put Left a_R, came Right a_R);
-        ends_left = omega (arith, old.ends_left, put Left a_R, came Left an_EndR);
-        rows_right = omega (arith, old.rows_right, put Right an_S, came Left an_S);
-        ends_right = omega (arith, old.ends_right, put Right an_S, came Right an_EndS);
-        expiries_left = omega (arith, old.expiries_left, put Right an_ExpR, came Left an_ExpR);
-        expiries_right = omega (arith, old.expiries_right, put Left an_ExpS, came Right an_ExpS);
-        quiets_left = omega (arith, old.quiets_left, put Left a_QuietL, came Right a_QuietL, length-append driver.left_quiets (at ∷ []));
-        quiets_right = omega (arith, old.quiets_right, put Right a_QuietR, came Left a_QuietR);
-        close_left = omega (arith, old.close_left, put Left a_CloseL);
-        close_right = omega (arith, old.close_right, put Right a_CloseR);
-        rising_left = old.rising_left;
-        rising_right = old.rising_right;
-        distinct_left = old.distinct_left;
-        distinct_right = old.distinct_right;
-        distinct_left_quiets = distinct_push driver.left_quiets at old.distinct_left_quiets new;
-        distinct_right_quiets = old.distinct_right_quiets;
-      }
-  balanced-admission (Quiet at Right) new =
-      let put = put_in-more log number (admission (Quiet at Right)) in
-      let came = came_out-more log number (admission (Quiet at Right)) in
-      record {
-        rows_left = omega (arith, old.rows_left, put Left a_R, came Right a_R);
-        ends_left = omega (arith, old.ends_left, put Left a_R, came Left an_EndR);
-        rows_right = omega (arith, old.rows_right, put Right an_S, came Left an_S);
-        ends_right = omega (arith, old.ends_right, put Right an_S, came Right an_EndS);
-        expiries_left = omega (arith, old.expiries_left, put Right an_ExpR, came Left an_ExpR);
-        expiries_right = omega (arith, old.expiries_right, put Left an_ExpS, came Right an_ExpS);
-        quiets_left = omega (arith, old.quiets_left, put Left a_QuietL, came Right a_QuietL);
-        quiets_right = omega (arith, old.quiets_right, put Right a_QuietR, came Left a_QuietR, length-append driver.right_quiets (at ∷ []));
-        close_left = omega (arith, old.close_left, put Left a_CloseL);
-        close_right = omega (arith, old.close_right, put Right a_CloseR);
-        rising_left = old.rising_left;
-        rising_right = old.rising_right;
-        distinct_left = old.distinct_left;
-        distinct_right = old.distinct_right;
-        distinct_left_quiets = old.distinct_left_quiets;
-        distinct_right_quiets = distinct_push driver.right_quiets at old.distinct_right_quiets new;
-      }
+  balanced-admission (Arrive at Left row) new = record {
+    left = moved log number (admission (Arrive at Left row)) old.left (omega (arith, waiting-put Row driver.left_arrivals at)) (omega (arith, waiting-put End driver.left_arrivals at)) (omega arith) (omega arith) (omega arith) (rising_push driver.left_arrivals (arrival_of at) old.left.rising new) old.left.distinct old.left.distinct_quiets;
+    right = stays-balanced log number (admission (Arrive at Left row)) old.right refl refl refl refl;
+  }
+  balanced-admission (Arrive at Right row) new = record {
+    left = stays-balanced log number (admission (Arrive at Right row)) old.left refl refl refl refl;
+    right = moved log number (admission (Arrive at Right row)) old.right (omega (arith, waiting-put Row driver.right_arrivals at)) (omega (arith, waiting-put End driver.right_arrivals at)) (omega arith) (omega arith) (omega arith) (rising_push driver.right_arrivals (arrival_of at) old.right.rising new) old.right.distinct old.right.distinct_quiets;
+  }
+  balanced-admission (Expire at Left of) new = record {
+    left = moved log number (admission (Expire at Left of)) old.left (omega arith) (omega arith) (omega (arith, length-append driver.left_expiries (of ∷ []))) (omega arith) (omega arith) old.left.rising (distinct_push driver.left_expiries of old.left.distinct new) old.left.distinct_quiets;
+    right = stays-balanced log number (admission (Expire at Left of)) old.right refl refl refl refl;
+  }
+  balanced-admission (Expire at Right of) new = record {
+    left = stays-balanced log number (admission (Expire at Right of)) old.left refl refl refl refl;
+    right = moved log number (admission (Expire at Right of)) old.right (omega arith) (omega arith) (omega (arith, length-append driver.right_expiries (of ∷ []))) (omega arith) (omega arith) old.right.rising (distinct_push driver.right_expiries of old.right.distinct new) old.right.distinct_quiets;
+  }
+  balanced-admission (Quiet at Left) new = record {
+    left = moved log number (admission (Quiet at Left)) old.left (omega arith) (omega arith) (omega arith) (omega (arith, length-append driver.left_quiets (at ∷ []))) (omega arith) old.left.rising old.left.distinct (distinct_push driver.left_quiets at old.left.distinct_quiets new);
+    right = stays-balanced log number (admission (Quiet at Left)) old.right refl refl refl refl;
+  }
+  balanced-admission (Quiet at Right) new = record {
+    left = stays-balanced log number (admission (Quiet at Right)) old.left refl refl refl refl;
+    right = moved log number (admission (Quiet at Right)) old.right (omega arith) (omega arith) (omega arith) (omega (arith, length-append driver.right_quiets (at ∷ []))) (omega arith) old.right.rising old.right.distinct (distinct_push driver.right_quiets at old.right.distinct_quiets new);
+  }
+
+side-begin : {P : Type 0} (a_row an_end an_expiry a_quiet a_close : Msg P → Bool) (here there : Side) → BalancedSide a_row an_end an_expiry a_quiet a_close here there [] [] [] false []
+side-begin a_row an_end an_expiry a_quiet a_close here there = record {
+  rows = omega arith;
+  ends = omega arith;
+  expiries = omega arith;
+  quiets = omega arith;
+  close = omega arith;
+  rising = tt;
+  distinct = tt;
+  distinct_quiets = tt;
+}
 
 pub balanced-begin : (P : Type 0) (flight : ℕ) → Balanced {P = P} (new_driver flight) []
-balanced-begin P flight = record {
-  rows_left = omega arith;
-  ends_left = omega arith;
-  rows_right = omega arith;
-  ends_right = omega arith;
-  expiries_left = omega arith;
-  expiries_right = omega arith;
-  quiets_left = omega arith;
-  quiets_right = omega arith;
-  distinct_left_quiets = tt;
-  distinct_right_quiets = tt;
-  close_left = omega arith;
-  close_right = omega arith;
-  rising_left = tt;
-  rising_right = tt;
-  distinct_left = tt;
-  distinct_right = tt;
-}
+balanced-begin P flight = record { left = side-begin a_R an_EndR an_ExpR a_QuietL a_CloseL Left Right; right = side-begin an_S an_EndS an_ExpS a_QuietR a_CloseR Right Left }

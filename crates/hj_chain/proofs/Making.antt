@@ -7,13 +7,13 @@ use Rattle.hj_core.specs.Contents as core
 use Rattle.hj_chain.specs.Placed.{ArePlaced}
 
 -- of n cores these are made, and those of the first `left` places are still to be made
-pub record Made {P J L R : Type 0} (view : core.Contents P J L R → step.State P) (join : J) (n left : ℕ) (cores : List (core.Contents P J L R)) : Type 0 where
+pub record Made {P J S : Type 0} (view : core.Contents P J S → step.State P) (join : J) (n left : ℕ) (cores : List (core.Contents P J S)) : Type 0 where
   pub counted : length cores + left ≡ n
   pub placed : ArePlaced join n left (reverse cores)
   pub empty : map view (reverse cores) ≡ replicate (length cores) step.empty_state
 
-module _ {P J L R : Type 0} (view : core.Contents P J L R → step.State P) (join : J) (n : ℕ) where
-  pub made-more : (old new : ℕ) (cores more : List (core.Contents P J L R)) (one : core.Contents P J L R) → Made view join n old cores → more ≡ cores ++ one ∷ [] → new + 1 ≡ old → one.place ≡ new → one.cores ≡ n → one.join ≡ join
+module _ {P J S : Type 0} (view : core.Contents P J S → step.State P) (join : J) (n : ℕ) where
+  pub made-more : (old new : ℕ) (cores more : List (core.Contents P J S)) (one : core.Contents P J S) → Made view join n old cores → more ≡ cores ++ one ∷ [] → new + 1 ≡ old → one.place ≡ new → one.cores ≡ n → one.join ≡ join
       → view one ≡ step.empty_state → Made view join n new more
   made-more old new cores more one made added less place all same empty =
       let first : reverse (cores ++ one ∷ []) ≡ one ∷ reverse cores = reverse-append cores (one ∷ []) in

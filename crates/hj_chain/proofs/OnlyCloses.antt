@@ -114,10 +114,10 @@ module _ {P : Type 0} (matches : P → P → Bool) (m most : ℕ) {schedule : Li
         quiets_right matches m most reached k within,
         ends_right matches m most reached k within,
         acks matches m most reached well k within,
-        b.rows_left,
-        b.ends_right,
-        b.expiries_right,
-        b.quiets_left,
+        b.left.rows,
+        b.right.ends,
+        b.right.expiries,
+        b.left.quiets,
         count-length (is_waiting Row) chain.driver.left_arrivals,
         count-length (is_waiting End) chain.driver.right_arrivals,
       )
@@ -134,10 +134,10 @@ module _ {P : Type 0} (matches : P → P → Bool) (m most : ℕ) {schedule : Li
         expiries_left matches m most reached k within,
         quiets_left matches m most reached k within,
         ends_left matches m most reached k within,
-        b.rows_right,
-        b.ends_left,
-        b.expiries_left,
-        b.quiets_right,
+        b.right.rows,
+        b.left.ends,
+        b.left.expiries,
+        b.right.quiets,
         count-length (is_waiting Row) chain.driver.right_arrivals,
         count-length (is_waiting End) chain.driver.left_arrivals,
       )
@@ -149,7 +149,7 @@ module _ {P : Type 0} (matches : P → P → Bool) (m most : ℕ) {schedule : Li
       omega (
         arith,
         few_under_way (sent_r matches m most r a_CloseL) (came_r matches m most r a_CloseL) (way_r matches m most r a_CloseL) (suc m) (passes_on matches m most r a_CloseL (λ j. CloseL_right j (suc m)) CloseL_goes) k within,
-        (balanced matches (suc m) most reached well).close_left,
+        (balanced matches (suc m) most reached well).left.close,
       )
 
   pub one_left : (k : ℕ) → k ≤ suc m → way_l matches m most reached a_CloseR k + came_l matches m most reached a_CloseR 0 ≤ cond (is_sent chain.driver.closes) 1 0
@@ -159,7 +159,7 @@ module _ {P : Type 0} (matches : P → P → Bool) (m most : ℕ) {schedule : Li
         arith,
         few_under_way_back (sent_l matches m most r a_CloseR) (came_l matches m most r a_CloseR) (way_l matches m most r a_CloseR) (suc m) (passes_back matches m most r a_CloseR (λ j. CloseR_left j (suc m)) CloseR_goes) k within,
         sent_last matches m most r a_CloseR,
-        (balanced matches (suc m) most reached well).close_right,
+        (balanced matches (suc m) most reached well).right.close,
       )
 
   -- a core that handled a close has it from the driver
@@ -175,6 +175,6 @@ module _ {P : Type 0} (matches : P → P → Bool) (m most : ℕ) {schedule : Li
           comes_right matches m most r a_CloseL k low CloseL_goes,
           each_r matches m most r a_CloseL k (omega (arith, low)),
           fewer_sent (sent_r matches m most r a_CloseL) (came_r matches m most r a_CloseL) (way_r matches m most r a_CloseL) (suc m) (passes_on matches m most r a_CloseL (λ j. CloseL_right j (suc m)) CloseL_goes) k (omega (arith, low)),
-          (balanced matches (suc m) most reached well).close_left,
+          (balanced matches (suc m) most reached well).left.close,
         ))
       ]

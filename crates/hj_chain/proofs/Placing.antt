@@ -11,26 +11,26 @@ use Rattle.hj_chain.specs.Placed.{ArePlaced}
 use Rattle.hj_chain.proofs.Places.{written, get_or-any}
 
 -- a core that keeps its place and its join
-pub record StandsAt {P J L R : Type 0} (join : J) (n at : ℕ) (one : core.Contents P J L R) : Type 0 where
+pub record StandsAt {P J S : Type 0} (join : J) (n at : ℕ) (one : core.Contents P J S) : Type 0 where
   pub place : one.place ≡ at
   pub cores : one.cores ≡ n
   pub join_is : one.join ≡ join
 
-pub placed-at : {P J L R : Type 0} (join : J) (n low : ℕ) (cores : List (core.Contents P J L R)) (i : ℕ) (one : core.Contents P J L R) → ArePlaced join n low cores → i < length cores → one ≡ get_or cores i one → StandsAt join n (low + i) one
+pub placed-at : {P J S : Type 0} (join : J) (n low : ℕ) (cores : List (core.Contents P J S)) (i : ℕ) (one : core.Contents P J S) → ArePlaced join n low cores → i < length cores → one ≡ get_or cores i one → StandsAt join n (low + i) one
 placed-at join n low [] i one all in_range at = absurd (omega (arith, in_range))
-placed-at {P} {J} {L} {R} join n low (first ∷ others) zero one all in_range at = record {
-  place = ap (λ (c : core.Contents P J L R). c.place) at ∙ all.0 ∙ omega arith;
-  cores = ap (λ (c : core.Contents P J L R). c.cores) at ∙ all.1;
-  join_is = ap (λ (c : core.Contents P J L R). c.join) at ∙ all.2;
+placed-at {P} {J} {S} join n low (first ∷ others) zero one all in_range at = record {
+  place = ap (λ (c : core.Contents P J S). c.place) at ∙ all.0 ∙ omega arith;
+  cores = ap (λ (c : core.Contents P J S). c.cores) at ∙ all.1;
+  join_is = ap (λ (c : core.Contents P J S). c.join) at ∙ all.2;
 }
 placed-at join n low (first ∷ others) (suc i) one all in_range at =
     let deeper = placed-at join n (low + 1) others i one all.3 (omega (arith, in_range)) at in
     record { place = deeper.place ∙ omega arith; cores = deeper.cores; join_is = deeper.join_is }
 
-pub keeps-place : {P J L R : Type 0} (join : J) (n at : ℕ) (one other : core.Contents P J L R) → StandsAt join n at one → core.KeepsPlace one other → StandsAt join n at other
+pub keeps-place : {P J S : Type 0} (join : J) (n at : ℕ) (one other : core.Contents P J S) → StandsAt join n at one → core.KeepsPlace one other → StandsAt join n at other
 keeps-place join n at one other stands keeps = record { place = keeps.place ∙ stands.place; cores = keeps.cores ∙ stands.cores; join_is = keeps.join ∙ stands.join_is }
 
-placed-set-from : {P J L R : Type 0} (join : J) (n low : ℕ) (cores : List (core.Contents P J L R)) (i : ℕ) (other : core.Contents P J L R) → ArePlaced join n low cores → StandsAt join n (low + i) other → ArePlaced join n low (set cores i other)
+placed-set-from : {P J S : Type 0} (join : J) (n low : ℕ) (cores : List (core.Contents P J S)) (i : ℕ) (other : core.Contents P J S) → ArePlaced join n low cores → StandsAt join n (low + i) other → ArePlaced join n low (set cores i other)
 placed-set-from join n low [] i other all stands = tt
 placed-set-from join n low (first ∷ others) zero other all stands = (stands.place ∙ omega arith, stands.cores, stands.join_is, all.3)
 placed-set-from join n low (first ∷ others) (suc i) other all stands =
@@ -41,7 +41,7 @@ length-written [] i x = refl
 length-written (y ∷ xs) zero x = refl
 length-written (y ∷ xs) (suc i) x = ap suc (length-written xs i x)
 
-pub placed-set : {P J L R : Type 0} (join : J) (cores : List (core.Contents P J L R)) (i : ℕ) (other : core.Contents P J L R) → ArePlaced join (length cores) 0 cores → StandsAt join (length cores) i other
+pub placed-set : {P J S : Type 0} (join : J) (cores : List (core.Contents P J S)) (i : ℕ) (other : core.Contents P J S) → ArePlaced join (length cores) 0 cores → StandsAt join (length cores) i other
     → ArePlaced join (length (set cores i other)) 0 (set cores i other)
 placed-set join cores i other all stands =
     subst (λ (m : ℕ). ArePlaced join m 0 (set cores i other)) (sym (length-written cores i other))
@@ -70,14 +70,14 @@ pub states-same : {X Y : Type 0} (f : X → Y) (xs : List X) (i : ℕ) (x y : X)
 states-same f xs i x y in_range at same = map-written f xs i y ∙ ap (set (map f xs) i) same ∙ set-same (map f xs) i (f x) (at-mapped f xs i x in_range at)
 
 -- What is known once a core has handled a message: what it sends and reports, its state, and that it stands where it stood.
-pub record Done {P J L R : Type 0} (predicate : J → P → P → Bool) (view : core.Contents P J L R → step.State P) (join : J) (cores : List (core.Contents P J L R)) (i : ℕ) (last : core.Contents P J L R) (message : Msg P)
+pub record Done {P J S : Type 0} (predicate : J → P → P → Bool) (view : core.Contents P J S → step.State P) (join : J) (cores : List (core.Contents P J S)) (i : ℕ) (last : core.Contents P J S) (message : Msg P)
     (to : step.Sends P) (entry : Option (Report P)) : Type 0 where
   pub sends_are : to ≡ step.sends i (length (map view cores)) message
   pub states : map view (set cores i last) ≡ changed_at i (λ state. step.after i (length (map view cores)) state message) (map view cores)
   pub entry_is : entry ≡ step.report (predicate join) (get_or (map view cores) i step.empty_state) message
   pub placed : ArePlaced join (length (set cores i last)) 0 (set cores i last)
 
-module _ {P J L R : Type 0} (predicate : J → P → P → Bool) (view : core.Contents P J L R → step.State P) (join : J) (cores : List (core.Contents P J L R)) (i : ℕ) (one mid : core.Contents P J L R)
+module _ {P J S : Type 0} (predicate : J → P → P → Bool) (view : core.Contents P J S → step.State P) (join : J) (cores : List (core.Contents P J S)) (i : ℕ) (one mid : core.Contents P J S)
     (placed : ArePlaced join (length cores) 0 cores) (low : i < length cores) (at : one ≡ get_or cores i one) (same : view mid ≡ view one) (keeps : core.KeepsPlace one mid) where
   stands_one : StandsAt join (length cores) i one
   stands_one = let found = placed-at join (length cores) 0 cores i one placed low at in record { place = found.place ∙ omega arith; cores = found.cores; join_is = found.join_is }
@@ -92,7 +92,7 @@ module _ {P J L R : Type 0} (predicate : J → P → P → Bool) (view : core.Co
   pub prepared-states : map view (set cores i mid) ≡ map view cores
   prepared-states = states-same view cores i one mid low at same
 
-  pub done : (last : core.Contents P J L R) (message : Msg P) (to : step.Sends P) (entry : Option (Report P)) → view last ≡ step.after mid.place mid.cores (view mid) message → to ≡ step.sends mid.place mid.cores message
+  pub done : (last : core.Contents P J S) (message : Msg P) (to : step.Sends P) (entry : Option (Report P)) → view last ≡ step.after mid.place mid.cores (view mid) message → to ≡ step.sends mid.place mid.cores message
       → entry ≡ step.report (predicate mid.join) (view mid) message → core.KeepsPlace mid last → Done predicate view join cores i last message to entry
   done last message to entry state sends report kept =
       let all : mid.cores ≡ length (map view cores) = stands_mid.cores ∙ sym (length-map cores view) in

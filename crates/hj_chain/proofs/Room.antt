@@ -35,7 +35,7 @@ module _ {P : Type 0} (matches : P → P → Bool) (m most : ℕ) {schedule : Li
   pub acks : (k : ℕ) → k ≤ suc m → way_r matches m most reached an_AckS k ≤ length chain.driver.right_arrivals
   acks k within = elim (acks_under_way matches m most reached k within) [
     | inl none ↦ omega (arith, none)
-    | inr few ↦ omega (arith, few, (balanced matches (suc m) most reached well).ends_right, count-length (is_waiting End) chain.driver.right_arrivals)
+    | inr few ↦ omega (arith, few, (balanced matches (suc m) most reached well).right.ends, count-length (is_waiting End) chain.driver.right_arrivals)
   ]
 
   few_rights : (k : ℕ) → k ≤ suc m → length (rights chain k) ≤ 2 * chain.driver.flight + 1
@@ -51,11 +51,11 @@ module _ {P : Type 0} (matches : P → P → Bool) (m most : ℕ) {schedule : Li
         closes_right matches m most reached k within,
         ends_right matches m most reached k within,
         acks k within,
-        b.rows_left,
-        b.ends_right,
-        b.expiries_right,
-        b.quiets_left,
-        b.close_left,
+        b.left.rows,
+        b.right.ends,
+        b.right.expiries,
+        b.left.quiets,
+        b.left.close,
         one_close (is_sent chain.driver.closes),
         count-length (is_waiting Row) chain.driver.left_arrivals,
         count-length (is_waiting End) chain.driver.right_arrivals,
@@ -74,11 +74,11 @@ module _ {P : Type 0} (matches : P → P → Bool) (m most : ℕ) {schedule : Li
         quiets_left matches m most reached k within,
         closes_left matches m most reached k within,
         ends_left matches m most reached k within,
-        b.rows_right,
-        b.ends_left,
-        b.expiries_left,
-        b.quiets_right,
-        b.close_right,
+        b.right.rows,
+        b.left.ends,
+        b.left.expiries,
+        b.right.quiets,
+        b.right.close,
         one_close (is_sent chain.driver.closes),
         count-length (is_waiting Row) chain.driver.right_arrivals,
         count-length (is_waiting End) chain.driver.left_arrivals,

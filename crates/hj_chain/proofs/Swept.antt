@@ -20,7 +20,7 @@ use Rattle.hj_chain.specs.declared.actor.Stepped.TheVariants.{Did, NotEnabled, M
 use Rattle.hj_chain.specs.declared.serial.Chooser.TheVariants as chooser
 use Rattle.hj_chain.specs.Chain.{ChainState, Contents, admit_cause}
 use Rattle.hj_chain.specs.Reached.{StandsFor}
-use Rattle.hj_chain.specs.Serial.{MayBeTried, RunsSerially, actors, chosen, from_place, in_turn, is_enabled, others, would_wait}
+use Rattle.hj_chain.specs.Serial.{MayBeTried, RunsAll, RunsSerially, actors, chosen, from_place, in_turn, is_enabled, others, would_wait}
 use Rattle.hj_chain.specs.Steps.{Gathers, GoesWith, IsGoing, Steps, asks, was_asked}
 use Rattle.hj_chain.specs.Sweep.{Collects, Drains, EndsCollecting, Puts, RunsOut, StandsThere, Sweeps, Tried}
 use Rattle.hj_chain.specs.Sweep as sweep
@@ -116,10 +116,8 @@ module _ {P J F D : Type 0} (gives : F → Given P → F → Type 0) (is_ready :
   Ended ended to new filled = (schedule : List Actor) (events : List (Event P)) (given : ℕ) → StandsFor predicate old schedule events given → RunsSerially gives is_ready takes predicate chooser.InTurn schedule events given old from unfilled ended new to filled
 
   -- The run ends so.
-  pub record Finishes (ended : Fin) (to : F) (new : Contents P J) (filled : D) : Type 0 where
-    pub runs : Ended ended to new filled
-    pub goes : GoesWith predicate new (state to)
-    pub join : new.join ≡ old.join
+  abbrev pub Finishes : Fin → F → Contents P J → D → Type 0
+  Finishes ended to new filled = RunsAll gives is_ready takes state predicate chooser.InTurn old from unfilled ended new to filled
 
   module _ (to : F) (at : ℕ) (now : Contents P J) (filled : D) (swept : Swept to at now filled) (actor : Actor) (there : StandsThere now at actor) (tried : MayBeTried at (is_ready to) now.state at) where
     swept-past : is_enabled now.state actor ≡ false → Swept to (at + 1) now filled

@@ -12,7 +12,7 @@ use Rattle.hj_msg.specs.declared.event.Pair.{Pair}
 use Rattle.hj_msg.specs.declared.feed.Given.{Given}
 use Rattle.hj_msg.specs.Drain.{Drainage, TakesAll}
 use Rattle.hj_msg.specs.Emission.{emitted}
-use Rattle.hj_msg.specs.Feed.{GoesOver, is_stop}
+use Rattle.hj_msg.specs.Feed.{FeedState, GoesOver, is_stop}
 use Rattle.hj_chain.specs.declared.actor.Actor.{Actor}
 use Rattle.hj_chain.specs.declared.actor.Actor.TheVariants.{Admit, PortLeft, PortRight, Core, Collect}
 use Rattle.hj_chain.specs.declared.actor.Stepped.TheVariants as stepped
@@ -23,7 +23,7 @@ use Rattle.hj_msg.specs.declared.fin.Fin.TheVariants as fin
 use Rattle.hj_chain.specs.Chain.{ChainState, Contents, cause}
 use Rattle.hj_chain.specs.Progress.{IsDone}
 use Rattle.hj_chain.specs.Reached.{StandsFor, collected_of, next_pair}
-use Rattle.hj_chain.specs.Steps.{Steps}
+use Rattle.hj_chain.specs.Steps.{GoesWith, Steps}
 
 abbrev pub core_no : ℕ → CoreNo
 core_no place = record { 0 = place }
@@ -174,3 +174,10 @@ pub record RunsSerially {P J F D : Type 0} (gives : F → Given P → F → Type
   pub ends : Ends ended pairs stands
   -- no step is made behind a pair that is refused
   pub last : ended ≡ fin.Refused → (made ≡ []) ⊎ LetsOut predicate schedule events given made taken (length pairs)
+
+-- A serial run ended so, for each schedule and the events that the chain stood for before it.
+pub record RunsAll {P J F D : Type 0} (gives : F → Given P → F → Type 0) (is_ready : F → Bool) (takes : D → Pair P → Drained → D → Type 0) (state : F → FeedState) (predicate : J → P → P → Bool) (rule : Chooser)
+    (old : Contents P J) (from : F) (unfilled : D) (ended : Fin) (new : Contents P J) (to : F) (filled : D) : Type 0 where
+  pub runs : (schedule : List Actor) (events : List (Event P)) (given : ℕ) → StandsFor predicate old schedule events given → RunsSerially gives is_ready takes predicate rule schedule events given old from unfilled ended new to filled
+  pub join : new.join ≡ old.join
+  pub goes : GoesWith predicate new (state to)

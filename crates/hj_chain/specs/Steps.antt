@@ -1,5 +1,5 @@
 -- What a step of an actor answers and does, and what a schedule of them does, as callers see it.
-use Rattle.std.specs.Prelude.{◌≡◌, ◌≤◌, ℕ, ◌+◌, ◌*◌, Bool, true, false, List, [], ◌∷◌, ◌++◌, length, None, Some, MatchBool, IfSome, IsPermutation}
+use Rattle.std.specs.Prelude.{◌≡◌, ◌≢◌, ◌≤◌, ℕ, ◌+◌, ◌*◌, Bool, true, false, List, [], ◌∷◌, ◌++◌, length, None, Some, MatchBool, IfSome, IsPermutation}
 use Rattle.std.specs.declared.option.Option.{Option}
 use Rattle.hj_base.specs.declared.numbers.Side.{Side}
 use Rattle.hj_base.specs.declared.numbers.Side.TheVariants.{Left, Right}
@@ -130,3 +130,14 @@ pub record Ran {P J F : Type 0} (gives : F → Given P → F → Type 0) (is_rea
 pub record HasRoom {P : Type 0} (chain : ChainState P) : Type 0 where
   pub rightwards : (k : ℕ) → k ≤ length chain.cores → length (link_at chain.links k).rightwards ≤ 2 * chain.driver.flight + 1
   pub leftwards : (k : ℕ) → k ≤ length chain.cores → length (link_at chain.links k).leftwards ≤ chain.driver.flight + 1
+
+-- What a step of an actor makes of a chain that goes with its feed: which step it is, and what the chain stands for behind it.
+pub record MakesStep {P J F : Type 0} (gives : F → Given P → F → Type 0) (is_ready : F → Bool) (state : F → FeedState) (predicate : J → P → P → Bool) (actor : Actor) (old : Contents P J) (from : F) (result : Stepped) (new : Contents P J) (to : F) : Type 0 where
+  pub step : Steps gives is_ready (predicate old.join) actor old.state from result new.state to
+  pub answers : was_asked actor old.state.next (is_ready from) result ≡ true → IfSome new.state.next (λ given. Answers given (state from) (state to))
+  pub join : new.join ≡ old.join
+  pub gathers : Gathers actor old result new
+  pub room : HasRoom new.state
+  pub goes : GoesWith predicate new (state to)
+  pub stands : (schedule : List Actor) (events : List (Event P)) (given : ℕ) → StandsFor predicate old schedule events given → result ≡ Did → StandsFurther gives predicate (schedule ++ actor ∷ []) events given from new to
+  pub stays : (schedule : List Actor) (events : List (Event P)) (given : ℕ) → StandsFor predicate old schedule events given → result ≢ Did → StandsFor predicate new schedule events given

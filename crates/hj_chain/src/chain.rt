@@ -1,5 +1,4 @@
-ghost use Rattle.std.specs.Prelude.{◌≡◌, ◌≢◌, ◌↔◌, true, ◌+◌, ◌<◌, ◌≤◌, ◌++◌, [], ◌∷◌, ℕ, false, List, length, map, replicate, option_to_list, Some, All, IfOk, IfSome, IfNone, IsPermutation, OnErr};
-ghost use Rattle.hj_base.specs.declared.numbers.Side.{Side as Sides};
+ghost use Rattle.std.specs.Prelude.{◌≡◌, ◌≢◌, ◌↔◌, true, ◌+◌, ◌<◌, ◌≤◌, ◌++◌, [], ◌∷◌, ℕ, false, List, length, map, replicate, option_to_list, Some, All, IfOk, IfSome, IfNone, IsPermutation, OnErr, OnOk};
 ghost use Rattle.hj_base.specs.declared.numbers.Side.TheVariants.{Left, Right};
 ghost use Rattle.hj_msg.specs.declared.event.Event.{Event};
 ghost use Rattle.hj_chain.specs.declared.actor.Actor.{Actor as Actors};
@@ -7,13 +6,14 @@ ghost use Rattle.hj_msg.specs.Core.{empty_state};
 ghost use Rattle.hj_msg.specs.Feed.{IsFresh, Answers, FeedState, GoesOver};
 ghost use Rattle.hj_msg.specs.GoesOn.{GoesOnWith};
 ghost use Rattle.hj_core.specs.Contents.{state_of};
-ghost use Rattle.hj_chain.specs.Placed.{ArePlaced};
+ghost use Rattle.hj_chain.specs.Placed.{ArePlaced, IsOneMore};
 ghost use Rattle.hj_chain.specs.Chain.{FeedAnswer, empty_chain, if_there};
 ghost use Rattle.hj_collect.specs.Collector.{nothing_taken};
 ghost use Rattle.hj_chain.specs.Reached.{StandsFor, next_pair};
 ghost use Rattle.hj_chain.specs.Progress.{IsDone};
-ghost use Rattle.hj_chain.specs.Steps.{at_port, GoesWith, Gathers, HasRoom, IsGoing, Ran, StandsFurther, Steps, StepsTo, Tells, was_asked};
+ghost use Rattle.hj_chain.specs.Steps.{at_port, GoesWith, Gathers, HasRoom, IsGoing, MakesStep, Ran, StandsFurther, Steps, StepsTo, Tells, was_asked};
 
+use self::surroundings::Surroundings;
 use crate::links::Links;
 use crate::reports::Reports;
 use crate::{Actor, NotNow, Stepped};
@@ -29,25 +29,26 @@ use std::mem;
 
 mod looks;
 mod serial;
+mod surroundings;
 mod sweep;
 mod turns;
 
 /// A chain of cores, with the driver at its ends. Its actors make their steps one at a time, in whatever order they are asked
 /// to, so that any interleaving of a run can be played.
 #[derive(Drop)]
-pub struct Chain<P, J: Join<P>, L: Store<P, J>, R: Store<P, J>> {
+pub struct Chain<P, J: Join<P>, S: Store<P, J>> {
     join: J,
     driver: Driver,
     next: Option<Given<P>>,
     links: Links<P>,
-    cores: Vec<Core<P, J, L, R>>,
+    cores: Vec<Core<P, J, S>>,
     reports: Reports<P>,
     collector: Collector,
     kept: Ordered<P>,
     over: bool,
 }
 
-impl<P, J: Join<P>, L: Store<P, J>, R: Store<P, J>> Model for Chain<P, J, L, R> {
+impl<P, J: Join<P>, S: Store<P, J>> Model for Chain<P, J, S> {
     ghost use Rattle.std.specs.Prelude.{◌≡◌, ◌≤◌, length, map};
     ghost use Rattle.hj_core.specs.Contents.{state_of};
     ghost use Rattle.hj_chain.specs.Chain.{Contents, capacity};
@@ -61,7 +62,7 @@ impl<P, J: Join<P>, L: Store<P, J>, R: Store<P, J>> Model for Chain<P, J, L, R> 
         driver = c.driver;
         next = c.next;
         links = c.links;
-        cores = map (state_of L.entries R.entries) c.cores.items;
+        cores = map (state_of S.entries) c.cores.items;
         reports = c.reports.queues;
         over = c.over;
       };
@@ -77,12 +78,7 @@ impl<P, J: Join<P>, L: Store<P, J>, R: Store<P, J>> Model for Chain<P, J, L, R> 
     } };
 }
 
-impl<P: Share + Drop, J: Join<P> + Drop, L: Store<P, J> + Drop, R: Store<P, J> + Drop> Chain<
-    P,
-    J,
-    L,
-    R,
-> {
+impl<P: Share + Drop, J: Join<P> + Drop, S: Store<P, J> + Drop> Chain<P, J, S> {
     ghost use Rattle.hj_msg.specs.declared.feed.Given.{Given};
     ghost use Rattle.hj_chain.specs.Chain.{Contents};
 
@@ -92,17 +88,17 @@ impl<P: Share + Drop, J: Join<P> + Drop, L: Store<P, J> + Drop, R: Store<P, J> +
     pub fn new<F: Feed<P>>(
         alloc: Global,
         join: J,
-        left: Vec<L>,
-        right: Vec<R>,
+        left: Vec<S>,
+        right: Vec<S>,
         flight: u16,
         feed: &mut F,
     ) -> Result<Self, Memory>
         requires cores { (1 ≤ length left.items) × (length left.items ≤ 64) × (length right.items ≡ length left.items) }
         requires flight { (1 ≤ flight) × (flight ≤ 256) }
-        requires left_empty { All (λ store. L.entries store ≡ []) left.items }
-        requires right_empty { All (λ store. R.entries store ≡ []) right.items }
-        requires left_suits { All (λ store. L.suits store Left join) left.items }
-        requires right_suits { All (λ store. R.suits store Right join) right.items }
+        requires left_empty { All (λ store. S.entries store ≡ []) left.items }
+        requires right_empty { All (λ store. S.entries store ≡ []) right.items }
+        requires left_suits { All (λ store. S.suits store Left join) left.items }
+        requires right_suits { All (λ store. S.suits store Right join) right.items }
         requires fresh { IsFresh (F.state feed.old) }
         ensures begins { IfOk result (λ chain. (first : Given P) × (chain ≡ record { join = join; state = empty_chain (length left.items) flight first; collector = nothing_taken (length left.items); kept = [] }) × F.gives feed.old first feed.new) }
         ensures goes { IfOk result (λ chain. GoesWith J.predicate chain (F.state feed.new)) }
@@ -116,13 +112,13 @@ impl<P: Share + Drop, J: Join<P> + Drop, L: Store<P, J> + Drop, R: Store<P, J> +
     fn of_cores<F: Feed<P>>(
         alloc: Global,
         join: J,
-        cores: Vec<Core<P, J, L, R>>,
+        cores: Vec<Core<P, J, S>>,
         flight: u16,
         feed: &mut F,
     ) -> Result<Self, Memory>
         requires cores { (1 ≤ length cores.items) × (length cores.items ≤ 64) }
         requires placed { ArePlaced join (length cores.items) 0 cores.items }
-        requires empty { map (state_of L.entries R.entries) cores.items ≡ replicate (length cores.items) empty_state }
+        requires empty { map (state_of S.entries) cores.items ≡ replicate (length cores.items) empty_state }
         requires flight { (1 ≤ flight) × (flight ≤ 256) }
         requires fresh { IsFresh (F.state feed.old) }
         ensures begins { IfOk result (λ chain. (first : Given P) × (chain ≡ record { join = join; state = empty_chain (length cores.items) flight first; collector = nothing_taken (length cores.items); kept = [] }) × F.gives feed.old first feed.new) }
@@ -130,20 +126,16 @@ impl<P: Share + Drop, J: Join<P> + Drop, L: Store<P, J> + Drop, R: Store<P, J> +
         ensures refused { OnErr result (feed.new ≡ feed.old) }
     {
         let count = cores.len();
-        let capacity = 2 * usize::from(flight) + 2;
-        let driver = Driver::new(alloc, count as u16, flight)?;
-        let links = Links::new(alloc, count, capacity)?;
-        let reports = Reports::new(alloc, count, capacity)?;
-        let collector = Collector::new(alloc, count as u16)?;
+        let around = Surroundings::new(alloc, count, flight)?;
         let kept = Ordered::new(alloc);
         Ok(Chain {
             join,
-            driver,
+            driver: around.driver,
             next: Some(feed.next()),
-            links,
+            links: around.links,
             cores,
-            reports,
-            collector,
+            reports: around.reports,
+            collector: around.collector,
             kept,
             over: false,
         })
@@ -183,16 +175,7 @@ impl<P: Share + Drop, J: Join<P> + Drop, L: Store<P, J> + Drop, R: Store<P, J> +
     ) -> Stepped
         requires goes { GoesWith J.predicate self.old (F.state feed.old) }
         requires going { self.old.state.over ≡ false }
-        ensures step { Steps F.gives F.ready (J.predicate self.old.join) actor self.old.state feed.old result self.new.state feed.new }
-        ensures answers { was_asked actor self.old.state.next (F.ready feed.old) result ≡ true → IfSome self.new.state.next (λ given. Answers given (F.state feed.old) (F.state feed.new)) }
-        ensures join { self.new.join ≡ self.old.join }
-        ensures gathers { Gathers actor self.old result self.new }
-        ensures room { HasRoom self.new.state }
-        ensures goes { GoesWith J.predicate self.new (F.state feed.new) }
-        ensures stands { (schedule : List Actors) (events : List (Event P)) (given : ℕ) → StandsFor J.predicate self.old schedule events given → result ≡ Stepped.Did
-            → StandsFurther F.gives J.predicate (schedule ++ actor ∷ []) events given feed.old self.new feed.new }
-        ensures stays { (schedule : List Actors) (events : List (Event P)) (given : ℕ) → StandsFor J.predicate self.old schedule events given → result ≢ Stepped.Did
-            → StandsFor J.predicate self.new schedule events given }
+        ensures { MakesStep F.gives F.ready F.state J.predicate actor self.old feed.old result self.new feed.new }
     {
         match actor {
             Actor::Admit => self.admit(feed),
@@ -370,20 +353,20 @@ fn next_if_there<P, F: Feed<P>>(feed: &mut F) -> Option<Given<P>>
 
 /// Makes a core for each two stores, each at its place. Stores are taken from the ends of their lists, so the last
 /// core is made first.
-fn placed_cores<P: Share + Drop, J: Join<P> + Drop, L: Store<P, J> + Drop, R: Store<P, J> + Drop>(
+fn placed_cores<P: Share + Drop, J: Join<P> + Drop, S: Store<P, J> + Drop>(
     alloc: Global,
     join: &J,
-    mut left: Vec<L>,
-    mut right: Vec<R>,
-) -> Result<Vec<Core<P, J, L, R>>, Memory>
+    mut left: Vec<S>,
+    mut right: Vec<S>,
+) -> Result<Vec<Core<P, J, S>>, Memory>
     requires few { length left.items ≤ 64 }
     requires same { length right.items ≡ length left.items }
-    requires left_empty { All (λ store. L.entries store ≡ []) left.items }
-    requires right_empty { All (λ store. R.entries store ≡ []) right.items }
-    requires left_suits { All (λ store. L.suits store Left join.now) left.items }
-    requires right_suits { All (λ store. R.suits store Right join.now) right.items }
+    requires left_empty { All (λ store. S.entries store ≡ []) left.items }
+    requires right_empty { All (λ store. S.entries store ≡ []) right.items }
+    requires left_suits { All (λ store. S.suits store Left join.now) left.items }
+    requires right_suits { All (λ store. S.suits store Right join.now) right.items }
     ensures placed { IfOk result (λ cores. ArePlaced join.now (length left.items) 0 cores.items) }
-    ensures empty { IfOk result (λ cores. map (state_of L.entries R.entries) cores.items ≡ replicate (length left.items) empty_state) }
+    ensures empty { IfOk result (λ cores. map (state_of S.entries) cores.items ≡ replicate (length left.items) empty_state) }
 {
     let count = left.len() as u16;
     let mut cores = Vec::with_capacity(alloc, left.len())?;
@@ -392,32 +375,39 @@ fn placed_cores<P: Share + Drop, J: Join<P> + Drop, L: Store<P, J> + Drop, R: St
             unreachable!()
         };
         let place = CoreNo(left.len() as u16);
-        let core = placed_core(alloc, join, left_store, right_store, place, count)?;
-        cores.push(core)?;
+        push_core(
+            alloc,
+            &mut cores,
+            join,
+            left_store,
+            right_store,
+            place,
+            count,
+        )?;
     }
     cores.reverse();
     Ok(cores)
 }
 
-/// Makes the core at a place, with these stores.
-fn placed_core<P: Share + Drop, J: Join<P> + Drop, L: Store<P, J> + Drop, R: Store<P, J> + Drop>(
+/// Adds the core at a place, with these stores of left and of right rows.
+fn push_core<P: Share + Drop, J: Join<P> + Drop, S: Store<P, J> + Drop>(
     alloc: Global,
+    made: &mut Vec<Core<P, J, S>>,
     join: &J,
-    left: L,
-    right: R,
+    left: S,
+    right: S,
     place: CoreNo,
     cores: u16,
-) -> Result<Core<P, J, L, R>, Memory>
+) -> Result<(), Memory>
     requires place { place.0 < cores }
     requires most { cores ≤ 64 }
-    requires left_empty { L.entries left ≡ [] }
-    requires right_empty { R.entries right ≡ [] }
-    requires left_suits { L.suits left Left join.now }
-    requires right_suits { R.suits right Right join.now }
-    ensures join { IfOk result (λ core. core.join ≡ join.now) }
-    ensures place { IfOk result (λ core. core.place ≡ place.0) }
-    ensures cores { IfOk result (λ core. core.cores ≡ cores) }
-    ensures empty { IfOk result (λ core. state_of L.entries R.entries core ≡ empty_state) }
+    requires left_empty { S.entries left ≡ [] }
+    requires right_empty { S.entries right ≡ [] }
+    requires left_suits { S.suits left Left join.now }
+    requires right_suits { S.suits right Right join.now }
+    ensures { OnOk result (IsOneMore (state_of S.entries) join.now place.0 cores made.old.items made.new.items) }
 {
-    Ok(Core::new(join.share()?, left, right, place, cores, alloc))
+    let core = Core::new(join.share()?, left, right, place, cores, alloc);
+    made.push(core)?;
+    Ok(())
 }

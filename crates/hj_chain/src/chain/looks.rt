@@ -9,12 +9,7 @@ use crate::Actor;
 use hj_base::{CoreNo, Share, Side};
 use hj_msg::{Given, Join, Msg, Report, Store};
 
-impl<P: Share + Drop, J: Join<P> + Drop, L: Store<P, J> + Drop, R: Store<P, J> + Drop> Chain<
-    P,
-    J,
-    L,
-    R,
-> {
+impl<P: Share + Drop, J: Join<P> + Drop, S: Store<P, J> + Drop> Chain<P, J, S> {
     /// Lends the feed's answer that the driver uses next; None where the driver asks the feed first.
     pub fn next_given(&self) -> Option<&Given<P>>
         ensures { option_copied result ≡ self.now.state.next }

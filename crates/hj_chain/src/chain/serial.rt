@@ -1,4 +1,4 @@
-ghost use Rattle.std.specs.Prelude.{◌≡◌, ◌↔◌, ◌⊎◌, ◌+◌, ◌-◌, ◌*◌, ◌%◌, ◌<◌, ◌≤◌, ◌++◌, true, false, ℕ, List, length, slice_get, is_none, take, drop, filter, Bool, IfSome, IfNone};
+ghost use Rattle.std.specs.Prelude.{◌≡◌, ◌↔◌, ◌⊎◌, ◌+◌, ◌-◌, ◌%◌, ◌<◌, ◌≤◌, ◌++◌, true, false, ℕ, List, length, slice_get, is_none, take, drop, filter, Bool};
 ghost use Rattle.hj_msg.specs.declared.event.Event.{Event};
 ghost use Rattle.hj_msg.specs.Feed.{FeedState, GoesOver};
 ghost use Rattle.hj_msg.specs.GoesOn.{GoesOnWith};
@@ -6,7 +6,7 @@ ghost use Rattle.hj_chain.specs.declared.actor.Actor.{Actor as Actors};
 ghost use Rattle.hj_chain.specs.Chain.{admit_cause};
 ghost use Rattle.hj_chain.specs.Progress.{IsDone};
 ghost use Rattle.hj_chain.specs.Reached.{StandsFor};
-ghost use Rattle.hj_chain.specs.Serial.{Releases, RunsSerially, actors, drawn_from, enabled, in_turn, is_enabled, would_wait};
+ghost use Rattle.hj_chain.specs.Serial.{Releases, RunsAll, RunsSerially, actors, drawn_from, enabled, in_turn, is_enabled, would_wait};
 ghost use Rattle.hj_chain.specs.Steps.{GoesWith};
 
 use super::sweep::Sweep;
@@ -15,12 +15,7 @@ use hj_base::{Gate, Lcg, Share, Side};
 use hj_driver::Closing;
 use hj_msg::{Drain, Drained, Feed, Fin, Given, Join, Store};
 
-impl<P: Share + Drop, J: Join<P> + Drop, L: Store<P, J> + Drop, R: Store<P, J> + Drop> Chain<
-    P,
-    J,
-    L,
-    R,
-> {
+impl<P: Share + Drop, J: Join<P> + Drop, S: Store<P, J> + Drop> Chain<P, J, S> {
     /// Returns how many actors are enabled: 0 exactly where the chain is done, or memory ran out in a step.
     pub fn enabled(&self) -> u32
         ensures count { result ≡ length (enabled self.now.state) }
@@ -91,10 +86,7 @@ impl<P: Share + Drop, J: Join<P> + Drop, L: Store<P, J> + Drop, R: Store<P, J> +
         gate: &G,
     ) -> Fin
         requires { GoesWith J.predicate self.old (F.state feed.old) }
-        ensures runs { (schedule : List Actors) (events : List (Event P)) (given : ℕ) → StandsFor J.predicate self.old schedule events given
-            → RunsSerially F.gives F.ready D.takes J.predicate Chooser.InTurn schedule events given self.old feed.old drain.old result self.new feed.new drain.new }
-        ensures join { self.new.join ≡ self.old.join }
-        ensures goes { GoesWith J.predicate self.new (F.state feed.new) }
+        ensures { RunsAll F.gives F.ready D.takes F.state J.predicate Chooser.InTurn self.old feed.old drain.old result self.new feed.new drain.new }
     {
         if self.release(drain) == Drained::Refused {
             return Fin::Refused;
@@ -129,10 +121,7 @@ impl<P: Share + Drop, J: Join<P> + Drop, L: Store<P, J> + Drop, R: Store<P, J> +
         gate: &G,
     ) -> Fin
         requires { GoesWith J.predicate self.old (F.state feed.old) }
-        ensures runs { (schedule : List Actors) (events : List (Event P)) (given : ℕ) → StandsFor J.predicate self.old schedule events given
-            → RunsSerially F.gives F.ready D.takes J.predicate (Chooser.Seeded seed) schedule events given self.old feed.old drain.old result self.new feed.new drain.new }
-        ensures join { self.new.join ≡ self.old.join }
-        ensures goes { GoesWith J.predicate self.new (F.state feed.new) }
+        ensures { RunsAll F.gives F.ready D.takes F.state J.predicate (Chooser.Seeded seed) self.old feed.old drain.old result self.new feed.new drain.new }
     {
         let mut lcg = Lcg::new(seed);
         let mut made: u64 = 0;

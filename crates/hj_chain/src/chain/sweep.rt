@@ -39,12 +39,7 @@ impl Sweep {
     }
 }
 
-impl<P: Share + Drop, J: Join<P> + Drop, L: Store<P, J> + Drop, R: Store<P, J> + Drop> Chain<
-    P,
-    J,
-    L,
-    R,
-> {
+impl<P: Share + Drop, J: Join<P> + Drop, S: Store<P, J> + Drop> Chain<P, J, S> {
     /// Begins a round with the driver's put; where it would wait, it is passed over if a step was made in the round before. Returns
     /// false where nothing was done in that round, nor now.
     #[inline(always)]

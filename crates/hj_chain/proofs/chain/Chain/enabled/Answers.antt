@@ -13,7 +13,7 @@ use Rattle.hj_chain.proofs.chain.Chain.enabled.Goals.{then-is_enabled, else-is_e
 
 pub overflow_add-count : goal.overflow_add-count
 overflow_add-count g c =
-    let n : c.len-cores.result ≡ length c.args.self.now.state.cores = (c.len-cores.ensures ∙ c.self.inside.cores.ok.0 ∙ sym (length-map c.self.inside.cores.items (state_of g.L.Store.entries g.R.Store.entries)) ∙ ap (λ (k : Contents g.row.P.Denot g.row.J.Denot). length k.state.cores) c.self.view_is) in
+    let n : c.len-cores.result ≡ length c.args.self.now.state.cores = (c.len-cores.ensures ∙ c.self.inside.cores.ok.0 ∙ sym (length-map c.self.inside.cores.items (state_of g.S.Store.entries)) ∙ ap (λ (k : Contents g.row.P.Denot g.row.J.Denot). length k.state.cores) c.self.view_is) in
     omega (
       arith,
       c.loop-place.invariant,
@@ -28,7 +28,7 @@ overflow_add-count g c =
 
 pub loop-place-preserved : goal.loop-place-preserved
 loop-place-preserved g c =
-    let n : c.len-cores.result ≡ length c.args.self.now.state.cores = (c.len-cores.ensures ∙ c.self.inside.cores.ok.0 ∙ sym (length-map c.self.inside.cores.items (state_of g.L.Store.entries g.R.Store.entries)) ∙ ap (λ (k : Contents g.row.P.Denot g.row.J.Denot). length k.state.cores) c.self.view_is) in
+    let n : c.len-cores.result ≡ length c.args.self.now.state.cores = (c.len-cores.ensures ∙ c.self.inside.cores.ok.0 ∙ sym (length-map c.self.inside.cores.items (state_of g.S.Store.entries)) ∙ ap (λ (k : Contents g.row.P.Denot g.row.J.Denot). length k.state.cores) c.self.view_is) in
     let all = actors (length c.args.self.now.state.cores) in
     let here : slice_get all c.loop-place.place ≡ Some c.at.result = subst (λ (m : ℕ). slice_get (actors m) c.loop-place.place ≡ Some c.at.result) n c.at.ensures.actor in
     elim c.if-is_enabled.branch [
@@ -51,7 +51,7 @@ loop-place-preserved g c =
 
 pub returns-clause-none : goal.returns-clause-none
 returns-clause-none g c = λ schedule events given stands.
-    let n : c.len-cores.result ≡ length c.args.self.now.state.cores = (c.len-cores.ensures ∙ c.self.inside.cores.ok.0 ∙ sym (length-map c.self.inside.cores.items (state_of g.L.Store.entries g.R.Store.entries)) ∙ ap (λ (k : Contents g.row.P.Denot g.row.J.Denot). length k.state.cores) c.self.view_is) in
+    let n : c.len-cores.result ≡ length c.args.self.now.state.cores = (c.len-cores.ensures ∙ c.self.inside.cores.ok.0 ∙ sym (length-map c.self.inside.cores.items (state_of g.S.Store.entries)) ∙ ap (λ (k : Contents g.row.P.Denot g.row.J.Denot). length k.state.cores) c.self.view_is) in
     let all = actors (length c.args.self.now.state.cores) in
     let whole : length all ≤ c.loop-place.place = omega (arith, c.loop-place.auto.place-end, c.count-place-end.ensures, ap (λ (m : ℕ). length (actors m)) n) in
     none_enabled g.J.Join.predicate c.args.self.now schedule events given stands

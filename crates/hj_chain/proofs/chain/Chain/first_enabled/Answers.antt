@@ -9,7 +9,7 @@ use Rattle.hj_chain.proofs.chain.Chain.first_enabled.Goals as goal
 
 pub returns-then-is_enabled : goal.returns-then-is_enabled
 returns-then-is_enabled g c =
-    let n : c.len-cores.result ≡ length c.args.self.now.state.cores = (c.len-cores.ensures ∙ c.self.inside.cores.ok.0 ∙ sym (length-map c.self.inside.cores.items (state_of g.L.Store.entries g.R.Store.entries)) ∙ ap (λ (k : Contents g.row.P.Denot g.row.J.Denot). length k.state.cores) c.self.view_is) in
+    let n : c.len-cores.result ≡ length c.args.self.now.state.cores = (c.len-cores.ensures ∙ c.self.inside.cores.ok.0 ∙ sym (length-map c.self.inside.cores.items (state_of g.S.Store.entries)) ∙ ap (λ (k : Contents g.row.P.Denot g.row.J.Denot). length k.state.cores) c.self.view_is) in
     let all = actors (length c.args.self.now.state.cores) in
     let test = is_enabled c.args.self.now.state in
     let i : ℕ = c.loop-place.place - c.args.from in
@@ -20,7 +20,7 @@ returns-then-is_enabled g c =
 
 pub loop-place-preserved : goal.loop-place-preserved
 loop-place-preserved g c =
-    let n : c.len-cores.result ≡ length c.args.self.now.state.cores = (c.len-cores.ensures ∙ c.self.inside.cores.ok.0 ∙ sym (length-map c.self.inside.cores.items (state_of g.L.Store.entries g.R.Store.entries)) ∙ ap (λ (k : Contents g.row.P.Denot g.row.J.Denot). length k.state.cores) c.self.view_is) in
+    let n : c.len-cores.result ≡ length c.args.self.now.state.cores = (c.len-cores.ensures ∙ c.self.inside.cores.ok.0 ∙ sym (length-map c.self.inside.cores.items (state_of g.S.Store.entries)) ∙ ap (λ (k : Contents g.row.P.Denot g.row.J.Denot). length k.state.cores) c.self.view_is) in
     let all = actors (length c.args.self.now.state.cores) in
     let i : ℕ = c.loop-place.place - c.args.from in
     let here : slice_get all c.loop-place.place ≡ Some c.at-actor.result = subst (λ (m : ℕ). slice_get (actors m) c.loop-place.place ≡ Some c.at-actor.result) n c.at-actor.ensures.actor in

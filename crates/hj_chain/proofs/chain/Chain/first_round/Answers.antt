@@ -10,7 +10,7 @@ use Rattle.hj_chain.proofs.chain.Chain.first_round.Goals as goal
 
 pub returns-in-None : goal.returns-in-None
 returns-in-None g c =
-    let n : c.len.result ≡ length c.args.self.now.state.cores = (c.len.ensures ∙ c.self.inside.cores.ok.0 ∙ sym (length-map c.self.inside.cores.items (state_of g.L.Store.entries g.R.Store.entries)) ∙ ap (λ (k : Contents g.row.P.Denot g.row.J.Denot). length k.state.cores) c.self.view_is) in
+    let n : c.len.result ≡ length c.args.self.now.state.cores = (c.len.ensures ∙ c.self.inside.cores.ok.0 ∙ sym (length-map c.self.inside.cores.items (state_of g.S.Store.entries)) ∙ ap (λ (k : Contents g.row.P.Denot g.row.J.Denot). length k.state.cores) c.self.view_is) in
     let all = actors (length c.args.self.now.state.cores) in
     let test = is_enabled c.args.self.now.state in
     let back : take (c.count.result - c.args.place) (drop c.args.place all) ≡ drop c.args.place all =
@@ -20,7 +20,7 @@ returns-in-None g c =
 
 pub returns-in_default : goal.returns-in_default
 returns-in_default g c =
-    let n : c.len.result ≡ length c.args.self.now.state.cores = (c.len.ensures ∙ c.self.inside.cores.ok.0 ∙ sym (length-map c.self.inside.cores.items (state_of g.L.Store.entries g.R.Store.entries)) ∙ ap (λ (k : Contents g.row.P.Denot g.row.J.Denot). length k.state.cores) c.self.view_is) in
+    let n : c.len.result ≡ length c.args.self.now.state.cores = (c.len.ensures ∙ c.self.inside.cores.ok.0 ∙ sym (length-map c.self.inside.cores.items (state_of g.S.Store.entries)) ∙ ap (λ (k : Contents g.row.P.Denot g.row.J.Denot). length k.state.cores) c.self.view_is) in
     let all = actors (length c.args.self.now.state.cores) in
     let test = is_enabled c.args.self.now.state in
     let back : take (c.count.result - c.args.place) (drop c.args.place all) ≡ drop c.args.place all =

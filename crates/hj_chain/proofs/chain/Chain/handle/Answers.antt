@@ -13,10 +13,10 @@ use Rattle.hj_chain.proofs.chain.Chain.handle.Goals as goal
 pub invariant_of-self : goal.invariant_of-self
 invariant_of-self g c =
     let t = opened g.J.Join.predicate c.args.core c.args.end c.args.msg c.requires.taken.0 _ _ c.self.view_is c.requires.taken.1 in
-    let low : c.from-place.result < length c.self.inside.cores.items = omega (arith, taken-in_cores g.J.Join.predicate c.args.core c.args.end c.args.msg c.requires.taken.0 _ t c.from-place.result c.from-place.ensures, length-map c.self.inside.cores.items (state_of g.L.Store.entries g.R.Store.entries)) in
+    let low : c.from-place.result < length c.self.inside.cores.items = omega (arith, taken-in_cores g.J.Join.predicate c.args.core c.args.end c.args.msg c.requires.taken.0 _ t c.from-place.result c.from-place.ensures, length-map c.self.inside.cores.items (state_of g.S.Store.entries)) in
     let few : length (set c.self.inside.cores.items c.from-place.result c.handle.new.self) ≤ 64 = omega (arith, c.self.invariant.few, length-set c.self.inside.cores.items c.from-place.result c.handle.new.self) in
     record {
-      placed = prepared-placed g.J.Join.predicate (state_of g.L.Store.entries g.R.Store.entries) c.self.inside.join c.self.inside.cores.items c.from-place.result c.index_mut.result.now c.handle.new.self c.self.invariant.placed low c.index_mut.ensures.value c.in_default.ensures.unchanged c.handle.ensures.kept;
+      placed = prepared-placed g.J.Join.predicate (state_of g.S.Store.entries) c.self.inside.join c.self.inside.cores.items c.from-place.result c.index_mut.result.now c.handle.new.self c.self.invariant.placed low c.index_mut.ensures.value c.in_default.ensures.unchanged c.handle.ensures.kept;
       few = few;
       flight = c.self.invariant.flight;
       capacity = c.self.invariant.capacity;
@@ -25,24 +25,24 @@ invariant_of-self g c =
 pub give_up-requires : goal.give_up-requires
 give_up-requires g c =
     let t = opened g.J.Join.predicate c.args.core c.args.end c.args.msg c.requires.taken.0 _ _ c.self.view_is c.requires.taken.1 in
-    let low : c.from-place.result < length c.self.inside.cores.items = omega (arith, taken-in_cores g.J.Join.predicate c.args.core c.args.end c.args.msg c.requires.taken.0 _ t c.from-place.result c.from-place.ensures, length-map c.self.inside.cores.items (state_of g.L.Store.entries g.R.Store.entries)) in
-    let same = prepared-states g.J.Join.predicate (state_of g.L.Store.entries g.R.Store.entries) c.self.inside.join c.self.inside.cores.items c.from-place.result c.index_mut.result.now c.handle.new.self c.self.invariant.placed low c.index_mut.ensures.value c.in_default.ensures.unchanged c.handle.ensures.kept in
-    record { taken = (c.requires.taken.0, recored g.J.Join.predicate c.args.core c.args.end c.args.msg c.requires.taken.0 _ (map (state_of g.L.Store.entries g.R.Store.entries) (set c.self.inside.cores.items c.from-place.result c.handle.new.self)) same t) }
+    let low : c.from-place.result < length c.self.inside.cores.items = omega (arith, taken-in_cores g.J.Join.predicate c.args.core c.args.end c.args.msg c.requires.taken.0 _ t c.from-place.result c.from-place.ensures, length-map c.self.inside.cores.items (state_of g.S.Store.entries)) in
+    let same = prepared-states g.J.Join.predicate (state_of g.S.Store.entries) c.self.inside.join c.self.inside.cores.items c.from-place.result c.index_mut.result.now c.handle.new.self c.self.invariant.placed low c.index_mut.ensures.value c.in_default.ensures.unchanged c.handle.ensures.kept in
+    record { taken = (c.requires.taken.0, recored g.J.Join.predicate c.args.core c.args.end c.args.msg c.requires.taken.0 _ (map (state_of g.S.Store.entries) (set c.self.inside.cores.items c.from-place.result c.handle.new.self)) same t) }
 
 pub returns-in_default-clause-memory : goal.returns-in_default-clause-memory
 returns-in_default-clause-memory g c = λ before h answer.
     let t = opened g.J.Join.predicate c.args.core c.args.end c.args.msg before _ _ c.self.view_is h in
-    let low : c.from-place.result < length c.self.inside.cores.items = omega (arith, taken-in_cores g.J.Join.predicate c.args.core c.args.end c.args.msg before _ t c.from-place.result c.from-place.ensures, length-map c.self.inside.cores.items (state_of g.L.Store.entries g.R.Store.entries)) in
-    let same = prepared-states g.J.Join.predicate (state_of g.L.Store.entries g.R.Store.entries) c.self.inside.join c.self.inside.cores.items c.from-place.result c.index_mut.result.now c.handle.new.self c.self.invariant.placed low c.index_mut.ensures.value c.in_default.ensures.unchanged c.handle.ensures.kept in
-    taken-no_memory g.J.Join.predicate c.args.core c.args.end c.args.msg before _ t c.from-place.result c.from-place.ensures answer c.give_up.new.self (c.give_up.ensures before (recored g.J.Join.predicate c.args.core c.args.end c.args.msg before _ (map (state_of g.L.Store.entries g.R.Store.entries) (set c.self.inside.cores.items c.from-place.result c.handle.new.self)) same t))
+    let low : c.from-place.result < length c.self.inside.cores.items = omega (arith, taken-in_cores g.J.Join.predicate c.args.core c.args.end c.args.msg before _ t c.from-place.result c.from-place.ensures, length-map c.self.inside.cores.items (state_of g.S.Store.entries)) in
+    let same = prepared-states g.J.Join.predicate (state_of g.S.Store.entries) c.self.inside.join c.self.inside.cores.items c.from-place.result c.index_mut.result.now c.handle.new.self c.self.invariant.placed low c.index_mut.ensures.value c.in_default.ensures.unchanged c.handle.ensures.kept in
+    taken-no_memory g.J.Join.predicate c.args.core c.args.end c.args.msg before _ t c.from-place.result c.from-place.ensures answer c.give_up.new.self (c.give_up.ensures before (recored g.J.Join.predicate c.args.core c.args.end c.args.msg before _ (map (state_of g.S.Store.entries) (set c.self.inside.cores.items c.from-place.result c.handle.new.self)) same t))
 
 pub returns-in_default-clause-others : goal.returns-in_default-clause-others
 returns-in_default-clause-others g c =
     let t = opened g.J.Join.predicate c.args.core c.args.end c.args.msg c.requires.taken.0 _ _ c.self.view_is c.requires.taken.1 in
-    let low : c.from-place.result < length c.self.inside.cores.items = omega (arith, taken-in_cores g.J.Join.predicate c.args.core c.args.end c.args.msg c.requires.taken.0 _ t c.from-place.result c.from-place.ensures, length-map c.self.inside.cores.items (state_of g.L.Store.entries g.R.Store.entries)) in
-    let same = prepared-states g.J.Join.predicate (state_of g.L.Store.entries g.R.Store.entries) c.self.inside.join c.self.inside.cores.items c.from-place.result c.index_mut.result.now c.handle.new.self c.self.invariant.placed low c.index_mut.ensures.value c.in_default.ensures.unchanged c.handle.ensures.kept in
+    let low : c.from-place.result < length c.self.inside.cores.items = omega (arith, taken-in_cores g.J.Join.predicate c.args.core c.args.end c.args.msg c.requires.taken.0 _ t c.from-place.result c.from-place.ensures, length-map c.self.inside.cores.items (state_of g.S.Store.entries)) in
+    let same = prepared-states g.J.Join.predicate (state_of g.S.Store.entries) c.self.inside.join c.self.inside.cores.items c.from-place.result c.index_mut.result.now c.handle.new.self c.self.invariant.placed low c.index_mut.ensures.value c.in_default.ensures.unchanged c.handle.ensures.kept in
     taken-others g.J.Join.predicate c.args.core c.args.end c.args.msg c.requires.taken.0 c.args.self.now c.requires.taken.1 c.from-place.result c.from-place.ensures c.give_up.new.self
-    (c.give_up.ensures c.requires.taken.0 (recored g.J.Join.predicate c.args.core c.args.end c.args.msg c.requires.taken.0 _ (map (state_of g.L.Store.entries g.R.Store.entries) (set c.self.inside.cores.items c.from-place.result c.handle.new.self)) same t))
+    (c.give_up.ensures c.requires.taken.0 (recored g.J.Join.predicate c.args.core c.args.end c.args.msg c.requires.taken.0 _ (map (state_of g.S.Store.entries) (set c.self.inside.cores.items c.from-place.result c.handle.new.self)) same t))
 
 pub send_on-requires-clause-in_range : goal.send_on-requires-clause-in_range
 send_on-requires-clause-in_range g c =
@@ -57,7 +57,7 @@ send_on-requires-clause-room_left g c =
 pub send_on-requires-clause-room_right : goal.send_on-requires-clause-room_right
 send_on-requires-clause-room_right g c =
     let t = opened g.J.Join.predicate c.args.core c.args.end c.args.msg c.requires.taken.0 _ _ c.self.view_is c.requires.taken.1 in
-    let all : c.len.result ≡ length (map (state_of g.L.Store.entries g.R.Store.entries) c.self.inside.cores.items) = omega (arith, c.len.ensures, c.self.inside.cores.ok.0, length-map c.self.inside.cores.items (state_of g.L.Store.entries g.R.Store.entries)) in
+    let all : c.len.result ≡ length (map (state_of g.S.Store.entries) c.self.inside.cores.items) = omega (arith, c.len.ensures, c.self.inside.cores.ok.0, length-map c.self.inside.cores.items (state_of g.S.Store.entries)) in
     taken-room_right g.J.Join.predicate c.args.core c.args.end c.args.msg c.requires.taken.0 _ t c.from-place.result c.from-place.ensures (step.sends c.from-place.result c.len.result c.args.msg) (ap (λ (n : ℕ). step.sends c.from-place.result n c.args.msg) all)
 
 pub put-requires-clause-in_range : goal.put-requires-clause-in_range
@@ -73,8 +73,8 @@ put-requires-clause-room g c =
 pub invariant_of-self-2 : goal.invariant_of-self-2
 invariant_of-self-2 g c =
     let t = opened g.J.Join.predicate c.args.core c.args.end c.args.msg c.requires.taken.0 _ _ c.self.view_is c.requires.taken.1 in
-    let low : c.from-place.result < length c.self.inside.cores.items = omega (arith, taken-in_cores g.J.Join.predicate c.args.core c.args.end c.args.msg c.requires.taken.0 _ t c.from-place.result c.from-place.ensures, length-map c.self.inside.cores.items (state_of g.L.Store.entries g.R.Store.entries)) in
-    let d = done g.J.Join.predicate (state_of g.L.Store.entries g.R.Store.entries) c.self.inside.join c.self.inside.cores.items c.from-place.result c.index_mut.result.now c.index_mut.result.now c.self.invariant.placed low c.index_mut.ensures.value refl (record { join = refl; place = refl; cores = refl })
+    let low : c.from-place.result < length c.self.inside.cores.items = omega (arith, taken-in_cores g.J.Join.predicate c.args.core c.args.end c.args.msg c.requires.taken.0 _ t c.from-place.result c.from-place.ensures, length-map c.self.inside.cores.items (state_of g.S.Store.entries)) in
+    let d = done g.J.Join.predicate (state_of g.S.Store.entries) c.self.inside.join c.self.inside.cores.items c.from-place.result c.index_mut.result.now c.index_mut.result.now c.self.invariant.placed low c.index_mut.ensures.value refl (record { join = refl; place = refl; cores = refl })
     c.handle.new.self c.args.msg (step.sends c.index_mut.result.now.place c.index_mut.result.now.cores c.args.msg) c.in-Ok.entry c.in-Ok.ensures.state refl c.in-Ok.ensures.report c.handle.ensures.kept in
     let few : length (set c.self.inside.cores.items c.from-place.result c.handle.new.self) ≤ 64 = omega (arith, c.self.invariant.few, length-set c.self.inside.cores.items c.from-place.result c.handle.new.self) in
     record { placed = d.placed; few = few; flight = c.self.invariant.flight; capacity = ap (λ (q : ReportQueues g.row.P.Denot). q.capacity) c.put.ensures ∙ c.self.invariant.capacity }
@@ -82,10 +82,10 @@ invariant_of-self-2 g c =
 pub returns-clause-did : goal.returns-clause-did
 returns-clause-did g c = λ before h answer.
     let t = opened g.J.Join.predicate c.args.core c.args.end c.args.msg before _ _ c.self.view_is h in
-    let low : c.from-place.result < length c.self.inside.cores.items = omega (arith, taken-in_cores g.J.Join.predicate c.args.core c.args.end c.args.msg before _ t c.from-place.result c.from-place.ensures, length-map c.self.inside.cores.items (state_of g.L.Store.entries g.R.Store.entries)) in
-    let d = done g.J.Join.predicate (state_of g.L.Store.entries g.R.Store.entries) c.self.inside.join c.self.inside.cores.items c.from-place.result c.index_mut.result.now c.index_mut.result.now c.self.invariant.placed low c.index_mut.ensures.value refl (record { join = refl; place = refl; cores = refl })
+    let low : c.from-place.result < length c.self.inside.cores.items = omega (arith, taken-in_cores g.J.Join.predicate c.args.core c.args.end c.args.msg before _ t c.from-place.result c.from-place.ensures, length-map c.self.inside.cores.items (state_of g.S.Store.entries)) in
+    let d = done g.J.Join.predicate (state_of g.S.Store.entries) c.self.inside.join c.self.inside.cores.items c.from-place.result c.index_mut.result.now c.index_mut.result.now c.self.invariant.placed low c.index_mut.ensures.value refl (record { join = refl; place = refl; cores = refl })
     c.handle.new.self c.args.msg (step.sends c.index_mut.result.now.place c.index_mut.result.now.cores c.args.msg) c.in-Ok.entry c.in-Ok.ensures.state refl c.in-Ok.ensures.report c.handle.ensures.kept in
-    let all : c.len.result ≡ length (map (state_of g.L.Store.entries g.R.Store.entries) c.self.inside.cores.items) = omega (arith, c.len.ensures, c.self.inside.cores.ok.0, length-map c.self.inside.cores.items (state_of g.L.Store.entries g.R.Store.entries)) in
+    let all : c.len.result ≡ length (map (state_of g.S.Store.entries) c.self.inside.cores.items) = omega (arith, c.len.ensures, c.self.inside.cores.ok.0, length-map c.self.inside.cores.items (state_of g.S.Store.entries)) in
     taken-did g.J.Join.predicate c.args.core c.args.end c.args.msg before _ t c.from-place.result c.from-place.ensures answer _ _ _
     (c.send_on.ensures ∙ ap (λ (n : ℕ). send_out c.from-place.result (step.sends c.from-place.result n c.args.msg).left (step.sends c.from-place.result n c.args.msg).right c.self.inside.links) all)
     d.states

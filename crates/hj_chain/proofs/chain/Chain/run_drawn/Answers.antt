@@ -14,10 +14,14 @@ use Rattle.hj_chain.proofs.SerialRuns.{release-settles, running-begins, running-
 use Rattle.hj_chain.proofs.chain.Chain.run_drawn.Goals as goal
 use Rattle.hj_chain.proofs.chain.Chain.run_drawn.Goals.{then-self, else-self}
 
-pub returns-then-eq-clause-runs : goal.returns-then-eq-clause-runs
-returns-then-eq-clause-runs g c =
+pub returns-then-eq : goal.returns-then-eq
+returns-then-eq g c =
     let refused : c.release.result ≡ Refused = search rules in
-    running-refused g.F.Feed.gives g.F.Feed.ready g.D.Drain.takes g.F.Feed.state g.J.Join.predicate (chooser.Seeded c.args.seed) c.args.self.now c.args.feed.now c.args.drain.now (by_draw c.new-lcg.result) c.args.self.now c.args.feed.now c.args.drain.now (running-begins g.F.Feed.gives g.F.Feed.ready g.D.Drain.takes g.F.Feed.state g.J.Join.predicate (chooser.Seeded c.args.seed) c.args.self.now c.args.feed.now c.args.drain.now c.requires (by_draw c.new-lcg.result) (ap by_draw c.new-lcg.ensures)) c.release.new.self c.release.new.drain c.release.ensures.others c.release.result c.release.ensures.releases refused
+    record {
+      runs = running-refused g.F.Feed.gives g.F.Feed.ready g.D.Drain.takes g.F.Feed.state g.J.Join.predicate (chooser.Seeded c.args.seed) c.args.self.now c.args.feed.now c.args.drain.now (by_draw c.new-lcg.result) c.args.self.now c.args.feed.now c.args.drain.now (running-begins g.F.Feed.gives g.F.Feed.ready g.D.Drain.takes g.F.Feed.state g.J.Join.predicate (chooser.Seeded c.args.seed) c.args.self.now c.args.feed.now c.args.drain.now c.requires (by_draw c.new-lcg.result) (ap by_draw c.new-lcg.ensures)) c.release.new.self c.release.new.drain c.release.ensures.others c.release.result c.release.ensures.releases refused;
+      join = ap (λ (k : Contents g.row.P.Denot g.row.J.Denot). k.join) c.release.ensures.others;
+      goes = c.release.ensures.goes (g.F.Feed.state c.args.feed.now) c.requires;
+    }
 
 pub loop-actor-init : goal.loop-actor-init
 loop-actor-init g c =
@@ -28,21 +32,29 @@ loop-actor-init g c =
       settled = λ going. release-settles g.F.Feed.gives g.F.Feed.ready g.D.Drain.takes g.F.Feed.state g.J.Join.predicate (chooser.Seeded c.args.seed) c.args.self.now c.args.feed.now c.args.drain.now (by_draw c.new-lcg.result) c.args.self.now c.args.feed.now c.args.drain.now (running-begins g.F.Feed.gives g.F.Feed.ready g.D.Drain.takes g.F.Feed.state g.J.Join.predicate (chooser.Seeded c.args.seed) c.args.self.now c.args.feed.now c.args.drain.now c.requires (by_draw c.new-lcg.result) (ap by_draw c.new-lcg.ensures)) c.release.new.self c.release.new.drain c.release.ensures.others c.release.result c.release.ensures.releases kept going;
     }
 
-pub returns-then-eq-2-clause-runs : goal.returns-then-eq-2-clause-runs
-returns-then-eq-2-clause-runs g c =
+pub returns-then-eq-2 : goal.returns-then-eq-2
+returns-then-eq-2 g c =
     let memory : c.step_past.result ≡ Memory = search rules in
-    running-over g.F.Feed.gives g.F.Feed.ready g.D.Drain.takes g.F.Feed.state g.J.Join.predicate (chooser.Seeded c.args.seed) c.args.self.now c.args.feed.now c.args.drain.now (by_draw c.loop-actor.lcg) c.loop-actor.self c.loop-actor.feed c.loop-actor.drain c.loop-actor.invariant.running c.in-Some.actor (named-by-draw c.loop-actor.self.state (g.F.Feed.ready c.loop-actor.feed) c.loop-actor.lcg c.draw.new.self c.draw.result (Some c.in-Some.actor) c.draw.ensures.number c.draw.ensures.held (c.in-Some.ensures (g.F.Feed.ready c.loop-actor.feed) c.would_wait.ensures)) c.step_past.result c.step_past.new.self c.step_past.new.feed c.step_past.ensures.step c.step_past.ensures.gathers c.step_past.ensures.join memory
+    record {
+      runs = running-over g.F.Feed.gives g.F.Feed.ready g.D.Drain.takes g.F.Feed.state g.J.Join.predicate (chooser.Seeded c.args.seed) c.args.self.now c.args.feed.now c.args.drain.now (by_draw c.loop-actor.lcg) c.loop-actor.self c.loop-actor.feed c.loop-actor.drain c.loop-actor.invariant.running c.in-Some.actor (named-by-draw c.loop-actor.self.state (g.F.Feed.ready c.loop-actor.feed) c.loop-actor.lcg c.draw.new.self c.draw.result (Some c.in-Some.actor) c.draw.ensures.number c.draw.ensures.held (c.in-Some.ensures (g.F.Feed.ready c.loop-actor.feed) c.would_wait.ensures)) c.step_past.result c.step_past.new.self c.step_past.new.feed c.step_past.ensures.step c.step_past.ensures.gathers c.step_past.ensures.join memory;
+      join = c.step_past.ensures.join ∙ c.loop-actor.invariant.running.join;
+      goes = c.step_past.ensures.goes;
+    }
 
-pub returns-then-eq-3-clause-runs : goal.returns-then-eq-3-clause-runs
-returns-then-eq-3-clause-runs g c =
+pub returns-then-eq-3 : goal.returns-then-eq-3
+returns-then-eq-3 g c =
     let other : c.step_past.result ≢ Memory = search rules in
     let refused : c.release-in-Collect.result ≡ Refused = search rules in
-    running-refused g.F.Feed.gives g.F.Feed.ready g.D.Drain.takes g.F.Feed.state g.J.Join.predicate (chooser.Seeded c.args.seed) c.args.self.now c.args.feed.now c.args.drain.now (by_draw c.draw.new.self) c.step_past.new.self c.step_past.new.feed c.loop-actor.drain
-    (running-step
-    g.F.Feed.gives g.F.Feed.ready g.D.Drain.takes g.F.Feed.state g.J.Join.predicate (chooser.Seeded c.args.seed) c.args.self.now c.args.feed.now c.args.drain.now (by_draw c.loop-actor.lcg) c.loop-actor.self c.loop-actor.feed c.loop-actor.drain c.loop-actor.invariant.running c.in-Some.actor (named-by-draw c.loop-actor.self.state (g.F.Feed.ready c.loop-actor.feed) c.loop-actor.lcg c.draw.new.self c.draw.result (Some c.in-Some.actor) c.draw.ensures.number c.draw.ensures.held (c.in-Some.ensures (g.F.Feed.ready c.loop-actor.feed) c.would_wait.ensures)) c.step_past.result c.step_past.new.self c.step_past.new.feed c.step_past.ensures.step c.step_past.ensures.gathers c.step_past.ensures.join
-    other c.loop-actor.invariant.settled c.step_past.ensures.goes (by_draw c.draw.new.self) (ap by_draw c.draw.ensures.held) tt)
-    c.release-in-Collect.new.self c.release-in-Collect.new.drain c.release-in-Collect.ensures.others c.release-in-Collect.result c.release-in-Collect.ensures.releases
-    refused
+    record {
+      runs = running-refused g.F.Feed.gives g.F.Feed.ready g.D.Drain.takes g.F.Feed.state g.J.Join.predicate (chooser.Seeded c.args.seed) c.args.self.now c.args.feed.now c.args.drain.now (by_draw c.draw.new.self) c.step_past.new.self c.step_past.new.feed c.loop-actor.drain
+          (running-step
+          g.F.Feed.gives g.F.Feed.ready g.D.Drain.takes g.F.Feed.state g.J.Join.predicate (chooser.Seeded c.args.seed) c.args.self.now c.args.feed.now c.args.drain.now (by_draw c.loop-actor.lcg) c.loop-actor.self c.loop-actor.feed c.loop-actor.drain c.loop-actor.invariant.running c.in-Some.actor (named-by-draw c.loop-actor.self.state (g.F.Feed.ready c.loop-actor.feed) c.loop-actor.lcg c.draw.new.self c.draw.result (Some c.in-Some.actor) c.draw.ensures.number c.draw.ensures.held (c.in-Some.ensures (g.F.Feed.ready c.loop-actor.feed) c.would_wait.ensures)) c.step_past.result c.step_past.new.self c.step_past.new.feed c.step_past.ensures.step c.step_past.ensures.gathers c.step_past.ensures.join
+          other c.loop-actor.invariant.settled c.step_past.ensures.goes (by_draw c.draw.new.self) (ap by_draw c.draw.ensures.held) tt)
+          c.release-in-Collect.new.self c.release-in-Collect.new.drain c.release-in-Collect.ensures.others c.release-in-Collect.result c.release-in-Collect.ensures.releases
+          refused;
+      join = ap (λ (k : Contents g.row.P.Denot g.row.J.Denot). k.join) c.release-in-Collect.ensures.others ∙ c.step_past.ensures.join ∙ c.loop-actor.invariant.running.join;
+      goes = c.release-in-Collect.ensures.goes (g.F.Feed.state c.step_past.new.feed) c.step_past.ensures.goes;
+    }
 
 pub loop-actor-smaller-else-eq-3 : goal.loop-actor-smaller-else-eq-3
 loop-actor-smaller-else-eq-3 g c =
@@ -87,24 +99,25 @@ loop-actor-preserved g c =
           (c.loop-actor.invariant.settled (was-going g.F.Feed.gives g.F.Feed.ready g.D.Drain.takes g.F.Feed.state g.J.Join.predicate (chooser.Seeded c.args.seed) c.args.self.now c.args.feed.now c.args.drain.now (by_draw c.loop-actor.lcg) c.loop-actor.self c.loop-actor.feed c.loop-actor.drain c.loop-actor.invariant.running c.in-Some.actor (named-by-draw c.loop-actor.self.state (g.F.Feed.ready c.loop-actor.feed) c.loop-actor.lcg c.draw.new.self c.draw.result (Some c.in-Some.actor) c.draw.ensures.number c.draw.ensures.held (c.in-Some.ensures (g.F.Feed.ready c.loop-actor.feed) c.would_wait.ensures)) c.step_past.result c.step_past.new.self c.step_past.new.feed c.step_past.ensures.step c.step_past.ensures.gathers c.step_past.ensures.join other));
     }
 
-pub returns-clause-runs : goal.returns-clause-runs
-returns-clause-runs g c =
+pub returns : goal.returns
+returns g c =
     let over : c.self.inside.over ≡ c.loop-actor.self.state.over = ap (λ (k : Contents g.row.P.Denot g.row.J.Denot). k.state.over) c.self.view_is in
-    elim c.if-self.branch [
-      | then-self w ↦ λ schedule events given stands.
-          subst (λ (ended : Fin). RunsSerially g.F.Feed.gives g.F.Feed.ready g.D.Drain.takes g.J.Join.predicate (chooser.Seeded c.args.seed) schedule events given c.args.self.now c.args.feed.now c.args.drain.now ended c.loop-actor.self c.loop-actor.feed c.loop-actor.drain) (sym w.result-is)
-          (running-ends-over g.F.Feed.gives g.F.Feed.ready g.D.Drain.takes g.F.Feed.state g.J.Join.predicate (chooser.Seeded c.args.seed) c.args.self.now c.args.feed.now c.args.drain.now (by_draw c.loop-actor.lcg) c.loop-actor.self c.loop-actor.feed c.loop-actor.drain c.loop-actor.invariant.running (sym over ∙ w.if-self.true) schedule events given stands)
-      | else-self w ↦ λ schedule events given stands.
-          let going : c.loop-actor.self.state.over ≡ false = sym over ∙ w.if-self.false in
-          subst (λ (ended : Fin). RunsSerially g.F.Feed.gives g.F.Feed.ready g.D.Drain.takes g.J.Join.predicate (chooser.Seeded c.args.seed) schedule events given c.args.self.now c.args.feed.now c.args.drain.now ended c.loop-actor.self c.loop-actor.feed c.loop-actor.drain) (sym w.result-is)
-          (running-ends-done g.F.Feed.gives g.F.Feed.ready g.D.Drain.takes g.F.Feed.state g.J.Join.predicate (chooser.Seeded c.args.seed) c.args.self.now c.args.feed.now c.args.drain.now (by_draw c.loop-actor.lcg) c.loop-actor.self c.loop-actor.feed c.loop-actor.drain c.loop-actor.invariant.running going (c.loop-actor.invariant.settled going)
-          (subst (λ (k : Contents g.row.P.Denot g.row.J.Denot). 1 ≤ k.state.driver.flight) c.self.view_is c.self.invariant.flight) (g.F.Feed.ready c.loop-actor.feed) (named-by-draw c.loop-actor.self.state (g.F.Feed.ready c.loop-actor.feed) c.loop-actor.lcg c.draw.new.self c.draw.result None c.draw.ensures.number c.draw.ensures.held (c.in_default.ensures (g.F.Feed.ready c.loop-actor.feed) c.would_wait.ensures)) schedule events given stands)
-    ]
+    record {
+      runs = elim c.if-self.branch [
+        | then-self w ↦ λ schedule events given stands.
+            subst (λ (ended : Fin). RunsSerially g.F.Feed.gives g.F.Feed.ready g.D.Drain.takes g.J.Join.predicate (chooser.Seeded c.args.seed) schedule events given c.args.self.now c.args.feed.now c.args.drain.now ended c.loop-actor.self c.loop-actor.feed c.loop-actor.drain) (sym w.result-is)
+            (running-ends-over g.F.Feed.gives g.F.Feed.ready g.D.Drain.takes g.F.Feed.state g.J.Join.predicate (chooser.Seeded c.args.seed) c.args.self.now c.args.feed.now c.args.drain.now (by_draw c.loop-actor.lcg) c.loop-actor.self c.loop-actor.feed c.loop-actor.drain c.loop-actor.invariant.running (sym over ∙ w.if-self.true) schedule events given stands)
+        | else-self w ↦ λ schedule events given stands.
+            let going : c.loop-actor.self.state.over ≡ false = sym over ∙ w.if-self.false in
+            subst (λ (ended : Fin). RunsSerially g.F.Feed.gives g.F.Feed.ready g.D.Drain.takes g.J.Join.predicate (chooser.Seeded c.args.seed) schedule events given c.args.self.now c.args.feed.now c.args.drain.now ended c.loop-actor.self c.loop-actor.feed c.loop-actor.drain) (sym w.result-is)
+            (running-ends-done g.F.Feed.gives g.F.Feed.ready g.D.Drain.takes g.F.Feed.state g.J.Join.predicate (chooser.Seeded c.args.seed) c.args.self.now c.args.feed.now c.args.drain.now (by_draw c.loop-actor.lcg) c.loop-actor.self c.loop-actor.feed c.loop-actor.drain c.loop-actor.invariant.running going (c.loop-actor.invariant.settled going)
+            (subst (λ (k : Contents g.row.P.Denot g.row.J.Denot). 1 ≤ k.state.driver.flight) c.self.view_is c.self.invariant.flight) (g.F.Feed.ready c.loop-actor.feed) (named-by-draw c.loop-actor.self.state (g.F.Feed.ready c.loop-actor.feed) c.loop-actor.lcg c.draw.new.self c.draw.result None c.draw.ensures.number c.draw.ensures.held (c.in_default.ensures (g.F.Feed.ready c.loop-actor.feed) c.would_wait.ensures)) schedule events given stands)
+      ];
+      join = c.loop-actor.invariant.running.join;
+      goes = c.loop-actor.invariant.running.goes;
+    }
 
 pub step_past-requires-clause-going : goal.step_past-requires-clause-going
 step_past-requires-clause-going g c =
     let named = named-by-draw c.loop-actor.self.state (g.F.Feed.ready c.loop-actor.feed) c.loop-actor.lcg c.draw.new.self c.draw.result (Some c.in-Some.actor) c.draw.ensures.number c.draw.ensures.held (c.in-Some.ensures (g.F.Feed.ready c.loop-actor.feed) c.would_wait.ensures) in
     enabled_going c.loop-actor.self.state c.in-Some.actor (chosen-enabled c.loop-actor.self.state (by_draw c.loop-actor.lcg) (g.F.Feed.ready c.loop-actor.feed) c.in-Some.actor (sym named))
-
-pub returns-then-eq-3-clause-goes : goal.returns-then-eq-3-clause-goes
-returns-then-eq-3-clause-goes g c = c.release-in-Collect.ensures.goes (g.F.Feed.state c.step_past.new.feed) c.step_past.ensures.goes

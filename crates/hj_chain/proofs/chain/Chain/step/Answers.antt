@@ -17,3 +17,27 @@ returns-then-self-clause-step g c =
       chain = (ap (λ (b : Bool). cond b (Some Over) (cause_of c.args.self.now.state c.args.actor)) over, refl);
       feed = refl;
     }
+
+pub returns-clause-step : goal.returns-clause-step
+returns-clause-step g c = c.step_past.ensures.step
+
+pub returns-clause-answers : goal.returns-clause-answers
+returns-clause-answers g c = c.step_past.ensures.answers
+
+pub returns-clause-join : goal.returns-clause-join
+returns-clause-join g c = c.step_past.ensures.join
+
+pub returns-clause-gathers : goal.returns-clause-gathers
+returns-clause-gathers g c = c.step_past.ensures.gathers
+
+pub returns-clause-room : goal.returns-clause-room
+returns-clause-room g c = c.step_past.ensures.room
+
+pub returns-clause-goes : goal.returns-clause-goes
+returns-clause-goes g c = c.step_past.ensures.goes
+
+pub returns-clause-stands : goal.returns-clause-stands
+returns-clause-stands g c = c.step_past.ensures.stands
+
+pub returns-clause-stays : goal.returns-clause-stays
+returns-clause-stays g c = c.step_past.ensures.stays

@@ -11,17 +11,17 @@ use Rattle.hj_chain.proofs.chain.Chain.try_ends.Goals as goal
 
 pub try_end-requires-clause-within : goal.try_end-requires-clause-within
 try_end-requires-clause-within g c =
-    let n : c.len-place-end.result ≡ length c.args.self.now.state.cores = (c.len-place-end.ensures ∙ c.self.inside.cores.ok.0 ∙ sym (length-map c.self.inside.cores.items (state_of g.L.Store.entries g.R.Store.entries)) ∙ ap (λ (k : Contents g.row.P.Denot g.row.J.Denot). length k.state.cores) c.self.view_is) in
+    let n : c.len-place-end.result ≡ length c.args.self.now.state.cores = (c.len-place-end.ensures ∙ c.self.inside.cores.ok.0 ∙ sym (length-map c.self.inside.cores.items (state_of g.S.Store.entries)) ∙ ap (λ (k : Contents g.row.P.Denot g.row.J.Denot). length k.state.cores) c.self.view_is) in
     omega (arith, n, c.loop-place.invariant.cores)
 
 pub try_end-requires-in-loop-place-clause-within : goal.try_end-requires-in-loop-place-clause-within
 try_end-requires-in-loop-place-clause-within g c =
-    let n : c.len-place-end.result ≡ length c.args.self.now.state.cores = (c.len-place-end.ensures ∙ c.self.inside.cores.ok.0 ∙ sym (length-map c.self.inside.cores.items (state_of g.L.Store.entries g.R.Store.entries)) ∙ ap (λ (k : Contents g.row.P.Denot g.row.J.Denot). length k.state.cores) c.self.view_is) in
+    let n : c.len-place-end.result ≡ length c.args.self.now.state.cores = (c.len-place-end.ensures ∙ c.self.inside.cores.ok.0 ∙ sym (length-map c.self.inside.cores.items (state_of g.S.Store.entries)) ∙ ap (λ (k : Contents g.row.P.Denot g.row.J.Denot). length k.state.cores) c.self.view_is) in
     omega (arith, n, c.loop-place.invariant.cores, c.try_end.ensures.cores c.if-not-try_end.false)
 
 pub returns-then-not-try_end-clause-runs_out : goal.returns-then-not-try_end-clause-runs_out
 returns-then-not-try_end-clause-runs_out g c =
-    let n : c.len-place-end.result ≡ length c.args.self.now.state.cores = (c.len-place-end.ensures ∙ c.self.inside.cores.ok.0 ∙ sym (length-map c.self.inside.cores.items (state_of g.L.Store.entries g.R.Store.entries)) ∙ ap (λ (k : Contents g.row.P.Denot g.row.J.Denot). length k.state.cores) c.self.view_is) in
+    let n : c.len-place-end.result ≡ length c.args.self.now.state.cores = (c.len-place-end.ensures ∙ c.self.inside.cores.ok.0 ∙ sym (length-map c.self.inside.cores.items (state_of g.S.Store.entries)) ∙ ap (λ (k : Contents g.row.P.Denot g.row.J.Denot). length k.state.cores) c.self.view_is) in
     let p = c.loop-place.place in
     let low : p < length c.loop-place.self.state.cores = omega (arith, n, c.loop-place.invariant.cores) in
     let left : StandsThere c.loop-place.self (2 * p + 3) (Core (core_no p) Left) = record { stands = at-left (length c.loop-place.self.state.cores) p (2 * p + 3) low refl; behind = omega arith } in
@@ -29,7 +29,7 @@ returns-then-not-try_end-clause-runs_out g c =
 
 pub returns-then-not-try_end-2-clause-runs_out : goal.returns-then-not-try_end-2-clause-runs_out
 returns-then-not-try_end-2-clause-runs_out g c =
-    let n : c.len-place-end.result ≡ length c.args.self.now.state.cores = (c.len-place-end.ensures ∙ c.self.inside.cores.ok.0 ∙ sym (length-map c.self.inside.cores.items (state_of g.L.Store.entries g.R.Store.entries)) ∙ ap (λ (k : Contents g.row.P.Denot g.row.J.Denot). length k.state.cores) c.self.view_is) in
+    let n : c.len-place-end.result ≡ length c.args.self.now.state.cores = (c.len-place-end.ensures ∙ c.self.inside.cores.ok.0 ∙ sym (length-map c.self.inside.cores.items (state_of g.S.Store.entries)) ∙ ap (λ (k : Contents g.row.P.Denot g.row.J.Denot). length k.state.cores) c.self.view_is) in
     let p = c.loop-place.place in
     let low : p < length c.loop-place.self.state.cores = omega (arith, n, c.loop-place.invariant.cores) in
     let left : StandsThere c.loop-place.self (2 * p + 3) (Core (core_no p) Left) = record { stands = at-left (length c.loop-place.self.state.cores) p (2 * p + 3) low refl; behind = omega arith } in
@@ -41,7 +41,7 @@ returns-then-not-try_end-2-clause-runs_out g c =
 
 pub loop-place-preserved : goal.loop-place-preserved
 loop-place-preserved g c =
-    let n : c.len-place-end.result ≡ length c.args.self.now.state.cores = (c.len-place-end.ensures ∙ c.self.inside.cores.ok.0 ∙ sym (length-map c.self.inside.cores.items (state_of g.L.Store.entries g.R.Store.entries)) ∙ ap (λ (k : Contents g.row.P.Denot g.row.J.Denot). length k.state.cores) c.self.view_is) in
+    let n : c.len-place-end.result ≡ length c.args.self.now.state.cores = (c.len-place-end.ensures ∙ c.self.inside.cores.ok.0 ∙ sym (length-map c.self.inside.cores.items (state_of g.S.Store.entries)) ∙ ap (λ (k : Contents g.row.P.Denot g.row.J.Denot). length k.state.cores) c.self.view_is) in
     let p = c.loop-place.place in
     let low : p < length c.loop-place.self.state.cores = omega (arith, n, c.loop-place.invariant.cores) in
     let left : StandsThere c.loop-place.self (2 * p + 3) (Core (core_no p) Left) = record { stands = at-left (length c.loop-place.self.state.cores) p (2 * p + 3) low refl; behind = omega arith } in
@@ -60,7 +60,7 @@ loop-place-preserved g c =
 
 pub returns-clause-sweeps : goal.returns-clause-sweeps
 returns-clause-sweeps g c =
-    let n : c.len-place-end.result ≡ length c.args.self.now.state.cores = (c.len-place-end.ensures ∙ c.self.inside.cores.ok.0 ∙ sym (length-map c.self.inside.cores.items (state_of g.L.Store.entries g.R.Store.entries)) ∙ ap (λ (k : Contents g.row.P.Denot g.row.J.Denot). length k.state.cores) c.self.view_is) in
+    let n : c.len-place-end.result ≡ length c.args.self.now.state.cores = (c.len-place-end.ensures ∙ c.self.inside.cores.ok.0 ∙ sym (length-map c.self.inside.cores.items (state_of g.S.Store.entries)) ∙ ap (λ (k : Contents g.row.P.Denot g.row.J.Denot). length k.state.cores) c.self.view_is) in
     let p = c.loop-place.place in
     let all : 2 * p + 3 ≡ 2 * length c.args.self.now.state.cores + 3 = omega (arith, n) in
     λ yes first before begun begins. subst (λ (at : ℕ). Sweeps g.J.Join.predicate first before begun at c.loop-place.sweep.moved c.loop-place.self) all (c.loop-place.invariant.sweeps first before begun begins)

@@ -10,12 +10,12 @@ use Rattle.hj_chain.proofs.chain.Chain.try_reports.Goals as goal
 
 pub try_report-requires-clause-within : goal.try_report-requires-clause-within
 try_report-requires-clause-within g c =
-    let n : c.len-place-end.result ≡ length c.args.self.now.state.cores = (c.len-place-end.ensures ∙ c.self.inside.cores.ok.0 ∙ sym (length-map c.self.inside.cores.items (state_of g.L.Store.entries g.R.Store.entries)) ∙ ap (λ (k : Contents g.row.P.Denot g.row.J.Denot). length k.state.cores) c.self.view_is) in
+    let n : c.len-place-end.result ≡ length c.args.self.now.state.cores = (c.len-place-end.ensures ∙ c.self.inside.cores.ok.0 ∙ sym (length-map c.self.inside.cores.items (state_of g.S.Store.entries)) ∙ ap (λ (k : Contents g.row.P.Denot g.row.J.Denot). length k.state.cores) c.self.view_is) in
     omega (arith, n, c.loop-place.invariant.cores)
 
 pub returns-in-Some-clause-ends : goal.returns-in-Some-clause-ends
 returns-in-Some-clause-ends g c =
-    let n : c.len-place-end.result ≡ length c.args.self.now.state.cores = (c.len-place-end.ensures ∙ c.self.inside.cores.ok.0 ∙ sym (length-map c.self.inside.cores.items (state_of g.L.Store.entries g.R.Store.entries)) ∙ ap (λ (k : Contents g.row.P.Denot g.row.J.Denot). length k.state.cores) c.self.view_is) in
+    let n : c.len-place-end.result ≡ length c.args.self.now.state.cores = (c.len-place-end.ensures ∙ c.self.inside.cores.ok.0 ∙ sym (length-map c.self.inside.cores.items (state_of g.S.Store.entries)) ∙ ap (λ (k : Contents g.row.P.Denot g.row.J.Denot). length k.state.cores) c.self.view_is) in
     let p = c.loop-place.place in
     let low : p < length c.loop-place.self.state.cores = omega (arith, n, c.loop-place.invariant.cores) in
     let all = length c.args.self.now.state.cores in
@@ -27,7 +27,7 @@ returns-in-Some-clause-ends g c =
 
 pub loop-place-preserved : goal.loop-place-preserved
 loop-place-preserved g c =
-    let n : c.len-place-end.result ≡ length c.args.self.now.state.cores = (c.len-place-end.ensures ∙ c.self.inside.cores.ok.0 ∙ sym (length-map c.self.inside.cores.items (state_of g.L.Store.entries g.R.Store.entries)) ∙ ap (λ (k : Contents g.row.P.Denot g.row.J.Denot). length k.state.cores) c.self.view_is) in
+    let n : c.len-place-end.result ≡ length c.args.self.now.state.cores = (c.len-place-end.ensures ∙ c.self.inside.cores.ok.0 ∙ sym (length-map c.self.inside.cores.items (state_of g.S.Store.entries)) ∙ ap (λ (k : Contents g.row.P.Denot g.row.J.Denot). length k.state.cores) c.self.view_is) in
     let p = c.loop-place.place in
     let low : p < length c.loop-place.self.state.cores = omega (arith, n, c.loop-place.invariant.cores) in
     let all = length c.args.self.now.state.cores in
@@ -46,7 +46,7 @@ loop-place-preserved g c =
 
 pub returns-clause-collects : goal.returns-clause-collects
 returns-clause-collects g c =
-    let n : c.len-place-end.result ≡ length c.args.self.now.state.cores = (c.len-place-end.ensures ∙ c.self.inside.cores.ok.0 ∙ sym (length-map c.self.inside.cores.items (state_of g.L.Store.entries g.R.Store.entries)) ∙ ap (λ (k : Contents g.row.P.Denot g.row.J.Denot). length k.state.cores) c.self.view_is) in
+    let n : c.len-place-end.result ≡ length c.args.self.now.state.cores = (c.len-place-end.ensures ∙ c.self.inside.cores.ok.0 ∙ sym (length-map c.self.inside.cores.items (state_of g.S.Store.entries)) ∙ ap (λ (k : Contents g.row.P.Denot g.row.J.Denot). length k.state.cores) c.self.view_is) in
     let p = c.loop-place.place in
     let all = length c.args.self.now.state.cores in
     let whole : 2 * all + p + 3 ≡ 3 * all + 3 = omega (arith, n) in
