@@ -96,22 +96,22 @@ taken_out {P} at (held ∷ window) = go (not (held.no == at)) (taken_out at wind
 windows_before : {P : Type 0} (matches : P → P → Bool) (before : List (Event P)) (event : Event P) → IsWellFormed (before ++ event ∷ []) → AreWindows before (windows_after before)
 windows_before matches before event well = (windows_and_join matches before (front_is_well_formed before (event ∷ []) well)).windows
 
-module _ {P L R : Type 0} (left_rows : L → List (Resting P)) (right_rows : R → List (Resting P)) (matches : P → P → Bool) (before : List (Event P)) (left : L) (right : R) (holds : HoldWindows left_rows right_rows (windows_after before) left right) where
+module _ {P S : Type 0} (rows : S → List (Resting P)) (matches : P → P → Bool) (before : List (Event P)) (left right : S) (holds : HoldWindows rows (windows_after before) left right) where
   module _ (at : EventNo) (row : P) where
     -- a left row that arrives
     module _ (well : IsWellFormed (before ++ Arrive at Left row ∷ [])) where
-      left_listed : pairs_of (Handled at Left row (settled_matches matches Right row (right_rows right))) ≡ listed matches (windows_after before) (Arrive at Left row)
+      left_listed : pairs_of (Handled at Left row (settled_matches matches Right row (rows right))) ≡ listed matches (windows_after before) (Arrive at Left row)
       left_listed =
           ap (λ (entries : List (Resting P)). pairs_of (Handled at Left row (settled_matches matches Right row entries))) holds.on_right
           ∙ ap (λ (partners : List (Partner P)). pairs_of (Handled at Left row partners)) (found matches Right row (windows_after before).right (windows_before matches before (Arrive at Left row) well).right.rising)
           ∙ map-map (λ (partner : Partner P). record { left_no = at; right_no = partner.no; left = row; right = partner.row }) as_partner (filter (λ held. matches row held.row) (windows_after before).right)
 
-      pub left_gives : {D : Type 0} (takes : D → Pair P → Drained → D → Type 0) (ended : Fin) (unfilled filled : D) → Gives takes (pairs_of (Handled at Left row (settled_matches matches Right row (right_rows right)))) ended unfilled filled
+      pub left_gives : {D : Type 0} (takes : D → Pair P → Drained → D → Type 0) (ended : Fin) (unfilled filled : D) → Gives takes (pairs_of (Handled at Left row (settled_matches matches Right row (rows right)))) ended unfilled filled
           → Gives takes (listed matches (windows_after before) (Arrive at Left row)) ended unfilled filled
       left_gives takes ended unfilled filled gives = subst (λ (pairs : List (Pair P)). Gives takes pairs ended unfilled filled) left_listed gives
 
-      pub left_holds : (new_left : L) (new_right : R) → left_rows new_left ≡ with_entry (record { no = at.0; row = row; settled = true }) (left_rows left) → new_right ≡ right
-          → HoldWindows left_rows right_rows (after (windows_after before) (Arrive at Left row)) new_left new_right
+      pub left_holds : (new_left new_right : S) → rows new_left ≡ with_entry (record { no = at.0; row = row; settled = true }) (rows left) → new_right ≡ right
+          → HoldWindows rows (after (windows_after before) (Arrive at Left row)) new_left new_right
       left_holds new_left new_right kept same =
           let front = front_is_well_formed before (Arrive at Left row ∷ []) well in
           let window = (windows_before matches before (Arrive at Left row) well).left in
@@ -119,41 +119,41 @@ module _ {P L R : Type 0} (left_rows : L → List (Resting P)) (right_rows : R �
             on_left =
                 kept ∙ ap (with_entry (record { no = at.0; row = row; settled = true })) holds.on_left
                 ∙ put_last at.0 row (windows_after before).left (λ held k. omega (arith, IsWindow-below before Left (windows_after before).left held front window k, number-last before (Arrive at Left row) well));
-            on_right = ap right_rows same ∙ holds.on_right;
+            on_right = ap rows same ∙ holds.on_right;
           }
 
     -- a right row that arrives
     module _ (well : IsWellFormed (before ++ Arrive at Right row ∷ [])) where
-      right_listed : pairs_of (Handled at Right row (settled_matches matches Left row (left_rows left))) ≡ listed matches (windows_after before) (Arrive at Right row)
+      right_listed : pairs_of (Handled at Right row (settled_matches matches Left row (rows left))) ≡ listed matches (windows_after before) (Arrive at Right row)
       right_listed =
           ap (λ (entries : List (Resting P)). pairs_of (Handled at Right row (settled_matches matches Left row entries))) holds.on_left
           ∙ ap (λ (partners : List (Partner P)). pairs_of (Handled at Right row partners)) (found matches Left row (windows_after before).left (windows_before matches before (Arrive at Right row) well).left.rising)
           ∙ map-map (λ (partner : Partner P). record { left_no = partner.no; right_no = at; left = partner.row; right = row }) as_partner (filter (λ held. matches held.row row) (windows_after before).left)
 
-      pub right_gives : {D : Type 0} (takes : D → Pair P → Drained → D → Type 0) (ended : Fin) (unfilled filled : D) → Gives takes (pairs_of (Handled at Right row (settled_matches matches Left row (left_rows left)))) ended unfilled filled
+      pub right_gives : {D : Type 0} (takes : D → Pair P → Drained → D → Type 0) (ended : Fin) (unfilled filled : D) → Gives takes (pairs_of (Handled at Right row (settled_matches matches Left row (rows left)))) ended unfilled filled
           → Gives takes (listed matches (windows_after before) (Arrive at Right row)) ended unfilled filled
       right_gives takes ended unfilled filled gives = subst (λ (pairs : List (Pair P)). Gives takes pairs ended unfilled filled) right_listed gives
 
-      pub right_holds : (new_left : L) (new_right : R) → new_left ≡ left → right_rows new_right ≡ with_entry (record { no = at.0; row = row; settled = true }) (right_rows right)
-          → HoldWindows left_rows right_rows (after (windows_after before) (Arrive at Right row)) new_left new_right
+      pub right_holds : (new_left new_right : S) → new_left ≡ left → rows new_right ≡ with_entry (record { no = at.0; row = row; settled = true }) (rows right)
+          → HoldWindows rows (after (windows_after before) (Arrive at Right row)) new_left new_right
       right_holds new_left new_right same kept =
           let front = front_is_well_formed before (Arrive at Right row ∷ []) well in
           let window = (windows_before matches before (Arrive at Right row) well).right in
           record {
-            on_left = ap left_rows same ∙ holds.on_left;
+            on_left = ap rows same ∙ holds.on_left;
             on_right =
                 kept ∙ ap (with_entry (record { no = at.0; row = row; settled = true })) holds.on_right
                 ∙ put_last at.0 row (windows_after before).right (λ held k. omega (arith, IsWindow-below before Right (windows_after before).right held front window k, number-last before (Arrive at Right row) well));
           }
 
 -- a row expires
-module _ {P L R : Type 0} (left_rows : L → List (Resting P)) (right_rows : R → List (Resting P)) (windows : Windows P) (left : L) (right : R) (holds : HoldWindows left_rows right_rows windows left right) (at of : EventNo) where
-  pub left_expires : (side : Side) (new_left : L) → side ≡ Left → left_rows new_left ≡ without_entry of.0 (left_rows left) → HoldWindows left_rows right_rows (after windows (Expire at side of)) new_left right
+module _ {P S : Type 0} (rows : S → List (Resting P)) (windows : Windows P) (left right : S) (holds : HoldWindows rows windows left right) (at of : EventNo) where
+  pub left_expires : (side : Side) (new_left : S) → side ≡ Left → rows new_left ≡ without_entry of.0 (rows left) → HoldWindows rows (after windows (Expire at side of)) new_left right
   left_expires side new_left is kept =
-      subst (λ (of_side : Side). HoldWindows left_rows right_rows (after windows (Expire at of_side of)) new_left right) (sym is)
+      subst (λ (of_side : Side). HoldWindows rows (after windows (Expire at of_side of)) new_left right) (sym is)
       (record { on_left = kept ∙ ap (without_entry of.0) holds.on_left ∙ taken_out of.0 windows.left; on_right = holds.on_right })
 
-  pub right_expires : (side : Side) (new_right : R) → side ≡ Right → right_rows new_right ≡ without_entry of.0 (right_rows right) → HoldWindows left_rows right_rows (after windows (Expire at side of)) left new_right
+  pub right_expires : (side : Side) (new_right : S) → side ≡ Right → rows new_right ≡ without_entry of.0 (rows right) → HoldWindows rows (after windows (Expire at side of)) left new_right
   right_expires side new_right is kept =
-      subst (λ (of_side : Side). HoldWindows left_rows right_rows (after windows (Expire at of_side of)) left new_right) (sym is)
+      subst (λ (of_side : Side). HoldWindows rows (after windows (Expire at of_side of)) left new_right) (sym is)
       (record { on_left = holds.on_left; on_right = kept ∙ ap (without_entry of.0) holds.on_right ∙ taken_out of.0 windows.right })

@@ -65,19 +65,19 @@ module _ {P F D : Type 0} (gives : F → Given P → F → Type 0) (state : F �
     ends = λ well. (says.stopped, joined.given.ends.1, joined.given.ends.2 ∙ ap (λ (events : List (event.Event P)). kang matches events) (sym (events-stop joined.answers)));
   }
 
-  module _ {L R : Type 0} (left_rows : L → List (Resting P)) (right_rows : R → List (Resting P)) where
+  module _ {S : Type 0} (rows : S → List (Resting P)) where
     -- and the stores hold the windows behind them
-    pub record Running (to : F) (filled : D) (left : L) (right : R) : Type 0 where
+    pub record Running (to : F) (filled : D) (left right : S) : Type 0 where
       pub joined : Joined fin.Done to filled
-      pub holds : HoldWindows left_rows right_rows (windows_after (events_in joined.answers)) left right
+      pub holds : HoldWindows rows (windows_after (events_in joined.answers)) left right
 
-    pub running-begins : (left : L) (right : R) → IsFresh (state from) → left_rows left ≡ [] → right_rows right ≡ [] → Running from unfilled left right
+    pub running-begins : (left right : S) → IsFresh (state from) → rows left ≡ [] → rows right ≡ [] → Running from unfilled left right
     running-begins left right fresh no_left no_right = record {
       joined = record { answers = []; feed = refl; goes = record { well_formed = well-nothing P; numbering = fresh }; given = gives_nothing takes unfilled };
       holds = record { on_left = no_left; on_right = no_right };
     }
 
-    module _ (mid to : F) (filled more : D) (left new_left : L) (right new_right : R) (running : Running mid filled left right) (one : event.Event P) (given : gives mid (Event one) to) (says : GivesEvent one (state mid) (state to)) where
+    module _ (mid to : F) (filled more : D) (left new_left right new_right : S) (running : Running mid filled left right) (one : event.Event P) (given : gives mid (Event one) to) (says : GivesEvent one (state mid) (state to)) where
       abbrev before : List (event.Event P)
       before = events_in running.joined.answers
 
@@ -86,7 +86,7 @@ module _ {P F D : Type 0} (gives : F → Given P → F → Type 0) (state : F �
 
       -- the event was handled: the pairs that it lists were given, by the same join
       abbrev pub Handled : (P → P → Bool) → Fin → Type 0
-      Handled own ended = (events : List (event.Event P)) → IsWellFormed (events ++ one ∷ []) → HoldWindows left_rows right_rows (windows_after events) left right → Gives takes (listed own (windows_after events) one) ended filled more
+      Handled own ended = (events : List (event.Event P)) → IsWellFormed (events ++ one ∷ []) → HoldWindows rows (windows_after events) left right → Gives takes (listed own (windows_after events) one) ended filled more
 
       -- one event more
       pub joined-more : (own : P → P → Bool) → own ≡ matches → (ended : Fin) → Handled own ended → Joined ended to more
@@ -104,11 +104,11 @@ module _ {P F D : Type 0} (gives : F → Given P → F → Type 0) (state : F �
           }
 
       pub running-more : (own : P → P → Bool) → own ≡ matches → (ended : Fin) → ended ≡ fin.Done → Handled own ended
-          → ((events : List (event.Event P)) → IsWellFormed (events ++ one ∷ []) → HoldWindows left_rows right_rows (windows_after events) left right → ended ≡ fin.Done → HoldWindows left_rows right_rows (after (windows_after events) one) new_left new_right)
+          → ((events : List (event.Event P)) → IsWellFormed (events ++ one ∷ []) → HoldWindows rows (windows_after events) left right → ended ≡ fin.Done → HoldWindows rows (after (windows_after events) one) new_left new_right)
           → Running to more new_left new_right
       unfolding joined-more
       running-more own is ended done handled moved = record {
         joined = joined-more own is fin.Done (subst (λ (how : Fin). Handled own how) done handled);
-        holds = subst (λ windows. HoldWindows left_rows right_rows windows new_left new_right)
+        holds = subst (λ windows. HoldWindows rows windows new_left new_right)
             (sym (windows_from-append no_rows before (one ∷ [])) ∙ ap (λ (events : List (event.Event P)). windows_after events) (sym (events-push running.joined.answers one))) (moved before well running.holds done);
       }

@@ -1,33 +1,33 @@
-ghost use Rattle.std.specs.Prelude.{◌≡◌, ◌≢◌, ◌++◌, [], ◌∷◌, List, true};
+ghost use Rattle.std.specs.Prelude.{◌≡◌, ◌≢◌, ◌++◌, [], ◌∷◌, List, true, IfOk};
 ghost use Rattle.hj_base.specs.declared.numbers.EventNo.{EventNo as EventNos};
 ghost use Rattle.hj_base.specs.declared.numbers.Side.{Side as Sides};
-ghost use Rattle.hj_base.specs.declared.numbers.Side.TheVariants.{Left, Right};
 ghost use Rattle.hj_msg.specs.declared.event.Event.{Event as Events};
 ghost use Rattle.hj_msg.specs.declared.event.Event.TheVariants.{Expire};
 ghost use Rattle.hj_msg.specs.declared.fin.Fin.TheVariants.{Done, Refused};
 ghost use Rattle.hj_msg.specs.declared.message.Report.TheVariants.{Handled};
+ghost use Rattle.hj_msg.specs.declared.partner.Partner.{Partner};
 ghost use Rattle.hj_msg.specs.Event.{IsWellFormed};
 ghost use Rattle.hj_msg.specs.Feed.{IsFresh};
 ghost use Rattle.hj_msg.specs.Kang.{Windows, after, listed, windows_after};
 ghost use Rattle.hj_msg.specs.Met.{pairs_of};
 ghost use Rattle.hj_msg.specs.RunsJoin.{RunsJoin};
-ghost use Rattle.hj_msg.specs.Store.{settled_matches, with_entry};
+ghost use Rattle.hj_msg.specs.Store.{with_entry};
 ghost use Rattle.hj_sequential.specs.Giving.{Gives};
 ghost use Rattle.hj_sequential.specs.Stores.{HoldWindows, Suit};
 
 use crate::giving::give;
-use hj_base::{CoreNo, EventNo, Gate, Share, Side};
-use hj_msg::{Drain, Event, Feed, Fin, Given, Join, Store};
+use hj_base::{CoreNo, EventNo, Gate, Memory, Share, Side};
+use hj_msg::{Drain, Event, Feed, Fin, Given, Join, Partners, Store};
 
 /// The sequential sliding-window join over a store of each stream's rows, those that arrived and haven't expired.
 #[derive(Drop)]
-pub struct SequentialJoin<J, L, R> {
+pub struct SequentialJoin<J, S> {
     pub join: J,
-    pub left: L,
-    pub right: R,
+    pub left: S,
+    pub right: S,
 }
 
-impl<J, L, R> SequentialJoin<J, L, R> {
+impl<J, S> SequentialJoin<J, S> {
     /// Joins the events of a feed that gave none yet, from empty stores on. The pairs of each row go to the drain as soon as the row
     /// has arrived, oldest partner first; the first one that the drain refuses ends the run. Before each event is handled the gate is
     /// passed, as by core 0, with the number of events that were handled before; this number stays at 2^64 - 1 once it is there.
@@ -39,12 +39,11 @@ impl<J, L, R> SequentialJoin<J, L, R> {
     ) -> Fin
     where
         J: Join<P>,
-        L: Store<P, J>,
-        R: Store<P, J>,
+        S: Store<P, J>,
         requires fresh { IsFresh (F.state feed.old) }
-        requires left { L.entries self.old.left ≡ [] }
-        requires right { R.entries self.old.right ≡ [] }
-        requires suits { Suit L.suits R.suits self.old.join self.old.left self.old.right }
+        requires left { S.entries self.old.left ≡ [] }
+        requires right { S.entries self.old.right ≡ [] }
+        requires suits { Suit S.suits self.old.join self.old.left self.old.right }
         ensures { RunsJoin F.gives F.state D.takes (J.predicate self.old.join) result feed.old feed.new drain.old drain.new }
     {
         let mut handled: u64 = 0;
@@ -64,14 +63,13 @@ impl<J, L, R> SequentialJoin<J, L, R> {
     fn handle<P: Share + Drop, D: Drain<P>>(&mut self, event: Event<P>, drain: &mut D) -> Fin
     where
         J: Join<P>,
-        L: Store<P, J>,
-        R: Store<P, J>,
-        requires { Suit L.suits R.suits self.old.join self.old.left self.old.right }
-        ensures gives { (before : List (Events P)) → IsWellFormed (before ++ event ∷ []) → HoldWindows L.entries R.entries (windows_after before) self.old.left self.old.right
+        S: Store<P, J>,
+        requires { Suit S.suits self.old.join self.old.left self.old.right }
+        ensures gives { (before : List (Events P)) → IsWellFormed (before ++ event ∷ []) → HoldWindows S.entries (windows_after before) self.old.left self.old.right
             → Gives D.takes (listed (J.predicate self.old.join) (windows_after before) event) result drain.old drain.new }
-        ensures holds { (before : List (Events P)) → IsWellFormed (before ++ event ∷ []) → HoldWindows L.entries R.entries (windows_after before) self.old.left self.old.right
-            → result ≡ Done → HoldWindows L.entries R.entries (after (windows_after before) event) self.new.left self.new.right }
-        ensures suits { Suit L.suits R.suits self.new.join self.new.left self.new.right }
+        ensures holds { (before : List (Events P)) → IsWellFormed (before ++ event ∷ []) → HoldWindows S.entries (windows_after before) self.old.left self.old.right
+            → result ≡ Done → HoldWindows S.entries (after (windows_after before) event) self.new.left self.new.right }
+        ensures suits { Suit S.suits self.new.join self.new.left self.new.right }
         ensures join { self.new.join ≡ self.old.join }
     {
         match event {
@@ -79,12 +77,18 @@ impl<J, L, R> SequentialJoin<J, L, R> {
                 no,
                 side: Side::Left,
                 row,
-            } => self.left_arrives(no, row, drain),
+            } => {
+                let found = self.right.probe(Side::Right, &row, &self.join);
+                arrives::<P, J, S, D>(no, Side::Left, row, found, &mut self.left, drain)
+            }
             Event::Arrive {
                 no,
                 side: Side::Right,
                 row,
-            } => self.right_arrives(no, row, drain),
+            } => {
+                let found = self.left.probe(Side::Left, &row, &self.join);
+                arrives::<P, J, S, D>(no, Side::Right, row, found, &mut self.right, drain)
+            }
             Event::Expire { side, of, .. } => {
                 self.expires::<P>(side, of);
                 Fin::Done
@@ -98,12 +102,11 @@ impl<J, L, R> SequentialJoin<J, L, R> {
     fn expires<P: Share + Drop>(&mut self, side: Side, of: EventNo)
     where
         J: Join<P>,
-        L: Store<P, J>,
-        R: Store<P, J>,
-        requires { Suit L.suits R.suits self.old.join self.old.left self.old.right }
-        ensures holds { (windows : Windows P) (at : EventNos) → HoldWindows L.entries R.entries windows self.old.left self.old.right
-            → HoldWindows L.entries R.entries (after windows (Expire at side of)) self.new.left self.new.right }
-        ensures suits { Suit L.suits R.suits self.new.join self.new.left self.new.right }
+        S: Store<P, J>,
+        requires { Suit S.suits self.old.join self.old.left self.old.right }
+        ensures holds { (windows : Windows P) (at : EventNos) → HoldWindows S.entries windows self.old.left self.old.right
+            → HoldWindows S.entries (after windows (Expire at side of)) self.new.left self.new.right }
+        ensures suits { Suit S.suits self.new.join self.new.left self.new.right }
         ensures join { self.new.join ≡ self.old.join }
     {
         match side {
@@ -111,59 +114,29 @@ impl<J, L, R> SequentialJoin<J, L, R> {
             Side::Right => self.right.remove(of),
         };
     }
+}
 
-    /// Gives the pairs of a left row that arrives, and keeps the row.
-    fn left_arrives<P: Share + Drop, D: Drain<P>>(
-        &mut self,
-        no: EventNo,
-        row: P,
-        drain: &mut D,
-    ) -> Fin
-    where
-        J: Join<P>,
-        L: Store<P, J>,
-        R: Store<P, J>,
-        requires { Suit L.suits R.suits self.old.join self.old.left self.old.right }
-        ensures gives { Gives D.takes (pairs_of (Handled no Left row (settled_matches (J.predicate self.old.join) Right row (R.entries self.old.right)))) result drain.old drain.new }
-        ensures keeps { result ≡ Done → L.entries self.new.left ≡ with_entry (record { no = no.0; row = row; settled = true }) (L.entries self.old.left) }
-        ensures right { self.new.right ≡ self.old.right }
-        ensures suits { Suit L.suits R.suits self.new.join self.new.left self.new.right }
-        ensures join { self.new.join ≡ self.old.join }
-    {
-        let Ok(partners) = self.right.probe(Side::Right, &row, &self.join) else {
-            return Fin::Memory;
-        };
-        match give(no, Side::Left, &row, &partners, drain) {
-            Fin::Done => keep::<P, J, L>(&mut self.left, no, row),
-            ended => ended,
-        }
-    }
-
-    /// Gives the pairs of a right row that arrives, and keeps the row.
-    fn right_arrives<P: Share + Drop, D: Drain<P>>(
-        &mut self,
-        no: EventNo,
-        row: P,
-        drain: &mut D,
-    ) -> Fin
-    where
-        J: Join<P>,
-        L: Store<P, J>,
-        R: Store<P, J>,
-        requires { Suit L.suits R.suits self.old.join self.old.left self.old.right }
-        ensures gives { Gives D.takes (pairs_of (Handled no Right row (settled_matches (J.predicate self.old.join) Left row (L.entries self.old.left)))) result drain.old drain.new }
-        ensures keeps { result ≡ Done → R.entries self.new.right ≡ with_entry (record { no = no.0; row = row; settled = true }) (R.entries self.old.right) }
-        ensures left { self.new.left ≡ self.old.left }
-        ensures suits { Suit L.suits R.suits self.new.join self.new.left self.new.right }
-        ensures join { self.new.join ≡ self.old.join }
-    {
-        let Ok(partners) = self.left.probe(Side::Left, &row, &self.join) else {
-            return Fin::Memory;
-        };
-        match give(no, Side::Right, &row, &partners, drain) {
-            Fin::Done => keep::<P, J, R>(&mut self.right, no, row),
-            ended => ended,
-        }
+/// Gives the pairs of a row of `side` that arrives with the partners that were found, and keeps the row in the store of its stream.
+#[inline(always)]
+fn arrives<P: Share + Drop, J: Join<P>, S: Store<P, J>, D: Drain<P>>(
+    no: EventNo,
+    side: Side,
+    row: P,
+    found: Result<Partners<P>, Memory>,
+    store: &mut S,
+    drain: &mut D,
+) -> Fin
+    ensures gives { (partners : List (Partner P)) → IfOk found (λ given. given ≡ partners)
+        → Gives D.takes (pairs_of (Handled no side row partners)) result drain.old drain.new }
+    ensures keeps { result ≡ Done → S.entries store.new ≡ with_entry (record { no = no.0; row = row; settled = true }) (S.entries store.old) }
+    ensures suits { (own : Sides) (join : J) → S.suits store.old own join → S.suits store.new own join }
+{
+    let Ok(partners) = found else {
+        return Fin::Memory;
+    };
+    match give(no, side, &row, &partners, drain) {
+        Fin::Done => keep::<P, J, S>(store, no, row),
+        ended => ended,
     }
 }
 

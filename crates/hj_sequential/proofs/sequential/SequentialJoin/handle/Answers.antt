@@ -1,4 +1,4 @@
-use Rattle.std.proofs.Common.{◌≡◌, List, [], ◌∷◌, ◌++◌, sym, subst}
+use Rattle.std.proofs.Common.{◌≡◌, List, [], ◌∷◌, ◌++◌, refl, sym, subst}
 use Rattle.hj_base.specs.declared.numbers.Side.TheVariants.{Left, Right}
 use Rattle.hj_msg.specs.declared.event.Event.{Event}
 use Rattle.hj_msg.specs.declared.event.Event.TheVariants.{Arrive}
@@ -14,36 +14,36 @@ pub returns-in-Arrive-default-Left-default-clause-gives : goal.returns-in-Arrive
 returns-in-Arrive-default-Left-default-clause-gives g c =
     let arm = c.in-Arrive-default-Left-default in
     let is : c.args.event ≡ Arrive arm.no Left arm.row = cc in
-    subst (λ (event : Event g.row.P.Denot). (before : List (Event g.row.P.Denot)) → IsWellFormed (before ++ event ∷ []) → HoldWindows g.L.Store.entries g.R.Store.entries (windows_after before) c.args.self.now.left c.args.self.now.right
-    → Gives g.D.Drain.takes (listed (g.J.Join.predicate c.args.self.now.join) (windows_after before) event) c.left_arrives.result c.args.drain.now c.left_arrives.new.drain) (sym is)
-    (λ before well holds. left_gives g.L.Store.entries g.R.Store.entries (g.J.Join.predicate c.args.self.now.join) before c.args.self.now.left c.args.self.now.right holds arm.no arm.row well g.D.Drain.takes c.left_arrives.result c.args.drain.now c.left_arrives.new.drain c.left_arrives.ensures.gives)
+    subst (λ (event : Event g.row.P.Denot). (before : List (Event g.row.P.Denot)) → IsWellFormed (before ++ event ∷ []) → HoldWindows g.S.Store.entries (windows_after before) c.args.self.now.left c.args.self.now.right
+    → Gives g.D.Drain.takes (listed (g.J.Join.predicate c.args.self.now.join) (windows_after before) event) c.arrives.result c.args.drain.now c.arrives.new.drain) (sym is)
+    (λ before well holds. left_gives g.S.Store.entries (g.J.Join.predicate c.args.self.now.join) before c.args.self.now.left c.args.self.now.right holds arm.no arm.row well g.D.Drain.takes c.arrives.result c.args.drain.now c.arrives.new.drain (c.arrives.ensures.gives _ c.probe-found.ensures))
 
 pub returns-in-Arrive-default-Left-default-clause-holds : goal.returns-in-Arrive-default-Left-default-clause-holds
 returns-in-Arrive-default-Left-default-clause-holds g c =
     let arm = c.in-Arrive-default-Left-default in
     let is : c.args.event ≡ Arrive arm.no Left arm.row = cc in
-    subst (λ (event : Event g.row.P.Denot). (before : List (Event g.row.P.Denot)) → IsWellFormed (before ++ event ∷ []) → HoldWindows g.L.Store.entries g.R.Store.entries (windows_after before) c.args.self.now.left c.args.self.now.right
-    → c.left_arrives.result ≡ Done → HoldWindows g.L.Store.entries g.R.Store.entries (after (windows_after before) event) c.left_arrives.new.self.left c.left_arrives.new.self.right) (sym is)
-    (λ before well holds done. left_holds g.L.Store.entries g.R.Store.entries (g.J.Join.predicate c.args.self.now.join) before c.args.self.now.left c.args.self.now.right holds arm.no arm.row well c.left_arrives.new.self.left c.left_arrives.new.self.right (c.left_arrives.ensures.keeps done) c.left_arrives.ensures.right)
+    subst (λ (event : Event g.row.P.Denot). (before : List (Event g.row.P.Denot)) → IsWellFormed (before ++ event ∷ []) → HoldWindows g.S.Store.entries (windows_after before) c.args.self.now.left c.args.self.now.right
+    → c.arrives.result ≡ Done → HoldWindows g.S.Store.entries (after (windows_after before) event) c.arrives.new.store c.args.self.now.right) (sym is)
+    (λ before well holds done. left_holds g.S.Store.entries (g.J.Join.predicate c.args.self.now.join) before c.args.self.now.left c.args.self.now.right holds arm.no arm.row well c.arrives.new.store c.args.self.now.right (c.arrives.ensures.keeps done) refl)
 
 pub returns-in-Arrive-default-Right-default-clause-gives : goal.returns-in-Arrive-default-Right-default-clause-gives
 returns-in-Arrive-default-Right-default-clause-gives g c =
     let arm = c.in-Arrive-default-Right-default in
     let is : c.args.event ≡ Arrive arm.no Right arm.row = cc in
-    subst (λ (event : Event g.row.P.Denot). (before : List (Event g.row.P.Denot)) → IsWellFormed (before ++ event ∷ []) → HoldWindows g.L.Store.entries g.R.Store.entries (windows_after before) c.args.self.now.left c.args.self.now.right
-    → Gives g.D.Drain.takes (listed (g.J.Join.predicate c.args.self.now.join) (windows_after before) event) c.right_arrives.result c.args.drain.now c.right_arrives.new.drain) (sym is)
-    (λ before well holds. right_gives g.L.Store.entries g.R.Store.entries (g.J.Join.predicate c.args.self.now.join) before c.args.self.now.left c.args.self.now.right holds arm.no arm.row well g.D.Drain.takes c.right_arrives.result c.args.drain.now c.right_arrives.new.drain c.right_arrives.ensures.gives)
+    subst (λ (event : Event g.row.P.Denot). (before : List (Event g.row.P.Denot)) → IsWellFormed (before ++ event ∷ []) → HoldWindows g.S.Store.entries (windows_after before) c.args.self.now.left c.args.self.now.right
+    → Gives g.D.Drain.takes (listed (g.J.Join.predicate c.args.self.now.join) (windows_after before) event) c.arrives-in-Arrive-default-Right-default.result c.args.drain.now c.arrives-in-Arrive-default-Right-default.new.drain) (sym is)
+    (λ before well holds. right_gives g.S.Store.entries (g.J.Join.predicate c.args.self.now.join) before c.args.self.now.left c.args.self.now.right holds arm.no arm.row well g.D.Drain.takes c.arrives-in-Arrive-default-Right-default.result c.args.drain.now c.arrives-in-Arrive-default-Right-default.new.drain (c.arrives-in-Arrive-default-Right-default.ensures.gives _ c.probe-found-in-Arrive-default-Right-default.ensures))
 
 pub returns-in-Arrive-default-Right-default-clause-holds : goal.returns-in-Arrive-default-Right-default-clause-holds
 returns-in-Arrive-default-Right-default-clause-holds g c =
     let arm = c.in-Arrive-default-Right-default in
     let is : c.args.event ≡ Arrive arm.no Right arm.row = cc in
-    subst (λ (event : Event g.row.P.Denot). (before : List (Event g.row.P.Denot)) → IsWellFormed (before ++ event ∷ []) → HoldWindows g.L.Store.entries g.R.Store.entries (windows_after before) c.args.self.now.left c.args.self.now.right
-    → c.right_arrives.result ≡ Done → HoldWindows g.L.Store.entries g.R.Store.entries (after (windows_after before) event) c.right_arrives.new.self.left c.right_arrives.new.self.right) (sym is)
-    (λ before well holds done. right_holds g.L.Store.entries g.R.Store.entries (g.J.Join.predicate c.args.self.now.join) before c.args.self.now.left c.args.self.now.right holds arm.no arm.row well c.right_arrives.new.self.left c.right_arrives.new.self.right c.right_arrives.ensures.left (c.right_arrives.ensures.keeps done))
+    subst (λ (event : Event g.row.P.Denot). (before : List (Event g.row.P.Denot)) → IsWellFormed (before ++ event ∷ []) → HoldWindows g.S.Store.entries (windows_after before) c.args.self.now.left c.args.self.now.right
+    → c.arrives-in-Arrive-default-Right-default.result ≡ Done → HoldWindows g.S.Store.entries (after (windows_after before) event) c.args.self.now.left c.arrives-in-Arrive-default-Right-default.new.store) (sym is)
+    (λ before well holds done. right_holds g.S.Store.entries (g.J.Join.predicate c.args.self.now.join) before c.args.self.now.left c.args.self.now.right holds arm.no arm.row well c.args.self.now.left c.arrives-in-Arrive-default-Right-default.new.store refl (c.arrives-in-Arrive-default-Right-default.ensures.keeps done))
 
 pub returns-in-Expire-clause-holds : goal.returns-in-Expire-clause-holds
 returns-in-Expire-clause-holds g c =
-    subst (λ (event : Event g.row.P.Denot). (before : List (Event g.row.P.Denot)) → IsWellFormed (before ++ event ∷ []) → HoldWindows g.L.Store.entries g.R.Store.entries (windows_after before) c.args.self.now.left c.args.self.now.right
-    → Done ≡ Done → HoldWindows g.L.Store.entries g.R.Store.entries (after (windows_after before) event) c.expires.new.self.left c.expires.new.self.right) (sym c.in-Expire.is)
+    subst (λ (event : Event g.row.P.Denot). (before : List (Event g.row.P.Denot)) → IsWellFormed (before ++ event ∷ []) → HoldWindows g.S.Store.entries (windows_after before) c.args.self.now.left c.args.self.now.right
+    → Done ≡ Done → HoldWindows g.S.Store.entries (after (windows_after before) event) c.expires.new.self.left c.expires.new.self.right) (sym c.in-Expire.is)
     (λ before well holds done. c.expires.ensures.holds (windows_after before) c.in-Expire.no holds)

@@ -6,8 +6,8 @@ use Rattle.hj_sequential.proofs.sequential.SequentialJoin.run.Given as goal
 -- the events so far were joined, and the stores hold the windows behind them
 abbrev pub invariant-loop-event : goal.invariant-loop-event
 invariant-loop-event g l = record {
-  running : Running g.F.Feed.gives g.F.Feed.state g.D.Drain.takes (g.J.Join.predicate l.fn.self.join) l.fn.feed l.fn.drain g.L.Store.entries g.R.Store.entries l.feed l.drain l.self.left l.self.right;
-  suits : Suit g.L.Store.suits g.R.Store.suits l.self.join l.self.left l.self.right;
+  running : Running g.F.Feed.gives g.F.Feed.state g.D.Drain.takes (g.J.Join.predicate l.fn.self.join) l.fn.feed l.fn.drain g.S.Store.entries l.feed l.drain l.self.left l.self.right;
+  suits : Suit g.S.Store.suits l.self.join l.self.left l.self.right;
   join : l.self.join ≡ l.fn.self.join;
 }
 
