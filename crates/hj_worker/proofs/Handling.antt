@@ -102,13 +102,13 @@ module _ {P : Type 0} where
       (subst (λ (m : Msg P). LeavesInHand number (passed ToRight message) old (Rest (record { to_left = None; to_right = Some m; to_right_then = None; entry = None })) (record old { right = end })) (sym back_is)
       (record { done = []; all = refl; journals = ap (λ j. record (journals_of old) { right = j }) same }, (Link Right, record { first = rightwards message; later = []; are = refl; at = refl; full = full }))))
 
-module _ {P J L R : Type 0} (predicate : J → P → P → Bool) (rows : Contents P J L R → step.State P) where
+module _ {P J S : Type 0} (predicate : J → P → P → Bool) (rows : Contents P J S → step.State P) where
   -- what is seen of a worker
-  abbrev pub seen : Contents P J L R → WorkerEnds P → InHand P → ℕ → ℕ → WorkerSeen P J
+  abbrev pub seen : Contents P J S → WorkerEnds P → InHand P → ℕ → ℕ → WorkerSeen P J
   seen core ends hand taken calls = record { join = core.join; place = core.place; cores = core.cores; state = rows core; ends = ends; hand = hand; taken = taken; calls = calls }
 
   -- a core that keeps its place
-  kept-core : (Q : (P → P → Bool) → ℕ → ℕ → step.State P → Type 0) (core new : Contents P J L R) (state : step.State P) → KeepsPlace core new → rows new ≡ state → Q (predicate core.join) core.place core.cores state
+  kept-core : (Q : (P → P → Bool) → ℕ → ℕ → step.State P → Type 0) (core new : Contents P J S) (state : step.State P) → KeepsPlace core new → rows new ≡ state → Q (predicate core.join) core.place core.cores state
       → Q (predicate new.join) new.place new.cores (rows new)
   kept-core Q core new state kept is has =
       subst (λ j. Q (predicate j) new.place new.cores (rows new)) (sym kept.join)
@@ -116,11 +116,11 @@ module _ {P J L R : Type 0} (predicate : J → P → P → Bool) (rows : Content
       (subst (λ n. Q (predicate core.join) core.place n (rows new)) (sym kept.cores) (subst (λ s. Q (predicate core.join) core.place core.cores s) (sym is) has)))
 
   -- A worker with nothing in hand took a message.
-  pub record Took (core : Contents P J L R) (number : ℕ) (first : Side) (message : Msg P) (old new : WorkerEnds P) : Type 0 where
+  pub record Took (core : Contents P J S) (number : ℕ) (first : Side) (message : Msg P) (old new : WorkerEnds P) : Type 0 where
     pub takes : Takes number first message old new
     pub begins : Begins (predicate core.join) core.place core.cores (rows core) message number (journals_of new)
 
-  pub took : (core : Contents P J L R) (number : ℕ) (first : Side) (message : Msg P) (hand : Hand P) (old mid new : WorkerEnds P) → in_hand hand ≡ unput [] → has_ended (rows core) ≡ false
+  pub took : (core : Contents P J S) (number : ℕ) (first : Side) (message : Msg P) (hand : Hand P) (old mid new : WorkerEnds P) → in_hand hand ≡ unput [] → has_ended (rows core) ≡ false
       → Stands (predicate core.join) core.place core.cores (rows core) (journals_of old) number hand → Looked old mid → Takes number first message mid new → Took core number first message old new
   took core number first message hand old mid new nothing unended stands looked takes =
       let between = between-of (predicate core.join) core.place core.cores (rows core) (journals_of old) number hand nothing stands in
@@ -131,16 +131,16 @@ module _ {P J L R : Type 0} (predicate : J → P → P → Bool) (rows : Content
       }
 
   -- Its core handled the message.
-  pub record Handled (core new : Contents P J L R) (message : Msg P) (items : List (Outgoing P)) : Type 0 where
+  pub record Handled (core new : Contents P J S) (message : Msg P) (items : List (Outgoing P)) : Type 0 where
     pub kept : KeepsPlace core new
     pub things : items ≡ outgoing (predicate core.join) core.place core.cores (rows core) message
     pub state : rows new ≡ step.after core.place core.cores (rows core) message
 
   -- It wasn't one to be passed on, so the core is as before, and handles it; what it sends and reports is put together of it.
-  pub handled : (core same new : Contents P J L R) (message : Msg P) (sends : Sends P) → same ≡ core → KeepsPlace same new → rows new ≡ step.after same.place same.cores (rows same) message
+  pub handled : (core same new : Contents P J S) (message : Msg P) (sends : Sends P) → same ≡ core → KeepsPlace same new → rows new ≡ step.after same.place same.cores (rows same) message
       → sent sends ≡ step.sends new.place new.cores message → (entry : Option (Report P)) → sends.entry ≡ entry → entry ≡ step.report (predicate same.join) (rows same) message → Handled core new message (things_of sends)
   handled core same new message sends is kept state_is sent_is entry entry_is report_is =
-      subst (λ (c : Contents P J L R). Handled c new message (things_of sends)) is
+      subst (λ (c : Contents P J S). Handled c new message (things_of sends)) is
       (record {
         kept = kept;
         things = ap₂ (λ s e. in_order s e) (sent_is ∙ ap₂ (λ p n. step.sends p n message) kept.place kept.cores) (entry_is ∙ report_is);
@@ -148,21 +148,21 @@ module _ {P J L R : Type 0} (predicate : J → P → P → Bool) (rows : Content
       })
 
   -- What the core made of it is what it sends and reports.
-  pub made : (core new : Contents P J L R) (message : Msg P) (sends : Sends P) → KeepsPlace core new → rows new ≡ step.after core.place core.cores (rows core) message → sent sends ≡ step.sends new.place new.cores message
+  pub made : (core new : Contents P J S) (message : Msg P) (sends : Sends P) → KeepsPlace core new → rows new ≡ step.after core.place core.cores (rows core) message → sent sends ≡ step.sends new.place new.cores message
       → (entry : Option (Report P)) → sends.entry ≡ entry → entry ≡ step.report (predicate core.join) (rows core) message → (number : ℕ) (old last : WorkerEnds P) (hand : Hand P) → LeavesInHand number (things_of sends) old hand last
       → LeavesInHand number (outgoing (predicate core.join) core.place core.cores (rows core) message) old hand last
   made core new message sends kept state_is sent_is entry entry_is report_is number old last hand =
       subst (λ items. LeavesInHand number items old hand last) (handled core core new message sends refl kept state_is sent_is entry entry_is report_is).things
 
   -- All that it made of the message was put.
-  pub all_put : {core new : Contents P J L R} {number : ℕ} {first : Side} {message : Msg P} {old mid : WorkerEnds P} {items : List (Outgoing P)} (last : Journals P) → Took core number first message old mid → Handled core new message items
+  pub all_put : {core new : Contents P J S} {number : ℕ} {first : Side} {message : Msg P} {old mid : WorkerEnds P} {items : List (Outgoing P)} (last : Journals P) → Took core number first message old mid → Handled core new message items
       → last ≡ with_puts number (journals_of mid) items → IsBetween (predicate new.join) new.place new.cores (rows new) last (number + 1)
   all_put {core = core} {new = new} {number = number} {message = message} {mid = mid} last took handled puts =
       kept-core (λ m p n s. IsBetween m p n s last (number + 1)) core new (step.after core.place core.cores (rows core) message) handled.kept handled.state
       (finished took.begins last (puts ∙ ap (with_puts number (journals_of mid)) handled.things) (number + 1) refl)
 
   -- Some of it is left.
-  pub some_left : {core new : Contents P J L R} {number : ℕ} {first : Side} {message : Msg P} {old mid : WorkerEnds P} {items : List (Outgoing P)} (others : List (Outgoing P)) (last : Journals P) → Took core number first message old mid
+  pub some_left : {core new : Contents P J S} {number : ℕ} {first : Side} {message : Msg P} {old mid : WorkerEnds P} {items : List (Outgoing P)} (others : List (Outgoing P)) (last : Journals P) → Took core number first message old mid
       → Handled core new message items → Puts number items (journals_of mid) others last → 0 < length others → IsInTheMidst (predicate new.join) new.place new.cores (rows new) last (number + 1) others
   some_left {core = core} {new = new} {number = number} {message = message} {mid = mid} others last took handled puts some =
       kept-core (λ m p n s. IsInTheMidst m p n s last (number + 1) others) core new (step.after core.place core.cores (rows core) message) handled.kept handled.state
@@ -180,7 +180,7 @@ module _ {P J L R : Type 0} (predicate : J → P → P → Bool) (rows : Content
         counted = refl;
       })
 
-  pub handles : {core new : Contents P J L R} {number : ℕ} {first : Side} {message : Msg P} {ends mid : WorkerEnds P} {items : List (Outgoing P)} (old : WorkerSeen P J) (last : WorkerEnds P) (others : List (Outgoing P)) (hand hand' : InHand P)
+  pub handles : {core new : Contents P J S} {number : ℕ} {first : Side} {message : Msg P} {ends mid : WorkerEnds P} {items : List (Outgoing P)} (old : WorkerSeen P J) (last : WorkerEnds P) (others : List (Outgoing P)) (hand hand' : InHand P)
       (calls calls' : ℕ) → seen core ends hand number calls ≡ old → Took core number first message ends mid → Handled core new message items → Puts number items (journals_of mid) others (journals_of last)
       → (0 < length others → (place : Place) × AreBlocked place others ends last) → hand' ≡ unput others → Handles (predicate old.join) first old (seen new last hand' (number + 1) calls')
   handles {core = core} {new = new} {number = number} {first = first} {message = message} {mid = mid} old last others hand hand' calls calls' is took handled puts waits hand_is =
@@ -198,13 +198,13 @@ module _ {P J L R : Type 0} (predicate : J → P → P → Bool) (rows : Content
       })
 
   -- What it made of the message was put, or is in hand.
-  pub leaves : {core new : Contents P J L R} {number : ℕ} {first : Side} {message : Msg P} {old mid : WorkerEnds P} {items : List (Outgoing P)} (last : WorkerEnds P) (hand : Hand P) → Took core number first message old mid
+  pub leaves : {core new : Contents P J S} {number : ℕ} {first : Side} {message : Msg P} {old mid : WorkerEnds P} {items : List (Outgoing P)} (last : WorkerEnds P) (hand : Hand P) → Took core number first message old mid
       → Handled core new message items → LeavesInHand number items mid hand last → Stands (predicate new.join) new.place new.cores (rows new) (journals_of last) (number + 1) hand
   leaves last Nothing taken done all = all_put (journals_of last) taken done all
   leaves {mid = mid} last (Rest sends) taken done left = some_left (things_of sends) (journals_of last) taken done left.0 (some-blocked left.1.0 (things_of sends) mid last left.1.1)
   leaves last (Refused message) taken done left = absurd left
 
-  pub handles-leaving : {core new : Contents P J L R} {number : ℕ} {first : Side} {message : Msg P} {ends mid : WorkerEnds P} {items : List (Outgoing P)} (old : WorkerSeen P J) (last : WorkerEnds P) (before : InHand P) (hand : Hand P)
+  pub handles-leaving : {core new : Contents P J S} {number : ℕ} {first : Side} {message : Msg P} {ends mid : WorkerEnds P} {items : List (Outgoing P)} (old : WorkerSeen P J) (last : WorkerEnds P) (before : InHand P) (hand : Hand P)
       (calls calls' : ℕ) → seen core ends before number calls ≡ old → Took core number first message ends mid → Handled core new message items → LeavesInHand number items mid hand last
       → ((place : Place) → full_looks place mid ≡ full_looks place ends) → Handles (predicate old.join) first old (seen new last (in_hand hand) (number + 1) calls')
   handles-leaving {number = number} {mid = mid} {items = items} old last before Nothing calls calls' is taken done all same =
@@ -214,7 +214,7 @@ module _ {P J L R : Type 0} (predicate : J → P → P → Bool) (rows : Content
   handles-leaving old last before (Refused message) calls calls' is taken done left same = absurd left
 
   -- Memory ran out.
-  pub ran_out : {core : Contents P J L R} {number : ℕ} {first : Side} {message : Msg P} {old mid : WorkerEnds P} (prepared : Contents P J L R) (reports : EndSeen (Report P)) → Took core number first message old mid
+  pub ran_out : {core : Contents P J S} {number : ℕ} {first : Side} {message : Msg P} {old mid : WorkerEnds P} (prepared : Contents P J S) (reports : EndSeen (Report P)) → Took core number first message old mid
       → KeepsPlace core prepared → rows prepared ≡ rows core → reports.journal ≡ mid.reports.journal ++ put number NoMemory ∷ []
       → IsOutOfMemory (predicate prepared.join) prepared.place prepared.cores (rows prepared) (journals_of (record mid { reports = reports })) (number + 1) message
   ran_out {core = core} {number = number} {message = message} {mid = mid} prepared reports took kept same put_is =
@@ -222,7 +222,7 @@ module _ {P J L R : Type 0} (predicate : J → P → P → Bool) (rows : Content
       (record { number = number; begun = journals_of mid; begins = took.begins; put = ap (λ rs. record (journals_of mid) { reports = rs }) put_is; counted = refl })
 
   -- The message is in hand then, and a report of it alone was put.
-  pub stands-out : {core : Contents P J L R} {number : ℕ} {first : Side} {message : Msg P} {old mid : WorkerEnds P} (new : Contents P J L R) (last : WorkerEnds P) (hand : Hand P) (reports : EndSeen (Report P)) → Took core number first message old mid
+  pub stands-out : {core : Contents P J S} {number : ℕ} {first : Side} {message : Msg P} {old mid : WorkerEnds P} (new : Contents P J S) (last : WorkerEnds P) (hand : Hand P) (reports : EndSeen (Report P)) → Took core number first message old mid
       → KeepsPlace core new → hand ≡ Refused message → rows new ≡ rows core → last ≡ mid → reports.journal ≡ last.reports.journal ++ put number NoMemory ∷ []
       → Stands (predicate new.join) new.place new.cores (rows new) (journals_of (record last { reports = reports })) (number + 1) hand
   stands-out {number = number} {message = message} new last hand reports took kept hand_is same last_is put_is =
@@ -230,7 +230,7 @@ module _ {P J L R : Type 0} (predicate : J → P → P → Bool) (rows : Content
       (subst (λ (e : WorkerEnds P). reports.journal ≡ e.reports.journal ++ put number NoMemory ∷ [] → IsOutOfMemory (predicate new.join) new.place new.cores (rows new) (journals_of (record e { reports = reports })) (number + 1) message)
       (sym last_is) (λ put_here. ran_out new reports took kept same put_here) put_is)
 
-  pub runs-out : {core : Contents P J L R} {number : ℕ} {first : Side} {message : Msg P} {ends mid : WorkerEnds P} (old : WorkerSeen P J) (new : Contents P J L R) (last : WorkerEnds P) (before : InHand P) (hand : Hand P) (reports : EndSeen (Report P))
+  pub runs-out : {core : Contents P J S} {number : ℕ} {first : Side} {message : Msg P} {ends mid : WorkerEnds P} (old : WorkerSeen P J) (new : Contents P J S) (last : WorkerEnds P) (before : InHand P) (hand : Hand P) (reports : EndSeen (Report P))
       (calls calls' : ℕ) → seen core ends before number calls ≡ old → Took core number first message ends mid → hand ≡ Refused message → rows new ≡ rows core → last ≡ mid
       → reports.journal ≡ last.reports.journal ++ put number NoMemory ∷ [] → RunsOut first old (seen new (record last { reports = reports }) (in_hand hand) (number + 1) calls')
   runs-out {number = number} {first = first} {message = message} {mid = mid} old new last before hand reports calls calls' is took hand_is same last_is put_is =
@@ -248,7 +248,7 @@ module _ {P J L R : Type 0} (predicate : J → P → P → Bool) (rows : Content
       })
 
   -- What was in hand was put, up to these others.
-  pub puts-in_hand : (core : Contents P J L R) (old : WorkerSeen P J) (ends last : WorkerEnds P) (hand hand' : InHand P) (taken calls : ℕ) (items others : List (Outgoing P)) → seen core ends hand taken calls ≡ old
+  pub puts-in_hand : (core : Contents P J S) (old : WorkerSeen P J) (ends last : WorkerEnds P) (hand hand' : InHand P) (taken calls : ℕ) (items others : List (Outgoing P)) → seen core ends hand taken calls ≡ old
       → hand ≡ unput items → Puts (taken - 1) items (journals_of ends) others (journals_of last) → hand' ≡ unput others → (items' : List (Outgoing P)) → old.hand ≡ unput items' → 0 < length items'
       → PutsInHand items' old others (seen core last hand' taken calls)
   puts-in_hand core old ends last hand hand' taken calls items others is hand_is puts others_are =

@@ -10,8 +10,8 @@ use Rattle.hj_worker.specs.declared.hand.Hand.TheVariants.{Refused}
 use Rattle.hj_worker.specs.Outgoing.{outgoing}
 use Rattle.hj_worker.specs.Turning.{KeepsLinks, LeavesInHand}
 
-pub record HandlesMessage {P J L R A E : Type 0} (predicate : J → P → P → Bool) (rows : Contents P J L R → State P) (turn : ℕ) (message : Msg P)
-    (old new : Contents P J L R) (ends ends' : WorkerEnds P) (hand : Hand P) (result : Result A E) : Type 0 where
+pub record HandlesMessage {P J S A E : Type 0} (predicate : J → P → P → Bool) (rows : Contents P J S → State P) (turn : ℕ) (message : Msg P)
+    (old new : Contents P J S) (ends ends' : WorkerEnds P) (hand : Hand P) (result : Result A E) : Type 0 where
   pub kept : KeepsPlace old new
   pub links : KeepsLinks ends ends'
   -- the core handled it, and what it makes of it was put under the number of a turn, up to what is in hand

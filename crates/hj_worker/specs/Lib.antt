@@ -1,7 +1,6 @@
 pub mod Handled
 pub mod Hands
 pub mod Outgoing
-pub mod Rows
 pub mod Seen
 pub mod Standing
 pub mod Turning

@@ -17,13 +17,13 @@ use std::mem;
 
 /// A core between its two links, with the queue of its reports. It handles one message a turn.
 #[derive(Drop)]
-pub struct Worker<P: Drop, J: Join<P>, L: Store<P, J>, R: Store<P, J>> {
-    station: Station<P, J, L, R>,
+pub struct Worker<P: Drop, J: Join<P>, S: Store<P, J>> {
+    station: Station<P, J, S>,
     taken: u64,
     calls: u64,
 }
 
-impl<P: Drop, J: Join<P>, L: Store<P, J>, R: Store<P, J>> Model for Worker<P, J, L, R> {
+impl<P: Drop, J: Join<P>, S: Store<P, J>> Model for Worker<P, J, S> {
     ghost use Rattle.hj_core.specs.Contents.{state_of};
     ghost use Rattle.hj_worker.specs.Hands.{in_hand};
     ghost use Rattle.hj_worker.specs.Seen.{WorkerSeen, journals_of};
@@ -35,14 +35,14 @@ impl<P: Drop, J: Join<P>, L: Store<P, J>, R: Store<P, J>> Model for Worker<P, J,
       join = w.station.core.join;
       place = w.station.core.place;
       cores = w.station.core.cores;
-      state = state_of L.entries R.entries w.station.core;
+      state = state_of S.entries w.station.core;
       ends = w.station.ends;
       hand = in_hand w.station.hand;
       taken = w.taken;
       calls = w.calls;
     } };
 
-    ghost invariant = { λ w. Stands (J.predicate w.station.core.join) w.station.core.place w.station.core.cores (state_of L.entries R.entries w.station.core) (journals_of w.station.ends) w.taken w.station.hand };
+    ghost invariant = { λ w. Stands (J.predicate w.station.core.join) w.station.core.place w.station.core.cores (state_of S.entries w.station.core) (journals_of w.station.ends) w.taken w.station.hand };
 }
 
 /// The ends of a worker, handed back.
@@ -57,12 +57,7 @@ pub struct Parts<P: Drop> {
     pub reports: Sender<Report<P>>,
 }
 
-impl<P: Share + Drop, J: Join<P> + Drop, L: Store<P, J> + Drop, R: Store<P, J> + Drop> Worker<
-    P,
-    J,
-    L,
-    R,
-> {
+impl<P: Share + Drop, J: Join<P> + Drop, S: Store<P, J> + Drop> Worker<P, J, S> {
     ghost use Rattle.std.specs.Prelude.{List};
     ghost use Rattle.hj_base.specs.declared.numbers.Side.TheVariants.{Left as OnLeft, Right as OnRight};
     ghost use Rattle.hj_base.specs.Journals.{puts};
@@ -79,12 +74,12 @@ impl<P: Share + Drop, J: Join<P> + Drop, L: Store<P, J> + Drop, R: Store<P, J> +
 
     /// Makes the worker of a core that has handled nothing, over ends that have taken and put nothing.
     pub fn new(
-        core: Core<P, J, L, R>,
+        core: Core<P, J, S>,
         left: RightEnd<Msg<P>>,
         right: LeftEnd<Msg<P>>,
         reports: Sender<Report<P>>,
     ) -> Self
-        requires core { state_of L.entries R.entries core ≡ empty_state }
+        requires core { state_of S.entries core ≡ empty_state }
         requires left { left.journal ≡ [] }
         requires right { right.journal ≡ [] }
         requires reports { reports.journal ≡ [] }

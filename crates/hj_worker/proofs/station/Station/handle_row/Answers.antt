@@ -5,12 +5,12 @@ use Rattle.hj_worker.proofs.station.Station.handle_row.Goals as goal
 
 pub returns : goal.returns
 returns g c = record {
-  kept = c.report_of.ensures.kept;
+  kept = c.handle_row.ensures.kept;
   links = c.put_made.ensures.links;
   state = c.in-Ok.ensures.state;
   puts =
-      made g.J.Join.predicate (state_of g.L.Store.entries g.R.Store.entries) c.args.self.now.core c.report_of.new.core _ c.answer-sends.result c.report_of.ensures.kept c.in-Ok.ensures.state
-      (rw (c.message_of-2.ensures) at c.answer-sends.ensures.sends) (Some c.in-Ok.report) c.answer-sends.ensures.report c.in-Ok.ensures.report c.args.turn c.args.self.now.ends c.put_made.new.self c.put_made.new.hand
+      made g.J.Join.predicate (state_of g.S.Store.entries) c.args.self.now.core c.handle_row.new.self _ c.answer-sends.result c.handle_row.ensures.kept c.in-Ok.ensures.state
+      (rw (c.row_message-2.ensures) at c.answer-sends.ensures.sends) (Some c.in-Ok.report) c.answer-sends.ensures.report c.in-Ok.ensures.report c.args.turn c.args.self.now.ends c.put_made.new.self c.put_made.new.hand
       c.put_made.ensures.puts;
   refused = tt;
 }

@@ -11,13 +11,13 @@ use Rattle.hj_worker.proofs.worker.Worker.turn.Goals as goal
 pub put_rest-requires : goal.put_rest-requires
 put_rest-requires g c =
     let w = c.self.inside in
-    let midst = midst-of (g.J.Join.predicate w.station.core.join) w.station.core.place w.station.core.cores (state_of g.L.Store.entries g.R.Store.entries w.station.core) (journals_of w.station.ends) w.taken w.station.hand c.in-Rest.field-0 c.in-Rest.is c.self.invariant in
+    let midst = midst-of (g.J.Join.predicate w.station.core.join) w.station.core.place w.station.core.cores (state_of g.S.Store.entries w.station.core) (journals_of w.station.ends) w.taken w.station.hand c.in-Rest.field-0 c.in-Rest.is c.self.invariant in
     (things_of c.in-Rest.field-0, ap in_hand c.in-Rest.is, midst.some)
 
 rest : (g : Over) (c : goal.After-put_rest g) → Told g.J.Join.predicate c.args.self.now c.put_rest.result c.put_rest.new.self
 rest g c =
     let w = c.self.inside in
-    let midst = midst-of (g.J.Join.predicate w.station.core.join) w.station.core.place w.station.core.cores (state_of g.L.Store.entries g.R.Store.entries w.station.core) (journals_of w.station.ends) w.taken w.station.hand c.in-Rest.field-0 c.in-Rest.is c.self.invariant in
+    let midst = midst-of (g.J.Join.predicate w.station.core.join) w.station.core.place w.station.core.cores (state_of g.S.Store.entries w.station.core) (journals_of w.station.ends) w.taken w.station.hand c.in-Rest.field-0 c.in-Rest.is c.self.invariant in
     told-rest g.J.Join.predicate _ c.args.self.now c.saturating_add-self-inside.result (things_of c.in-Rest.field-0) c.put_rest.result c.put_rest.new.self c.self.view_is (ap in_hand c.in-Rest.is) midst.some
     (c.put_rest.ensures.in_hand (things_of c.in-Rest.field-0) (ap in_hand c.in-Rest.is) midst.some)
 
@@ -54,7 +54,7 @@ pub returns-then-ended-clause-ended_reported : goal.returns-then-ended-clause-en
 returns-then-ended-clause-ended_reported g c = λ _.
     let w = c.self.inside in
     let matches = g.J.Join.predicate w.station.core.join in
-    let state = state_of g.L.Store.entries g.R.Store.entries w.station.core in
+    let state = state_of g.S.Store.entries w.station.core in
     let between = between-of matches w.station.core.place w.station.core.cores state (journals_of w.station.ends) w.taken w.station.hand (ap in_hand c.in-Nothing.is) c.self.invariant in
     end-put matches w.station.core.place w.station.core.cores state (journals_of w.station.ends) w.taken between (sym c.ended.ensures ∙ c.if-ended.true)
 
