@@ -9,8 +9,8 @@ use hj_chain::{Actor, Chain};
 use hj_msg::{Given, Join, Store};
 
 /// Returns what an actor of a chain does in its next step, if it finds something to do.
-pub fn doing<'a, P: Share + Drop, J: Join<P> + Drop, L: Store<P, J> + Drop, R: Store<P, J> + Drop>(
-    chain: &'a Chain<P, J, L, R>,
+pub fn doing<'a, P: Share + Drop, J: Join<P> + Drop, S: Store<P, J> + Drop>(
+    chain: &'a Chain<P, J, S>,
     actor: Actor,
 ) -> Option<Doing<'a, P>>
     ensures { option_map action_in result ≡ action_of chain.now.state actor }

@@ -27,9 +27,9 @@ impl Naming {
     }
 
     /// Returns the actor of a chain's next step; None where none is enabled.
-    pub fn name<P: Share + Drop, J: Join<P> + Drop, L: Store<P, J> + Drop, R: Store<P, J> + Drop>(
+    pub fn name<P: Share + Drop, J: Join<P> + Drop, S: Store<P, J> + Drop>(
         &mut self,
-        chain: &Chain<P, J, L, R>,
+        chain: &Chain<P, J, S>,
     ) -> Option<Actor>
         requires { IsWithin (length chain.now.state.cores) (choosing_in self.old) }
         ensures named { result ≡ chosen (choosing_in self.old) true chain.now.state }

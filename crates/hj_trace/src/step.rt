@@ -30,13 +30,12 @@ pub enum Played {
 
 /// Makes a step of an actor, if it is enabled, and appends to a line what it says behind the actor: what is taken, what is put to
 /// the left and to the right, and what is reported. Where the actor isn't enabled, or memory runs out, anything may be appended.
-pub fn play<
-    P: Share + Drop,
-    J: Join<P> + Drop,
-    L: Store<P, J> + Drop,
-    R: Store<P, J> + Drop,
-    F: Feed<P>,
->(chain: &mut Chain<P, J, L, R>, actor: Actor, feed: &mut F, line: &mut Vec<u8>) -> Played
+pub fn play<P: Share + Drop, J: Join<P> + Drop, S: Store<P, J> + Drop, F: Feed<P>>(
+    chain: &mut Chain<P, J, S>,
+    actor: Actor,
+    feed: &mut F,
+    line: &mut Vec<u8>,
+) -> Played
     requires { GoesWith J.predicate chain.old (F.state feed.old) }
     ensures plays { Plays F.gives F.ready (J.predicate chain.old.join) actor result chain.old feed.old chain.new feed.new line.old.items line.new.items }
     ensures asked { (answers : List (Answer P)) × GoesOverAnswers F.gives feed.old answers feed.new }
@@ -66,8 +65,8 @@ pub fn play<
 }
 
 /// Returns how many reports wait to be collected of the core that an actor is an end of.
-fn waiting<P: Share + Drop, J: Join<P> + Drop, L: Store<P, J> + Drop, R: Store<P, J> + Drop>(
-    chain: &Chain<P, J, L, R>,
+fn waiting<P: Share + Drop, J: Join<P> + Drop, S: Store<P, J> + Drop>(
+    chain: &Chain<P, J, S>,
     actor: Actor,
 ) -> usize
     ensures { result ≡ waiting_at actor chain.now.state.reports }
@@ -79,8 +78,8 @@ fn waiting<P: Share + Drop, J: Join<P> + Drop, L: Store<P, J> + Drop, R: Store<P
 }
 
 /// Lends the report that was put last at the core that an actor is an end of, where more wait than these.
-fn added<'a, P: Share + Drop, J: Join<P> + Drop, L: Store<P, J> + Drop, R: Store<P, J> + Drop>(
-    chain: &'a Chain<P, J, L, R>,
+fn added<'a, P: Share + Drop, J: Join<P> + Drop, S: Store<P, J> + Drop>(
+    chain: &'a Chain<P, J, S>,
     actor: Actor,
     waited: usize,
 ) -> Option<&'a Report<P>>
