@@ -1,5 +1,5 @@
 -- A trace that was written, over the events of the streams.
-use Rattle.std.proofs.Common.{◌≡◌, ◌≢◌, ℕ, Bool, true, false, List, [], ◌∷◌, length, None, Some, refl, sym, ap, subst, ◌∙◌, append_assoc}
+use Rattle.std.proofs.Common.{◌≡◌, ◌≢◌, ℕ, Bool, true, false, List, [], ◌∷◌, ◌++◌, length, None, Some, refl, sym, ap, subst, ◌∙◌, append_assoc}
 use Rattle.std.proofs.KnownBytes.{Appends-nil}
 use Rattle.std.specs.declared.option.Option.{Option}
 use Rattle.hj_value.specs.declared.field.Field.{Field}
@@ -18,7 +18,7 @@ use Rattle.hj_event.specs.Roles.{IsInStep}
 use Rattle.hj_record.specs.Pieces.{Stream}
 use Rattle.hj_event.specs.Sides.{in_front, Follows, at_its_end, cut_off}
 use Rattle.hj_output.specs.Output.{CountsFaults}
-use Rattle.hj_stream.specs.Joining.{CountsSinkFault}
+use Rattle.hj_stream.specs.Joining.{AreEnded, CountsSinkFault, FailsOn}
 use Rattle.hj_event.proofs.RoleLemmas.{not_read}
 use Rattle.hj_output.specs.declared.output.Sent.{Sent}
 use Rattle.hj_output.specs.declared.output.Sent.TheVariants as sent
@@ -86,6 +86,28 @@ module _ {O : Type 0} {outside : OutsideGhosts O} where
     not_memory : (ended : Option Outcome) (made : Outcome) → ended ≢ Some outcome.Memory → ended ≡ Some made → made ≢ outcome.Memory
     not_memory ended made other is same = other (is ∙ ap Some same)
 
+    -- what was written only begins a trace
+    broken_off : (answer : Sent) (made : Outcome) (run : WritesRun {O = O} {outside = outside} (holds query) rule n flight answer from to old new)
+        → FailsOn made (known answer run).left.failed (known answer run).right.failed → AreEnded made (known answer run).left.ended (known answer run).right.ended
+        → ((more : List (Event (List Field))) → MayCome to.feed.ended more → BeginsTrace (holds query) rule n flight (events_in run.feed.answers ++ more) run.grown)
+        → ((text : List ℕ) (all : Numbered) → BeginsTrace (holds query) rule n flight all.events text → WritesSteps made query n flight rule text all)
+        → WritesTrace made query n flight rule limit (roles_of from) (roles_of to) old new
+    broken_off answer made run failed ends begins steps =
+        let so = known answer run in
+        record {
+          left = so.left;
+          right = so.right;
+          failed = failed;
+          ends = ends;
+          others = run.feed.others;
+          grown = run.grown;
+          written = run.written;
+          text = λ l r left right.
+              let goes = so.goes l r left right in
+              steps run.grown (events_of query (in_front so.left.bytes l) (in_front so.right.bytes r) limit)
+              (subst (λ (events : List (Event (List Field))). BeginsTrace (holds query) rule n flight events run.grown) (sym goes.are) (begins goes.more goes.may));
+        }
+
     pub traces : (answer : Sent) (made : Outcome) (run : WritesRun {O = O} {outside = outside} (holds query) rule n flight answer from to old new) → Makes answer to.feed.ended made
         → WritesTrace made query n flight rule limit (roles_of from) (roles_of to) old new
     traces sent.Whole made run is =
@@ -105,35 +127,11 @@ module _ {O : Type 0} {outside : OutsideGhosts O} where
               (subst (λ (events : List (Event (List Field))). IsTrace (holds query) rule n flight events run.grown) (sym goes.are) wrote.2);
         }
     traces sent.Failed made run is =
-        let so = known sent.Failed run in
         subst (λ (o : Outcome). WritesTrace o query n flight rule limit (roles_of from) (roles_of to) old new) (sym is)
-        (record {
-          left = so.left;
-          right = so.right;
-          failed = so.one;
-          ends = tt;
-          others = run.feed.others;
-          grown = run.grown;
-          written = run.written;
-          text = λ l r left right.
-              let goes = so.goes l r left right in
-              subst (λ (events : List (Event (List Field))). BeginsTrace (holds query) rule n flight events run.grown) (sym goes.are) (run.text goes.more goes.may);
-        })
+        (broken_off sent.Failed outcome.SinkFault run (known sent.Failed run).one tt run.text (λ text all begins. begins))
     traces sent.Memory made run is =
-        let so = known sent.Memory run in
         subst (λ (o : Outcome). WritesTrace o query n flight rule limit (roles_of from) (roles_of to) old new) (sym is)
-        (record {
-          left = so.left;
-          right = so.right;
-          failed = so.one;
-          ends = tt;
-          others = run.feed.others;
-          grown = run.grown;
-          written = run.written;
-          text = λ l r left right.
-              let goes = so.goes l r left right in
-              subst (λ (events : List (Event (List Field))). BeginsTrace (holds query) rule n flight events run.grown) (sym goes.are) (run.text goes.more goes.may);
-        })
+        (broken_off sent.Memory outcome.Memory run (known sent.Memory run).one tt run.text (λ text all begins. begins))
 
 may_none : (ended : Option Outcome) → MayCome ended []
 may_none None = tt

@@ -23,13 +23,14 @@ use hj_output::{Sent, put_all};
 use hj_stream::Outcome;
 use hj_trace::{Naming, Played, play, push_maker};
 use hj_value::SharedRow;
+use std::alloc::Global;
 
 /// Makes the steps of a chain that made none, in the order of a rule, and writes the line of each one.
 pub(crate) fn write_lines<'r, S: Store<SharedRow, QueryJoin<'r>> + Drop, O: Outside, K: Sink>(
+    alloc: Global,
     chain: &mut Chain<SharedRow, QueryJoin<'r>, S, S>,
     chooser: Chooser,
     feed: &mut AlwaysReady<'_, O>,
-    line: &mut Vec<u8>,
     out: &mut K,
 ) -> Sent
     requires { GoesWith holds chain.old (state_of feed.old) }
@@ -44,8 +45,9 @@ pub(crate) fn write_lines<'r, S: Store<SharedRow, QueryJoin<'r>> + Drop, O: Outs
         return Sent::Memory;
     }
     let mut naming = Naming::new(chooser);
+    let mut line = Vec::new(alloc);
     while let Some(actor) = naming.name(chain) {
-        match write_line(chain, actor, feed, line, out) {
+        match write_line(chain, actor, feed, &mut line, out) {
             Sent::Whole => {}
             other => return other,
         }

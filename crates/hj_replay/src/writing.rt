@@ -49,7 +49,10 @@ pub fn write_trace<O: Outside, K: Sink>(
     let Ok(mut merger) = Merger::new(alloc, query, limit) else {
         return Outcome::Memory;
     };
-    trace_merged(alloc, query, plan, limit, &mut merger, outside, out)
+    let outcome = trace_merged(alloc, query, plan, limit, &mut merger, outside, out);
+    // Dropped by a call, so that how its parts are let go is proved once for its type.
+    drop(merger);
+    outcome
 }
 
 /// Writes the trace of the events of a new merger.
@@ -91,7 +94,7 @@ fn trace_feed<O: Outside, K: Sink>(
         (roles_of feed.old) (roles_of feed.new) (K.told out.old) (K.told out.new) }
     ensures faults { CountsSinkFault result (K.faults out.old) (K.faults out.new) }
 {
-    let Ok(sent) = trace_planned(alloc, query, plan, feed, out) else {
+    let Ok(sent) = trace_run(alloc, query, plan, feed, out) else {
         return Outcome::Memory;
     };
     outcome_of(sent, feed)
@@ -114,9 +117,9 @@ fn outcome_of<O: Outside>(sent: Sent, feed: &AlwaysReady<'_, O>) -> Outcome
     }
 }
 
-/// Writes the lines of the steps of a new chain, with stores of the kind that the query's condition asks for. Where memory runs out
-/// before there is a chain, the feed wasn't asked, and nothing was written.
-fn trace_planned<O: Outside, K: Sink>(
+/// Writes the lines of the steps of a new chain under a query. Where memory runs out before there is a chain, the feed wasn't asked,
+/// and nothing was written.
+fn trace_run<O: Outside, K: Sink>(
     alloc: Global,
     query: &Query,
     plan: TracePlan,
@@ -130,11 +133,30 @@ fn trace_planned<O: Outside, K: Sink>(
     ensures refused { OnErr result ((feed.new ≡ feed.old) × (out.new ≡ out.old)) }
 {
     let ready = ReadyQuery::new(alloc, query)?;
+    trace_planned(alloc, query, &ready, plan, feed, out)
+}
+
+/// Writes them under a query that is ready, with stores of the kind that its condition asks for.
+fn trace_planned<'q, O: Outside, K: Sink>(
+    alloc: Global,
+    query: &Query,
+    ready: &ReadyQuery<'q>,
+    plan: TracePlan,
+    feed: &mut AlwaysReady<'_, O>,
+    out: &mut K,
+) -> Result<Sent, Memory>
+    requires ready { ready.now ≡ query.now }
+    requires fresh { IsFresh (state_of feed.old) }
+    ensures writes { IfOk result (λ sent. WritesRun (holds query.now) plan.chooser plan.size.cores plan.size.flight sent
+        feed.old feed.new (K.told out.old) (K.told out.new)) }
+    ensures faults { IfOk result (λ sent. CountsFaults sent (K.faults out.old) (K.faults out.new)) }
+    ensures refused { OnErr result ((feed.new ≡ feed.old) × (out.new ≡ out.old)) }
+{
     match planned_stores(alloc, query, plan.size.cores)? {
-        PlannedStores::Hash(stores) => trace_over(alloc, &ready, plan, stores, feed, out),
-        PlannedStores::Ordered(stores) => trace_over(alloc, &ready, plan, stores, feed, out),
-        PlannedStores::Columns(stores) => trace_over(alloc, &ready, plan, stores, feed, out),
-        PlannedStores::List(stores) => trace_over(alloc, &ready, plan, stores, feed, out),
+        PlannedStores::Hash(stores) => trace_over(alloc, ready, plan, stores, feed, out),
+        PlannedStores::Ordered(stores) => trace_over(alloc, ready, plan, stores, feed, out),
+        PlannedStores::Columns(stores) => trace_over(alloc, ready, plan, stores, feed, out),
+        PlannedStores::List(stores) => trace_over(alloc, ready, plan, stores, feed, out),
     }
 }
 
@@ -163,6 +185,8 @@ fn trace_over<'r, 'q, S: Store<SharedRow, QueryJoin<'r>> + Drop, O: Outside, K: 
         plan.size.flight,
         feed,
     )?;
-    let mut line = Vec::new(alloc);
-    Ok(write_lines(&mut chain, plan.chooser, feed, &mut line, out))
+    let sent = write_lines(alloc, &mut chain, plan.chooser, feed, out);
+    // Dropped by a call, so that how its parts are let go is proved once for its type.
+    drop(chain);
+    Ok(sent)
 }

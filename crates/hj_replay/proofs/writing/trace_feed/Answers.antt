@@ -10,11 +10,11 @@ use Rattle.hj_replay.proofs.writing.trace_feed.Goals as goal
 
 pub outcome_of-requires : goal.outcome_of-requires
 outcome_of-requires g c =
-    has_ended {O = g.row.O.Denot} {outside = g.O.Outside} c.args.query.now c.args.plan.chooser c.args.plan.size.cores c.args.plan.size.flight c.requires.0 c.args.feed.now c.trace_planned.new.feed c.requires.1 (g.K.Sink.told c.args.out.now) (g.K.Sink.told c.trace_planned.new.out) c.in-Ok.sent c.in-Ok.ensures.writes
+    has_ended {O = g.row.O.Denot} {outside = g.O.Outside} c.args.query.now c.args.plan.chooser c.args.plan.size.cores c.args.plan.size.flight c.requires.0 c.args.feed.now c.trace_run.new.feed c.requires.1 (g.K.Sink.told c.args.out.now) (g.K.Sink.told c.trace_run.new.out) c.in-Ok.sent c.in-Ok.ensures.writes
 
 pub returns-clause-writes : goal.returns-clause-writes
 returns-clause-writes g c = λ limit unasked.
-    traces {O = g.row.O.Denot} {outside = g.O.Outside} c.args.query.now c.args.plan.chooser c.args.plan.size.cores c.args.plan.size.flight limit c.args.feed.now c.trace_planned.new.feed unasked (g.K.Sink.told c.args.out.now) (g.K.Sink.told c.trace_planned.new.out) c.in-Ok.sent c.outcome_of.result c.in-Ok.ensures.writes c.outcome_of.ensures
+    traces {O = g.row.O.Denot} {outside = g.O.Outside} c.args.query.now c.args.plan.chooser c.args.plan.size.cores c.args.plan.size.flight limit c.args.feed.now c.trace_run.new.feed unasked (g.K.Sink.told c.args.out.now) (g.K.Sink.told c.trace_run.new.out) c.in-Ok.sent c.outcome_of.result c.in-Ok.ensures.writes c.outcome_of.ensures
 
 pub returns-clause-same_outside : goal.returns-clause-same_outside
 returns-clause-same_outside g c = c.in-Ok.ensures.writes.feed.outside_is.same
@@ -31,4 +31,4 @@ returns-in_default-clause-writes g c = λ limit unasked.
 
 pub returns-clause-faults : goal.returns-clause-faults
 returns-clause-faults g c =
-    counts {O = g.row.O.Denot} {outside = g.O.Outside} c.args.query.now c.args.plan.chooser c.args.plan.size.cores c.args.plan.size.flight c.requires.0 c.args.feed.now c.trace_planned.new.feed c.requires.1 (g.K.Sink.told c.args.out.now) (g.K.Sink.told c.trace_planned.new.out) c.in-Ok.sent c.outcome_of.result c.in-Ok.ensures.writes c.outcome_of.ensures _ _ c.in-Ok.ensures.faults
+    counts {O = g.row.O.Denot} {outside = g.O.Outside} c.args.query.now c.args.plan.chooser c.args.plan.size.cores c.args.plan.size.flight c.requires.0 c.args.feed.now c.trace_run.new.feed c.requires.1 (g.K.Sink.told c.args.out.now) (g.K.Sink.told c.trace_run.new.out) c.in-Ok.sent c.outcome_of.result c.in-Ok.ensures.writes c.outcome_of.ensures _ _ c.in-Ok.ensures.faults

@@ -14,7 +14,7 @@ returns-clause-writes g c =
     let n = c.args.plan.size.cores in
     let flight = c.args.plan.size.flight in
     let is = ap (λ (k : Contents (List Field) Parts). k.state) begins.1 ∙ ap (λ (m : ℕ). empty_chain m flight begins.0) c.requires.stores.left.count in
-    let lines = c.write_lines.ensures.writes n flight begins.0 c.args.plan.size.some_cores c.args.plan.size.some_flight is in
+    let lines = c.write_lines-sent.ensures.writes n flight begins.0 c.args.plan.size.some_cores c.args.plan.size.some_flight is in
     let join = ap (λ (k : Contents (List Field) Parts). k.join) begins.1 ∙ c.new-join.ensures in
-    from_first (holds c.args.query.now) c.args.plan.chooser n flight begins.0 c.write_lines.result c.args.feed.now c.new.new.feed c.write_lines.new.feed (g.K.Sink.told c.args.out.now) (g.K.Sink.told c.write_lines.new.out) begins.2
-    (subst (λ (q : Parts). WritesLines {O = g.row.O.Denot} {outside = g.O.Outside} (holds q) c.args.plan.chooser n flight (event_in (Some begins.0)) c.write_lines.result c.new.new.feed c.write_lines.new.feed (g.K.Sink.told c.args.out.now) (g.K.Sink.told c.write_lines.new.out)) join lines)
+    from_first (holds c.args.query.now) c.args.plan.chooser n flight begins.0 c.write_lines-sent.result c.args.feed.now c.new.new.feed c.write_lines-sent.new.feed (g.K.Sink.told c.args.out.now) (g.K.Sink.told c.write_lines-sent.new.out) begins.2
+    (subst (λ (q : Parts). WritesLines {O = g.row.O.Denot} {outside = g.O.Outside} (holds q) c.args.plan.chooser n flight (event_in (Some begins.0)) c.write_lines-sent.result c.new.new.feed c.write_lines-sent.new.feed (g.K.Sink.told c.args.out.now) (g.K.Sink.told c.write_lines-sent.new.out)) join lines)
