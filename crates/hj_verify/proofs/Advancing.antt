@@ -36,7 +36,7 @@ use Rattle.hj_replay.specs.Feeds.{gives, state_of}
 use Rattle.hj_replay.proofs.Feeding.{may_come}
 use Rattle.hj_verify.specs.declared.output.OutputCheck.{OutputCheck}
 use Rattle.hj_verify.specs.declared.verdict.Verdict.TheVariants as verdict
-use Rattle.hj_verify.specs.Checked.{Checking, Concludes, Events, Fed, IsBegun, LeadTo, beside, feeding, fresh, has_failed}
+use Rattle.hj_verify.specs.Checked.{Checking, CheckingAt, Concludes, Events, Fed, LeadTo, beside, feeding, fresh}
 use Rattle.hj_verify.specs.declared.verdict.Verdict.{Verdict}
 use Rattle.hj_verify.specs.Due.{GaveDue, HasGiven}
 use Rattle.hj_verify.specs.Lines.{ReadsRest}
@@ -121,22 +121,8 @@ module _ {O : Type 0} {outside : OutsideGhosts O} (query : Parts) (n flight : �
 
 -- A check has come behind the actor of a line and its comma.
 pub record OnLine (query : Parts) (n flight : ℕ) (start : Feeding) (number : ℕ) (chain : Contents Row Parts) (now : Feeding) (actor : Actor) (trace : StreamState) (output : OutputCheck) : Type 0 where
-  pub join : chain.join ≡ query
-  pub limit : ℕ
-  pub begun : IsBegun query limit start
-  pub kept : chain.state.over ≡ false
-  pub fed : Fed start now
-  pub going : has_failed now.ended ≡ false
-  pub schedule : List Actor
-  pub counted : number ≡ length schedule + 1
-  pub lines : List ℕ
-  pub steps : LeadTo query n flight (events_in fed.answers) (is_some now.ended) schedule chain.state lines
   pub numbered : IsNumbered actor
-  pub trace_used : Uses false (lines ++ (actor_text actor ++ 44 ∷ [])) (fresh role.Trace) (start.roles role.Trace) trace (now.roles trace.role)
-  pub given : ℕ
-  pub pairs : List (Pair Row)
-  pub gave : HasGiven chain schedule (events_in fed.answers) given pairs
-  pub agrees : Agrees (text (take given pairs)) (fresh role.Output) (start.roles role.Output) output (now.roles output.stream.role)
+  pub so : CheckingAt (λ lines. lines ++ (actor_text actor ++ 44 ∷ [])) query n flight start number chain now trace output
 
 -- the output isn't read with the trace
 pub agrees_still : (start now : Feeding) (written : List ℕ) (output : OutputCheck) (roles : Role → RoleState) → roles role.Output ≡ now.roles role.Output
@@ -152,22 +138,24 @@ pub on_line : (query : Parts) (n flight : ℕ) (start : Feeding) (number : ℕ) 
 on_line query n flight start number chain now trace output under roles changes actor used numbered uses =
     let only = subst (λ (of : Role). ChangesOnly of now.roles roles) under.trace_used.role changes in
     record {
-      join = under.join;
-      limit = under.limit;
-      begun = under.begun;
-      kept = under.kept;
-      fed = fed_read start now role.Trace roles under.fed tt (λ e. e) only;
-      going = under.going;
-      schedule = under.schedule;
-      counted = under.counted;
-      lines = under.lines;
-      steps = under.steps;
       numbered = numbered;
-      trace_used = uses;
-      given = under.given;
-      pairs = under.pairs;
-      gave = under.gave;
-      agrees = agrees_still start now (text (take under.given under.pairs)) output roles (only role.Output output_isnt_trace) under.agrees;
+      so = record {
+        join = under.join;
+        limit = under.limit;
+        begun = under.begun;
+        kept = under.kept;
+        fed = fed_read start now role.Trace roles under.fed tt (λ e. e) only;
+        going = under.going;
+        schedule = under.schedule;
+        counted = under.counted;
+        lines = under.lines;
+        steps = under.steps;
+        trace_used = uses;
+        given = under.given;
+        pairs = under.pairs;
+        gave = under.gave;
+        agrees = agrees_still start now (text (take under.given under.pairs)) output roles (only role.Output output_isnt_trace) under.agrees;
+      };
     }
 
 -- ---- its step was made
@@ -175,42 +163,42 @@ on_line query n flight start number chain now trace output under roles changes a
 module _ {O : Type 0} {outside : OutsideGhosts O} (query : Parts) (n flight : ℕ) (start : Feeding) (number : ℕ) (chain new : Contents Row Parts) (from to : AlwaysReady O outside) (actor : Actor) (trace : StreamState) (output : OutputCheck)
     (on : OnLine query n flight start number chain (feeding from) actor trace output) (line : List ℕ) (made : Made {O = O} {outside = outside} actor chain new from to line) where
   abbrev fed_to : Fed start (feeding to)
-  fed_to = fed_step query n flight start number chain from trace output on.join on.fed actor new to line made
+  fed_to = fed_step query n flight start number chain from trace output on.so.join on.so.fed actor new to line made
 
   output_to : (feeding to).roles role.Output ≡ (feeding from).roles role.Output
   output_to = output_stays start from to (answers actor chain new from to line made) (went actor chain new from to line made)
 
-  agrees_to : Agrees (text (take on.given on.pairs)) (fresh role.Output) (start.roles role.Output) output ((feeding to).roles output.stream.role)
-  agrees_to = agrees_still start (feeding from) (text (take on.given on.pairs)) output (feeding to).roles output_to on.agrees
+  agrees_to : Agrees (text (take on.so.given on.so.pairs)) (fresh role.Output) (start.roles role.Output) output ((feeding to).roles output.stream.role)
+  agrees_to = agrees_still start (feeding from) (text (take on.so.given on.so.pairs)) output (feeding to).roles output_to on.so.agrees
 
   -- the rest of the line was read
   module _ (roles : Role → RoleState) (changes : ChangesOnly role.Trace (feeding to).roles roles) (used : StreamState) where
     -- and is as it is to be
-    pub next_line : new.join ≡ chain.join → GoesWith holds chain (state_of from) → Uses false ((on.lines ++ (actor_text actor ++ 44 ∷ [])) ++ line) (fresh role.Trace) (start.roles role.Trace) used (roles used.role)
+    pub next_line : new.join ≡ chain.join → GoesWith holds chain (state_of from) → Uses false ((on.so.lines ++ (actor_text actor ++ 44 ∷ [])) ++ line) (fresh role.Trace) (start.roles role.Trace) used (roles used.role)
         → Checking query n flight start (number + 1) new (record (feeding to) { roles = roles }) used output
     next_line same_join goes uses =
         let matches = holds query in
-        let lined : (on.lines ++ (actor_text actor ++ 44 ∷ [])) ++ line ≡ on.lines ++ line_text matches chain.state actor =
-        ap (λ (l : List ℕ). (on.lines ++ (actor_text actor ++ 44 ∷ [])) ++ l) (made.line_is ∙ ap (λ (q : Parts). said (holds q) chain.state actor) on.join)
-        ∙ append_assoc on.lines (actor_text actor ++ 44 ∷ []) (said matches chain.state actor) in
-        let given_text = ap text (taken_on query n flight start number chain from trace output on.join on.fed actor new to line made goes same_join on.schedule on.given on.pairs on.gave) in
+        let lined : (on.so.lines ++ (actor_text actor ++ 44 ∷ [])) ++ line ≡ on.so.lines ++ line_text matches chain.state actor =
+        ap (λ (l : List ℕ). (on.so.lines ++ (actor_text actor ++ 44 ∷ [])) ++ l) (made.line_is ∙ ap (λ (q : Parts). said (holds q) chain.state actor) on.so.join)
+        ∙ append_assoc on.so.lines (actor_text actor ++ 44 ∷ []) (said matches chain.state actor) in
+        let given_text = ap text (taken_on query n flight start number chain from trace output on.so.join on.so.fed actor new to line made goes same_join on.so.schedule on.so.given on.so.pairs on.so.gave) in
         record {
-          join = same_join ∙ on.join;
-          limit = on.limit;
-          begun = on.begun;
-          kept = did-over (gives {O = O} {outside = outside}) (λ _. true) (holds chain.join) actor chain.state from stepped.Did new.state to made.step refl ∙ on.kept;
+          join = same_join ∙ on.so.join;
+          limit = on.so.limit;
+          begun = on.so.begun;
+          kept = did-over (gives {O = O} {outside = outside}) (λ _. true) (holds chain.join) actor chain.state from stepped.Did new.state to made.step refl ∙ on.so.kept;
           fed = fed_read start (feeding to) role.Trace roles fed_to tt (λ e. e) changes;
           going = made.going;
-          schedule = on.schedule ++ actor ∷ [];
-          counted = omega (arith, on.counted, length-append on.schedule (actor ∷ []));
-          lines = on.lines ++ line_text matches chain.state actor;
-          steps = steps_on query n flight start number chain from trace output on.join on.fed actor new to line made on.schedule on.lines on.steps;
+          schedule = on.so.schedule ++ actor ∷ [];
+          counted = omega (arith, on.so.counted, length-append on.so.schedule (actor ∷ []));
+          lines = on.so.lines ++ line_text matches chain.state actor;
+          steps = steps_on query n flight start number chain from trace output on.so.join on.so.fed actor new to line made on.so.schedule on.so.lines on.so.steps;
           trace_used = subst (λ (l : List ℕ). Uses false l (fresh role.Trace) (start.roles role.Trace) used (roles used.role)) lined uses;
-          given = on.given;
-          pairs = pairs_on query n flight start number chain from trace output on.join on.fed actor new to line made goes same_join on.schedule on.given on.pairs on.gave;
-          gave = gave_on query n flight start number chain from trace output on.join on.fed actor new to line made goes same_join on.schedule on.given on.pairs on.gave;
+          given = on.so.given;
+          pairs = pairs_on query n flight start number chain from trace output on.so.join on.so.fed actor new to line made goes same_join on.so.schedule on.so.given on.so.pairs on.so.gave;
+          gave = gave_on query n flight start number chain from trace output on.so.join on.so.fed actor new to line made goes same_join on.so.schedule on.so.given on.so.pairs on.so.gave;
           agrees = subst (λ (l : List ℕ). Agrees l (fresh role.Output) (start.roles role.Output) output (roles output.stream.role)) (sym given_text)
-              (agrees_still start (feeding to) (text (take on.given on.pairs)) output roles (changes role.Output output_isnt_trace) agrees_to);
+              (agrees_still start (feeding to) (text (take on.so.given on.so.pairs)) output roles (changes role.Output output_isnt_trace) agrees_to);
         }
 
     -- or it isn't
@@ -218,23 +206,23 @@ module _ {O : Type 0} {outside : OutsideGhosts O} (query : Parts) (n flight : �
       abbrev maker : List ℕ
       maker = actor_text actor ++ 44 ∷ []
 
-      text_wrong : (at : ℕ) → at ≡ number → (bytes : List ℕ) → Uses false ((on.lines ++ maker) ++ bytes) (fresh role.Trace) (start.roles role.Trace) used (roles used.role)
+      text_wrong : (at : ℕ) → at ≡ number → (bytes : List ℕ) → Uses false ((on.so.lines ++ maker) ++ bytes) (fresh role.Trace) (start.roles role.Trace) used (roles used.role)
           → ((later : List ℕ) → (used.ended ≡ true → later ≡ []) → IsPrefix line (bytes ++ (used.unused ++ later)) → ⊥)
           → Concludes (verdict.Refused (fault.Text at)) query n flight start (record (feeding to) { roles = roles }) used output.stream
       text_wrong at here bytes uses wrong =
-          trace_refused query n flight start (feeding to) fed_to made.going output.stream agrees_to.same agrees_to.uses roles changes (fault.Text at) used ((on.lines ++ maker) ++ bytes) uses
+          trace_refused query n flight start (feeding to) fed_to made.going output.stream agrees_to.same agrees_to.uses roles changes (fault.Text at) used ((on.so.lines ++ maker) ++ bytes) uses
           (λ more t o may ends.
           let came = answers actor chain new from to line made in
           let goes = went actor chain new from to line made in
           let rest : List ℕ = maker ++ (bytes ++ (used.unused ++ t)) in
-          let whole : List ℕ = (((on.lines ++ maker) ++ bytes) ++ used.unused) ++ t in
-          let fits = may_come came (beside start.roles (feeding from)) (beside start.roles (feeding to)) more (not_memory from.feed.ended on.going) (gave_there start from to came goes) may in
-          let regrouped : events_in on.fed.answers ++ (events_in came ++ more) ≡ events_in fed_to.answers ++ more =
-          sym (append_assoc (events_in on.fed.answers) (events_in came) more) ∙ ap (λ (l : Events). l ++ more) (sym (more_events start from to came goes on.fed)) in
+          let whole : List ℕ = (((on.so.lines ++ maker) ++ bytes) ++ used.unused) ++ t in
+          let fits = may_come came (beside start.roles (feeding from)) (beside start.roles (feeding to)) more (not_memory from.feed.ended on.so.going) (gave_there start from to came goes) may in
+          let regrouped : events_in on.so.fed.answers ++ (events_in came ++ more) ≡ events_in fed_to.answers ++ more =
+          sym (append_assoc (events_in on.so.fed.answers) (events_in came) more) ∙ ap (λ (l : Events). l ++ more) (sym (more_events start from to came goes on.so.fed)) in
           subst (λ (l : Events). Stands (holds query) (fault.Text at) n flight l whole o (text_of query l)) regrouped
-          (stands_there query n flight (events_in on.fed.answers) (is_some from.feed.ended) on.schedule chain.state on.lines on.steps (events_in came ++ more) fits (fault.Text at) rest whole o
-          (text_of query (events_in on.fed.answers ++ (events_in came ++ more))) (regroup (on.lines ++ maker) bytes used.unused t ∙ append_assoc on.lines maker (bytes ++ (used.unused ++ t))) (
-            here ∙ on.counted,
+          (stands_there query n flight (events_in on.so.fed.answers) (is_some from.feed.ended) on.so.schedule chain.state on.so.lines on.so.steps (events_in came ++ more) fits (fault.Text at) rest whole o
+          (text_of query (events_in on.so.fed.answers ++ (events_in came ++ more))) (regroup (on.so.lines ++ maker) bytes used.unused t ∙ append_assoc on.so.lines maker (bytes ++ (used.unused ++ t))) (
+            here ∙ on.so.counted,
             not_done,
             record {
               actor = actor;
@@ -247,13 +235,13 @@ module _ {O : Type 0} {outside : OutsideGhosts O} (query : Parts) (n flight : �
                       rest = front.rest;
                       is = cancel maker (bytes ++ (used.unused ++ t)) (line ++ front.rest)
                           (front.is ∙ (append_assoc maker (said (holds query) chain.state actor) front.rest
-                          ∙ ap (λ (l : List ℕ). maker ++ (l ++ front.rest)) (sym (made.line_is ∙ ap (λ (q : Parts). said (holds q) chain.state actor) on.join))));
+                          ∙ ap (λ (l : List ℕ). maker ++ (l ++ front.rest)) (sym (made.line_is ∙ ap (λ (q : Parts). said (holds q) chain.state actor) on.so.join))));
                     }),
               );
             },
           )))
 
-      pub rest_wrong : (judged : Verdict) → ReadsRest (Err judged) line number (on.lines ++ (actor_text actor ++ 44 ∷ [])) (fresh role.Trace) (start.roles role.Trace) used (roles used.role)
+      pub rest_wrong : (judged : Verdict) → ReadsRest (Err judged) line number (on.so.lines ++ (actor_text actor ++ 44 ∷ [])) (fresh role.Trace) (start.roles role.Trace) used (roles used.role)
           → Concludes judged query n flight start (record (feeding to) { roles = roles }) used output.stream
       rest_wrong (verdict.Accepted events) reads = absurd reads
       rest_wrong (verdict.Refused (fault.Form at)) reads = absurd reads
@@ -271,12 +259,12 @@ pub step_given_up : {O : Type 0} {outside : OutsideGhosts O} (query : Parts) (n 
     → OnLine query n flight start number chain (feeding from) actor trace output → (asked : (answers : List (Given Row)) × GoesOverAnswers (gives {O = O} {outside = outside}) from answers to)
     → (judged : Verdict) → IsGivenUp to.feed.ended judged → Concludes judged query n flight start (feeding to) trace output.stream
 step_given_up query n flight start number chain from to actor trace output on asked judged so =
-    let fed = fed_more start from to asked.0 asked.1 on.fed in
-    let agrees = agrees_still start (feeding from) (text (take on.given on.pairs)) output (feeding to).roles (output_stays start from to asked.0 asked.1) on.agrees in
+    let fed = fed_more start from to asked.0 asked.1 on.so.fed in
+    let agrees = agrees_still start (feeding from) (text (take on.so.given on.so.pairs)) output (feeding to).roles (output_stays start from to asked.0 asked.1) on.so.agrees in
     let trace_at : (feeding to).roles trace.role ≡ (feeding from).roles trace.role =
-    ap (feeding to).roles on.trace_used.role ∙ (trace_stays start from to asked.0 asked.1 ∙ sym (ap (feeding from).roles on.trace_used.role)) in
-    feed_given_up query n flight start (feeding to) trace output.stream fed (fails_of_streams fed.answers (beside start.roles start) (beside start.roles (feeding to)) (none_yet start on.begun.going) fed.gave)
-    (on.lines ++ (actor_text actor ++ 44 ∷ [])) (subst (λ (s : RoleState). Uses false (on.lines ++ (actor_text actor ++ 44 ∷ [])) (fresh role.Trace) (start.roles role.Trace) trace s) (sym trace_at) on.trace_used)
+    ap (feeding to).roles on.so.trace_used.role ∙ (trace_stays start from to asked.0 asked.1 ∙ sym (ap (feeding from).roles on.so.trace_used.role)) in
+    feed_given_up query n flight start (feeding to) trace output.stream fed (fails_of_streams fed.answers (beside start.roles start) (beside start.roles (feeding to)) (none_yet start on.so.begun.going) fed.gave)
+    (on.so.lines ++ (actor_text actor ++ 44 ∷ [])) (subst (λ (s : RoleState). Uses false (on.so.lines ++ (actor_text actor ++ 44 ∷ [])) (fresh role.Trace) (start.roles role.Trace) trace s) (sym trace_at) on.so.trace_used)
     agrees.same agrees.uses judged so
 
 -- ---- the pairs that are due were compared

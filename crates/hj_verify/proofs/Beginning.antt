@@ -27,6 +27,7 @@ use Rattle.hj_chain.specs.Chain.{ChainState, Contents, empty_chain}
 use Rattle.hj_chain.specs.Reached.{Reached, StandsFor, begins, collected_of}
 use Rattle.hj_chain.proofs.Starting.{none_met, nothing}
 use Rattle.hj_stream.specs.Ends.{IsUnasked}
+use Rattle.hj_stream.specs.Feeding.{Feeding}
 use Rattle.hj_trace.specs.Stream.{GoesWith as IsReadOf, PartsFrom, StreamState, Uses}
 use Rattle.hj_trace.proofs.Plays.{PlaysOver, plays-first}
 use Rattle.hj_trace.proofs.Streams.{nothing_used}
@@ -34,7 +35,7 @@ use Rattle.hj_replay.specs.declared.ready.AlwaysReady.{AlwaysReady}
 use Rattle.hj_replay.specs.Feeds.{gives, roles_of, state_of}
 use Rattle.hj_verify.specs.declared.output.OutputCheck.{OutputCheck}
 use Rattle.hj_verify.specs.declared.verdict.Verdict.{Verdict}
-use Rattle.hj_verify.specs.Checked.{AreOpen, Checking, ChecksRun, Fed, FailsSo, IsBegun, LeadTo, beside, feeding, fresh, has_failed}
+use Rattle.hj_verify.specs.Checked.{AreOpen, Checking, ChecksRun, Fed, FailsSo, IsBegun, IsUnplayed, LeadTo, beside, feeding, fresh, has_failed}
 use Rattle.hj_verify.specs.Due.{HasGiven}
 use Rattle.hj_verify.specs.Output.{Agrees}
 use Rattle.hj_verify.specs.Reading.{no_memory}
@@ -86,8 +87,26 @@ not_ended e = true≢false (sym e)
 none_used : (of : Role) (before now : RoleState) → now ≡ before → Uses false [] (fresh of) before (fresh of) now
 none_used of before now same = subst (λ (s : RoleState). Uses false [] (fresh of) before (fresh of) s) (sym same) (nothing_used (fresh of) before (λ e. absurd (not_ended e)))
 
-still_open : (of : Role) (before now : RoleState) → now ≡ before → IsInStep false before → IsReadOf (fresh of) now
-still_open of before now same step = subst (λ (s : RoleState). IsReadOf (fresh of) s) (sym same) (record { name = name_of before.phase; phase = step.phase; nothing_left = λ e. absurd (not_ended e) })
+stands_open : (of : Role) (now : RoleState) → IsInStep false now → IsReadOf (fresh of) now
+stands_open of now step = record { name = name_of now.phase; phase = step.phase; nothing_left = λ e. absurd (not_ended e) }
+
+-- ---- the feed was asked for the first event
+
+module _ {O : Type 0} {outside : OutsideGhosts O} (from to : AlwaysReady O outside) (first : Given Row) (gave : gives {O = O} {outside = outside} from first to) where
+  abbrev asked : GoesOverAnswers (gives {O = O} {outside = outside}) from (first ∷ []) to
+  asked = (to, gave, refl)
+
+  trace_unread : roles_of to role.Trace ≡ roles_of from role.Trace
+  trace_unread = trace_stays (feeding from) from to (first ∷ []) asked
+
+  output_unread : roles_of to role.Output ≡ roles_of from role.Output
+  output_unread = output_stays (feeding from) from to (first ∷ []) asked
+
+  pub trace_in_step : IsInStep false (roles_of from role.Trace) → IsInStep false (roles_of to role.Trace)
+  trace_in_step = subst (λ (s : RoleState). IsInStep false s) (sym trace_unread)
+
+  pub output_in_step : IsInStep false (roles_of from role.Output) → IsInStep false (roles_of to role.Output)
+  output_in_step = subst (λ (s : RoleState). IsInStep false s) (sym output_unread)
 
 -- ---- the check
 
@@ -120,33 +139,13 @@ module _ {O : Type 0} {outside : OutsideGhosts O} (query : Parts) (n flight limi
 
   -- the feed was asked for the first event
   module _ (to : AlwaysReady O outside) (first : Given Row) (gave : gives {O = O} {outside = outside} from first to) where
-    abbrev asked : GoesOverAnswers (gives {O = O} {outside = outside}) from (first ∷ []) to
-    asked = (to, gave, refl)
-
     abbrev fed_first : Fed (feeding from) (feeding to)
-    fed_first = fed_more (feeding from) from to (first ∷ []) asked fed_none
+    fed_first = fed_more (feeding from) from to (first ∷ []) (asked from to first gave) fed_none
 
     events_first : events_in fed_first.answers ≡ event_in (Some first)
     events_first = append-nil (event_in (Some first))
 
-    trace_used : Uses false [] (fresh role.Trace) (roles_of from role.Trace) (fresh role.Trace) (roles_of to role.Trace)
-    trace_used = none_used role.Trace (roles_of from role.Trace) (roles_of to role.Trace) (trace_stays (feeding from) from to (first ∷ []) asked)
-
-    output_used : Uses false [] (fresh role.Output) (roles_of from role.Output) (fresh role.Output) (roles_of to role.Output)
-    output_used = none_used role.Output (roles_of from role.Output) (roles_of to role.Output) (output_stays (feeding from) from to (first ∷ []) asked)
-
-    -- and its events failed
-    pub run_fails : (judged : Verdict) → FailsSo to.feed.ended judged → ChecksRun (Err judged) query n flight (feeding from) (feeding to)
-    run_fails judged fails = record {
-      trace = fresh role.Trace;
-      output = fresh role.Output;
-      checks =
-          feed_fails query n flight (feeding from) (feeding to) (fresh role.Trace) (fresh role.Output) fed_first
-          (fails_of_streams fed_first.answers (beside (feeding from).roles (feeding from)) (beside (feeding from).roles (feeding to)) (none_yet (feeding from) unasked.going) fed_first.gave)
-          [] trace_used [] output_used judged fails;
-    }
-
-    -- or it goes on, with a chain that made no step
+    -- and its chain made no step
     module _ (some : 1 ≤ n) (chain : Contents Row Parts) (is : chain ≡ new_chain query n flight first) where
       abbrev none_given : GaveNone chain (event_in (Some first))
       none_given = gave_none query n flight first some chain is
@@ -157,44 +156,74 @@ module _ {O : Type 0} {outside : OutsideGhosts O} (query : Parts) (n flight limi
           subst₂ (λ (events : List (Event Row)) (state : ChainState Row). LeadTo query n flight events (is_some to.feed.ended) [] state []) (sym events_first) (sym (ap (λ (c : Contents Row Parts). c.state) is))
           (record { played_is = plays.played_is; enabled = plays.enabled; text_is = plays.text_is })
 
-      agrees_none : (output : OutputCheck) → output.stream ≡ fresh role.Output → output.same ≡ 0 → output.differs ≡ false
-          → Agrees [] (fresh role.Output) (roles_of from role.Output) output (roles_of to output.stream.role)
-      agrees_none output new none same = record {
-        same = [];
-        missing = [];
-        text_is = refl;
-        uses = subst (λ (s : StreamState). Uses false [] (fresh role.Output) (roles_of from role.Output) s (roles_of to s.role)) (sym new) output_used;
-        counted = none;
-        ends = subst (λ (b : Bool). MatchBool b (PartsFrom [] output.stream) (◌≡◌ {A = List ℕ} [] [])) (sym same) refl;
-      }
-
-      pub checking_first : has_failed to.feed.ended ≡ false → (trace : StreamState) → trace ≡ fresh role.Trace → (output : OutputCheck) → output.stream ≡ fresh role.Output → output.same ≡ 0 → output.differs ≡ false
-          → Checking query n flight (feeding from) 1 chain (feeding to) trace output
-      checking_first going trace new_trace output new none same = record {
+      pub unplayed : IsUnplayed query n flight (feeding from) chain (feeding to)
+      unplayed = record {
         join = ap (λ (c : Contents Row Parts). c.join) is;
         limit = limit;
         begun = begun;
         kept = ap (λ (c : Contents Row Parts). c.state.over) is;
         fed = fed_first;
-        going = going;
-        schedule = [];
-        counted = refl;
-        lines = [];
         steps = steps_none;
-        trace_used = subst (λ (s : StreamState). Uses false [] (fresh role.Trace) (roles_of from role.Trace) s (roles_of to s.role)) (sym new_trace) trace_used;
-        given = 0;
         pairs = none_given.pairs;
         gave = subst (λ (events : List (Event Row)). HasGiven chain [] events 0 none_given.pairs) (sym events_first) none_given.gave;
-        agrees = agrees_none output new none same;
+        trace = trace_unread from to first gave;
+        output = output_unread from to first gave;
       }
 
-    -- both streams are open
-    pub open_first : IsInStep false (roles_of from role.Trace) → IsInStep false (roles_of from role.Output) → (trace : StreamState) → trace ≡ fresh role.Trace → (output : StreamState) → output ≡ fresh role.Output → AreOpen (roles_of to) trace output
-    open_first trace_open output_open trace new_trace output new_output =
-        subst₂ (λ (t o : StreamState). AreOpen (roles_of to) t o) (sym new_trace) (sym new_output)
-        (record {
-          trace_role = refl;
-          output_role = refl;
-          trace_open = still_open role.Trace (roles_of from role.Trace) (roles_of to role.Trace) (trace_stays (feeding from) from to (first ∷ []) asked) trace_open;
-          output_open = still_open role.Output (roles_of from role.Output) (roles_of to role.Output) (output_stays (feeding from) from to (first ∷ []) asked) output_open;
-        })
+-- ---- a chain that made no step
+
+-- both streams are open
+pub open_first : (roles : Role → RoleState) → IsInStep false (roles role.Trace) → IsInStep false (roles role.Output) → (trace : StreamState) → trace ≡ fresh role.Trace → (output : StreamState) → output ≡ fresh role.Output → AreOpen roles trace output
+open_first roles trace_open output_open trace new_trace output new_output =
+    subst₂ (λ (t o : StreamState). AreOpen roles t o) (sym new_trace) (sym new_output)
+    (record { trace_role = refl; output_role = refl; trace_open = stands_open role.Trace (roles role.Trace) trace_open; output_open = stands_open role.Output (roles role.Output) output_open })
+
+module _ (query : Parts) (n flight : ℕ) (start : Feeding) (chain : Contents Row Parts) (now : Feeding) (first : IsUnplayed query n flight start chain now) where
+  trace_used : Uses false [] (fresh role.Trace) (start.roles role.Trace) (fresh role.Trace) (now.roles role.Trace)
+  trace_used = none_used role.Trace (start.roles role.Trace) (now.roles role.Trace) first.trace
+
+  output_used : Uses false [] (fresh role.Output) (start.roles role.Output) (fresh role.Output) (now.roles role.Output)
+  output_used = none_used role.Output (start.roles role.Output) (now.roles role.Output) first.output
+
+  -- its events failed
+  pub run_fails : (judged : Verdict) → FailsSo now.ended judged → ChecksRun (Err judged) query n flight start now
+  run_fails judged fails = record {
+    trace = fresh role.Trace;
+    output = fresh role.Output;
+    checks =
+        feed_fails query n flight start now (fresh role.Trace) (fresh role.Output) first.fed
+        (fails_of_streams first.fed.answers (beside start.roles start) (beside start.roles now) (none_yet start first.begun.going) first.fed.gave)
+        [] trace_used [] output_used judged fails;
+  }
+
+  agrees_none : (output : OutputCheck) → output.stream ≡ fresh role.Output → output.same ≡ 0 → output.differs ≡ false
+      → Agrees [] (fresh role.Output) (start.roles role.Output) output (now.roles output.stream.role)
+  agrees_none output new none same = record {
+    same = [];
+    missing = [];
+    text_is = refl;
+    uses = subst (λ (s : StreamState). Uses false [] (fresh role.Output) (start.roles role.Output) s (now.roles s.role)) (sym new) output_used;
+    counted = none;
+    ends = subst (λ (b : Bool). MatchBool b (PartsFrom [] output.stream) (◌≡◌ {A = List ℕ} [] [])) (sym same) refl;
+  }
+
+  -- or they go on
+  pub checking_first : has_failed now.ended ≡ false → (trace : StreamState) → trace ≡ fresh role.Trace → (output : OutputCheck) → output.stream ≡ fresh role.Output → output.same ≡ 0 → output.differs ≡ false
+      → Checking query n flight start 1 chain now trace output
+  checking_first going trace new_trace output new none same = record {
+    join = first.join;
+    limit = first.limit;
+    begun = first.begun;
+    kept = first.kept;
+    fed = first.fed;
+    going = going;
+    schedule = [];
+    counted = refl;
+    lines = [];
+    steps = first.steps;
+    trace_used = subst (λ (s : StreamState). Uses false [] (fresh role.Trace) (start.roles role.Trace) s (now.roles s.role)) (sym new_trace) trace_used;
+    given = 0;
+    pairs = first.pairs;
+    gave = first.gave;
+    agrees = agrees_none output new none same;
+  }

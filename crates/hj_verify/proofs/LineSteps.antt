@@ -87,14 +87,14 @@ module _ {O : Type 0} {outside : OutsideGhosts O} (query : Parts) (n flight : �
 module _ {O : Type 0} {outside : OutsideGhosts O} (query : Parts) (n flight : ℕ) (start : Feeding) (number : ℕ) (chain new : Contents Row Parts) (from to : AlwaysReady O outside) (actor : Actor) (trace : StreamState) (output : OutputCheck)
     (on : OnLine query n flight start number chain (feeding from) actor trace output) (line : List ℕ) (made : Made {O = O} {outside = outside} actor chain new from to line) where
   abbrev behind : List ℕ
-  behind = on.lines ++ (actor_text actor ++ 44 ∷ [])
+  behind = on.so.lines ++ (actor_text actor ++ 44 ∷ [])
 
   -- the step read nothing of the trace
   pub maker_still : Uses false behind (fresh role.Trace) (start.roles role.Trace) trace ((feeding to).roles trace.role)
   maker_still =
       let stays : (feeding to).roles trace.role ≡ (feeding from).roles trace.role =
-      ap (feeding to).roles on.trace_used.role ∙ (trace_stays start from to (answers actor chain new from to line made) (went actor chain new from to line made) ∙ sym (ap (feeding from).roles on.trace_used.role)) in
-      subst (λ (s : RoleState). Uses false behind (fresh role.Trace) (start.roles role.Trace) trace s) (sym stays) on.trace_used
+      ap (feeding to).roles on.so.trace_used.role ∙ (trace_stays start from to (answers actor chain new from to line made) (went actor chain new from to line made) ∙ sym (ap (feeding from).roles on.so.trace_used.role)) in
+      subst (λ (s : RoleState). Uses false behind (fresh role.Trace) (start.roles role.Trace) trace s) (sym stays) on.so.trace_used
 
   -- the rest of the line was read
   module _ (last : EventFeed O outside) (beside : ReadsBeside {O = O} {outside = outside} role.Trace to.feed last) (used : StreamState) where

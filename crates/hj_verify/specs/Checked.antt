@@ -122,10 +122,23 @@ pub record LeadTo (query : Parts) (n flight : ℕ) (events : Events) (ended : Bo
   pub enabled : (more : Events) → (ended ≡ true → more ≡ []) → AreEnabled (holds query) schedule (at_start n flight (events ++ more))
   pub text_is : (more : Events) → (ended ≡ true → more ≡ []) → trace_text (holds query) schedule (at_start n flight (events ++ more)) ≡ text
 
--- A check has come to the line of this number: the trace has the lines of the steps that were made, and nothing is known to be
--- wrong with them, and the output was compared with the lines of the pairs that were given.
-pub record Checking (query : Parts) (n flight : ℕ) (start : Feeding) (number : ℕ) (chain : Contents (List Field) Parts) (now : Feeding)
-    (trace : StreamState) (output : OutputCheck) : Type 0 where
+-- A chain has made no step of a check yet. Its feed was asked for the first event, and nothing was read of the trace and the output.
+pub record IsUnplayed (query : Parts) (n flight : ℕ) (start : Feeding) (chain : Contents (List Field) Parts) (now : Feeding) : Type 0 where
+  pub join : chain.join ≡ query
+  pub limit : ℕ
+  pub begun : IsBegun query limit start
+  pub kept : chain.state.over ≡ false
+  pub fed : Fed start now
+  pub steps : LeadTo query n flight (events_in fed.answers) (is_some now.ended) [] chain.state []
+  pub pairs : List (Pair (List Field))
+  pub gave : HasGiven chain [] (events_in fed.answers) 0 pairs
+  pub trace : now.roles role.Trace ≡ start.roles role.Trace
+  pub output : now.roles role.Output ≡ start.roles role.Output
+
+-- A check has come to this place behind the lines before the one of this number: the trace has the lines of the steps that were made,
+-- and nothing is known to be wrong with them, and the output was compared with the lines of the pairs that were given.
+pub record CheckingAt (place : List ℕ → List ℕ) (query : Parts) (n flight : ℕ) (start : Feeding) (number : ℕ) (chain : Contents (List Field) Parts)
+    (now : Feeding) (trace : StreamState) (output : OutputCheck) : Type 0 where
   pub join : chain.join ≡ query
   pub limit : ℕ
   pub begun : IsBegun query limit start
@@ -136,11 +149,15 @@ pub record Checking (query : Parts) (n flight : ℕ) (start : Feeding) (number :
   pub counted : number ≡ length schedule + 1
   pub lines : List ℕ
   pub steps : LeadTo query n flight (events_in fed.answers) (is_some now.ended) schedule chain.state lines
-  pub trace_used : Uses false lines (fresh role.Trace) (start.roles role.Trace) trace (now.roles trace.role)
+  pub trace_used : Uses false (place lines) (fresh role.Trace) (start.roles role.Trace) trace (now.roles trace.role)
   pub given : ℕ
   pub pairs : List (Pair (List Field))
   pub gave : HasGiven chain schedule (events_in fed.answers) given pairs
   pub agrees : Agrees (text (take given pairs)) (fresh role.Output) (start.roles role.Output) output (now.roles output.stream.role)
+
+-- A check has come to the line of this number.
+abbrev pub Checking : Parts → (n flight : ℕ) → Feeding → ℕ → Contents (List Field) Parts → Feeding → StreamState → OutputCheck → Type 0
+Checking query n flight start number chain now trace output = CheckingAt (λ lines. lines) query n flight start number chain now trace output
 
 -- ---- its end
 

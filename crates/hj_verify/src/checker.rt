@@ -11,7 +11,7 @@ ghost use Rattle.hj_verify.specs.Verifying.{Verifies};
 
 use crate::Verdict;
 use crate::run::check_over;
-use hj_base::{ChainSize, Outside};
+use hj_base::{ChainSize, Memory, Outside};
 use hj_eval::ReadyQuery;
 use hj_event::Merger;
 use hj_query::Query;
@@ -42,7 +42,10 @@ pub fn verify<O: Outside>(
     let Ok(mut merger) = Merger::new(alloc, query, limit) else {
         return Verdict::Ended(Outcome::Memory);
     };
-    verify_merged(alloc, query, size, limit, &mut merger, outside)
+    let verdict = verify_merged(alloc, query, size, limit, &mut merger, outside);
+    // Dropped by a call, so that how its parts are let go is proved once for its type.
+    drop(merger);
+    verdict
 }
 
 /// Checks a trace and an output against the events of a new merger.
@@ -81,7 +84,7 @@ fn verify_feed<O: Outside>(
     ensures verifies { (limit : ℕ) → IsUnasked query.now limit feed.old.feed
         → Verifies result query.now size.cores size.flight limit (roles_of feed.old) (roles_of feed.new) }
 {
-    match check_planned(alloc, query, size, feed) {
+    match check_run(alloc, query, size, feed) {
         Ok(()) => judge_ended(feed),
         Err(verdict) => verdict,
     }
@@ -108,8 +111,8 @@ fn judge(ended: Outcome) -> Verdict
     }
 }
 
-/// Checks a trace and an output against the steps of a new chain, with stores of the kind that the query's condition asks for.
-fn check_planned<O: Outside>(
+/// Checks a trace and an output against the steps of a new chain under a query.
+fn check_run<O: Outside>(
     alloc: Global,
     query: &Query,
     size: ChainSize,
@@ -121,16 +124,32 @@ fn check_planned<O: Outside>(
     ensures outside { SameOutside feed.old feed.new }
     ensures checks { ChecksRun result query.now size.cores size.flight (feeding feed.old) (feeding feed.new) }
 {
-    let Ok(ready) = ReadyQuery::new(alloc, query) else {
-        return Err(Verdict::Ended(Outcome::Memory));
-    };
-    let Ok(stores) = planned_stores(alloc, query, size.cores) else {
-        return Err(Verdict::Ended(Outcome::Memory));
-    };
-    match stores {
-        PlannedStores::Hash(stores) => check_over(alloc, &ready, size, stores, feed),
-        PlannedStores::Ordered(stores) => check_over(alloc, &ready, size, stores, feed),
-        PlannedStores::Columns(stores) => check_over(alloc, &ready, size, stores, feed),
-        PlannedStores::List(stores) => check_over(alloc, &ready, size, stores, feed),
+    match ReadyQuery::new(alloc, query) {
+        Ok(ready) => check_planned(alloc, query, &ready, size, feed),
+        Err(Memory) => Err(Verdict::Ended(Outcome::Memory)),
+    }
+}
+
+/// Checks them under a query that is ready, with stores of the kind that its condition asks for.
+fn check_planned<'q, O: Outside>(
+    alloc: Global,
+    query: &Query,
+    ready: &ReadyQuery<'q>,
+    size: ChainSize,
+    feed: &mut AlwaysReady<'_, O>,
+) -> Result<(), Verdict>
+    requires ready { ready.now ≡ query.now }
+    requires unasked { (limit : ℕ) × IsUnasked query.now limit feed.old.feed }
+    requires trace { IsInStep false (roles_of feed.old role.Trace) }
+    requires output { IsInStep false (roles_of feed.old role.Output) }
+    ensures outside { SameOutside feed.old feed.new }
+    ensures checks { ChecksRun result query.now size.cores size.flight (feeding feed.old) (feeding feed.new) }
+{
+    match planned_stores(alloc, query, size.cores) {
+        Ok(PlannedStores::Hash(stores)) => check_over(alloc, ready, size, stores, feed),
+        Ok(PlannedStores::Ordered(stores)) => check_over(alloc, ready, size, stores, feed),
+        Ok(PlannedStores::Columns(stores)) => check_over(alloc, ready, size, stores, feed),
+        Ok(PlannedStores::List(stores)) => check_over(alloc, ready, size, stores, feed),
+        Err(Memory) => Err(Verdict::Ended(Outcome::Memory)),
     }
 }

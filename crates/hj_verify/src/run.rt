@@ -1,10 +1,14 @@
 ghost use Rattle.std.specs.Prelude.{ℕ, false};
 ghost use Rattle.hj_base.specs.declared.outside.Role.TheVariants as role;
+ghost use Rattle.hj_query.specs.Parts.{Parts};
+ghost use Rattle.hj_eval.specs.Holds.{holds};
 ghost use Rattle.hj_event.specs.Roles.{IsInStep};
+ghost use Rattle.hj_chain.specs.Steps.{GoesWith};
 ghost use Rattle.hj_stream.specs.Ends.{IsUnasked};
+ghost use Rattle.hj_stream.specs.Feeding.{Feeding};
 ghost use Rattle.hj_stores.specs.Stores.{AreReady};
-ghost use Rattle.hj_replay.specs.Feeds.{SameOutside, roles_of};
-ghost use Rattle.hj_verify.specs.Checked.{ChecksRun, feeding};
+ghost use Rattle.hj_replay.specs.Feeds.{SameOutside, roles_of, state_of};
+ghost use Rattle.hj_verify.specs.Checked.{ChecksRun, IsUnplayed, feeding};
 
 use crate::Verdict;
 use crate::line::go_on;
@@ -41,9 +45,28 @@ pub(crate) fn check_over<'r, 'q, S: Store<SharedRow, QueryJoin<'r>> + Drop, O: O
     let Ok(mut chain) = Chain::new(alloc, join, stores.left, stores.right, size.flight, feed) else {
         return Err(Verdict::Ended(Outcome::Memory));
     };
+    let checked = check_begun(alloc, &mut chain, feed);
+    // Dropped by a call, so that how its parts are let go is proved once for its type.
+    drop(chain);
+    checked
+}
+
+/// Checks the trace and the output against the steps of a chain that made none.
+fn check_begun<'r, S: Store<SharedRow, QueryJoin<'r>> + Drop, O: Outside>(
+    alloc: Global,
+    chain: &mut Chain<SharedRow, QueryJoin<'r>, S, S>,
+    feed: &mut AlwaysReady<'_, O>,
+) -> Result<(), Verdict>
+    requires goes { GoesWith holds chain.old (state_of feed.old) }
+    requires trace { IsInStep false (roles_of feed.old role.Trace) }
+    requires output { IsInStep false (roles_of feed.old role.Output) }
+    ensures outside { SameOutside feed.old feed.new }
+    ensures checks { (query : Parts) (n flight : ℕ) (start : Feeding) → IsUnplayed query n flight start chain.old (feeding feed.old)
+        → ChecksRun result query n flight start (feeding feed.new) }
+{
     go_on(feed)?;
     let mut trace = TextStream::new(Role::Trace);
     let mut output = OutputCheck::new();
     let mut line = Vec::new(alloc);
-    check_lines(&mut chain, feed, &mut trace, &mut output, &mut line)
+    check_lines(chain, feed, &mut trace, &mut output, &mut line)
 }

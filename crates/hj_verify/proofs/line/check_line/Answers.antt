@@ -68,7 +68,7 @@ returns-in_err-next_rest g c =
           let made = c.in_ok-make_step.ensures.makes in
           let still = maker_still {O = g.row.O.Denot} {outside = g.O.Outside} query n flight start c.args.number c.args.chain.now c.make_step.new.chain (over c.next_maker.new.feed) c.make_step.new.feed c.in_ok-actor.actor c.next_maker.new.trace c.args.output.now on c.make_step.new.line.items made in
           rest_stops {O = g.row.O.Denot} {outside = g.O.Outside} query n flight start c.args.number c.args.chain.now c.make_step.new.chain (over c.next_maker.new.feed) c.make_step.new.feed c.in_ok-actor.actor c.next_maker.new.trace c.args.output.now on c.make_step.new.line.items made c.next_rest.new.feed c.next_rest.ensures.beside c.next_rest.new.trace not_done c.in_err-next_rest.field-0.0
-          (subst (λ (l : List ℕ). ReadsRest (Err c.in_err-next_rest.field-0.0) l c.args.number (on.lines ++ (actor_text c.in_ok-actor.actor ++ 44 ∷ [])) (fresh role.Trace) (start.roles role.Trace) c.next_rest.new.trace (g.O.Outside.state c.next_rest.new.feed.outside.now c.next_rest.new.trace.role)) c.deref.ensures.value (c.in_err-next_rest.ensures.reads _ (fresh role.Trace) (start.roles role.Trace) still));
+          (subst (λ (l : List ℕ). ReadsRest (Err c.in_err-next_rest.field-0.0) l c.args.number (on.so.lines ++ (actor_text c.in_ok-actor.actor ++ 44 ∷ [])) (fresh role.Trace) (start.roles role.Trace) c.next_rest.new.trace (g.O.Outside.state c.next_rest.new.feed.outside.now c.next_rest.new.trace.role)) c.deref.ensures.value (c.in_err-next_rest.ensures.reads _ (fresh role.Trace) (start.roles role.Trace) still));
     })
 
 pub next_pairs-requires : goal.next_pairs-requires
@@ -93,7 +93,7 @@ returns-in-Collect g c =
           let on = maker_there {O = g.row.O.Denot} {outside = g.O.Outside} query n flight start c.args.number c.args.chain.now c.args.feed.now c.args.trace.now c.args.output.now under c.next_maker.new.feed c.next_maker.ensures.beside c.next_maker.new.trace c.in_ok-actor.actor reads in
           let made = c.in_ok-make_step.ensures.makes in
           let still = maker_still {O = g.row.O.Denot} {outside = g.O.Outside} query n flight start c.args.number c.args.chain.now c.make_step.new.chain (over c.next_maker.new.feed) c.make_step.new.feed c.in_ok-actor.actor c.next_maker.new.trace c.args.output.now on c.make_step.new.line.items made in
-          let rest = subst (λ (l : List ℕ). Uses false ((on.lines ++ (actor_text c.in_ok-actor.actor ++ 44 ∷ [])) ++ l) (fresh role.Trace) (start.roles role.Trace) c.next_rest.new.trace (g.O.Outside.state c.next_rest.new.feed.outside.now c.next_rest.new.trace.role)) c.deref.ensures.value (c.in_ok-next_rest.ensures.reads _ (fresh role.Trace) (start.roles role.Trace) still) in
+          let rest = subst (λ (l : List ℕ). Uses false ((on.so.lines ++ (actor_text c.in_ok-actor.actor ++ 44 ∷ [])) ++ l) (fresh role.Trace) (start.roles role.Trace) c.next_rest.new.trace (g.O.Outside.state c.next_rest.new.feed.outside.now c.next_rest.new.trace.role)) c.deref.ensures.value (c.in_ok-next_rest.ensures.reads _ (fresh role.Trace) (start.roles role.Trace) still) in
           let next = rest_there {O = g.row.O.Denot} {outside = g.O.Outside} query n flight start c.args.number c.args.chain.now c.make_step.new.chain (over c.next_maker.new.feed) c.make_step.new.feed c.in_ok-actor.actor c.next_maker.new.trace c.args.output.now on c.make_step.new.line.items made c.next_rest.new.feed c.next_rest.ensures.beside c.next_rest.new.trace c.make_step.ensures.join kept_1.goes rest in
           due_line {O = g.row.O.Denot} {outside = g.O.Outside} query n flight start c.args.number c.make_step.new.chain c.next_pairs.new.chain (over c.next_rest.new.feed) c.next_rest.new.trace c.args.output.now c.next_pairs.new.output next c.next_pairs.new.feed c.next_pairs.ensures.beside c.next_pairs.ensures.state c.next_pairs.ensures.join c.next_pairs.result
           (c.next_pairs.ensures.checks next.schedule (events_in next.fed.answers) next.given next.pairs (fresh role.Output) (start.roles role.Output) next.gave next.agrees);
@@ -113,7 +113,7 @@ returns-in_default g c =
           let on = maker_there {O = g.row.O.Denot} {outside = g.O.Outside} query n flight start c.args.number c.args.chain.now c.args.feed.now c.args.trace.now c.args.output.now under c.next_maker.new.feed c.next_maker.ensures.beside c.next_maker.new.trace c.in_ok-actor.actor reads in
           let made = c.in_ok-make_step.ensures.makes in
           let still = maker_still {O = g.row.O.Denot} {outside = g.O.Outside} query n flight start c.args.number c.args.chain.now c.make_step.new.chain (over c.next_maker.new.feed) c.make_step.new.feed c.in_ok-actor.actor c.next_maker.new.trace c.args.output.now on c.make_step.new.line.items made in
-          let rest = subst (λ (l : List ℕ). Uses false ((on.lines ++ (actor_text c.in_ok-actor.actor ++ 44 ∷ [])) ++ l) (fresh role.Trace) (start.roles role.Trace) c.next_rest.new.trace (g.O.Outside.state c.next_rest.new.feed.outside.now c.next_rest.new.trace.role)) c.deref.ensures.value (c.in_ok-next_rest.ensures.reads _ (fresh role.Trace) (start.roles role.Trace) still) in
+          let rest = subst (λ (l : List ℕ). Uses false ((on.so.lines ++ (actor_text c.in_ok-actor.actor ++ 44 ∷ [])) ++ l) (fresh role.Trace) (start.roles role.Trace) c.next_rest.new.trace (g.O.Outside.state c.next_rest.new.feed.outside.now c.next_rest.new.trace.role)) c.deref.ensures.value (c.in_ok-next_rest.ensures.reads _ (fresh role.Trace) (start.roles role.Trace) still) in
           let next = rest_there {O = g.row.O.Denot} {outside = g.O.Outside} query n flight start c.args.number c.args.chain.now c.make_step.new.chain (over c.next_maker.new.feed) c.make_step.new.feed c.in_ok-actor.actor c.next_maker.new.trace c.args.output.now on c.make_step.new.line.items made c.next_rest.new.feed c.next_rest.ensures.beside c.next_rest.new.trace c.make_step.ensures.join kept_1.goes rest in
           next;
     }
