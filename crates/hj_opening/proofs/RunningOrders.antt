@@ -8,14 +8,12 @@ use Rattle.hj_base.specs.declared.outside.Role.TheVariants as role
 use Rattle.hj_base.specs.Counts.{Rose}
 use Rattle.hj_base.specs.Journals.{IsPrefix}
 use Rattle.hj_base.specs.Outside.{RoleState, ChangesOnly, IsOpen, unbegun}
-use Rattle.hj_output.specs.declared.output.Sent.TheVariants as sent
-use Rattle.hj_output.specs.Output.{CountsFaults, Sends}
 use Rattle.hj_query.specs.Canonical.{canonical}
 use Rattle.hj_query.specs.Parts.{Parts}
 use Rattle.hj_notes.specs.declared.note.Note.{Note}
 use Rattle.hj_notes.specs.declared.note.Note.TheVariants as why
 use Rattle.hj_opening.specs.Calls.{Call, call}
-use Rattle.hj_opening.specs.Check.{BeginsCanonical}
+use Rattle.hj_opening.specs.Check.{BeginsCanonical, SendsCanonical}
 use Rattle.hj_opening.specs.Opening.{GetsQuery, QueryCause}
 use Rattle.hj_opening.specs.Queries.{IsRefused}
 use Rattle.hj_opening.specs.Run.{RunsOrder}
@@ -137,21 +135,19 @@ module _ (name : List ℕ) (under : List ℕ → Option (List ℕ)) (before now 
       check_runs name (ended_so old new faults faults') ended cause counts grown written front gets.begun
       (λ of other. stays_unbegun before now of other gets.others (unbegun_before of))
 
-  -- the text couldn't be made
-  pub check_unmade : (told : Option (List ℕ)) (faults : ℕ) → RunsOrder (Err why.Memory) (check_query name) (call under before now told told faults faults)
-  check_unmade told faults = runs_check told told faults faults (Err why.Memory) tt refl [] (Appends-nil told) (inl refl)
+  module _ (old new : Option (List ℕ)) (faults faults' : ℕ) where
+    begins : (grown : List ℕ) → IsPrefix grown (canonical query) → BeginsCanonical grown name (ended_so old new faults faults')
+    begins grown front = record { query = query; accepted = gets.cause.0; begins = front }
 
-  module _ (text : List ℕ) (is : text ≡ canonical query) (old new : Option (List ℕ)) (faults faults' : ℕ) where
-    begins : (grown : List ℕ) → IsPrefix grown text → BeginsCanonical grown name (ended_so old new faults faults')
-    begins grown front = record { query = query; accepted = gets.cause.0; begins = subst (λ (all : List ℕ). IsPrefix grown all) is front }
-
-    pub check_whole : Sends sent.Whole text old new → CountsFaults sent.Whole faults faults' → RunsOrder (Ok tt) (check_query name) (call under before now old new faults faults')
-    check_whole w counts =
-        runs_check old new faults faults' (Ok tt) (record { query = query; accepted = gets.cause.0; written = subst (λ (all : List ℕ). Appends old new all) is w }) counts
-        text w (inr (begins text (begins_all text text refl)))
-
-    pub check_failed : Sends sent.Failed text old new → CountsFaults sent.Failed faults faults' → RunsOrder (Err why.Sink) (check_query name) (call under before now old new faults faults')
-    check_failed w counts = runs_check old new faults faults' (Err why.Sink) tt counts.1 w.grown w.written (inr (begins w.grown w.front))
-
-    pub check_memory : Sends sent.Memory text old new → CountsFaults sent.Memory faults faults' → RunsOrder (Err why.Memory) (check_query name) (call under before now old new faults faults')
-    check_memory w counts = runs_check old new faults faults' (Err why.Memory) tt counts w.grown w.written (inr (begins w.grown w.front))
+    -- its text was sent, or what begins it
+    pub check_sent : (ended : End) → SendsCanonical ended query old new faults faults' → RunsOrder ended (check_query name) (call under before now old new faults faults')
+    check_sent (Ok done) sends =
+        runs_check old new faults faults' (Ok done) (record { query = query; accepted = gets.cause.0; written = sends.0 }) sends.1
+        (canonical query) sends.0 (inr (begins (canonical query) (begins_all (canonical query) (canonical query) refl)))
+    check_sent (Err why.Sink) sends = runs_check old new faults faults' (Err why.Sink) tt sends.1.1 sends.0.grown sends.0.written (inr (begins sends.0.grown sends.0.front))
+    check_sent (Err why.Memory) sends = runs_check old new faults faults' (Err why.Memory) tt sends.1 sends.0.grown sends.0.written (inr (begins sends.0.grown sends.0.front))
+    check_sent (Err why.Usage) sends = absurd sends
+    check_sent (Err (why.BadQuery found)) sends = absurd sends
+    check_sent (Err (why.Source of)) sends = absurd sends
+    check_sent (Err (why.BadRecord of at found)) sends = absurd sends
+    check_sent (Err (why.TooManyEvents most)) sends = absurd sends

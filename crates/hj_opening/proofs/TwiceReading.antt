@@ -2,6 +2,7 @@
 use Rattle.std.proofs.Common.{◌≡◌, ◌≢◌, ℕ, List, [], Ok, Err, sym, ◌∙◌, ap, subst, inl, refl}
 use Rattle.std.proofs.KnownBytes.{Appends-nil}
 use Rattle.std.specs.declared.option.Option.{Option}
+use Rattle.std.specs.declared.result.Result.{Result}
 use Rattle.hj_base.specs.declared.outside.Role.{Role}
 use Rattle.hj_base.specs.declared.outside.Role.TheVariants as role
 use Rattle.hj_base.specs.Counts.{Rose}
@@ -16,7 +17,7 @@ use Rattle.hj_relay.specs.Fits.{Fits}
 use Rattle.hj_opening.specs.Calls.{Call, call}
 use Rattle.hj_opening.specs.Opening.{GetsQuery}
 use Rattle.hj_opening.specs.Queries.{IsAccepted, IsRefused}
-use Rattle.hj_opening.specs.ReadyTwice.{AreBothRead, EndsTwiceEarly, GetsSecond, second_note}
+use Rattle.hj_opening.specs.ReadyTwice.{AreBothRead, EndsTwiceEarly, GetsSecond, GoesBehind, second_note}
 use Rattle.hj_opening.specs.Streams.{IsBegunUnder}
 use Rattle.hj_opening.specs.TwoJoins.{AcceptsFirst, AcceptsSecond, AreQueriesAlone, BeginsTwice, IsTwiceRole}
 use Rattle.hj_opening.specs.Words.{TwiceNames, named}
@@ -175,13 +176,13 @@ module _ (names : TwiceNames) (limit : ℕ) (under : Under) (before : Roles) (un
           subst (λ (told : Option (List ℕ)). IsAccepted second names.second told (before role.SecondQuery) (now role.SecondQuery)) same
           (subst (λ (s : RoleState). IsAccepted second names.second told_after s (now role.SecondQuery)) second_mid accepted)
 
-      pub queries_unfit : ¬ (Fits first second) → EndsTwiceEarly note.Shape names limit under before now
+      queries_unfit : ¬ (Fits first second) → EndsTwiceEarly note.Shape names limit under before now
       queries_unfit unfit =
           ends_early now note.Shape
           (λ told faults. record { first = first; second = second; of_first = accepts_first; of_second = accepts_second; unfit = unfit; alone = alone; nothing = Appends-nil told })
           (λ faults. refl) begins_second none_second
 
-      pub both_read : Fits first second → AreBothRead (record { first = first; second = second }) names under before now
+      both_read : Fits first second → AreBothRead (record { first = first; second = second }) names under before now
       both_read fits = record {
         accepted = record { of_first = accepts_first; of_second = accepts_second; fits = fits };
         first_begun = first_begun;
@@ -190,7 +191,7 @@ module _ (names : TwiceNames) (limit : ℕ) (under : Under) (before : Roles) (un
       }
 
   module _ (mid : Roles) (first : Parts) (gets : GetsQuery (Ok first) role.Query (named names.query) under before mid) (after : Under) (same : after names.second ≡ under names.second) (now : Roles) where
-    pub second_unread : (found : TwiceNote) → GetsSecond (Err found) names.second after mid now → EndsTwiceEarly found names limit under before now
+    second_unread : (found : TwiceNote) → GetsSecond (Err found) names.second after mid now → EndsTwiceEarly found names limit under before now
     second_unread (note.BadSecondQuery found) got = second_refused mid first gets (after names.second) same now got.others got.begun found got.cause
     second_unread (note.Common (why.Source failed)) got = second_failed mid first gets (after names.second) same now got.others got.begun failed got.cause.0 got.cause.1
     second_unread (note.Common why.Memory) got = second_wants_memory mid first gets (after names.second) same now got.others got.begun
@@ -201,3 +202,25 @@ module _ (names : TwiceNames) (limit : ℕ) (under : Under) (before : Roles) (un
     second_unread (note.Common (why.TooManyEvents most)) got = absurd got.cause
     second_unread note.Shape got = absurd got.cause
     second_unread (note.BadSecondRecord of at found) got = absurd got.cause
+
+-- ---- the second query is read under its name
+
+module _ (first : Parts) (name : List ℕ) (names : TwiceNames) (limit : ℕ) (under : Under) (before : Roles) (told : Under) (mid : Roles) (behind : GoesBehind first name names under before told mid) (now : Roles) where
+  told_so : told names.second ≡ under names.second
+  told_so = subst (λ (n : List ℕ). told n ≡ under n) (sym behind.second) behind.told_as
+
+  got_so : (got : Result Parts TwiceNote) → GetsSecond got name told mid now → GetsSecond got names.second told mid now
+  got_so got gets = subst (λ (n : List ℕ). GetsSecond got n told mid now) (sym behind.second) gets
+
+  pub unread_behind : (found : TwiceNote) → GetsSecond (Err found) name told mid now → EndsTwiceEarly found names limit under before now
+  unread_behind found got = second_unread names limit under before behind.none mid first behind.gets told told_so now found (got_so (Err found) got)
+
+  module _ (second : Parts) (got : GetsSecond (Ok second) name told mid now) where
+    abbrev has : GetsSecond (Ok second) names.second told mid now
+    has = got_so (Ok second) got
+
+    pub unfit_behind : ¬ (Fits first second) → EndsTwiceEarly note.Shape names limit under before now
+    unfit_behind = queries_unfit names limit under before behind.none mid first behind.gets (told names.second) told_so now has.others has.begun second has.cause.0
+
+    pub read_both_behind : Fits first second → AreBothRead (record { first = first; second = second }) names under before now
+    read_both_behind = both_read names limit under before behind.none mid first behind.gets (told names.second) told_so now has.others has.begun second has.cause.0

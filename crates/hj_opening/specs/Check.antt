@@ -1,8 +1,14 @@
 -- What `check` writes.
-use Rattle.std.specs.Prelude.{ℕ, List}
+use Rattle.std.specs.Prelude.{ℕ, List, Ok, Err}
 use Rattle.std.specs.Io.KnownBytes.{Appends}
+use Rattle.std.specs.declared.option.Option.{Option}
+use Rattle.std.specs.declared.result.Result.{Result}
 use Rattle.hj_base.specs.declared.outside.Role.TheVariants as role
 use Rattle.hj_base.specs.Journals.{IsPrefix}
+use Rattle.hj_notes.specs.declared.note.Note.{Note}
+use Rattle.hj_notes.specs.declared.note.Note.TheVariants as note
+use Rattle.hj_output.specs.declared.output.Sent.TheVariants as sent
+use Rattle.hj_output.specs.Output.{CountsFaults, Sends}
 use Rattle.hj_query.specs.Canonical.{canonical}
 use Rattle.hj_query.specs.Parts.{Parts}
 use Rattle.hj_opening.specs.Calls.{Call}
@@ -19,3 +25,10 @@ pub record BeginsCanonical (grown name : List ℕ) (call : Call) : Type 0 where
   pub query : Parts
   pub accepted : IsAccepted query name (call.under name) (call.before role.Query) (call.now role.Query)
   pub begins : IsPrefix grown (canonical query)
+
+-- The canonical text of a query was sent whole; or what begins it, because the sink failed or memory ran out.
+abbrev pub SendsCanonical : Result (Unit {0}) Note → Parts → (old new : Option (List ℕ)) → (faults_before faults_now : ℕ) → Type 0
+SendsCanonical (Ok done) query old new before now = Sends sent.Whole (canonical query) old new × CountsFaults sent.Whole before now
+SendsCanonical (Err note.Sink) query old new before now = Sends sent.Failed (canonical query) old new × CountsFaults sent.Failed before now
+SendsCanonical (Err note.Memory) query old new before now = Sends sent.Memory (canonical query) old new × CountsFaults sent.Memory before now
+SendsCanonical (Err other) query old new before now = ⊥

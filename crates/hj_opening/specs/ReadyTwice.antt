@@ -13,12 +13,12 @@ use Rattle.hj_notes.specs.declared.twice_note.TwiceNote.TheVariants as note
 use Rattle.hj_query.specs.Parts.{Parts}
 use Rattle.hj_opening.specs.declared.twice.TwoQueries.{TwoQueries}
 use Rattle.hj_opening.specs.Calls.{call}
-use Rattle.hj_opening.specs.Opening.{IsOpened}
+use Rattle.hj_opening.specs.Opening.{GetsQuery, IsOpened}
 use Rattle.hj_opening.specs.Queries.{IsAccepted, IsRefused}
 use Rattle.hj_opening.specs.RunTwice.{RunsTwice}
 use Rattle.hj_opening.specs.Streams.{IsBegunUnder}
 use Rattle.hj_opening.specs.TwoJoins.{AcceptsBoth, IsTwiceRole}
-use Rattle.hj_opening.specs.Words.{TwiceNames}
+use Rattle.hj_opening.specs.Words.{TwiceNames, named}
 
 -- the note of a second query, where that of the reading is this one
 abbrev pub second_note : Note → TwiceNote
@@ -39,6 +39,14 @@ pub record GetsSecond (got : Result Parts TwiceNote) (name : List ℕ) (under : 
   pub cause : SecondCause got name (under name) (before role.SecondQuery) (now role.SecondQuery)
   pub begun : IsBegunUnder name (now role.SecondQuery).phase
   pub others : ChangesOnly role.SecondQuery before now
+
+-- The first query was got from these roles on, and the second one is read under this name behind it.
+pub record GoesBehind (first : Parts) (name : List ℕ) (names : TwiceNames) (under : List ℕ → Option (List ℕ))
+    (before : Role → RoleState) (told : List ℕ → Option (List ℕ)) (now : Role → RoleState) : Type 0 where
+  pub second : names.second ≡ name
+  pub none : (of : Role) → (before of).phase ≡ unbegun
+  pub gets : GetsQuery (Ok first) role.Query (named names.query) under before now
+  pub told_as : told name ≡ under name
 
 -- Both queries were accepted and fit; no other role was begun.
 pub record AreBothRead (queries : TwoQueries) (names : TwiceNames) (under : List ℕ → Option (List ℕ))

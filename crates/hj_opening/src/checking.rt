@@ -2,6 +2,7 @@ ghost use Rattle.std.specs.Prelude.{◌≡◌};
 ghost use Rattle.hj_base.specs.declared.outside.Role.{Role};
 ghost use Rattle.hj_base.specs.Outside.{unbegun};
 ghost use Rattle.hj_opening.specs.Calls.{call};
+ghost use Rattle.hj_opening.specs.Check.{SendsCanonical};
 ghost use Rattle.hj_opening.specs.Run.{RunsOrder};
 ghost use Rattle.hj_opening.specs.Words.{check_query};
 
@@ -9,7 +10,7 @@ use crate::query::read_query;
 use hj_base::{Outside, Role, Sink};
 use hj_notes::Note;
 use hj_output::{Sent, put_all};
-use hj_query::print;
+use hj_query::{Query, print};
 use std::alloc::Global;
 
 /// Writes the canonical text of the query under a name to `out`, in one write where the sink takes all of it. The error is the
@@ -26,7 +27,14 @@ pub fn check<O: Outside, K: Sink>(
         (K.faults out.old) (K.faults out.new)) }
 {
     let query = read_query(alloc, Role::Query, name, outside)?;
-    let canonical = print(alloc, &query)?;
+    write_canonical(alloc, &query, out)
+}
+
+/// Writes the canonical text of a query to `out`. The error is the note that says why that couldn't be done: the sink, or memory.
+fn write_canonical<K: Sink>(alloc: Global, query: &Query, out: &mut K) -> Result<(), Note>
+    ensures { SendsCanonical result query.now (K.told out.old) (K.told out.new) (K.faults out.old) (K.faults out.new) }
+{
+    let canonical = print(alloc, query)?;
     match put_all(out, canonical.bytes()) {
         Sent::Whole => Ok(()),
         Sent::Failed => Err(Note::Sink),

@@ -1,9 +1,11 @@
 ghost use Rattle.std.specs.Prelude.{◌≡◌, List, ℕ};
+ghost use Rattle.std.specs.declared.option.Option.{Option};
 ghost use Rattle.hj_base.specs.declared.outside.Role.{Role};
 ghost use Rattle.hj_base.specs.declared.outside.Role.TheVariants as roles;
-ghost use Rattle.hj_base.specs.Outside.{unbegun};
-ghost use Rattle.hj_opening.specs.ReadyTwice.{GetsBoth, GetsSecond, MakesTwiceReady, second_note};
+ghost use Rattle.hj_base.specs.Outside.{RoleState, unbegun};
+ghost use Rattle.hj_opening.specs.ReadyTwice.{GetsBoth, GetsSecond, GoesBehind, MakesTwiceReady, second_note};
 ghost use Rattle.hj_opening.specs.RunTwice.{common, end_of_second, end_of_twice, twice_names};
+ghost use Rattle.hj_opening.specs.Words.{TwiceNames};
 
 use crate::ending::end_of;
 use crate::query::{open, read_query};
@@ -68,7 +70,24 @@ fn read_both<O: Outside>(
     ensures names { (name : List ℕ) → O.under outside.new name ≡ O.under outside.old name }
 {
     let first = read_query(alloc, Role::Query, joins.query, outside)?;
-    let second = read_second(alloc, joins.second, outside)?;
+    read_behind(alloc, first, joins.second, outside)
+}
+
+/// Reads the second query under a name, behind this first one. The error is the note that says why it wasn't got, or that it can't read
+/// the pairs of the first join.
+fn read_behind<O: Outside>(
+    alloc: Global,
+    first: Query,
+    name: &str,
+    outside: &mut O,
+) -> Result<TwoQueries, TwiceNote>
+    requires { (O.state outside.old roles.SecondQuery).phase ≡ unbegun }
+    ensures gets { (names : TwiceNames) (limit : ℕ) (under : List ℕ → Option (List ℕ)) (before : Role → RoleState)
+        → GoesBehind first name.now names under before (O.under outside.old) (O.state outside.old)
+        → GetsBoth result names limit under before (O.state outside.new) }
+    ensures names { (other : List ℕ) → O.under outside.new other ≡ O.under outside.old other }
+{
+    let second = read_second(alloc, name, outside)?;
     if fits(&first, &second) {
         Ok(TwoQueries { first, second })
     } else {
