@@ -8,6 +8,7 @@ mod lines;
 mod output;
 mod pairs;
 mod run;
+mod texts;
 mod trace;
 mod verdict;
 

@@ -14,14 +14,14 @@ ghost use Rattle.hj_verify.specs.Making.{GoesOnOver, IsGivenUp, MakesStep};
 
 use crate::Verdict;
 use crate::beside::{next_maker, next_pairs, next_rest};
-use crate::output::OutputCheck;
+use crate::texts::ComparedTexts;
 use hj_base::Outside;
 use hj_chain::{Actor, Chain};
 use hj_eval::QueryJoin;
 use hj_msg::Store;
 use hj_replay::AlwaysReady;
 use hj_stream::Outcome;
-use hj_trace::{Played, TextStream, TraceFault, play};
+use hj_trace::{Played, TraceFault, play};
 use hj_value::SharedRow;
 
 /// Makes the step of the actor of the line of this number, and makes in `line` what the line says behind the actor.
@@ -85,26 +85,25 @@ fn given_up<O: Outside>(feed: &AlwaysReady<'_, O>) -> Verdict
 pub(crate) fn check_line<'r, S: Store<SharedRow, QueryJoin<'r>> + Drop, O: Outside>(
     chain: &mut Chain<SharedRow, QueryJoin<'r>, S, S>,
     feed: &mut AlwaysReady<'_, O>,
-    trace: &mut TextStream,
-    output: &mut OutputCheck,
-    line: &mut Vec<u8>,
+    texts: &mut ComparedTexts,
     number: u64,
 ) -> Result<(), Verdict>
     requires goes { GoesWith holds chain.old (state_of feed.old) }
-    requires are_open { AreOpen (roles_of feed.old) trace.old output.old.stream }
+    requires are_open { AreOpen (roles_of feed.old) texts.old.trace texts.old.output.stream }
     ensures outside { SameOutside feed.old feed.new }
     ensures goes { GoesWith holds chain.new (state_of feed.new) }
-    ensures are_open { AreOpen (roles_of feed.new) trace.new output.new.stream }
+    ensures are_open { AreOpen (roles_of feed.new) texts.new.trace texts.new.output.stream }
     ensures fewer { IfOk result (λ _. steps_left chain.new.state (state_of feed.new) < steps_left chain.old.state (state_of feed.old)) }
     ensures checks { (query : Parts) (n flight : ℕ) (start : Feeding)
-        → Checking query n flight start number chain.old (feeding feed.old) trace.old output.old
-        → (IsDone chain.old.state → ⊥) → ChecksLine result query n flight start number chain.new (feeding feed.new) trace.new output.new }
+        → Checking query n flight start number chain.old (feeding feed.old) texts.old.trace texts.old.output
+        → (IsDone chain.old.state → ⊥)
+        → ChecksLine result query n flight start number chain.new (feeding feed.new) texts.new.trace texts.new.output }
 {
-    let actor = next_maker(trace, number, &mut feed.feed)?;
-    make_step(chain, actor, number, feed, line)?;
-    next_rest(trace, line, number, &mut feed.feed)?;
+    let actor = next_maker(&mut texts.trace, number, &mut feed.feed)?;
+    make_step(chain, actor, number, feed, &mut texts.line)?;
+    next_rest(&mut texts.trace, &texts.line, number, &mut feed.feed)?;
     match actor {
-        Actor::Collect(_) => next_pairs(chain, output, line, &mut feed.feed),
+        Actor::Collect(_) => next_pairs(chain, &mut texts.output, &mut texts.line, &mut feed.feed),
         _ => Ok(()),
     }
 }

@@ -10,14 +10,13 @@ ghost use Rattle.hj_verify.specs.Checked.{AreOpen, ChecksAll, Checking, NumbersO
 use crate::Verdict;
 use crate::beside::{next_pairs, output_end, trace_end};
 use crate::line::check_line;
-use crate::output::OutputCheck;
+use crate::texts::ComparedTexts;
 use hj_base::Outside;
 use hj_chain::Chain;
 use hj_eval::QueryJoin;
 use hj_msg::Store;
 use hj_replay::AlwaysReady;
 use hj_stream::Outcome;
-use hj_trace::TextStream;
 use hj_value::SharedRow;
 
 /// Checks a trace, line by line, and an output, against the steps of a chain that made none. The error is the verdict where
@@ -25,23 +24,21 @@ use hj_value::SharedRow;
 pub(crate) fn check_lines<'r, S: Store<SharedRow, QueryJoin<'r>> + Drop, O: Outside>(
     chain: &mut Chain<SharedRow, QueryJoin<'r>, S, S>,
     feed: &mut AlwaysReady<'_, O>,
-    trace: &mut TextStream,
-    output: &mut OutputCheck,
-    line: &mut Vec<u8>,
+    texts: &mut ComparedTexts,
 ) -> Result<(), Verdict>
     requires goes { GoesWith holds chain.old (state_of feed.old) }
-    requires are_open { AreOpen (roles_of feed.old) trace.old output.old.stream }
+    requires are_open { AreOpen (roles_of feed.old) texts.old.trace texts.old.output.stream }
     ensures outside { SameOutside feed.old feed.new }
     ensures checks { (query : Parts) (n flight : ℕ) (start : Feeding)
-        → Checking query n flight start 1 chain.old (feeding feed.old) trace.old output.old
-        → ChecksAll result query n flight start (feeding feed.new) trace.new output.new.stream }
+        → Checking query n flight start 1 chain.old (feeding feed.old) texts.old.trace texts.old.output
+        → ChecksAll result query n flight start (feeding feed.new) texts.new.trace texts.new.output.stream }
 {
     let mut number = 1;
     while !chain.done() {
-        check_line(chain, feed, trace, output, line, number)?;
+        check_line(chain, feed, texts, number)?;
         number = next_number(number)?;
     }
-    check_ends(chain, feed, trace, output, line, number)
+    check_ends(chain, feed, texts, number)
 }
 
 /// Returns the number of the next line. A trace of 2^64 lines and more is given up as one for which there is no memory.
@@ -59,19 +56,17 @@ fn next_number(number: u64) -> Result<u64, Verdict>
 fn check_ends<'r, S: Store<SharedRow, QueryJoin<'r>> + Drop, O: Outside>(
     chain: &mut Chain<SharedRow, QueryJoin<'r>, S, S>,
     feed: &mut AlwaysReady<'_, O>,
-    trace: &mut TextStream,
-    output: &mut OutputCheck,
-    line: &mut Vec<u8>,
+    texts: &mut ComparedTexts,
     number: u64,
 ) -> Result<(), Verdict>
     requires goes { GoesWith holds chain.old (state_of feed.old) }
-    requires are_open { AreOpen (roles_of feed.old) trace.old output.old.stream }
+    requires are_open { AreOpen (roles_of feed.old) texts.old.trace texts.old.output.stream }
     ensures outside { SameOutside feed.old feed.new }
     ensures checks { (query : Parts) (n flight : ℕ) (start : Feeding)
-        → Checking query n flight start number chain.old (feeding feed.old) trace.old output.old
-        → IsDone chain.old.state → ChecksAll result query n flight start (feeding feed.new) trace.new output.new.stream }
+        → Checking query n flight start number chain.old (feeding feed.old) texts.old.trace texts.old.output
+        → IsDone chain.old.state → ChecksAll result query n flight start (feeding feed.new) texts.new.trace texts.new.output.stream }
 {
-    next_pairs(chain, output, line, &mut feed.feed)?;
-    trace_end(trace, number, &mut feed.feed)?;
-    output_end(output, &mut feed.feed)
+    next_pairs(chain, &mut texts.output, &mut texts.line, &mut feed.feed)?;
+    trace_end(&mut texts.trace, number, &mut feed.feed)?;
+    output_end(&mut texts.output, &mut feed.feed)
 }

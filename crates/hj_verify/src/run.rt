@@ -14,6 +14,7 @@ use crate::Verdict;
 use crate::line::go_on;
 use crate::lines::check_lines;
 use crate::output::OutputCheck;
+use crate::texts::ComparedTexts;
 use hj_base::{ChainSize, Outside, Role};
 use hj_chain::Chain;
 use hj_eval::{QueryJoin, ReadyQuery};
@@ -65,8 +66,13 @@ fn check_begun<'r, S: Store<SharedRow, QueryJoin<'r>> + Drop, O: Outside>(
         → ChecksRun result query n flight start (feeding feed.new) }
 {
     go_on(feed)?;
-    let mut trace = TextStream::new(Role::Trace);
-    let mut output = OutputCheck::new();
-    let mut line = Vec::new(alloc);
-    check_lines(chain, feed, &mut trace, &mut output, &mut line)
+    let trace = TextStream::new(Role::Trace);
+    let output = OutputCheck::new();
+    let line = Vec::new(alloc);
+    let mut texts = ComparedTexts {
+        trace,
+        output,
+        line,
+    };
+    check_lines(chain, feed, &mut texts)
 }

@@ -20,7 +20,7 @@ loop-chain-preserved g c =
       goes = c.check_line.ensures.goes;
       are_open = c.check_line.ensures.are_open;
       checking = λ query n flight start under.
-          subst (λ (number : ℕ). Checking query n flight start number c.check_line.new.chain (feeding c.check_line.new.feed) c.check_line.new.trace c.check_line.new.output) (sym c.in_ok-number.ensures)
+          subst (λ (number : ℕ). Checking query n flight start number c.check_line.new.chain (feeding c.check_line.new.feed) c.check_line.new.texts.trace c.check_line.new.texts.output) (sym c.in_ok-number.ensures)
           (c.in_ok-check_line.ensures.checks query n flight start (held.checking query n flight start under) (λ done. true≢false (sym (c.done.ensures.1 done) ∙ going)));
     }
 
@@ -45,7 +45,7 @@ returns-in_err-number g c =
       outside = outside_then c.args.feed.now c.loop-chain.feed c.check_line.new.feed held.outside c.check_line.ensures.outside;
       checks = λ query n flight start under.
           let next = c.in_ok-check_line.ensures.checks query n flight start (held.checking query n flight start under) (λ done. true≢false (sym (c.done.ensures.1 done) ∙ going)) in
-          numbers_end {O = g.row.O.Denot} {outside = g.O.Outside} query n flight start _ c.check_line.new.chain c.check_line.new.feed c.check_line.new.trace c.check_line.new.output next _ c.in_err-number.ensures;
+          numbers_end {O = g.row.O.Denot} {outside = g.O.Outside} query n flight start _ c.check_line.new.chain c.check_line.new.feed c.check_line.new.texts.trace c.check_line.new.texts.output next _ c.in_err-number.ensures;
     })
 
 pub returns : goal.returns

@@ -11,9 +11,9 @@ abbrev pub invariant-loop-chain : goal.invariant-loop-chain
 invariant-loop-chain g l = record {
   outside : SameOutside l.fn.feed l.feed;
   goes : GoesWith holds l.chain (state_of l.feed);
-  are_open : AreOpen (roles_of l.feed) l.trace l.output.stream;
-  checking : (query : Parts) (n flight : ℕ) (start : Feeding) → Checking query n flight start 1 l.fn.chain (feeding l.fn.feed) l.fn.trace l.fn.output
-      → Checking query n flight start l.number l.chain (feeding l.feed) l.trace l.output;
+  are_open : AreOpen (roles_of l.feed) l.texts.trace l.texts.output.stream;
+  checking : (query : Parts) (n flight : ℕ) (start : Feeding) → Checking query n flight start 1 l.fn.chain (feeding l.fn.feed) l.fn.texts.trace l.fn.texts.output
+      → Checking query n flight start l.number l.chain (feeding l.feed) l.texts.trace l.texts.output;
 }
 
 abbrev pub decreases-loop-chain : goal.decreases-loop-chain

@@ -22,8 +22,8 @@ check_lines-requires g c κs = (
 pub returns-clause-checks : goal.returns-clause-checks
 returns-clause-checks g c = λ query n flight start first.
     record {
-      trace = c.check_lines.new.trace;
-      output = c.check_lines.new.output.stream;
+      trace = c.check_lines.new.texts.trace;
+      output = c.check_lines.new.texts.output.stream;
       checks =
           c.check_lines.ensures.checks query n flight start
           (checking_first query n flight start c.args.chain.now (feeding c.args.feed.now) first c.in_ok-go_on.ensures c.new-trace.result c.new-trace.ensures c.new-output.result c.new-output.ensures.stream c.new-output.ensures.same c.new-output.ensures.differs);
