@@ -1,1 +1,2 @@
+pub mod HeldChannel
 pub mod PortWord

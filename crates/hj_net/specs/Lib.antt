@@ -6,3 +6,4 @@ pub mod RealOutside
 pub mod RealSink
 pub mod Roles
 pub mod RoleStream
+pub mod RoleStreams

@@ -9,7 +9,7 @@ use std::net::{Ipv4Addr, SocketAddrV4};
 const LISTEN: &str = "listen:";
 
 /// What a stream's name asks for.
-#[derive(Clone, Copy, Debug, PartialEq, Eq)]
+#[derive(Clone, Copy, PartialEq, Eq)]
 pub enum Address {
     /// The file of this name.
     File,

@@ -8,6 +8,7 @@ mod collected;
 mod output;
 mod outside;
 mod role_stream;
+mod role_streams;
 mod sink;
 #[cfg(test)]
 mod tests;

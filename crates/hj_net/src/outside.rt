@@ -6,15 +6,15 @@ ghost use Rattle.hj_net.specs.Answers.{as_read};
 
 use crate::Output;
 use crate::channel::{Channel, open};
-use crate::role_stream::RoleStream;
+use crate::role_streams::RoleStreams;
 use hj_base::{Got, Opened, Outside, Role};
 use std::alloc::Global;
 use std::io::Write;
 use std::net::Net;
 use std::rt::Files;
 
-/// The stream of a role.
-type RealRoleStream<R> = RoleStream<
+/// The streams of all roles, from files or from peers.
+type RealStreams<R> = RoleStreams<
     Channel<<R as Files>::File, <R as Net>::Listener, <R as Net>::Stream>,
 >;
 
@@ -26,13 +26,7 @@ pub struct RealOutside<'a, R: Files + Net + Drop, W: Write + Drop> {
     rt: R,
     alloc: Global,
     standard: &'a Output<W>,
-    query: RealRoleStream<R>,
-    second_query: RealRoleStream<R>,
-    left: RealRoleStream<R>,
-    right: RealRoleStream<R>,
-    third: RealRoleStream<R>,
-    trace: RealRoleStream<R>,
-    output: RealRoleStream<R>,
+    streams: RealStreams<R>,
 }
 
 impl<'a, R: Files + Net + Drop, W: Write + Drop> RealOutside<'a, R, W> {
@@ -48,13 +42,7 @@ impl<'a, R: Files + Net + Drop, W: Write + Drop> RealOutside<'a, R, W> {
             rt,
             alloc,
             standard: output,
-            query: RoleStream::new(),
-            second_query: RoleStream::new(),
-            left: RoleStream::new(),
-            right: RoleStream::new(),
-            third: RoleStream::new(),
-            trace: RoleStream::new(),
-            output: RoleStream::new(),
+            streams: RoleStreams::new(),
         }
     }
 }
@@ -81,15 +69,7 @@ impl<R: Files + Net + Drop, W: Write + Drop> Outside for RealOutside<'_, R, W> {
             return Opened::Memory;
         };
         let opened = open(&self.rt, name);
-        match role {
-            Role::Query => self.query.begin(kept, opened),
-            Role::SecondQuery => self.second_query.begin(kept, opened),
-            Role::Left => self.left.begin(kept, opened),
-            Role::Right => self.right.begin(kept, opened),
-            Role::Third => self.third.begin(kept, opened),
-            Role::Trace => self.trace.begin(kept, opened),
-            Role::Output => self.output.begin(kept, opened),
-        }
+        self.streams.begin(role, kept, opened)
     }
 
     fn read(&mut self, role: Role, buf: &mut [u8]) -> Got
@@ -103,14 +83,6 @@ impl<R: Files + Net + Drop, W: Write + Drop> Outside for RealOutside<'_, R, W> {
     {
         // A refusal is kept: the output's next write returns it, and the end of the run sees it.
         let _ = self.standard.hand_on();
-        match role {
-            Role::Query => self.query.read(buf),
-            Role::SecondQuery => self.second_query.read(buf),
-            Role::Left => self.left.read(buf),
-            Role::Right => self.right.read(buf),
-            Role::Third => self.third.read(buf),
-            Role::Trace => self.trace.read(buf),
-            Role::Output => self.output.read(buf),
-        }
+        self.streams.read(role, buf)
     }
 }

@@ -1,8 +1,5 @@
-ghost use Rattle.std.specs.Prelude.{◌≡◌, ◌<◌, ◌↔◌, length, string_bytes, IsSome, IfSome, None, Some};
-ghost use Rattle.std.specs.Io.KnownBytes.{ReadConsumes};
-ghost use Rattle.hj_base.specs.Counts.{one_more};
-ghost use Rattle.hj_base.specs.Outside.{IsOpen, Starts, Reads};
-ghost use Rattle.hj_net.specs.Answers.{as_read};
+ghost use Rattle.std.specs.Prelude.{◌≡◌, ◌<◌, length, string_bytes};
+ghost use Rattle.hj_base.specs.Outside.{IsOpen};
 
 use hj_base::{Got, Opened};
 use std::io::Read;
@@ -28,7 +25,7 @@ pub struct RoleStream<S: Read + Drop> {
 
 impl<S: Read + Drop> RoleStream<S> {
     ghost use Rattle.hj_net.specs.Roles.{new_role};
-    ghost use Rattle.hj_net.specs.RoleStream.{remaining, role_of, stream_of};
+    ghost use Rattle.hj_net.specs.RoleStream.{role_of, Begins, ReadsOn};
 
     /// Makes a role that isn't begun.
     pub fn new() -> RoleStream<S>
@@ -42,10 +39,7 @@ impl<S: Read + Drop> RoleStream<S> {
 
     /// Begins under a name with the stream that was opened for it, if one was.
     pub fn begin(&mut self, name: String, opened: Option<S>) -> Opened
-        ensures starts { Starts result (string_bytes name) None (role_of self.old) (role_of self.new) }
-        ensures ready { (result ≡ Opened.Ready) ↔ IsSome opened }
-        ensures fault { result ≡ Opened.Failed → (role_of self.new).faults ≡ one_more (role_of self.old).faults }
-        ensures stream { IfSome opened (λ stream. stream_of self.new ≡ Some stream) }
+        ensures { Begins result (string_bytes name) opened self.old self.new }
     {
         match opened {
             Some(stream) => {
@@ -68,10 +62,7 @@ impl<S: Read + Drop> RoleStream<S> {
     pub fn read(&mut self, buf: &mut [u8]) -> Got
         requires open { IsOpen (role_of self.old).phase }
         requires room { 0 < length buf.old }
-        ensures reads { Reads result buf.new (role_of self.old) (role_of self.new) }
-        ensures bytes { ReadConsumes (remaining S.remaining self.old) (remaining S.remaining self.new)
-            (as_read result) buf.new }
-        ensures fault { result ≡ Got.Failed → (role_of self.new).faults ≡ one_more (role_of self.old).faults }
+        ensures { ReadsOn S.remaining result buf.new self.old self.new }
     {
         let RoleStage::Opened { stream, ended, .. } = &mut self.stage else {
             unreachable!();
