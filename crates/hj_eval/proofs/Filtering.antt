@@ -23,6 +23,7 @@ use Rattle.hj_query.specs.declared.sum.Term.{Term}
 use Rattle.hj_query.specs.declared.sum.Term.TheVariants as terms
 use Rattle.hj_query.specs.Grammar.{is_text, is_text_at}
 use Rattle.hj_query.specs.Sides.{by_side}
+use Rattle.hj_query.proofs.Columns.{drop_get}
 use Rattle.hj_eval.specs.declared.filter.Filter.{Filter}
 use Rattle.hj_eval.specs.declared.filter.Need.{Need}
 use Rattle.hj_eval.specs.declared.filter.Need.TheVariants as needs
@@ -32,7 +33,7 @@ use Rattle.hj_rows.specs.Keys.{IsWithin}
 use Rattle.hj_msg.specs.Quiet.{other_side}
 use Rattle.hj_eval.specs.Filter.{difference, high_key, key_of, key_or_zero, least_of, low_key, more, most_of, number_in, number_of, own_key, range_of, total, with_number, with_numbers, IsShort, KeepsMatches}
 use Rattle.hj_eval.specs.Holds.{accepts, column_value, compares, has_type, is_within, sum_value, term_value, with_parts}
-use Rattle.hj_eval.proofs.Totals.{drop_get, with_none}
+use Rattle.hj_eval.proofs.Totals.{with_none}
 
 -- ---- keys
 

@@ -1,5 +1,5 @@
 -- Sums, term by term.
-use Rattle.std.proofs.Common.{◌≡◌, ℕ, zero, suc, ◌+◌, ◌<◌, Bool, true, false, cond, ℤ, List, [], ◌∷◌, length, drop, Option, Some, None, refl, sym, ap, ◌∙◌, arith}
+use Rattle.std.proofs.Common.{◌≡◌, ℕ, ◌+◌, ◌<◌, Bool, true, false, cond, ℤ, List, [], ◌∷◌, length, drop, Option, Some, None, refl, sym, ap, ◌∙◌, arith}
 use Rattle.std.specs.List.{slice_get}
 use Rattle.std.specs.Option.{option_map}
 use Rattle.hj_value.specs.declared.field.Field.{Field}
@@ -7,20 +7,8 @@ use Rattle.hj_value.specs.declared.field.Field.TheVariants as field
 use Rattle.hj_query.specs.declared.sum.SignedTerm.{SignedTerm}
 use Rattle.hj_query.specs.declared.sum.Sum.{Sum}
 use Rattle.hj_query.specs.declared.sum.Term.{Term}
+use Rattle.hj_query.proofs.Columns.{drop_get}
 use Rattle.hj_eval.specs.Holds.{sum_value, with_part, with_parts}
-
-some_same : {A : Type 0} (x y : A) → Some x ≡ Some y → x ≡ y
-some_same x y e = cc
-
-drop_suc : {A : Type 0} (xs : List A) (at : ℕ) (x : A) → Some x ≡ slice_get xs at → drop at xs ≡ x ∷ drop (suc at) xs
-drop_suc [] at x e = absurd cc
-drop_suc (y ∷ xs) zero x e = ap (λ z. z ∷ xs) (sym (some_same x y e))
-drop_suc (y ∷ xs) (suc at) x e = drop_suc xs at x e
-
-pub drop_get : {A : Type 0} (xs : List A) (at : ℕ) (x : A) → Some x ≡ slice_get xs at → drop at xs ≡ x ∷ drop (at + 1) xs
-drop_get xs at x e =
-    let n : suc at ≡ at + 1 = omega arith in
-    drop_suc xs at x e ∙ ap (λ k. x ∷ drop k xs) n
 
 chosen_none : (value : Term → Option Field) (parts : List SignedTerm) (b : Bool) → with_parts value None parts ≡ None → with_parts value (cond b None None) parts ≡ None
 chosen_none value parts true none = none
