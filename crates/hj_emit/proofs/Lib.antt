@@ -2,5 +2,5 @@ mod Backwards
 mod Cells
 mod Covers
 mod Lanes
-mod Plain
+pub mod Plain
 mod Steps

@@ -1,16 +1,14 @@
 -- A number that is printed reads back.
-use Rattle.std.proofs.Common.{◌≡◌, ℕ, suc, ◌<◌, ◌≤◌, ◌^◌, ℤ, pos, negsuc, ◌==◌, true, false, ltb, List, [], ◌∷◌, ◌++◌, ◌||◌, cond, length, Ok, refl, ap, ap₂, ◌∙◌, ◌+◌, ◌%◌, arith}
+use Rattle.std.proofs.Common.{◌≡◌, ℕ, suc, ◌<◌, ◌^◌, ℤ, pos, negsuc, ◌==◌, true, false, ltb, List, [], ◌∷◌, length, Ok, refl, arith, FitsSigned, w64}
 use Rattle.std.proofs.lemmas.Bool.{ltb-true, lt-ltb, ne_eqb}
-use Rattle.std.proofs.lemmas.Bool.Decides.{nat_tests}
-use Rattle.std.proofs.lemmas.Fmt.{decimal_by_steps, decimal_is_IsNumeral}
-use Rattle.std.proofs.lemmas.List.Folds.{list_any-append}
+use Rattle.std.proofs.lemmas.Fmt.{decimal_is_IsNumeral}
 use Rattle.std.proofs.lemmas.Str.Parse.{digit_from_value, numerals_by_value, tells_all_ascii_digits}
 use Rattle.std.specs.Fmt.{decimal, signed_decimal}
-use Rattle.std.specs.List.{list_any}
 use Rattle.std.specs.Str.{all_ascii_digits}
 use Rattle.std.specs.Str.Parse.{AllDigits, IsNumeral, digits_value, signed_digits_value}
-use Rattle.csv.specs.Writing.{default_writer, field_text, needs_byte, quoted}
+use Rattle.csv.specs.Writing.{default_writer, field_text}
 use Rattle.hj_value.specs.Number.{fits_i64, int_of, is_number}
+use Rattle.hj_emit.proofs.Plain.{number_text as number_plain}
 
 -- bytes that are a number and whose value fits
 reads_as : (bytes : List ℕ) (value : ℤ) → is_number bytes ≡ true → signed_digits_value 10 bytes ≡ value → fits_i64 value ≡ true → int_of bytes ≡ Ok value
@@ -49,27 +47,10 @@ printed_reads (negsuc n) fits =
 
 -- ---- it needs no quotes
 
-digit_plain : (d : ℕ) → d < 10 → needs_byte default_writer (48 + d) ≡ false
-digit_plain d h = grind (arith, nat_tests)
-
-last_digit : (n : ℕ) → n % 10 < 10
-last_digit n = omega arith
-
-plain_decimal : (n : ℕ) → n < 2 ^ 64 → list_any (needs_byte default_writer) (decimal n) ≡ false
-plain_decimal n h = decimal_by_steps (λ n ds. list_any (needs_byte default_writer) ds ≡ false) one more n h
-  where
-    one : (n : ℕ) → n < 10 → list_any (needs_byte default_writer) ((48 + n) ∷ []) ≡ false
-    one n h = ap (λ b. b || false) (digit_plain n h)
-
-    more : (n : ℕ) (ds : List ℕ) → 10 ≤ n → list_any (needs_byte default_writer) ds ≡ false → list_any (needs_byte default_writer) (ds ++ ((48 + n % 10) ∷ [])) ≡ false
-    more n ds h so_far =
-        list_any-append (needs_byte default_writer) ds ((48 + n % 10) ∷ [])
-        ∙ ap₂ (λ a b. a || (b || false)) so_far (digit_plain (n % 10) (last_digit n))
-
-plain_signed : (value : ℤ) → fits_i64 value ≡ true → list_any (needs_byte default_writer) (signed_decimal value) ≡ false
-plain_signed (pos n) fits = plain_decimal n (omega (arith, ltb-true n (2 ^ 63) fits))
-plain_signed (negsuc n) fits = plain_decimal (suc n) (omega (arith, ltb-true n (2 ^ 63) fits))
+signed_fits : (value : ℤ) → fits_i64 value ≡ true → FitsSigned w64 value
+signed_fits (pos n) fits = omega (arith, ltb-true n (2 ^ 63) fits)
+signed_fits (negsuc n) fits = omega (arith, ltb-true n (2 ^ 63) fits)
 
 -- A number is the text of a field as it is.
 pub number_text : (value : ℤ) → fits_i64 value ≡ true → field_text default_writer (signed_decimal value) ≡ signed_decimal value
-number_text value fits = ap (λ b. cond b (quoted default_writer (signed_decimal value)) (signed_decimal value)) (plain_signed value fits)
+number_text value fits = number_plain value (signed_fits value fits)
