@@ -256,6 +256,19 @@ module _ {P : Type 0} (run : Run P) (is : IsRun run) (i j : ℕ) where
   pub both_ways : (k : ℕ) → k < run.cores → list_any (is_R i) (handled (is.turns k)) ≡ true → Flying k → SettledRight k → ⊥
   both_ways k low has fly settled = flying_settled k low has fly settled.first
 
+  -- the partners of this number that a row finds rest settled, or are in flight
+  found_within : (k : ℕ) (front : List (Msg P)) (row : P) → count (λ partner. partner.no.0 == j) (partners_of_left run.matches (state_after k run.cores front) row)
+      ≤ count (λ entry. entry.settled && entry.no == j) (state_after k run.cores front).right + count (λ flying. flying.no == j) (state_after k run.cores front).in_flight
+  found_within k front row =
+      let state = state_after k run.cores front in
+      omega (
+        arith,
+        count-sort (λ partner. partner.no.0 == j) (λ partner other. nat_lt partner.no.0 other.no.0) (settled_partners (run.matches row) state.right ++ flying_partners (run.matches row) state.in_flight),
+        count-append (λ partner. partner.no.0 == j) (settled_partners (run.matches row) state.right) (flying_partners (run.matches row) state.in_flight),
+        count-settled j (run.matches row) state.right,
+        count-flying j (run.matches row) state.in_flight,
+      )
+
   -- R i lists j at most once
   pub count_left : (k : ℕ) → k < run.cores → (front : List (Msg P)) → Front (is_R i) (handled (is.turns k)) front → (row : P) → count (λ partner. partner.no.0 == j) (partners_of_left run.matches (state_after k run.cores front) row) ≤ 1
   count_left k low front at row = go (list_any (λ flying. flying.no == j) state.in_flight) refl (rests_settled j state.right) refl
@@ -264,13 +277,7 @@ module _ {P : Type 0} (run : Run P) (is : IsRun run) (i j : ℕ) where
       state = state_after k run.cores front
 
       parts : count (λ partner. partner.no.0 == j) (partners_of_left run.matches state row) ≤ count (λ entry. entry.settled && entry.no == j) state.right + count (λ flying. flying.no == j) state.in_flight
-      parts = omega (
-        arith,
-        count-sort (λ partner. partner.no.0 == j) (λ partner other. nat_lt partner.no.0 other.no.0) (settled_partners (run.matches row) state.right ++ flying_partners (run.matches row) state.in_flight),
-        count-append (λ partner. partner.no.0 == j) (settled_partners (run.matches row) state.right) (flying_partners (run.matches row) state.in_flight),
-        count-settled j (run.matches row) state.right,
-        count-flying j (run.matches row) state.in_flight,
-      )
+      parts = found_within k front row
 
       once : Distinct j state
       once = distinct j k run.cores front
@@ -287,13 +294,7 @@ module _ {P : Type 0} (run : Run P) (is : IsRun run) (i j : ℕ) where
       state = state_after k run.cores front
 
       parts : count (λ partner. partner.no.0 == j) (partners_of_left run.matches state row) ≤ count (λ entry. entry.settled && entry.no == j) state.right + count (λ flying. flying.no == j) state.in_flight
-      parts = omega (
-        arith,
-        count-sort (λ partner. partner.no.0 == j) (λ partner other. nat_lt partner.no.0 other.no.0) (settled_partners (run.matches row) state.right ++ flying_partners (run.matches row) state.in_flight),
-        count-append (λ partner. partner.no.0 == j) (settled_partners (run.matches row) state.right) (flying_partners (run.matches row) state.in_flight),
-        count-settled j (run.matches row) state.right,
-        count-flying j (run.matches row) state.in_flight,
-      )
+      parts = found_within k front row
 
       go : (b : Bool) → list_any (λ flying. flying.no == j) state.in_flight ≡ b → (c : Bool) → rests_settled j state.right ≡ c → Flying k ⊎ SettledRight k
       go true e c f = inl (found_flying k low front at e)
