@@ -19,7 +19,7 @@ use Rattle.hj_msg.specs.Run.{IsComplete, IsRun, LogEntry, Run}
 use Rattle.hj_msg.specs.Turns.{Turns, TakesTurns}
 use Rattle.hj_collect.specs.Collector.{CollectorState}
 use Rattle.hj_collect.specs.StandsFor as collect
-use Rattle.hj_link.specs.Seen.{EndSeen, LinkSeen, WaySeen, link_of, one_way_of}
+use Rattle.hj_link.specs.Seen.{EndSeen, LinkSeen, WaySeen, closed, closed_way, link_of, one_way_of}
 use Rattle.hj_raw.specs.Items.{Taken, lists_of}
 use Rattle.hj_desk.specs.declared.desk.Desk.{Desk}
 use Rattle.hj_desk.specs.Caller.{last_answer}
@@ -32,7 +32,7 @@ use Rattle.hj_crew.specs.RunsCrew.{RunsCrew}
 use Rattle.hj_desk.specs.Runs.{AreUncut, DoTheirPart, IsDone, Workers, cores_of, left_end, right_end, taken_of}
 use Rattle.hj_desk.specs.Runs as runs
 use Rattle.hj_desk.specs.Taken.{AreTaken}
-use Rattle.hj_crew.proofs.ClosedLinks.{agrees-at, agrees-at_queue, before-last, chosen, end_journal, is_chosen, last-at, length-closed_links, length-closed_queues, length-linked, length-queued, link-closed, queue-closed, receivers-closed, sender_journal, takes-closed}
+use Rattle.hj_crew.proofs.ClosedLinks.{before-last, chosen, end_journal, is_chosen, last-at, length-closed, length-linked, link-agrees, link-closed, queue-agrees, queue-closed, receivers-closed}
 use Rattle.hj_desk.proofs.InTurn.{journals-in_turn}
 use Rattle.hj_desk.proofs.Runs.{all_reports, is_run}
 use Rattle.hj_desk.proofs.Whole.{complete, ended}
@@ -49,7 +49,7 @@ module _ {P : Type 0} (matches : P → P → Bool) (desk : Desk P) (lefts rights
     matches = matches;
     left = λ k. get_or (map end_journal lefts) k [];
     right = λ k. get_or (map end_journal rights) k [];
-    reports = λ k. get_or (map sender_journal senders) k [];
+    reports = λ k. get_or (map end_journal senders) k [];
   }
 
   -- the ends of all links, and the links
@@ -82,14 +82,14 @@ module _ {P : Type 0} (matches : P → P → Bool) (desk : Desk P) (lefts rights
   link-at : (k : ℕ) → link_of (left_end workers_of desk k) (right_end workers_of desk k) ≡ link_at links k
   link-at k = ap₂ link_of (left-at k) (right-at k) ∙ sym (link-closed left_ends right_ends chain.links k)
 
-  queue-at : (k : ℕ) → one_way_of (get_or (map sender_journal senders) k []) (taken_of desk k) ≡ queue_at queues k
+  queue-at : (k : ℕ) → one_way_of (get_or (map end_journal senders) k []) (taken_of desk k) ≡ queue_at queues k
   queue-at k = sym (queue-closed senders desk.reports.items chain.queues k)
 
   pub many_links : length links ≡ cores_of desk + 1
-  many_links = length-closed_links left_ends right_ends chain.links ∙ omega (arith, length-linked left_ends right_ends chain.links, length-append lefts (desk.ports.right ∷ []), chain.cores)
+  many_links = length-closed closed left_ends right_ends chain.links ∙ omega (arith, length-linked left_ends right_ends chain.links, length-append lefts (desk.ports.right ∷ []), chain.cores)
 
   pub many_queues : length queues ≡ cores_of desk
-  many_queues = length-closed_queues senders desk.reports.items chain.queues ∙ sym (length-queued senders desk.reports.items chain.queues)
+  many_queues = length-closed closed_way senders desk.reports.items chain.queues ∙ sym (length-linked senders desk.reports.items chain.queues)
 
   -- the same run, of the desk and the cores and of what was closed
   same_run : (events : List (Event P)) (ended : Fin) → runs.run_of workers_of desk events ≡ ran.run_of matches events (record { links = links; queues = queues; flight = desk.driver.flight; ended = ended })
@@ -105,12 +105,12 @@ module _ {P : Type 0} (matches : P → P → Bool) (desk : Desk P) (lefts rights
 
   module _ (feed : FeedState) (history : History P) (stood : StandsFor desk feed history) (some : 1 ≤ cores_of desk) (links_agree : All (λ link. Agrees link.capacity link.link) links)
       (queues_agree : All (λ queue. AgreesOneWay queue.capacity queue.way) queues)
-      (each : (k : ℕ) → k < cores_of desk → (turns : Turns P) × TurnsOf matches k (cores_of desk) (get_or (map end_journal lefts) k []) (get_or (map end_journal rights) k []) (get_or (map sender_journal senders) k []) turns) where
+      (each : (k : ℕ) → k < cores_of desk → (turns : Turns P) × TurnsOf matches k (cores_of desk) (get_or (map end_journal lefts) k []) (get_or (map end_journal rights) k []) (get_or (map end_journal senders) k []) turns) where
     abbrev room : ℕ
     room = 2 * desk.driver.flight + 2
 
     abbrev Made : ℕ → Turns P → Type 0
-    Made k turns = TurnsOf matches k (cores_of desk) (get_or (map end_journal lefts) k []) (get_or (map end_journal rights) k []) (get_or (map sender_journal senders) k []) turns
+    Made k turns = TurnsOf matches k (cores_of desk) (get_or (map end_journal lefts) k []) (get_or (map end_journal rights) k []) (get_or (map end_journal senders) k []) turns
 
     turns_at : ℕ → Turns P
     turns_at = chosen (cores_of desk) Made (record { whole = []; cut = None }) each
@@ -123,11 +123,11 @@ module _ {P : Type 0} (matches : P → P → Bool) (desk : Desk P) (lefts rights
     parts = record {
       some_core = some;
       links = λ k within.
-          subst (λ (l : Link (Msg P)). Agrees room l) (sym (link-at k)) (agrees-at room left_ends right_ends chain.link_capacity links_agree k (omega (arith, within, many_links)));
+          subst (λ (l : Link (Msg P)). Agrees room l) (sym (link-at k)) (link-agrees room left_ends right_ends chain.link_capacity links_agree k (omega (arith, within, many_links)));
       queues = λ k low.
-          subst (λ (w : OneWay (Report P)). AgreesOneWay room w) (sym (queue-at k)) (agrees-at_queue room senders desk.reports.items chain.queue_capacity queues_agree k (omega (arith, low, many_queues)));
+          subst (λ (w : OneWay (Report P)). AgreesOneWay room w) (sym (queue-at k)) (queue-agrees room senders desk.reports.items chain.queue_capacity queues_agree k (omega (arith, low, many_queues)));
       in_turn = λ k low.
-          journals-in_turn matches k (cores_of desk) (turns_at k) (get_or (map end_journal lefts) k []) (get_or (map end_journal rights) k []) (get_or (map sender_journal senders) k []) (made k low).takes;
+          journals-in_turn matches k (cores_of desk) (turns_at k) (get_or (map end_journal lefts) k []) (get_or (map end_journal rights) k []) (get_or (map end_journal senders) k []) (made k low).takes;
       turns = turns_at;
       steps = λ k low. (made k low).takes;
     }
@@ -154,10 +154,10 @@ module _ {P : Type 0} (matches : P → P → Bool) (desk : Desk P) (lefts rights
         (subst (λ (lists : List (List (Report P))). AreAllReportsOf (runs.run_of workers_of desk history.events) lists) stood.gathered.lists (all_reports workers_of desk feed history stood parts))
 
     lists-shown : map (λ queue. takes queue.way.receiver) queues ≡ lists_of (cores_of desk) history.taken
-    lists-shown = takes-closed senders desk.reports.items chain.queues ∙ stood.gathered.lists
+    lists-shown = receivers-closed takes senders desk.reports.items chain.queues ∙ stood.gathered.lists
 
     taken-shown : AreTaken (map (λ queue. queue.way.receiver) queues) history.taken
-    taken-shown = subst (λ (journals : List (List (Entry (Report P)))). AreTaken journals history.taken) (sym (receivers-closed senders desk.reports.items chain.queues)) stood.gathered.are
+    taken-shown = subst (λ (journals : List (List (Entry (Report P)))). AreTaken journals history.taken) (sym (receivers-closed (λ journal. journal) senders desk.reports.items chain.queues)) stood.gathered.are
 
 -- Where a desk stands for what a feed answered and the reports that it took, what its outlet gave of them is known, and what it and the
 -- cores had is closed, that is what a crew did.
@@ -168,7 +168,7 @@ module _ {P F O : Type 0} (gives : F → Given P → F → Type 0) (state : F �
     (so : ended_so ≡ fin.Done → IsDone desk × rests now desk.collector)
     (links_agree : All (λ link. Agrees link.capacity link.link) (closed_links (desk.ports.left ∷ rights) (lefts ++ desk.ports.right ∷ [])))
     (queues_agree : All (λ queue. AgreesOneWay queue.capacity queue.way) (closed_queues senders desk.reports.items))
-    (each : (k : ℕ) → k < cores_of desk → (turns : Turns P) × TurnsOf matches k (cores_of desk) (get_or (map end_journal lefts) k []) (get_or (map end_journal rights) k []) (get_or (map sender_journal senders) k []) turns) where
+    (each : (k : ℕ) → k < cores_of desk → (turns : Turns P) × TurnsOf matches k (cores_of desk) (get_or (map end_journal lefts) k []) (get_or (map end_journal rights) k []) (get_or (map end_journal senders) k []) turns) where
   abbrev happened : History P
   happened = record { log = log; events = events_in answers; taken = taken }
 

@@ -1,12 +1,12 @@
 -- A desk and the cores' ends, closed: the run that they show.
-use Rattle.std.proofs.Common.{◌≡◌, ◌≢◌, ℕ, zero, suc, ◌<◌, ◌≤◌, ◌⊎◌, inl, inr, List, [], ◌∷◌, ◌++◌, length, map, get_or, All, refl, ap, sym, subst, arith}
+use Rattle.std.proofs.Common.{◌≡◌, ◌≢◌, ℕ, zero, suc, ◌<◌, ◌≤◌, ◌⊎◌, inl, inr, List, [], ◌∷◌, ◌++◌, length, map, get_or, All, refl, ap, sym, ◌∙◌, subst, arith}
 use Rattle.std.proofs.lemmas.Bool.{cases_lt}
 use Rattle.std.proofs.lemmas.List.{get_or-map}
 use Rattle.std.proofs.lemmas.Slice.Zip.{AllZip-long}
-use Rattle.hj_base.specs.Journals.{Entry, takes}
-use Rattle.hj_base.specs.Link.{Agrees, AgreesOneWay, Link, OneWay}
-use Rattle.hj_link.specs.Seen.{EndSeen, LinkSeen, WaySeen, closed, closed_way, link_of, one_way_of}
-use Rattle.hj_crew.specs.Links.{AreLinked, AreQueues, closed_links, closed_queues}
+use Rattle.hj_base.specs.Journals.{Entry}
+use Rattle.hj_base.specs.Link.{Agrees, AgreesOneWay}
+use Rattle.hj_link.specs.Seen.{EndSeen, closed, closed_way, link_of, one_way_of}
+use Rattle.hj_crew.specs.Links.{AreLinked, closed_by, closed_links, closed_queues}
 
 -- ---- closed links and queues, place by place
 
@@ -14,89 +14,68 @@ module _ {M : Type 0} where
   abbrev pub end_journal : EndSeen M → List (Entry M)
   end_journal end = end.journal
 
-  abbrev pub sender_journal : EndSeen M → List (Entry M)
-  sender_journal sender = sender.journal
+  pub length-linked : (firsts seconds : List (EndSeen M)) → AreLinked firsts seconds → length seconds ≡ length firsts
+  length-linked firsts seconds linked = AllZip-long (λ (first second : EndSeen M). first.link ≡ second.link) firsts seconds linked
 
-  abbrev pub receiver_journal : EndSeen M → List (Entry M)
-  receiver_journal receiver = receiver.journal
+  module _ {C : Type 0} (close : ℕ → List (Entry M) → List (Entry M) → C) where
+    pub length-closed : (firsts seconds : List (EndSeen M)) → AreLinked firsts seconds → length (closed_by close firsts seconds) ≡ length firsts
+    length-closed [] seconds linked = refl
+    length-closed (first ∷ firsts) [] linked = absurd linked
+    length-closed (first ∷ firsts) (second ∷ seconds) linked = ap suc (length-closed firsts seconds linked.1)
 
-  pub length-linked : (left right : List (EndSeen M)) → AreLinked left right → length right ≡ length left
-  length-linked left right linked = AllZip-long (λ (l r : EndSeen M). l.link ≡ r.link) left right linked
+    -- what is seen of each is of the journals of both ends
+    module _ {S : Type 0} (seen : C → S) (of : List (Entry M) → List (Entry M) → S) (is : (capacity : ℕ) (one other : List (Entry M)) → seen (close capacity one other) ≡ of one other) where
+      seen-closed : (firsts seconds : List (EndSeen M)) → AreLinked firsts seconds → (k : ℕ)
+          → get_or (map seen (closed_by close firsts seconds)) k (of [] []) ≡ of (get_or (map end_journal firsts) k []) (get_or (map end_journal seconds) k [])
+      seen-closed [] [] linked k = refl
+      seen-closed [] (second ∷ seconds) linked k = absurd linked
+      seen-closed (first ∷ firsts) [] linked k = absurd linked
+      seen-closed (first ∷ firsts) (second ∷ seconds) linked zero = is first.capacity first.journal second.journal
+      seen-closed (first ∷ firsts) (second ∷ seconds) linked (suc k) = seen-closed firsts seconds linked.1 k
 
-  pub length-queued : (senders : List (EndSeen M)) (receivers : List (EndSeen M)) → AreQueues senders receivers → length receivers ≡ length senders
-  length-queued senders receivers queued = AllZip-long (λ (s : EndSeen M) (r : EndSeen M). s.link ≡ r.link) senders receivers queued
+    -- each has the capacity of its first end
+    module _ (capacity_of : C → ℕ) (is : (capacity : ℕ) (one other : List (Entry M)) → capacity_of (close capacity one other) ≡ capacity) (capacity : ℕ) where
+      capacity-closed : (firsts seconds : List (EndSeen M)) → All (λ end. end.capacity ≡ capacity) firsts → (k : ℕ) (d : C) → k < length (closed_by close firsts seconds) → capacity_of (get_or (closed_by close firsts seconds) k d) ≡ capacity
+      capacity-closed [] seconds all k d low = absurd (omega (arith, low))
+      capacity-closed (first ∷ firsts) [] all k d low = absurd (omega (arith, low))
+      capacity-closed (first ∷ firsts) (second ∷ seconds) all zero d low = is first.capacity first.journal second.journal ∙ all 0 first (omega arith)
+      capacity-closed (first ∷ firsts) (second ∷ seconds) all (suc k) d low = capacity-closed firsts seconds (λ j e less. all (suc j) e (omega (arith, less))) k d (omega (arith, low))
 
-  pub length-closed_links : (left right : List (EndSeen M)) → AreLinked left right → length (closed_links left right) ≡ length left
-  length-closed_links [] right linked = refl
-  length-closed_links (l ∷ left) [] linked = absurd linked
-  length-closed_links (l ∷ left) (r ∷ right) linked = ap suc (length-closed_links left right linked.1)
+      -- So the one at a place agrees, by this capacity.
+      agrees-closed : {S : Type 0} (Agree : ℕ → S → Type 0) (seen : C → S) (none : S) (firsts seconds : List (EndSeen M)) → All (λ end. end.capacity ≡ capacity) firsts → All (λ one. Agree (capacity_of one) (seen one)) (closed_by close firsts seconds)
+          → (k : ℕ) → k < length (closed_by close firsts seconds) → Agree capacity (get_or (map seen (closed_by close firsts seconds)) k none)
+      agrees-closed Agree seen none firsts seconds are all k low =
+          let d = close 0 [] [] in
+          subst (Agree capacity) (sym (get_or-map seen (closed_by close firsts seconds) k d none low))
+          (subst (λ n. Agree n (seen (get_or (closed_by close firsts seconds) k d))) (capacity-closed firsts seconds are k d low) (all k d low))
 
-  pub length-closed_queues : (senders : List (EndSeen M)) (receivers : List (EndSeen M)) → AreQueues senders receivers → length (closed_queues senders receivers) ≡ length senders
-  length-closed_queues [] receivers queued = refl
-  length-closed_queues (s ∷ senders) [] queued = absurd queued
-  length-closed_queues (s ∷ senders) (r ∷ receivers) queued = ap suc (length-closed_queues senders receivers queued.1)
+  -- ---- of links
 
   pub link-closed : (left right : List (EndSeen M)) → AreLinked left right → (k : ℕ)
       → get_or (map (λ link. link.link) (closed_links left right)) k (link_of [] []) ≡ link_of (get_or (map end_journal left) k []) (get_or (map end_journal right) k [])
-  link-closed [] [] linked k = refl
-  link-closed [] (r ∷ right) linked k = absurd linked
-  link-closed (l ∷ left) [] linked k = absurd linked
-  link-closed (l ∷ left) (r ∷ right) linked zero = refl
-  link-closed (l ∷ left) (r ∷ right) linked (suc k) = link-closed left right linked.1 k
+  link-closed = seen-closed closed (λ link. link.link) link_of (λ capacity left right. refl)
 
-  pub queue-closed : (senders : List (EndSeen M)) (receivers : List (EndSeen M)) → AreQueues senders receivers → (k : ℕ)
-      → get_or (map (λ queue. queue.way) (closed_queues senders receivers)) k (one_way_of [] []) ≡ one_way_of (get_or (map sender_journal senders) k []) (get_or (map receiver_journal receivers) k [])
-  queue-closed [] [] queued k = refl
-  queue-closed [] (r ∷ receivers) queued k = absurd queued
-  queue-closed (s ∷ senders) [] queued k = absurd queued
-  queue-closed (s ∷ senders) (r ∷ receivers) queued zero = refl
-  queue-closed (s ∷ senders) (r ∷ receivers) queued (suc k) = queue-closed senders receivers queued.1 k
-
-  -- what was taken is what the receivers took
-  pub receivers-closed : (senders : List (EndSeen M)) (receivers : List (EndSeen M)) → AreQueues senders receivers
-      → map (λ queue. queue.way.receiver) (closed_queues senders receivers) ≡ map (λ receiver. receiver.journal) receivers
-  receivers-closed [] [] queued = refl
-  receivers-closed [] (r ∷ receivers) queued = absurd queued
-  receivers-closed (s ∷ senders) [] queued = absurd queued
-  receivers-closed (s ∷ senders) (r ∷ receivers) queued = ap (λ l. r.journal ∷ l) (receivers-closed senders receivers queued.1)
-
-  pub takes-closed : (senders : List (EndSeen M)) (receivers : List (EndSeen M)) → AreQueues senders receivers
-      → map (λ queue. takes queue.way.receiver) (closed_queues senders receivers) ≡ map (λ receiver. takes receiver.journal) receivers
-  takes-closed [] [] queued = refl
-  takes-closed [] (r ∷ receivers) queued = absurd queued
-  takes-closed (s ∷ senders) [] queued = absurd queued
-  takes-closed (s ∷ senders) (r ∷ receivers) queued = ap (λ l. takes r.journal ∷ l) (takes-closed senders receivers queued.1)
-
-  -- each has the capacity of its left end, or of its sender
-  capacity-closed : (capacity : ℕ) (left right : List (EndSeen M)) → All (λ end. end.capacity ≡ capacity) left → (k : ℕ) (d : LinkSeen M) → k < length (closed_links left right)
-      → (get_or (closed_links left right) k d).capacity ≡ capacity
-  capacity-closed capacity [] right all k d low = absurd (omega (arith, low))
-  capacity-closed capacity (l ∷ left) [] all k d low = absurd (omega (arith, low))
-  capacity-closed capacity (l ∷ left) (r ∷ right) all zero d low = all 0 l (omega arith)
-  capacity-closed capacity (l ∷ left) (r ∷ right) all (suc k) d low = capacity-closed capacity left right (λ j e less. all (suc j) e (omega (arith, less))) k d (omega (arith, low))
-
-  capacity-closed_queues : (capacity : ℕ) (senders : List (EndSeen M)) (receivers : List (EndSeen M)) → All (λ sender. sender.capacity ≡ capacity) senders → (k : ℕ) (d : WaySeen M)
-      → k < length (closed_queues senders receivers) → (get_or (closed_queues senders receivers) k d).capacity ≡ capacity
-  capacity-closed_queues capacity [] receivers all k d low = absurd (omega (arith, low))
-  capacity-closed_queues capacity (s ∷ senders) [] all k d low = absurd (omega (arith, low))
-  capacity-closed_queues capacity (s ∷ senders) (r ∷ receivers) all zero d low = all 0 s (omega arith)
-  capacity-closed_queues capacity (s ∷ senders) (r ∷ receivers) all (suc k) d low = capacity-closed_queues capacity senders receivers (λ j e less. all (suc j) e (omega (arith, less))) k d (omega (arith, low))
-
-  -- So the link at a place agrees, by this capacity.
-  pub agrees-at : (capacity : ℕ) (left right : List (EndSeen M)) → All (λ end. end.capacity ≡ capacity) left → All (λ link. Agrees link.capacity link.link) (closed_links left right) → (k : ℕ)
+  pub link-agrees : (capacity : ℕ) (left right : List (EndSeen M)) → All (λ end. end.capacity ≡ capacity) left → All (λ link. Agrees link.capacity link.link) (closed_links left right) → (k : ℕ)
       → k < length (closed_links left right) → Agrees capacity (get_or (map (λ link. link.link) (closed_links left right)) k (link_of [] []))
-  agrees-at capacity left right are all k low =
-      let d = closed 0 [] [] in
-      subst (λ (l : Link M). Agrees capacity l) (sym (get_or-map (λ (link : LinkSeen M). link.link) (closed_links left right) k d (link_of [] []) low))
-      (subst (λ c. Agrees c (get_or (closed_links left right) k d).link) (capacity-closed capacity left right are k d low) (all k d low))
+  link-agrees capacity = agrees-closed closed (λ link. link.capacity) (λ capacity left right. refl) capacity Agrees (λ link. link.link) (link_of [] [])
 
-  pub agrees-at_queue : (capacity : ℕ) (senders : List (EndSeen M)) (receivers : List (EndSeen M)) → All (λ sender. sender.capacity ≡ capacity) senders
-      → All (λ queue. AgreesOneWay queue.capacity queue.way) (closed_queues senders receivers) → (k : ℕ) → k < length (closed_queues senders receivers)
-      → AgreesOneWay capacity (get_or (map (λ queue. queue.way) (closed_queues senders receivers)) k (one_way_of [] []))
-  agrees-at_queue capacity senders receivers are all k low =
-      let d = closed_way 0 [] [] in
-      subst (λ (w : OneWay M). AgreesOneWay capacity w) (sym (get_or-map (λ (queue : WaySeen M). queue.way) (closed_queues senders receivers) k d (one_way_of [] []) low))
-      (subst (λ c. AgreesOneWay c (get_or (closed_queues senders receivers) k d).way) (capacity-closed_queues capacity senders receivers are k d low) (all k d low))
+  -- ---- of queues
+
+  pub queue-closed : (senders receivers : List (EndSeen M)) → AreLinked senders receivers → (k : ℕ)
+      → get_or (map (λ queue. queue.way) (closed_queues senders receivers)) k (one_way_of [] []) ≡ one_way_of (get_or (map end_journal senders) k []) (get_or (map end_journal receivers) k [])
+  queue-closed = seen-closed closed_way (λ queue. queue.way) one_way_of (λ capacity sender receiver. refl)
+
+  pub queue-agrees : (capacity : ℕ) (senders receivers : List (EndSeen M)) → All (λ sender. sender.capacity ≡ capacity) senders → All (λ queue. AgreesOneWay queue.capacity queue.way) (closed_queues senders receivers) → (k : ℕ)
+      → k < length (closed_queues senders receivers) → AgreesOneWay capacity (get_or (map (λ queue. queue.way) (closed_queues senders receivers)) k (one_way_of [] []))
+  queue-agrees capacity = agrees-closed closed_way (λ queue. queue.capacity) (λ capacity sender receiver. refl) capacity AgreesOneWay (λ queue. queue.way) (one_way_of [] [])
+
+  -- what is told by the journals of the receivers is told of what is closed
+  pub receivers-closed : {S : Type 0} (told : List (Entry M) → S) (senders receivers : List (EndSeen M)) → AreLinked senders receivers
+      → map (λ queue. told queue.way.receiver) (closed_queues senders receivers) ≡ map (λ receiver. told receiver.journal) receivers
+  receivers-closed told [] [] linked = refl
+  receivers-closed told [] (receiver ∷ receivers) linked = absurd linked
+  receivers-closed told (sender ∷ senders) [] linked = absurd linked
+  receivers-closed told (sender ∷ senders) (receiver ∷ receivers) linked = ap (λ l. told receiver.journal ∷ l) (receivers-closed told senders receivers linked.1)
 
   -- the last of some journals, and those before it
   pub last-at : (ends : List (EndSeen M)) (last : EndSeen M) → get_or (map end_journal (ends ++ last ∷ [])) (length ends) [] ≡ last.journal

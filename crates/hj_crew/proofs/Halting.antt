@@ -15,7 +15,7 @@ use Rattle.hj_crew.specs.declared.begun.Begun.{Begun}
 use Rattle.hj_crew.specs.declared.team.Team.{Team}
 use Rattle.hj_crew.specs.Begun.{CanStart, HasHalted}
 use Rattle.hj_crew.specs.Halt.{round_of}
-use Rattle.hj_crew.specs.Room.{IsRoomOf}
+use Rattle.hj_crew.specs.Room.{HasRoom}
 use Rattle.hj_crew.specs.Teams.{TeamStays}
 
 -- where nothing was there before, nothing is there
@@ -25,24 +25,28 @@ stays-empty old new none same = nil_from_length new (omega (arith, AllZip-long T
 module _ {P J L R F O : Type 0} (gives : F → Given P → F → Type 0) (state : F → FeedState) (gave : O → ℕ → List (Taken P) → Bool → Drained → O → Type 0) (rests : O → CollectorState → Type 0) (begun back : Begun P J L R F O) (halt : Halt)
     (goes : GoesRound gives state gave rests (round_of halt) begun.caller back.caller) (teams : AllZip TeamStays begun.teams.items back.teams.items) where
   -- threads may be started again
-  ready : IsRoomOf (length back.teams.items) back.own → IsRoomOf (length back.teams.items) back.done → (signals : ℕ) → CanStart state signals begun → CanStart state signals back
-  ready own done signals can =
+  ready : HasRoom (length back.teams.items) back.own → HasRoom (length back.teams.items) back.done → back.own.items ≡ [] → back.done.items ≡ [] → (signals : ℕ) → CanStart state signals begun → CanStart state signals back
+  ready own done no_own none_done signals start =
       let queues = goes.goes.queues in
       record {
-        stands = goes-stands gives state gave begun.caller back.caller goes.answers (answer_of (round_of halt)) goes.goes can.stands;
-        cores =
-            omega (
-              arith,
-              ap length queues.links,
-              length-map back.caller.desk.reports.items (λ receiver. receiver.link),
-              length-map begun.caller.desk.reports.items (λ receiver. receiver.link),
-              can.cores,
-            );
-        enough = omega (arith, AllZip-long TeamStays begun.teams.items back.teams.items teams, can.enough);
-        few = can.few;
-        own = own;
-        done = done;
+        can = record {
+          stands = goes-stands gives state gave begun.caller back.caller goes.answers (answer_of (round_of halt)) goes.goes start.can.stands;
+          cores =
+              omega (
+                arith,
+                ap length queues.links,
+                length-map back.caller.desk.reports.items (λ receiver. receiver.link),
+                length-map begun.caller.desk.reports.items (λ receiver. receiver.link),
+                start.can.cores,
+              );
+          enough = omega (arith, AllZip-long TeamStays begun.teams.items back.teams.items teams, start.can.enough);
+          few = start.can.few;
+          own = own;
+          done = done;
+        };
+        no_own = no_own;
+        none_done = none_done;
       }
 
-  pub has-halted : IsRoomOf (length back.teams.items) back.own → IsRoomOf (length back.teams.items) back.done → HasHalted gives state gave rests begun halt back
-  has-halted own done = record { goes = goes; teams = teams; ready = ready own done }
+  pub has-halted : HasRoom (length back.teams.items) back.own → HasRoom (length back.teams.items) back.done → back.own.items ≡ [] → back.done.items ≡ [] → HasHalted gives state gave rests begun halt back
+  has-halted own done no_own none_done = record { goes = goes; teams = teams; ready = ready own done no_own none_done }

@@ -14,7 +14,7 @@ use Rattle.hj_desk.specs.declared.desk.Desk.{Desk}
 use Rattle.hj_crew.specs.declared.ends.ChainEnds.{ChainEnds}
 use Rattle.hj_crew.specs.Cores.{AreClosed, GivesEnds, TakesItsTurns, left_of, reports_of, right_of}
 use Rattle.hj_crew.specs.Ends.{FormChain}
-use Rattle.hj_crew.specs.Links.{AreLinked, AreQueues, closed_links, closed_queues}
+use Rattle.hj_crew.specs.Links.{AreLinked, closed_links, closed_queues}
 use Rattle.hj_crew.specs.Ran.{RanSeen}
 
 -- what a worker's parts say of it
@@ -58,10 +58,10 @@ module _ {P J : Type 0} (desk : Desk P) (workers : List (WorkerSeen P J)) (first
     all-linked chain =
         subst (λ (l : List (EndSeen (Msg P))). AreLinked l right) (sym all_left) (subst (λ (r : List (EndSeen (Msg P))). AreLinked (desk.ports.left ∷ right_of workers) r) (sym all_right) chain.links)
 
-    pub all-queued : FormChain desk (left_of workers) (right_of workers) (reports_of workers) → AreQueues ends.senders.items ends.receivers.items
+    pub all-queued : FormChain desk (left_of workers) (right_of workers) (reports_of workers) → AreLinked ends.senders.items ends.receivers.items
     all-queued chain =
-        subst (λ (s : List (EndSeen (Report P))). AreQueues s ends.receivers.items) (sym all_senders)
-        (subst (λ (r : List (EndSeen (Report P))). AreQueues (reports_of workers) r) (sym all_receivers) chain.queues)
+        subst (λ (s : List (EndSeen (Report P))). AreLinked s ends.receivers.items) (sym all_senders)
+        (subst (λ (r : List (EndSeen (Report P))). AreLinked (reports_of workers) r) (sym all_receivers) chain.queues)
 
     pub all-closed : (predicate : J → P → P → Bool) → All (TakesItsTurns predicate) workers → (ran : RanSeen P) → ran.links ≡ closed_links ends.left.items right → ran.queues ≡ closed_queues ends.senders.items ends.receivers.items → All (λ link. Agrees link.capacity link.link) ran.links
         → All (λ queue. AgreesOneWay queue.capacity queue.way) ran.queues → AreClosed predicate desk workers ran

@@ -5,7 +5,7 @@ use Rattle.std.proofs.lemmas.List.Elements.{All-cons}
 use Rattle.std.proofs.lemmas.Slice.Zip.{AllZip-long, all_zipped_more}
 use Rattle.hj_msg.specs.declared.message.Msg.{Msg}
 use Rattle.hj_msg.specs.declared.message.Report.{Report}
-use Rattle.hj_link.specs.Seen.{EndSeen}
+use Rattle.hj_link.specs.Seen.{EndSeen, KeepsLink}
 use Rattle.hj_worker.specs.Seen.{WorkerSeen}
 use Rattle.hj_worker.specs.Turning.{StaysItself}
 use Rattle.hj_desk.specs.declared.desk.Desk.{Desk}
@@ -55,12 +55,6 @@ all-moved P Q A moves (x ∷ xs) (y ∷ ys) all related =
 
 -- ---- a crew
 
-abbrev SameEnd : {M : Type 0} → EndSeen M → EndSeen M → Type 0
-SameEnd old new = (new.link ≡ old.link) × (new.capacity ≡ old.capacity)
-
-abbrev SameSender : {M : Type 0} → EndSeen M → EndSeen M → Type 0
-SameSender old new = (new.link ≡ old.link) × (new.capacity ≡ old.capacity)
-
 stay-cores : {P J : Type 0} (join : J) (n place : ℕ) (workers others : List (WorkerSeen P J)) → AreCores join n place workers → AllZip StaysItself workers others → AreCores join n place others
 stay-cores join n place [] [] are same = tt
 stay-cores join n place [] (other ∷ others) are same = absurd same
@@ -70,20 +64,20 @@ stay-cores join n place (worker ∷ workers) (other ∷ others) are same =
 
 module _ {P J : Type 0} (old new : Desk P) (workers others : List (WorkerSeen P J)) (chain : FormChain old (left_of workers) (right_of workers) (reports_of workers)) (ports : KeepsLinks old.ports new.ports)
     (queues : KeepsQueues old.reports.items new.reports.items) (flight : new.driver.flight ≡ old.driver.flight) (same : AllZip StaysItself workers others) where
-  lefts : AllZip SameEnd (left_of workers) (left_of others)
-  lefts = related-map (λ (w : WorkerSeen P J). w.ends.left) SameEnd workers others (related-as StaysItself (λ v w. SameEnd v.ends.left w.ends.left) (λ v w stays. stays.links.left) workers others same)
+  lefts : AllZip KeepsLink (left_of workers) (left_of others)
+  lefts = related-map (λ (w : WorkerSeen P J). w.ends.left) KeepsLink workers others (related-as StaysItself (λ v w. KeepsLink v.ends.left w.ends.left) (λ v w stays. stays.links.left) workers others same)
 
-  rights : AllZip SameEnd (right_of workers) (right_of others)
-  rights = related-map (λ (w : WorkerSeen P J). w.ends.right) SameEnd workers others (related-as StaysItself (λ v w. SameEnd v.ends.right w.ends.right) (λ v w stays. stays.links.right) workers others same)
+  rights : AllZip KeepsLink (right_of workers) (right_of others)
+  rights = related-map (λ (w : WorkerSeen P J). w.ends.right) KeepsLink workers others (related-as StaysItself (λ v w. KeepsLink v.ends.right w.ends.right) (λ v w stays. stays.links.right) workers others same)
 
-  reports : AllZip SameSender (reports_of workers) (reports_of others)
-  reports = related-map (λ (w : WorkerSeen P J). w.ends.reports) SameSender workers others (related-as StaysItself (λ v w. SameSender v.ends.reports w.ends.reports) (λ v w stays. stays.links.reports) workers others same)
+  reports : AllZip KeepsLink (reports_of workers) (reports_of others)
+  reports = related-map (λ (w : WorkerSeen P J). w.ends.reports) KeepsLink workers others (related-as StaysItself (λ v w. KeepsLink v.ends.reports w.ends.reports) (λ v w stays. stays.links.reports) workers others same)
 
-  all_left : AllZip SameEnd (old.ports.left ∷ right_of workers) (new.ports.left ∷ right_of others)
+  all_left : AllZip KeepsLink (old.ports.left ∷ right_of workers) (new.ports.left ∷ right_of others)
   all_left = ((ports.left, ports.left_capacity), rights)
 
-  all_right : AllZip SameEnd (left_of workers ++ old.ports.right ∷ []) (left_of others ++ new.ports.right ∷ [])
-  all_right = all_zipped_more SameEnd (left_of workers) (left_of others) old.ports.right new.ports.right lefts (ports.right, ports.right_capacity)
+  all_right : AllZip KeepsLink (left_of workers ++ old.ports.right ∷ []) (left_of others ++ new.ports.right ∷ [])
+  all_right = all_zipped_more KeepsLink (left_of workers) (left_of others) old.ports.right new.ports.right lefts (ports.right, ports.right_capacity)
 
   receivers : AllZip (λ (before after : EndSeen (Report P)). after.link ≡ before.link) old.reports.items new.reports.items
   receivers = related-from_map (λ (receiver : EndSeen (Report P)). receiver.link) old.reports.items new.reports.items queues.links
@@ -93,18 +87,18 @@ module _ {P J : Type 0} (old new : Desk P) (workers others : List (WorkerSeen P 
 
   pub stays-chain : FormChain new (left_of others) (right_of others) (reports_of others)
   stays-chain = record {
-    cores = AllZip-long SameEnd (left_of workers) (left_of others) lefts ∙ chain.cores ∙ sym (AllZip-long (λ (before after : EndSeen (Report P)). after.link ≡ before.link) old.reports.items new.reports.items receivers);
+    cores = AllZip-long KeepsLink (left_of workers) (left_of others) lefts ∙ chain.cores ∙ sym (AllZip-long (λ (before after : EndSeen (Report P)). after.link ≡ before.link) old.reports.items new.reports.items receivers);
     links =
-        related-moved (λ (l r : EndSeen (Msg P)). l.link ≡ r.link) SameEnd SameEnd (λ l l' r r' is one other. one.0 ∙ is ∙ sym other.0) (old.ports.left ∷ right_of workers) (new.ports.left ∷ right_of others)
+        related-moved (λ (l r : EndSeen (Msg P)). l.link ≡ r.link) KeepsLink KeepsLink (λ l l' r r' is one other. one.0 ∙ is ∙ sym other.0) (old.ports.left ∷ right_of workers) (new.ports.left ∷ right_of others)
         (left_of workers ++ old.ports.right ∷ []) (left_of others ++ new.ports.right ∷ []) chain.links all_left all_right;
     queues =
-        related-moved (λ (s : EndSeen (Report P)) (r : EndSeen (Report P)). s.link ≡ r.link) SameSender (λ (before after : EndSeen (Report P)). after.link ≡ before.link) (λ s s' r r' is one other. one.0 ∙ is ∙ sym other)
+        related-moved (λ (s : EndSeen (Report P)) (r : EndSeen (Report P)). s.link ≡ r.link) KeepsLink (λ (before after : EndSeen (Report P)). after.link ≡ before.link) (λ s s' r r' is one other. one.0 ∙ is ∙ sym other)
         (reports_of workers) (reports_of others) old.reports.items new.reports.items chain.queues reports receivers;
     link_capacity =
-        all-moved (λ (end : EndSeen (Msg P)). end.capacity ≡ 2 * old.driver.flight + 2) (λ (end : EndSeen (Msg P)). end.capacity ≡ 2 * new.driver.flight + 2) SameEnd (λ e e' is moved. moved.1 ∙ is ∙ sym room)
+        all-moved (λ (end : EndSeen (Msg P)). end.capacity ≡ 2 * old.driver.flight + 2) (λ (end : EndSeen (Msg P)). end.capacity ≡ 2 * new.driver.flight + 2) KeepsLink (λ e e' is moved. moved.1 ∙ is ∙ sym room)
         (old.ports.left ∷ right_of workers) (new.ports.left ∷ right_of others) chain.link_capacity all_left;
     queue_capacity =
-        all-moved (λ (sender : EndSeen (Report P)). sender.capacity ≡ 2 * old.driver.flight + 2) (λ (sender : EndSeen (Report P)). sender.capacity ≡ 2 * new.driver.flight + 2) SameSender (λ s s' is moved. moved.1 ∙ is ∙ sym room)
+        all-moved (λ (sender : EndSeen (Report P)). sender.capacity ≡ 2 * old.driver.flight + 2) (λ (sender : EndSeen (Report P)). sender.capacity ≡ 2 * new.driver.flight + 2) KeepsLink (λ s s' is moved. moved.1 ∙ is ∙ sym room)
         (reports_of workers) (reports_of others) chain.queue_capacity reports;
   }
 

@@ -10,8 +10,8 @@ use Rattle.hj_crew.specs.declared.ends.ChainEnds.{ChainEnds}
 use Rattle.hj_crew.specs.declared.team.Team.{Team}
 use Rattle.hj_crew.specs.Cores.{AreCrew, AreEndsFor, AreForDesk, AreUnused, MakesTeams, left_of, reports_of, right_of}
 use Rattle.hj_crew.specs.Ends.{AreNew}
-use Rattle.hj_crew.specs.Links.{AreLinked, AreQueues}
-use Rattle.hj_crew.proofs.ClosedLinks.{length-linked, length-queued}
+use Rattle.hj_crew.specs.Links.{AreLinked}
+use Rattle.hj_crew.proofs.ClosedLinks.{length-linked}
 use Rattle.hj_crew.proofs.MadeTeams.{all-front, ends-left, last-of}
 
 module _ {P : Type 0} (cores capacity : ℕ) (ends : ChainEnds P) (last : EndSeen (Msg P)) (new : AreNew cores capacity ends last) where
@@ -42,7 +42,7 @@ module _ {P : Type 0} (cores capacity : ℕ) (ends : ChainEnds P) (last : EndSee
     all_senders = makes.ends.senders ∙ ap (λ (l : List (EndSeen (Report P))). l ++ reports_of makes.workers) (nil_from_length left.senders.items left_over.senders)
 
     few_receivers : length left.receivers.items ≡ cores
-    few_receivers = ap (λ receivers_of. length receivers_of.items) makes.ends.receivers ∙ length-queued ends.senders.items ends.receivers.items new.queued ∙ new.queues
+    few_receivers = ap (λ receivers_of. length receivers_of.items) makes.ends.receivers ∙ length-linked ends.senders.items ends.receivers.items new.queued ∙ new.queues
 
     pub for_desk : cores ≤ 64 → AreForDesk left last
     for_desk few = record {
@@ -71,7 +71,7 @@ module _ {P : Type 0} (cores capacity : ℕ) (ends : ChainEnds P) (last : EndSee
             links =
                 subst (λ (l : List (EndSeen (Msg P))). AreLinked l (left_of makes.workers ++ desk.ports.right ∷ [])) lefts (subst (λ (l : List (EndSeen (Msg P))). AreLinked ends.left.items l) rights new.linked);
             queues =
-                subst (λ (l : List (EndSeen (Report P))). AreQueues l desk.reports.items) all_senders (subst (λ (l : List (EndSeen (Report P))). AreQueues ends.senders.items l) queues new.queued);
+                subst (λ (l : List (EndSeen (Report P))). AreLinked l desk.reports.items) all_senders (subst (λ (l : List (EndSeen (Report P))). AreLinked ends.senders.items l) queues new.queued);
             link_capacity =
                 subst (All (λ (end : EndSeen (Msg P)). end.capacity ≡ 2 * desk.driver.flight + 2)) lefts (λ k d low. (new.left k d low).1 ∙ holds);
             queue_capacity =

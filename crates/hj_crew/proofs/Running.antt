@@ -10,7 +10,7 @@ use Rattle.hj_msg.specs.declared.fin.Fin.{Fin}
 use Rattle.hj_msg.specs.declared.fin.Fin.TheVariants as fin
 use Rattle.hj_msg.specs.declared.message.Msg.{Msg}
 use Rattle.hj_msg.specs.declared.message.Report.{Report}
-use Rattle.hj_msg.specs.Feed.{FeedState}
+use Rattle.hj_msg.specs.Feed.{FeedState, IsFresh}
 use Rattle.hj_msg.specs.Turns.{Turns, TakesTurns}
 use Rattle.hj_collect.specs.Collector.{CollectorState}
 use Rattle.hj_link.specs.Seen.{LinkSeen, WaySeen}
@@ -19,8 +19,11 @@ use Rattle.hj_worker.specs.Seen.{WorkerSeen}
 use Rattle.hj_desk.specs.declared.caller.Caller.{Caller}
 use Rattle.hj_desk.specs.declared.caller.Round.TheVariants.{Over}
 use Rattle.hj_desk.specs.declared.desk.Desk.{Desk}
+use Rattle.hj_crew.specs.declared.making.Crew.{Crew}
+use Rattle.hj_crew.specs.declared.plan.CrewSize.{CrewSize}
 use Rattle.hj_crew.specs.declared.team.Team.{Team}
 use Rattle.hj_desk.specs.Caller.{Ends, EndsRound, last_answer}
+use Rattle.hj_crew.specs.Begun.{CanStart, IsManned}
 use Rattle.hj_crew.specs.Cores.{AreClosed, AreCores, AreCrew, TakesItsTurns, left_of, reports_of, right_of}
 use Rattle.hj_desk.specs.Desk.{StandsFor, nothing_happened}
 use Rattle.hj_crew.specs.Links.{closed_links, closed_queues}
@@ -29,14 +32,14 @@ use Rattle.hj_crew.specs.RunsCrew.{RunsCrew}
 use Rattle.hj_desk.specs.Runs.{IsDone, cores_of}
 use Rattle.hj_crew.specs.Teams.{TeamStays}
 use Rattle.hj_crew.proofs.Chained.{TurnsOf, runs-crew}
-use Rattle.hj_crew.proofs.ClosedLinks.{end_journal, sender_journal}
+use Rattle.hj_crew.proofs.ClosedLinks.{end_journal}
 use Rattle.hj_crew.proofs.Keeping.{stays-crew}
 
 module _ {P J : Type 0} (predicate : J → P → P → Bool) (join : J) (n : ℕ) where
   -- the turns of the core at a place
   abbrev TurnsAt : ℕ → List (WorkerSeen P J) → ℕ → Type 0
   TurnsAt place workers k =
-      (turns : Turns P) × TurnsOf (predicate join) place n (get_or (map end_journal (left_of workers)) k []) (get_or (map end_journal (right_of workers)) k []) (get_or (map sender_journal (reports_of workers)) k []) turns
+      (turns : Turns P) × TurnsOf (predicate join) place n (get_or (map end_journal (left_of workers)) k []) (get_or (map end_journal (right_of workers)) k []) (get_or (map end_journal (reports_of workers)) k []) turns
 
   first-turns : (place : ℕ) (worker : WorkerSeen P J) (others : List (WorkerSeen P J)) → worker.join ≡ join → worker.place ≡ place → worker.cores ≡ n → TakesItsTurns predicate worker → TurnsAt place (worker ∷ others) zero
   first-turns place worker others joined at of turns = (
@@ -63,6 +66,22 @@ module _ {P J : Type 0} (predicate : J → P → P → Bool) (join : J) (n : ℕ
 -- there are as many queues of reports as cores
 pub as-many_cores : {P J L R : Type 0} (join : J) (n in_flight : ℕ) (desk : Desk P) (teams : List (Team P J L R)) → AreCrew join n in_flight desk teams → cores_of desk ≡ n
 as-many_cores {P} {J} join n in_flight desk teams crew = sym crew.chain.cores ∙ length-map crew.workers (λ (w : WorkerSeen P J). w.ends.left) ∙ crew.many
+
+-- A crew that nothing happened to may start its threads, between a fresh feed and an outlet.
+pub can-start : {P J L R F O : Type 0} (state : F → FeedState) (join : J) (size : CrewSize) (crew : Crew P J L R) (feed : F) (outlet : O) → IsManned join size crew → IsFresh (state feed)
+    → CanStart state (length crew.signals.items) (record { caller = record { desk = crew.desk; feed = feed; outlet = outlet; awaited = 0 }; teams = crew.teams; own = crew.own; done = crew.done })
+can-start state join size crew feed outlet manned fresh = record {
+  can = record {
+    stands = (nothing_happened, manned.stands (state feed) fresh);
+    cores = omega (arith, as-many_cores join size.chain.cores size.chain.flight crew.desk crew.teams.items manned.chain, size.chain.few_cores);
+    enough = omega (arith, manned.signals);
+    few = omega (arith, manned.signals, manned.teams, size.chain.few_cores);
+    own = manned.own.room;
+    done = manned.done.room;
+  };
+  no_own = manned.own.empty;
+  none_done = manned.done.empty;
+}
 
 module _ {P J L R F O : Type 0} (gives : F → Given P → F → Type 0) (state : F → FeedState) (gave : O → ℕ → List (Taken P) → Bool → Drained → O → Type 0) (rests : O → CollectorState → Type 0) (join : J) (n in_flight : ℕ) (old new : Caller P F O) (ended : Fin)
     (ends : Ends gives state gave rests ended old new) (teams back : List (Team P J L R)) (crew : AreCrew join n in_flight old.desk teams) (same : AllZip TeamStays teams back) where

@@ -1,10 +1,12 @@
 -- Teams that come back, one after another.
 use Rattle.std.proofs.Common.{◌≡◌, ◌+◌, ◌<◌, ◌≤◌, List, [], ◌∷◌, ◌++◌, length, Option, Some, None, refl, ap, sym, ◌∙◌, subst, arith, append-nil, append_assoc, length-append}
-use Rattle.std.specs.Prelude.{MatchOption, IfNone}
+use Rattle.std.specs.Prelude.{MatchOption, IfNone, vec_capacity, vec_len}
 use Rattle.std.specs.List.{AllZip}
 use Rattle.std.proofs.lemmas.List.{same_from_push}
 use Rattle.std.proofs.lemmas.Slice.Zip.{AllZip-long, all_zipped_more}
+use Rattle.std.specs.declared.vec.Vec.{Vec}
 use Rattle.hj_crew.specs.declared.team.Team.{Team}
+use Rattle.hj_crew.specs.Room.{HasRoom}
 use Rattle.hj_crew.specs.Teams.{AppendsTeams, TeamStays}
 use Rattle.hj_crew.proofs.Dealing.{EndsRelated, ends_related}
 use Rattle.hj_crew.proofs.Staying.{team-stays-on}
@@ -12,6 +14,11 @@ use Rattle.hj_crew.proofs.Staying.{team-stays-on}
 module _ {P J L R : Type 0} where
   pub length-appended : (teams old new : List (Team P J L R)) → AppendsTeams teams old new → length new ≡ length old + length teams
   length-appended teams old new more = omega (arith, ap length more.behind, length-append old more.back, AllZip-long TeamStays teams more.back more.same)
+
+  -- behind the others that came back there is room for one team more
+  pub room-behind : {Z : Type 0} (teams fewer old new : Vec (Team P J L R) Z) → AppendsTeams fewer.items old.items new.items → vec_capacity new ≡ vec_capacity old → HasRoom (length teams.items) old → vec_len fewer + 1 ≡ vec_len teams
+      → vec_len new < vec_capacity new
+  room-behind teams fewer old new more capacity room less = omega (arith, length-appended fewer.items old.items new.items more, capacity, room, less, teams.ok.0, fewer.ok.0, old.ok.0, new.ok.0)
 
   -- no team came back where none was left
   pub appends-none : (teams old : List (Team P J L R)) → length teams ≡ 0 → AppendsTeams teams old old

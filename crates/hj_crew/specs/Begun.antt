@@ -1,5 +1,5 @@
 -- A crew while no thread is at work, and what comes back of a run.
-use Rattle.std.specs.Prelude.{◌≡◌, ℕ, ◌≤◌, Bool, false, List, length, min}
+use Rattle.std.specs.Prelude.{◌≡◌, ℕ, ◌≤◌, Bool, false, List, [], length, min, vec_capacity}
 use Rattle.std.specs.List.{AllZip}
 use Rattle.hj_msg.specs.declared.drain.Drained.{Drained}
 use Rattle.hj_msg.specs.declared.feed.Given.{Given}
@@ -15,8 +15,8 @@ use Rattle.hj_crew.specs.declared.begun.Begun.{Begun}
 use Rattle.hj_crew.specs.declared.begun.Returned.{Returned}
 use Rattle.hj_crew.specs.Cores.{AreCrew}
 use Rattle.hj_crew.specs.Halt.{round_of}
-use Rattle.hj_crew.specs.Room.{IsRoomOf}
-use Rattle.hj_crew.specs.Teams.{TeamStays}
+use Rattle.hj_crew.specs.Room.{HasRoom, IsRoomOf}
+use Rattle.hj_crew.specs.Teams.{AppendsTeams, TeamStays}
 
 -- The crew of a chain of this size, before it runs: nothing happened yet. It makes as many teams as there are threads and cores, and
 -- for each there are signals, and room to be turned by the calling thread and to come back.
@@ -30,14 +30,31 @@ pub record IsManned {P J L R : Type 0} (join : J) (size : CrewSize) (crew : Crew
   pub done : IsRoomOf (length crew.teams.items) crew.done
 
 module _ {P J L R F O : Type 0} where
-  -- The calling thread may start a thread for each team: there are so many signals, and room for the teams.
-  pub record CanStart (state : F → FeedState) (signals : ℕ) (begun : Begun P J L R F O) : Type 0 where
+  -- The teams may be given to threads, one after another: there are signals for each, and room for it to be turned by the calling thread
+  -- and to come back, behind those that are there.
+  pub record CanGive (state : F → FeedState) (signals : ℕ) (begun : Begun P J L R F O) : Type 0 where
     pub stands : Stands begun.caller.desk (state begun.caller.feed)
     pub cores : length begun.caller.desk.reports.items ≤ 64
     pub enough : length begun.teams.items ≤ signals
     pub few : signals ≤ 64
-    pub own : IsRoomOf (length begun.teams.items) begun.own
-    pub done : IsRoomOf (length begun.teams.items) begun.done
+    pub own : HasRoom (length begun.teams.items) begun.own
+    pub done : HasRoom (length begun.teams.items) begun.done
+
+  -- They were given to threads, and came back when the calling thread's rounds had halted.
+  pub record AreGiven (gives : F → Given P → F → Type 0) (state : F → FeedState) (gave : O → ℕ → List (Taken P) → Bool → Drained → O → Type 0) (rests : O → CollectorState → Type 0) (old : Begun P J L R F O) (halt : Halt) (new : Begun P J L R F O) : Type 0 where
+    pub goes : GoesRound gives state gave rests (round_of halt) old.caller new.caller
+    pub own : AllZip TeamStays old.own.items new.own.items
+    pub own_capacity : vec_capacity new.own ≡ vec_capacity old.own
+    pub none : new.teams.items ≡ []
+    pub teams_capacity : vec_capacity new.teams ≡ vec_capacity old.teams
+    pub done : AppendsTeams old.teams.items old.done.items new.done.items
+    pub done_capacity : vec_capacity new.done ≡ vec_capacity old.done
+
+  -- The calling thread may start a thread for each team, and none came back yet or is its own.
+  pub record CanStart (state : F → FeedState) (signals : ℕ) (begun : Begun P J L R F O) : Type 0 where
+    pub can : CanGive state signals begun
+    pub no_own : begun.own.items ≡ []
+    pub none_done : begun.done.items ≡ []
 
   -- The calling thread made its rounds up to where they halted, and each team came back. Threads may be started again.
   pub record HasHalted (gives : F → Given P → F → Type 0) (state : F → FeedState) (gave : O → ℕ → List (Taken P) → Bool → Drained → O → Type 0) (rests : O → CollectorState → Type 0) (begun : Begun P J L R F O) (halt : Halt) (back : Begun P J L R F O) : Type 0 where

@@ -1,16 +1,9 @@
 //! What a crew does up to the end of a run: now threads turn its teams, and now the calling thread.
-ghost use Rattle.std.specs.Prelude.{◌≡◌, ℕ, ◌≤◌, length};
-ghost use Rattle.std.specs.List.{AllZip};
-ghost use Rattle.hj_desk.specs.Caller.{Ends};
-ghost use Rattle.hj_desk.specs.Desk.{Stands};
-ghost use Rattle.hj_crew.specs.Begun.{CanStart, HasHalted};
-ghost use Rattle.hj_crew.specs.Room.{IsRoomOf};
-ghost use Rattle.hj_crew.specs.Teams.{TeamStays};
+ghost use Rattle.std.specs.Prelude.{ℕ, length};
 
 use crate::bell::Bell;
 use crate::drive::{Halt, drive_alone};
-use crate::levels::{Shared, levels};
-use crate::making::Crew;
+use crate::levels::Shared;
 use crate::plan::CrewPlan;
 use crate::team::{Signals, Team};
 use crate::turners::{Choice, Turners};
@@ -23,7 +16,7 @@ use std::thread;
 use std::thread::{Scope, Threads};
 use std::time::Clock;
 
-/// What a run has while no thread is at work.
+/// What a run has at hand: all of it while no thread is at work.
 #[derive(Drop)]
 pub(crate) struct Begun<P: Drop, J: Join<P>, L: Store<P, J>, R: Store<P, J>, F, O> {
     pub(crate) caller: Caller<P, F, O>,
@@ -40,54 +33,6 @@ pub(crate) struct Returned<P: Drop, J: Join<P>, L: Store<P, J>, R: Store<P, J>, 
     pub(crate) fin: Fin,
 }
 
-/// Lets a crew run until the run has ended.
-pub(crate) fn run_crew<
-    P: Share + Send + Drop,
-    J: Join<P> + Send + Drop,
-    L: Store<P, J> + Send + Drop,
-    R: Store<P, J> + Send + Drop,
-    F: Feed<P> + Drop,
-    O: Outlet<P> + Drop,
-    G: Gate + Sync,
-    T: Threads + Wait + Clock + Sync,
->(
-    plan: &CrewPlan<'_, T, G>,
-    crew: Crew<P, J, L, R>,
-    feed: F,
-    outlet: O,
-) -> Returned<P, J, L, R, F, O>
-    requires stands { Stands crew.desk (F.state feed) }
-    requires cores { length crew.desk.reports.items ≤ 64 }
-    requires teams { length crew.teams.items ≤ 64 }
-    requires signals { length crew.signals.items ≡ length crew.teams.items }
-    requires own { IsRoomOf (length crew.teams.items) crew.own }
-    requires done { IsRoomOf (length crew.teams.items) crew.done }
-    ensures ends { Ends F.gives F.state O.gave O.rests result.fin
-        (record { desk = crew.desk; feed = feed; outlet = outlet; awaited = 0 }) result.caller }
-    ensures teams { AllZip TeamStays crew.teams.items result.teams.items }
-{
-    let Crew {
-        desk,
-        teams,
-        signals,
-        own,
-        done,
-    } = crew;
-    let caller = Caller {
-        desk,
-        feed,
-        outlet,
-        awaited: 0,
-    };
-    let begun = Begun {
-        caller,
-        teams,
-        own,
-        done,
-    };
-    begun.run_to_end(plan, signals.as_slice())
-}
-
 impl<
     P: Share + Send + Drop,
     J: Join<P> + Send + Drop,
@@ -100,7 +45,7 @@ impl<
 
     /// Lets the calling thread make its rounds until the run has ended, while threads turn the teams, and then now that thread itself
     /// and now threads, whichever get on faster.
-    fn run_to_end<G: Gate + Sync, T: Threads + Wait + Clock + Sync>(
+    pub(crate) fn run_to_end<G: Gate + Sync, T: Threads + Wait + Clock + Sync>(
         self,
         plan: &CrewPlan<'_, T, G>,
         signals: &[Signals],
@@ -139,7 +84,7 @@ impl<
     {
         match choice.turners() {
             Turners::Threads => self.run_in_scope(plan, choice.windows(), signals),
-            Turners::Caller => run_alone(plan, choice.windows(), self),
+            Turners::Caller => self.run_alone(plan, choice.windows()),
         }
     }
 
@@ -183,83 +128,52 @@ impl<
             move |scope| -> (Halt, Begun<P, J, L, R, F, O>)
                 requires { CanStart F.state (length shared.now.signals.now) begun }
                 ensures { HasHalted F.gives F.state O.gave O.rests begun result.0 result.1 }
-            { all_levels(scope, shared, begun) },
+            { begun.all_levels(scope, shared) },
         )
     }
-}
 
-/// Starts the thread of each team, makes the calling thread's rounds, and joins the threads.
-fn all_levels<
-    's,
-    E,
-    P: Share + Send + Drop + 's,
-    J: Join<P> + Send + Drop + 's,
-    L: Store<P, J> + Send + Drop + 's,
-    R: Store<P, J> + Send + Drop + 's,
-    F: Feed<P>,
-    O: Outlet<P>,
-    G: Gate + Sync + 's,
-    T: Threads + Wait + Clock + Sync + 's,
->(
-    scope: &'s Scope<'s, E>,
-    shared: &Shared<'s, G, T>,
-    begun: Begun<P, J, L, R, F, O>,
-) -> (Halt, Begun<P, J, L, R, F, O>)
-    requires { CanStart F.state (length shared.now.signals.now) begun }
-    ensures { HasHalted F.gives F.state O.gave O.rests begun result.0 result.1 }
-{
-    let Begun {
-        mut caller,
-        mut teams,
-        mut own,
-        mut done,
-    } = begun;
-    let halt = levels(scope, shared, &mut caller, &mut teams, &mut own, &mut done);
-    let back = Begun {
-        caller,
-        teams: done,
-        own,
-        done: teams,
-    };
-    (halt, back)
-}
+    /// Starts the thread of each team, makes the calling thread's rounds, and joins the threads.
+    fn all_levels<'s, E, G: Gate + Sync + 's, T: Threads + Wait + Clock + Sync + 's>(
+        self,
+        scope: &'s Scope<'s, E>,
+        shared: &Shared<'s, G, T>,
+    ) -> (Halt, Self)
+    where
+        P: 's,
+        J: 's,
+        L: 's,
+        R: 's,
+        requires { CanStart F.state (length shared.now.signals.now) self }
+        ensures { HasHalted F.gives F.state O.gave O.rests self result.0 result.1 }
+    {
+        let mut begun = self;
+        let halt = begun.levels(scope, shared);
+        let back = Begun {
+            caller: begun.caller,
+            teams: begun.done,
+            own: begun.own,
+            done: begun.teams,
+        };
+        (halt, back)
+    }
 
-/// Lets the calling thread turn all teams of a run, until it halts. With `windows` it halts behind so many busy windows of time.
-fn run_alone<
-    P: Share + Drop,
-    J: Join<P> + Drop,
-    L: Store<P, J> + Drop,
-    R: Store<P, J> + Drop,
-    F: Feed<P>,
-    O: Outlet<P>,
-    G: Gate,
-    T: Wait + Clock,
->(
-    plan: &CrewPlan<'_, T, G>,
-    windows: Option<u32>,
-    begun: Begun<P, J, L, R, F, O>,
-) -> (Halt, Begun<P, J, L, R, F, O>)
-    requires { (signals : ℕ) × CanStart F.state signals begun }
-    ensures { HasHalted F.gives F.state O.gave O.rests begun result.0 result.1 }
-{
-    let Begun {
-        mut caller,
-        mut teams,
-        own,
-        done,
-    } = begun;
-    let halt = drive_alone(
-        plan.rt,
-        &mut caller,
-        teams.as_mut_slice(),
-        plan.gate,
-        windows,
-    );
-    let back = Begun {
-        caller,
-        teams,
-        own,
-        done,
-    };
-    (halt, back)
+    /// Lets the calling thread turn all teams, until it halts. With `windows` it halts behind so many busy windows of time.
+    fn run_alone<G: Gate, T: Wait + Clock>(
+        self,
+        plan: &CrewPlan<'_, T, G>,
+        windows: Option<u32>,
+    ) -> (Halt, Self)
+        requires { (signals : ℕ) × CanStart F.state signals self }
+        ensures { HasHalted F.gives F.state O.gave O.rests self result.0 result.1 }
+    {
+        let mut begun = self;
+        let halt = drive_alone(
+            plan.rt,
+            &mut begun.caller,
+            begun.teams.as_mut_slice(),
+            plan.gate,
+            windows,
+        );
+        (halt, begun)
+    }
 }

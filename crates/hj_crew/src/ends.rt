@@ -1,7 +1,8 @@
 //! The ends of the links and queues of a chain.
 ghost use Rattle.std.specs.Prelude.{◌≡◌, ◌+◌, ◌*◌, ◌<◌, ◌≤◌, All, length, IfOk};
+ghost use Rattle.std.specs.List.{AllZip};
 ghost use Rattle.hj_base.specs.Link.{Agrees, AgreesOneWay};
-ghost use Rattle.hj_crew.specs.Links.{AreLinked, AreQueues, closed_links, closed_queues};
+ghost use Rattle.hj_crew.specs.Links.{AreEndsOfNew, AreLinked, closed_links, closed_queues};
 ghost use Rattle.hj_crew.specs.Room.{IsRoomOf};
 
 use crate::links::{close_all, make_all};
@@ -38,8 +39,8 @@ impl<P: Drop> ChainEnds<P> {
     {
         let cores = usize::from(cores);
         let capacity = 2 * usize::from(flight) + 2;
-        let (left, mut right) = make_all(alloc, cores + 1, || duplex(alloc, capacity))?;
-        let (senders, receivers) = make_all(alloc, cores, || one_way(alloc, capacity))?;
+        let (left, mut right) = make_links(alloc, cores + 1, capacity)?;
+        let (senders, receivers) = make_queues(alloc, cores, capacity)?;
         let Some(last) = right.pop() else {
             unreachable!()
         };
@@ -62,7 +63,7 @@ impl<P: Drop> ChainEnds<P> {
         queues: Vec<ClosedWay<Report<P>>>,
     ) -> Ran<P>
         requires linked { AreLinked self.left.items self.right.items }
-        requires queued { AreQueues self.senders.items self.receivers.items }
+        requires queued { AreLinked self.senders.items self.receivers.items }
         requires links_room { IsRoomOf (length self.left.items) links }
         requires queues_room { IsRoomOf (length self.senders.items) queues }
         ensures links { result.links ≡ closed_links self.left.items self.right.items }
@@ -72,14 +73,72 @@ impl<P: Drop> ChainEnds<P> {
         ensures flight { result.flight ≡ flight }
         ensures ended { result.ended ≡ ended }
     {
-        // within closures, since the functions are another crate's
-        let close_link = |left, right| close(left, right);
-        let close_queue = |sender, receiver| close_way(sender, receiver);
         Ran {
-            links: close_all(self.left, self.right, links, close_link),
-            queues: close_all(self.senders, self.receivers, queues, close_queue),
+            links: close_links(self.left, self.right, links),
+            queues: close_queues(self.senders, self.receivers, queues),
             flight,
             ended,
         }
     }
+}
+
+// What makes or closes a link is passed within a closure, since it is a function of another crate.
+
+/// Makes this many links with room for so many messages, and returns their left ends, and the right ones in the same order.
+fn make_links<M: Drop>(
+    alloc: Global,
+    count: usize,
+    capacity: usize,
+) -> Result<(Vec<LeftEnd<M>>, Vec<RightEnd<M>>), Memory>
+    requires { (0 < capacity) × (capacity ≤ 514) }
+    ensures count { IfOk result (λ ends. length ends.0.items ≡ count) }
+    ensures new { IfOk result (λ ends. AllZip (AreEndsOfNew capacity) ends.0.items ends.1.items) }
+{
+    make_all(alloc, count, || duplex(alloc, capacity))
+}
+
+/// Makes this many queues with room for so many messages, and returns their senders, and the receivers in the same order.
+fn make_queues<M: Drop>(
+    alloc: Global,
+    count: usize,
+    capacity: usize,
+) -> Result<(Vec<Sender<M>>, Vec<Receiver<M>>), Memory>
+    requires { (0 < capacity) × (capacity ≤ 514) }
+    ensures count { IfOk result (λ ends. length ends.0.items ≡ count) }
+    ensures new { IfOk result (λ ends. AllZip (AreEndsOfNew capacity) ends.0.items ends.1.items) }
+{
+    make_all(alloc, count, || one_way(alloc, capacity))
+}
+
+/// Closes the links of these ends, into a list that has room for them.
+fn close_links<M: Drop>(
+    left: Vec<LeftEnd<M>>,
+    right: Vec<RightEnd<M>>,
+    links: Vec<Closed<M>>,
+) -> Vec<Closed<M>>
+    requires linked { AreLinked left.items right.items }
+    requires room { IsRoomOf (length left.items) links }
+    ensures links { result.items ≡ closed_links left.items right.items }
+    ensures agree { All (λ link. Agrees link.capacity link.link) result.items }
+{
+    close_all(left, right, links, |left, right| close(left, right))
+}
+
+/// Closes the queues of these ends, into a list that has room for them.
+fn close_queues<M: Drop>(
+    senders: Vec<Sender<M>>,
+    receivers: Vec<Receiver<M>>,
+    queues: Vec<ClosedWay<M>>,
+) -> Vec<ClosedWay<M>>
+    requires linked { AreLinked senders.items receivers.items }
+    requires room { IsRoomOf (length senders.items) queues }
+    ensures queues { result.items ≡ closed_queues senders.items receivers.items }
+    ensures agree { All (λ queue. AgreesOneWay queue.capacity queue.way) result.items }
+{
+    close_all(
+        senders,
+        receivers,
+        queues,
+        |sender, receiver| close_way(sender, receiver),
+    )
 }

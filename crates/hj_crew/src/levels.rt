@@ -1,17 +1,14 @@
 //! The threads of a run: each is started by a level of its own, which joins it again.
-ghost use Rattle.std.specs.Prelude.{◌≡◌, ◌+◌, ◌<◌, ◌≤◌, ◌∷◌, ◌++◌, [], length, vec_capacity, vec_len};
+ghost use Rattle.std.specs.Prelude.{◌≡◌, ◌<◌, ◌∷◌, ◌++◌, [], length, vec_capacity, vec_len};
 ghost use Rattle.std.specs.Prelude.{IfErr, IfOk, IfNone, MatchOption};
-ghost use Rattle.std.specs.List.{AllZip};
-ghost use Rattle.hj_desk.specs.Caller.{GoesRound};
-ghost use Rattle.hj_desk.specs.Desk.{Stands};
-ghost use Rattle.hj_crew.specs.Halt.{round_of};
 ghost use Rattle.hj_crew.specs.Teams.{AppendsTeams, TeamStays};
 
+use crate::begun::Begun;
 use crate::bell::{Bell, Neighbours};
 use crate::drive::{Halt, drive};
-use crate::team::{Signals, Team, work};
+use crate::team::{Signals, Team, TeamSite};
 use hj_base::{Gate, Share};
-use hj_desk::{Caller, Outlet};
+use hj_desk::Outlet;
 use hj_msg::{Feed, Join, Store};
 use std::snapshot::Snapshot;
 use std::sync::Wait;
@@ -51,50 +48,42 @@ pub(crate) struct Shared<'s, G, T> {
     pub(crate) gate: &'s G,
 }
 
-/// Starts a thread for the last of these teams, does so for the others, and lets the calling thread run once no team
-/// is left. Then the team comes back, behind those that are `done`. Where no thread can be made, or the calling thread
-/// is to turn the team, that goes among its `own` until then. Returns where the calling thread's rounds halted.
-pub(crate) fn levels<
-    's,
-    E,
-    P: Share + Send + Drop + 's,
-    J: Join<P> + Send + Drop + 's,
-    L: Store<P, J> + Send + Drop + 's,
-    R: Store<P, J> + Send + Drop + 's,
+impl<
+    P: Share + Send + Drop,
+    J: Join<P> + Send + Drop,
+    L: Store<P, J> + Send + Drop,
+    R: Store<P, J> + Send + Drop,
     F: Feed<P>,
     O: Outlet<P>,
-    G: Gate + Sync + 's,
-    T: Threads + Wait + Clock + Sync + 's,
->(
-    scope: &'s Scope<'s, E>,
-    shared: &Shared<'s, G, T>,
-    caller: &mut Caller<P, F, O>,
-    teams: &mut Vec<Team<P, J, L, R>>,
-    own: &mut Vec<Team<P, J, L, R>>,
-    done: &mut Vec<Team<P, J, L, R>>,
-) -> Halt
-    requires stands { Stands caller.old.desk (F.state caller.old.feed) }
-    requires cores { length caller.old.desk.reports.items ≤ 64 }
-    requires signals { vec_len teams.old ≤ length shared.now.signals.now }
-    requires few { length shared.now.signals.now ≤ 64 }
-    requires done_room { vec_len done.old + vec_len teams.old ≤ vec_capacity done.old }
-    requires own_room { vec_len own.old + vec_len teams.old ≤ vec_capacity own.old }
-    ensures goes { GoesRound F.gives F.state O.gave O.rests (round_of result) caller.old caller.new }
-    ensures own { AllZip TeamStays own.old.items own.new.items }
-    ensures own_capacity { vec_capacity own.new ≡ vec_capacity own.old }
-    ensures none { teams.new.items ≡ [] }
-    ensures teams_capacity { vec_capacity teams.new ≡ vec_capacity teams.old }
-    ensures done { AppendsTeams teams.old.items done.old.items done.new.items }
-    ensures done_capacity { vec_capacity done.new ≡ vec_capacity done.old }
-{
-    let Some(team) = teams.pop() else {
-        return drive(shared, caller, own.as_mut_slice());
-    };
-    let started = start(scope, shared, teams.len(), team);
-    let child = keep_refused(started, own);
-    let halt = levels(scope, shared, caller, teams, own, done);
-    done.push_reserved(take_back(shared.rt, child, own));
-    halt
+> Begun<P, J, L, R, F, O> {
+    ghost use Rattle.hj_crew.specs.Begun.{AreGiven, CanGive};
+
+    /// Starts a thread for the last of the teams, does so for the others, and lets the calling thread run once no team
+    /// is left. Then the team comes back, behind those that are `done`. Where no thread can be made, or the calling thread
+    /// is to turn the team, that goes among its `own` until then. Returns where the calling thread's rounds halted.
+    pub(crate) fn levels<'s, E, G: Gate + Sync + 's, T: Threads + Wait + Clock + Sync + 's>(
+        &mut self,
+        scope: &'s Scope<'s, E>,
+        shared: &Shared<'s, G, T>,
+    ) -> Halt
+    where
+        P: 's,
+        J: 's,
+        L: 's,
+        R: 's,
+        requires { CanGive F.state (length shared.now.signals.now) self.old }
+        ensures { AreGiven F.gives F.state O.gave O.rests self.old result self.new }
+    {
+        let Some(team) = self.teams.pop() else {
+            return drive(shared, &mut self.caller, self.own.as_mut_slice());
+        };
+        let started = shared.start(scope, self.teams.len(), team);
+        let child = keep_refused(started, &mut self.own);
+        let halt = self.levels(scope, shared);
+        let back = take_back(shared.rt, child, &mut self.own);
+        self.done.push_reserved(back);
+        halt
+    }
 }
 
 /// Takes back a team: from its thread, once that has ended, or where it has none the last one of the calling thread's
@@ -120,26 +109,6 @@ fn take_back<P: Drop, J: Join<P> + Drop, L: Store<P, J> + Drop, R: Store<P, J> +
     }
 }
 
-/// Returns the neighbours of the team at a place.
-fn neighbours_of<'s, G, T>(shared: &Shared<'s, G, T>, place: usize) -> Neighbours<'s>
-    requires { place < length shared.now.signals.now }
-{
-    let left = if place == 0 {
-        shared.bell
-    } else {
-        &shared.signals[place - 1].bell
-    };
-    let right = match shared.signals.get(place + 1) {
-        Some(signals) => &signals.bell,
-        None => shared.bell,
-    };
-    Neighbours {
-        left,
-        right,
-        caller: shared.bell,
-    }
-}
-
 /// Puts a team that no thread turns behind the calling thread's `own`.
 fn keep_refused<P: Drop, J: Join<P> + Drop, L: Store<P, J> + Drop, R: Store<P, J> + Drop>(
     started: Result<Child<P, J, L, R>, Team<P, J, L, R>>,
@@ -160,9 +129,70 @@ fn keep_refused<P: Drop, J: Join<P> + Drop, L: Store<P, J> + Drop, R: Store<P, J
     }
 }
 
-/// Starts the thread of a team, which gets the signals at a place. Where none can be made, or the calling thread is to turn the
-/// team, that comes back at once.
-fn start<
+impl<'s, G: Gate + Sync + 's, T: Threads + Wait + Clock + Sync + 's> Shared<'s, G, T> {
+    /// Starts the thread of a team, which gets the signals at a place. Where none can be made, or the calling thread is to turn the
+    /// team, that comes back at once.
+    fn start<
+        E,
+        P: Share + Send + Drop + 's,
+        J: Join<P> + Send + Drop + 's,
+        L: Store<P, J> + Send + Drop + 's,
+        R: Store<P, J> + Send + Drop + 's,
+    >(
+        &self,
+        scope: &'s Scope<'s, E>,
+        place: usize,
+        team: Team<P, J, L, R>,
+    ) -> Result<Child<P, J, L, R>, Team<P, J, L, R>>
+        requires { place < length self.now.signals.now }
+        ensures started { IfOk result (λ child. child.promise.0.value ≡ team) }
+        ensures refused { IfErr result (TeamStays team) }
+    {
+        let is_kept = place < self.kept;
+        // it was set where an earlier thread of the team was refused
+        self.signals[place].leave.store(is_kept, Ordering::SeqCst);
+        if is_kept {
+            return Err(team);
+        }
+        spawn(scope, self.site_at(place), team)
+    }
+
+    /// Returns what the thread of the team at a place uses.
+    fn site_at(&self, place: usize) -> TeamSite<'s, G, T>
+        requires { place < length self.now.signals.now }
+    {
+        TeamSite {
+            rt: self.rt,
+            stop: self.stop,
+            signals: &self.signals[place],
+            neighbours: self.neighbours_of(place),
+            gate: self.gate,
+        }
+    }
+
+    /// Returns the neighbours of the team at a place.
+    fn neighbours_of(&self, place: usize) -> Neighbours<'s>
+        requires { place < length self.now.signals.now }
+    {
+        let left = if place == 0 {
+            self.bell
+        } else {
+            &self.signals[place - 1].bell
+        };
+        let right = match self.signals.get(place + 1) {
+            Some(signals) => &signals.bell,
+            None => self.bell,
+        };
+        Neighbours {
+            left,
+            right,
+            caller: self.bell,
+        }
+    }
+}
+
+/// Starts a thread that turns a team with what it uses. Where none can be made, the team comes back at once, and is the calling thread's.
+fn spawn<
     's,
     E,
     P: Share + Send + Drop + 's,
@@ -170,32 +200,20 @@ fn start<
     L: Store<P, J> + Send + Drop + 's,
     R: Store<P, J> + Send + Drop + 's,
     G: Gate + Sync + 's,
-    T: Threads + Wait + Clock + Sync + 's,
+    T: Wait + Clock + Sync + 's,
 >(
     scope: &'s Scope<'s, E>,
-    shared: &Shared<'s, G, T>,
-    place: usize,
+    site: TeamSite<'s, G, T>,
     team: Team<P, J, L, R>,
 ) -> Result<Child<P, J, L, R>, Team<P, J, L, R>>
-    requires { place < length shared.now.signals.now }
     ensures started { IfOk result (λ child. child.promise.0.value ≡ team) }
     ensures refused { IfErr result (TeamStays team) }
 {
-    let signals = &shared.signals[place];
-    let is_kept = place < shared.kept;
-    // it was set where an earlier thread of the team was refused
-    signals.leave.store(is_kept, Ordering::SeqCst);
-    if is_kept {
-        return Err(team);
-    }
-    let rt = shared.rt;
-    let stop = shared.stop;
-    let neighbours = neighbours_of(shared, place);
-    let gate = shared.gate;
+    let signals = site.signals;
     let promise = SameTeam(Snapshot::of(&team));
     let turning = move || -> Team<P, J, L, R>
         ensures { TeamStays team result }
-    { work(rt, stop, signals, neighbours, team, gate) };
+    { site.work(team) };
     match scope.spawn_with(promise, turning) {
         Ok(child) => Ok(child),
         Err(refused) => {

@@ -21,4 +21,4 @@ mod turners;
 
 pub use plan::{CrewPlan, CrewSize, Stores};
 pub use ran::Ran;
-pub use run::{run_between, run_raw, run_threads};
+pub use run::JoinInput;

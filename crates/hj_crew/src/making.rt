@@ -53,8 +53,8 @@ impl<P: Share + Drop, J: Join<P> + Drop, L: Store<P, J> + Drop, R: Store<P, J> +
         ensures { IfOk result (IsManned join.now size) }
     {
         let count = usize::from(size.threads.min(size.chain.cores));
-        let (desk, teams) = desk_and_teams(alloc, size.chain, join, stores, count)?;
         let (signals, own, done) = signals_and_room(alloc, count)?;
+        let (desk, teams) = desk_and_teams(alloc, size.chain, join, stores, count)?;
         Ok(Crew {
             desk,
             teams,
@@ -176,34 +176,34 @@ pub(crate) fn make_teams<
     let cores = left.len();
     let mut teams = empty_teams(alloc, count)?;
     while let Some(left_store) = left.pop() {
-        let shared = join.share()?;
         let Some(right_store) = right.pop() else {
             unreachable!()
         };
         let place = left.len();
-        let core = make_core(alloc, shared, left_store, right_store, place, cores as u16);
+        let core = make_core(alloc, join, left_store, right_store, place, cores as u16)?;
         let team = team_of(place, cores, count);
         deal(teams.as_mut_slice(), team, last_worker(core, ends))?;
     }
     Ok(teams)
 }
 
-/// Makes the core at a place of this many, over these stores.
+/// Makes the core at a place of this many, with a share of the join, over these stores.
 fn make_core<P: Share + Drop, J: Join<P> + Drop, L: Store<P, J> + Drop, R: Store<P, J> + Drop>(
     alloc: Global,
-    join: J,
+    join: &J,
     left: L,
     right: R,
     place: usize,
     cores: u16,
-) -> Core<P, J, L, R>
+) -> Result<Core<P, J, L, R>, Memory>
     requires place { (place < cores) × (cores ≤ 64) }
-    requires left { (L.entries left ≡ []) × L.suits left Left join }
-    requires right { (R.entries right ≡ []) × R.suits right Right join }
-    ensures state { state_of L.entries R.entries result ≡ empty_state }
-    ensures core { (result.join ≡ join) × (result.place ≡ place) × (result.cores ≡ cores) }
+    requires left { (L.entries left ≡ []) × L.suits left Left join.now }
+    requires right { (R.entries right ≡ []) × R.suits right Right join.now }
+    ensures state { IfOk result (λ core. state_of L.entries R.entries core ≡ empty_state) }
+    ensures core { IfOk result (λ core. (core.join ≡ join.now) × (core.place ≡ place) × (core.cores ≡ cores)) }
 {
-    Core::new(join, left, right, CoreNo(place as u16), cores, alloc)
+    let share = join.share()?;
+    Ok(Core::new(share, left, right, CoreNo(place as u16), cores, alloc))
 }
 
 /// Makes the worker of a core, which gets the last ones of the ends.

@@ -9,7 +9,7 @@ ghost use Rattle.hj_crew.specs.Room.{IsRoomFor};
 ghost use Rattle.hj_crew.specs.RunsCrew.{RunsCrew};
 ghost use Rattle.hj_crew.specs.Stores.{AreReadyOn};
 
-use crate::begun::{Returned, run_crew};
+use crate::begun::{Begun, Returned};
 use crate::closing::close_crew;
 use crate::making::Crew;
 use crate::plan::{CrewPlan, CrewSize, Stores};
@@ -24,146 +24,182 @@ use std::sync::Wait;
 use std::thread::Threads;
 use std::time::Clock;
 
-/// Runs a chain of cores between a feed and a drain, on threads. The calling thread drives the
-/// chain at its two ends, and as many threads as the plan says, no more than there are cores, turn its
-/// cores. The calling thread stands for as many of them as the plan says. Where a thread can't be
-/// started, the calling thread turns its cores too.
-///
-/// - `alloc` gives the memory.
-/// - `plan` says how large the chain is, what starts the threads, and what is passed before each turn of a core.
-/// - `join` says which rows match. Each core gets a share of it.
-/// - `stores` are for the rows of each stream. The caller makes them for this join. They are empty.
-/// - `feed` gives the events, in the order of their numbers. It hasn't given one yet.
-/// - `drain` gets the pairs, one at a time, in the order of the sequential join of these events.
-///
-/// The feed and the drain come back with every answer.
-///
-/// - `Ok` has the run: its links, from left to right, and the queues of the cores' reports, whose
-///   journals tell what was put and taken at them, and how it ended. With `Done` the feed has
-///   stopped, and the drain kept all pairs of the join. With `Refused` the drain refused the last
-///   pair that it got. With `Memory` memory ran out within the run, in whichever thread. With these
-///   two the drain got the first pairs of the join, and kept all but the refused one.
-/// - `Err(Memory)`: memory ran out for what is made before the first thread starts. No thread was
-///   started, the feed gave no event, and the drain got no pair.
-///
-/// Every thread that was started has ended when the call returns. No clause says that it returns.
-pub fn run_threads<
-    P: Share + Send + Drop,
-    J: Join<P> + Send + Drop,
-    L: Store<P, J> + Send + Drop,
-    R: Store<P, J> + Send + Drop,
-    F: Feed<P> + Drop,
-    D: Drain<P> + Drop,
-    G: Gate + Sync,
-    T: Threads + Wait + Clock + Sync,
->(
-    alloc: Global,
-    plan: &CrewPlan<'_, T, G>,
-    join: &J,
-    stores: Stores<L, R>,
-    feed: F,
-    drain: D,
-) -> (Result<Ran<P>, Memory>, F, D)
-    requires left { AreReadyOn L.entries L.suits Left join.now plan.now.size.chain.cores stores.left.items }
-    requires right { AreReadyOn R.entries R.suits Right join.now plan.now.size.chain.cores stores.right.items }
-    requires fresh { IsFresh (F.state feed) }
-    ensures runs { IfOk result.0 (RunsOnThreads F.gives F.state D.takes (J.predicate join.now)
-        plan.now.size.chain.cores plan.now.size.chain.flight feed result.1 drain result.2) }
-    ensures memory { OnErr result.0 ((result.1 ≡ feed) × (result.2 ≡ drain)) }
-{
-    let outlet = InOrder::new(alloc, drain);
-    let (ran, feed, outlet) = run_between(alloc, plan, join, stores, feed, outlet);
-    (ran, feed, outlet.drain)
+/// What a chain of cores joins.
+#[derive(Drop)]
+pub struct JoinInput<'j, J, L, R, F> {
+    /// Says which rows match. Each core gets a share of it.
+    pub join: &'j J,
+    /// For the rows of each stream. The caller makes them for this join. They are empty.
+    pub stores: Stores<L, R>,
+    /// Gives the events, in the order of their numbers. It hasn't given one yet.
+    pub feed: F,
 }
 
-/// Runs a chain of cores between a feed and a drain, on threads, as `run_threads` does, but gives the pairs as they are met, in
-/// whatever order the cores' reports were taken, and between them the marks that tell what is complete.
-///
-/// - `alloc`, `plan`, `join`, `stores` and `feed` are those of `run_threads`.
-/// - `drain` gets the raw items of the reports: of each its pairs, by ascending partner, and then the mark up to which all pairs have
-///   come, if it is there and isn't what it was before.
-///
-/// The feed and the drain come back with every answer.
-///
-/// - `Ok` has the run. With `Done` the feed has stopped, and the drain kept all items, the last of which is the mark past every number.
-///   With `Refused` the drain refused the last item that it got. With `Memory` memory ran out within the run. With these two the drain
-///   got the first items, and kept all but the refused one.
-/// - `Err(Memory)`: memory ran out for what is made before the first thread starts. No thread was started, the feed gave no event, and
-///   the drain got no item.
-///
-/// Every thread that was started has ended when the call returns. No clause says that it returns.
-pub fn run_raw<
-    P: Share + Send + Drop,
-    J: Join<P> + Send + Drop,
-    L: Store<P, J> + Send + Drop,
-    R: Store<P, J> + Send + Drop,
-    F: Feed<P> + Drop,
-    D: RawDrain<P> + Drop,
-    G: Gate + Sync,
-    T: Threads + Wait + Clock + Sync,
->(
-    alloc: Global,
-    plan: &CrewPlan<'_, T, G>,
-    join: &J,
-    stores: Stores<L, R>,
-    feed: F,
-    drain: D,
-) -> (Result<Ran<P>, Memory>, F, D)
-    requires left { AreReadyOn L.entries L.suits Left join.now plan.now.size.chain.cores stores.left.items }
-    requires right { AreReadyOn R.entries R.suits Right join.now plan.now.size.chain.cores stores.right.items }
-    requires fresh { IsFresh (F.state feed) }
-    ensures runs { IfOk result.0 (RunsRaw F.gives F.state D.takes (J.predicate join.now)
-        plan.now.size.chain.cores plan.now.size.chain.flight feed result.1 drain result.2) }
-    ensures memory { OnErr result.0 ((result.1 ≡ feed) × (result.2 ≡ drain)) }
-{
-    let outlet = Raw::new(alloc, drain);
-    let (ran, feed, outlet) = run_between(alloc, plan, join, stores, feed, outlet);
-    (ran, feed, outlet.drain)
-}
+impl<T: Threads + Wait + Clock + Sync, G: Gate + Sync> CrewPlan<'_, T, G> {
+    /// Runs a chain of cores between a feed and a drain, on threads. The calling thread drives the
+    /// chain at its two ends, and as many threads as the plan says, no more than there are cores, turn its
+    /// cores. The calling thread stands for as many of them as the plan says. Where a thread can't be
+    /// started, the calling thread turns its cores too.
+    ///
+    /// - `alloc` gives the memory.
+    /// - `input` says which rows match, where they are kept and where the events come from.
+    /// - `drain` gets the pairs, one at a time, in the order of the sequential join of these events.
+    ///
+    /// The feed and the drain come back with every answer.
+    ///
+    /// - `Ok` has the run: its links, from left to right, and the queues of the cores' reports, whose
+    ///   journals tell what was put and taken at them, and how it ended. With `Done` the feed has
+    ///   stopped, and the drain kept all pairs of the join. With `Refused` the drain refused the last
+    ///   pair that it got. With `Memory` memory ran out within the run, in whichever thread. With these
+    ///   two the drain got the first pairs of the join, and kept all but the refused one.
+    /// - `Err(Memory)`: memory ran out for what is made before the first thread starts. No thread was
+    ///   started, the feed gave no event, and the drain got no pair.
+    ///
+    /// Every thread that was started has ended when the call returns. No clause says that it returns.
+    pub fn run_threads<
+        P: Share + Send + Drop,
+        J: Join<P> + Send + Drop,
+        L: Store<P, J> + Send + Drop,
+        R: Store<P, J> + Send + Drop,
+        F: Feed<P> + Drop,
+        D: Drain<P> + Drop,
+    >(
+        &self,
+        alloc: Global,
+        input: JoinInput<'_, J, L, R, F>,
+        drain: D,
+    ) -> (Result<Ran<P>, Memory>, F, D)
+        requires left { AreReadyOn L.entries L.suits Left input.join.now self.now.size.chain.cores input.stores.left.items }
+        requires right { AreReadyOn R.entries R.suits Right input.join.now self.now.size.chain.cores input.stores.right.items }
+        requires fresh { IsFresh (F.state input.feed) }
+        ensures runs { IfOk result.0 (RunsOnThreads F.gives F.state D.takes (J.predicate input.entry.join.now)
+            self.now.size.chain.cores self.now.size.chain.flight input.entry.feed result.1 drain result.2) }
+        ensures memory { OnErr result.0 ((result.1 ≡ input.entry.feed) × (result.2 ≡ drain)) }
+    {
+        let outlet = InOrder::new(alloc, drain);
+        let (ran, feed, outlet) = self.run_between(alloc, input, outlet);
+        (ran, feed, outlet.drain)
+    }
 
-/// Runs a chain of cores between a feed and an outlet, on threads, as `run_threads` does, but whatever becomes of the reports is the
-/// outlet's.
-///
-/// - `alloc`, `plan`, `join`, `stores` and `feed` are those of `run_threads`.
-/// - `outlet` gets the reports, in the order in which the calling thread takes them. It wasn't given one yet.
-///
-/// The feed and the outlet come back with every answer.
-///
-/// - `Ok` has the run. The outlet gave what is due of the reports that this run took. With `Done` the feed has stopped, each core's end
-///   was reported, and nothing more is due.
-/// - `Err(Memory)`: memory ran out for what is made before the first thread starts. No thread was started, the feed gave no event, and
-///   the outlet got no report.
-///
-/// Every thread that was started has ended when the call returns. No clause says that it returns.
-pub fn run_between<
-    P: Share + Send + Drop,
-    J: Join<P> + Send + Drop,
-    L: Store<P, J> + Send + Drop,
-    R: Store<P, J> + Send + Drop,
-    F: Feed<P> + Drop,
-    O: Outlet<P> + Drop,
-    G: Gate + Sync,
-    T: Threads + Wait + Clock + Sync,
->(
-    alloc: Global,
-    plan: &CrewPlan<'_, T, G>,
-    join: &J,
-    stores: Stores<L, R>,
-    feed: F,
-    outlet: O,
-) -> (Result<Ran<P>, Memory>, F, O)
-    requires left { AreReadyOn L.entries L.suits Left join.now plan.now.size.chain.cores stores.left.items }
-    requires right { AreReadyOn R.entries R.suits Right join.now plan.now.size.chain.cores stores.right.items }
-    requires fresh { IsFresh (F.state feed) }
-    ensures runs { IfOk result.0 (RunsCrew F.gives F.state O.gave O.rests (J.predicate join.now)
-        plan.now.size.chain.cores plan.now.size.chain.flight feed result.1 outlet result.2) }
-    ensures memory { OnErr result.0 ((result.1 ≡ feed) × (result.2 ≡ outlet)) }
-{
-    let Ok((crew, room)) = crew_and_room(alloc, plan.size, join, stores) else {
-        return (Err(Memory), feed, outlet);
-    };
-    let (ran, feed, outlet) = run_and_close(plan, crew, room, feed, outlet);
-    (Ok(ran), feed, outlet)
+    /// Runs a chain of cores between a feed and a drain, on threads, as `run_threads` does, but gives the pairs as they are met, in
+    /// whatever order the cores' reports were taken, and between them the marks that tell what is complete.
+    ///
+    /// - `alloc` and `input` are those of `run_threads`.
+    /// - `drain` gets the raw items of the reports: of each its pairs, by ascending partner, and then the mark up to which all pairs have
+    ///   come, if it is there and isn't what it was before.
+    ///
+    /// The feed and the drain come back with every answer.
+    ///
+    /// - `Ok` has the run. With `Done` the feed has stopped, and the drain kept all items, the last of which is the mark past every number.
+    ///   With `Refused` the drain refused the last item that it got. With `Memory` memory ran out within the run. With these two the drain
+    ///   got the first items, and kept all but the refused one.
+    /// - `Err(Memory)`: memory ran out for what is made before the first thread starts. No thread was started, the feed gave no event, and
+    ///   the drain got no item.
+    ///
+    /// Every thread that was started has ended when the call returns. No clause says that it returns.
+    pub fn run_raw<
+        P: Share + Send + Drop,
+        J: Join<P> + Send + Drop,
+        L: Store<P, J> + Send + Drop,
+        R: Store<P, J> + Send + Drop,
+        F: Feed<P> + Drop,
+        D: RawDrain<P> + Drop,
+    >(
+        &self,
+        alloc: Global,
+        input: JoinInput<'_, J, L, R, F>,
+        drain: D,
+    ) -> (Result<Ran<P>, Memory>, F, D)
+        requires left { AreReadyOn L.entries L.suits Left input.join.now self.now.size.chain.cores input.stores.left.items }
+        requires right { AreReadyOn R.entries R.suits Right input.join.now self.now.size.chain.cores input.stores.right.items }
+        requires fresh { IsFresh (F.state input.feed) }
+        ensures runs { IfOk result.0 (RunsRaw F.gives F.state D.takes (J.predicate input.entry.join.now)
+            self.now.size.chain.cores self.now.size.chain.flight input.entry.feed result.1 drain result.2) }
+        ensures memory { OnErr result.0 ((result.1 ≡ input.entry.feed) × (result.2 ≡ drain)) }
+    {
+        let outlet = Raw::new(alloc, drain);
+        let (ran, feed, outlet) = self.run_between(alloc, input, outlet);
+        (ran, feed, outlet.drain)
+    }
+
+    /// Runs a chain of cores between a feed and an outlet, on threads, as `run_threads` does, but whatever becomes of the reports is the
+    /// outlet's.
+    ///
+    /// - `alloc` and `input` are those of `run_threads`.
+    /// - `outlet` gets the reports, in the order in which the calling thread takes them. It wasn't given one yet.
+    ///
+    /// The feed and the outlet come back with every answer.
+    ///
+    /// - `Ok` has the run. The outlet gave what is due of the reports that this run took. With `Done` the feed has stopped, each core's end
+    ///   was reported, and nothing more is due.
+    /// - `Err(Memory)`: memory ran out for what is made before the first thread starts. No thread was started, the feed gave no event, and
+    ///   the outlet got no report.
+    ///
+    /// Every thread that was started has ended when the call returns. No clause says that it returns.
+    pub fn run_between<
+        P: Share + Send + Drop,
+        J: Join<P> + Send + Drop,
+        L: Store<P, J> + Send + Drop,
+        R: Store<P, J> + Send + Drop,
+        F: Feed<P> + Drop,
+        O: Outlet<P> + Drop,
+    >(
+        &self,
+        alloc: Global,
+        input: JoinInput<'_, J, L, R, F>,
+        outlet: O,
+    ) -> (Result<Ran<P>, Memory>, F, O)
+        requires left { AreReadyOn L.entries L.suits Left input.join.now self.now.size.chain.cores input.stores.left.items }
+        requires right { AreReadyOn R.entries R.suits Right input.join.now self.now.size.chain.cores input.stores.right.items }
+        requires fresh { IsFresh (F.state input.feed) }
+        ensures runs { IfOk result.0 (RunsCrew F.gives F.state O.gave O.rests (J.predicate input.entry.join.now)
+            self.now.size.chain.cores self.now.size.chain.flight input.entry.feed result.1 outlet result.2) }
+        ensures memory { OnErr result.0 ((result.1 ≡ input.entry.feed) × (result.2 ≡ outlet)) }
+    {
+        let JoinInput { join, stores, feed } = input;
+        let Ok((crew, room)) = crew_and_room(alloc, self.size, join, stores) else {
+            return (Err(Memory), feed, outlet);
+        };
+        let (ran, feed, outlet) = self.run_crew(crew, room, feed, outlet);
+        (Ok(ran), feed, outlet)
+    }
+
+    /// Lets the crew of a chain run until the run has ended, and closes it.
+    fn run_crew<
+        P: Share + Send + Drop,
+        J: Join<P> + Send + Drop,
+        L: Store<P, J> + Send + Drop,
+        R: Store<P, J> + Send + Drop,
+        F: Feed<P> + Drop,
+        O: Outlet<P> + Drop,
+    >(&self, crew: Crew<P, J, L, R>, room: Room<P, J, L, R>, feed: F, outlet: O) -> (Ran<P>, F, O)
+        requires crew { (join : J) × IsManned join self.now.size crew }
+        requires room { IsRoomFor self.now.size.chain.cores room }
+        requires fresh { IsFresh (F.state feed) }
+        ensures { (join : J) → IsManned join self.now.size crew → RunsCrew F.gives F.state O.gave O.rests
+            (J.predicate join) self.now.size.chain.cores self.now.size.chain.flight feed result.1 outlet result.2 result.0 }
+    {
+        let begun = Begun {
+            caller: Caller {
+                desk: crew.desk,
+                feed,
+                outlet,
+                awaited: 0,
+            },
+            teams: crew.teams,
+            own: crew.own,
+            done: crew.done,
+        };
+        let Returned { caller, teams, fin } = begun.run_to_end(self, crew.signals.as_slice());
+        let Caller {
+            desk,
+            feed,
+            outlet,
+            ..
+        } = caller;
+        let ran = close_crew(desk, teams, self.size.chain, fin, room);
+        (ran, feed, outlet)
+    }
 }
 
 /// Makes the crew of a chain over these stores, and room for the end of its run.
@@ -181,38 +217,4 @@ fn crew_and_room<P: Share + Drop, J: Join<P> + Drop, L: Store<P, J> + Drop, R: S
     let room = Room::new(alloc, size.chain.cores)?;
     let crew = Crew::new(alloc, size, join, stores)?;
     Ok((crew, room))
-}
-
-/// Lets the crew of a chain run until the run has ended, and closes it.
-fn run_and_close<
-    P: Share + Send + Drop,
-    J: Join<P> + Send + Drop,
-    L: Store<P, J> + Send + Drop,
-    R: Store<P, J> + Send + Drop,
-    F: Feed<P> + Drop,
-    O: Outlet<P> + Drop,
-    G: Gate + Sync,
-    T: Threads + Wait + Clock + Sync,
->(
-    plan: &CrewPlan<'_, T, G>,
-    crew: Crew<P, J, L, R>,
-    room: Room<P, J, L, R>,
-    feed: F,
-    outlet: O,
-) -> (Ran<P>, F, O)
-    requires crew { (join : J) × IsManned join plan.now.size crew }
-    requires room { IsRoomFor plan.now.size.chain.cores room }
-    requires fresh { IsFresh (F.state feed) }
-    ensures { (join : J) → IsManned join plan.now.size crew → RunsCrew F.gives F.state O.gave O.rests
-        (J.predicate join) plan.now.size.chain.cores plan.now.size.chain.flight feed result.1 outlet result.2 result.0 }
-{
-    let Returned { caller, teams, fin } = run_crew(plan, crew, feed, outlet);
-    let Caller {
-        desk,
-        feed,
-        outlet,
-        ..
-    } = caller;
-    let ran = close_crew(desk, teams, plan.size.chain, fin, room);
-    (ran, feed, outlet)
 }

@@ -123,43 +123,47 @@ impl Signals {
     }
 }
 
-/// Turns a team until it is over, or is to stop or to leave. It is what a started thread does. After a round that got on it rings
-/// its neighbours, which may wait for what was put. So nothing that was put waits for a ring when it sleeps or ends.
-pub(crate) fn work<
-    P: Share + Drop,
-    J: Join<P> + Drop,
-    L: Store<P, J> + Drop,
-    R: Store<P, J> + Drop,
-    G: Gate,
-    T: Wait + Clock,
->(
-    rt: &T,
-    stop: &AtomicBool,
-    signals: &Signals,
-    neighbours: Neighbours<'_>,
-    team: Team<P, J, L, R>,
-    gate: &G,
-) -> Team<P, J, L, R>
-    ensures { AllZip StaysItself team.workers.items result.workers.items }
-{
-    let mut team = team;
-    let mut pause = Pause::new(&signals.bell);
-    for _ in rt.forever() {
-        if stop.load(Ordering::SeqCst) || signals.leave.load(Ordering::SeqCst) {
-            return team;
-        }
-        match team.round(gate) {
-            Progress::GotOn => {
-                neighbours.ring();
-                pause.reset();
+/// What the thread of a team uses.
+#[derive(Drop)]
+pub(crate) struct TeamSite<'s, G, T> {
+    pub(crate) rt: &'s T,
+    /// Whether the threads are to hand back their teams.
+    pub(crate) stop: &'s AtomicBool,
+    pub(crate) signals: &'s Signals,
+    pub(crate) neighbours: Neighbours<'s>,
+    pub(crate) gate: &'s G,
+}
+
+impl<G: Gate, T: Wait + Clock> TeamSite<'_, G, T> {
+    /// Turns a team until it is over, or is to stop or to leave. It is what a started thread does. After a round that got on it rings
+    /// its neighbours, which may wait for what was put. So nothing that was put waits for a ring when it sleeps or ends.
+    pub(crate) fn work<
+        P: Share + Drop,
+        J: Join<P> + Drop,
+        L: Store<P, J> + Drop,
+        R: Store<P, J> + Drop,
+    >(self, team: Team<P, J, L, R>) -> Team<P, J, L, R>
+        ensures { AllZip StaysItself team.workers.items result.workers.items }
+    {
+        let mut team = team;
+        let mut pause = Pause::new(&self.signals.bell);
+        for _ in self.rt.forever() {
+            if self.stop.load(Ordering::SeqCst) || self.signals.leave.load(Ordering::SeqCst) {
+                return team;
             }
-            Progress::NoMemory => {
-                neighbours.caller.ring();
-                pause.wait(rt, Awaits::Message);
+            match team.round(self.gate) {
+                Progress::GotOn => {
+                    self.neighbours.ring();
+                    pause.reset();
+                }
+                Progress::NoMemory => {
+                    self.neighbours.caller.ring();
+                    pause.wait(self.rt, Awaits::Message);
+                }
+                Progress::Waits(awaits) => pause.wait(self.rt, awaits),
+                Progress::Over => return team,
             }
-            Progress::Waits(awaits) => pause.wait(rt, awaits),
-            Progress::Over => return team,
         }
+        team
     }
-    team
 }

@@ -58,13 +58,13 @@ loop-left_store-preserved g c =
       made =
           subst (MakesTeams c.args.join.now (length c.args.left.items) place c.args.ends.now c.last_worker.new.ends) (sym back)
           (makes-more c.args.join.now (length c.args.left.items) place (length c.loop-left_store.left.items) c.args.ends.now c.loop-left_store.ends c.last_worker.new.ends held c.deal.new.teams worker fewer made
-          (c.last_worker.ensures.core.0 ∙ c.make_core-core.ensures.core.0 ∙ c.in_ok-shared.ensures) (c.last_worker.ensures.core.1 ∙ c.make_core-core.ensures.core.1 ∙ at)
-          (c.last_worker.ensures.core.2 ∙ omega (arith, c.make_core-core.ensures.core.2, c.len-cores.ensures, c.args.left.ok.0)) given c.in_ok-deal.ensures.dealt
+          (c.last_worker.ensures.core.0 ∙ c.in_ok-core.ensures.core.0) (c.last_worker.ensures.core.1 ∙ c.in_ok-core.ensures.core.1 ∙ at)
+          (c.last_worker.ensures.core.2 ∙ omega (arith, c.in_ok-core.ensures.core.2, c.len-cores.ensures, c.args.left.ok.0)) given c.in_ok-deal.ensures.dealt
           (subst (λ (k : ℕ). AreEmpty k (workers_in c.deal.new.teams)) team c.in_ok-deal.ensures.empty));
     }
 
 pub last_worker-requires-clause-core : goal.last_worker-requires-clause-core
-last_worker-requires-clause-core g c = c.make_core-core.ensures.state
+last_worker-requires-clause-core g c = c.in_ok-core.ensures.state
 
 pub last_worker-requires-clause-unused : goal.last_worker-requires-clause-unused
 last_worker-requires-clause-unused g c = c.loop-left_store.invariant.unused

@@ -1,6 +1,6 @@
 use Rattle.hj_worker.specs.Turning.{StaysItself}
 use Rattle.hj_crew.proofs.Staying.{related-refl, related-trans, stays, stays-on}
-use Rattle.hj_crew.proofs.team.work.Goals as goal
+use Rattle.hj_crew.proofs.team.TeamSite.work.Goals as goal
 
 pub loop-init : goal.loop-init
 loop-init g c = related-refl StaysItself stays c.args.team.workers.items

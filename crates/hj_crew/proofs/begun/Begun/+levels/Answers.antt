@@ -1,0 +1,73 @@
+use Rattle.std.proofs.Common.{◌∙◌, List, arith, refl, subst, sym}
+use Rattle.std.specs.Prelude.{vec_capacity}
+use Rattle.std.specs.List.{AllZip}
+use Rattle.std.proofs.lemmas.List.{nil_from_length}
+use Rattle.std.proofs.lemmas.Slice.Zip.{AllZip-long}
+use Rattle.hj_crew.specs.declared.team.Team.{Team}
+use Rattle.hj_crew.specs.Teams.{TeamStays}
+use Rattle.hj_crew.proofs.Staying.{written_back}
+use Rattle.hj_crew.proofs.Teaming.{appends-none, appends-with, as-long, comes-back, room-behind, some-own}
+use Rattle.hj_crew.proofs.begun.Begun.+levels.Goals as goal
+
+pub drive-requires-clause-stands : goal.drive-requires-clause-stands
+drive-requires-clause-stands g t c = c.requires.stands
+
+pub drive-requires-clause-few : goal.drive-requires-clause-few
+drive-requires-clause-few g t c = c.requires.cores
+
+pub returns-in_default : goal.returns-in_default
+returns-in_default g t c =
+    let begun = c.args.self.now in
+    let turned = c.drive.new.own in
+    let same : AllZip TeamStays begun.own.items turned =
+    subst (λ (teams : List (Team g.row.P.Denot g.row.J.Denot g.row.L.Denot g.row.R.Denot)). AllZip TeamStays teams turned) c.as_mut_slice.ensures.value c.drive.ensures.own in
+    let written = written_back begun.own.items turned begun.own.len (AllZip-long TeamStays begun.own.items turned same) begun.own.ok.0 in
+    record {
+      goes = c.drive.ensures.goes;
+      own = subst (AllZip TeamStays begun.own.items) (sym written) same;
+      own_capacity = refl {a = vec_capacity begun.own};
+      none = nil_from_length c.pop.new.self.items (omega (arith, c.in_default.ensures.cases.1));
+      teams_capacity = c.in_default.ensures.capacity;
+      done = appends-none begun.teams.items begun.done.items (omega (arith, c.in_default.ensures.cases.0));
+      done_capacity = refl {a = vec_capacity begun.done};
+    }
+
+pub levels-halt-requires-after_bounds : goal.levels-halt-requires-after_bounds
+levels-halt-requires-after_bounds g t c κs within =
+    let begun = c.args.self.now in
+    let with = c.keep_refused-child.new.own.items in
+    let given = c.keep_refused-child.ensures.given c.in-Some.team c.start-started.ensures.started c.start-started.ensures.refused in
+    record {
+      stands = c.requires.stands;
+      cores = c.requires.cores;
+      enough = omega (arith, c.requires.enough, c.in-Some.ensures.len);
+      few = c.requires.few;
+      own = omega (arith, as-long c.keep_refused-child.result (λ h. h.promise.0.value) c.in-Some.team begun.own.items with given, c.keep_refused-child.ensures.capacity, c.requires.own, c.in-Some.ensures.len);
+      done = omega (arith, c.requires.done, c.in-Some.ensures.len);
+    }
+
+pub take_back-back-requires : goal.take_back-back-requires
+take_back-back-requires g t c =
+    some-own c.keep_refused-child.result (λ h. h.promise.0.value) c.in-Some.team c.args.self.now.own.items c.keep_refused-child.new.own.items c.levels-halt.new.self.own.items (c.keep_refused-child.ensures.given c.in-Some.team c.start-started.ensures.started c.start-started.ensures.refused) c.levels-halt.ensures.own
+
+pub push_reserved-requires : goal.push_reserved-requires
+push_reserved-requires g t c =
+    room-behind c.args.self.now.teams c.pop.new.self c.args.self.now.done c.levels-halt.new.self.done c.levels-halt.ensures.done c.levels-halt.ensures.done_capacity c.requires.done c.in-Some.ensures.cases
+
+pub returns : goal.returns
+returns g t c =
+    let begun = c.args.self.now in
+    let new = c.levels-halt.new.self in
+    let given = c.levels-halt.ensures in
+    let back =
+    comes-back c.keep_refused-child.result (λ h. h.promise.0.value) c.in-Some.team begun.own.items c.keep_refused-child.new.own.items new.own.items c.take_back-back.new.own.items c.take_back-back.result
+    (c.keep_refused-child.ensures.given c.in-Some.team c.start-started.ensures.started c.start-started.ensures.refused) given.own c.take_back-back.ensures.back in
+    record {
+      goes = given.goes;
+      own = back.1;
+      own_capacity = c.take_back-back.ensures.capacity ∙ given.own_capacity ∙ c.keep_refused-child.ensures.capacity;
+      none = given.none;
+      teams_capacity = given.teams_capacity ∙ c.in-Some.ensures.capacity;
+      done = appends-with begun.teams.items c.pop.new.self.items begun.done.items new.done.items c.push_reserved.new.self.items c.in-Some.team c.take_back-back.result c.in-Some.ensures.items given.done back.0 c.push_reserved.ensures.items;
+      done_capacity = c.push_reserved.ensures.capacity ∙ given.done_capacity;
+    }
