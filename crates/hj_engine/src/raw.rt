@@ -7,7 +7,7 @@ ghost use Rattle.hj_stream.specs.Joining.{CountsSinkFault};
 ghost use Rattle.hj_stream.specs.RawJoining.{JoinsRaw};
 ghost use Rattle.hj_engine.specs.ShowingRaw.{ShowsRaw};
 
-use crate::crew::run_raw;
+use crate::crew::QueryRun;
 use hj_base::{Gate, Memory, Outside, Sink};
 use hj_crew::{CrewPlan, Ran};
 use hj_event::Merger;
@@ -54,7 +54,10 @@ pub fn join_raw<T: Threads + Wait + Clock + Sync, O: Outside, K: Sink, G: Gate +
     let Ok(mut merger) = Merger::new(alloc, query, limit) else {
         return (Outcome::Memory, None);
     };
-    join_merged(alloc, query, plan, limit, &mut merger, outside, out)
+    let joined = join_merged(alloc, query, plan, limit, &mut merger, outside, out);
+    // by a call, and not part by part
+    drop(merger);
+    joined
 }
 
 /// Joins the events of a new merger.
@@ -118,7 +121,8 @@ fn join_feed<'f, 'd, T: Threads + Wait + Clock + Sync, O: Outside, K: Sink, G: G
     ensures faults { CountsSinkFault result.ended (K.faults drain.entry.out.now) (K.faults result.drain.out.now) }
     ensures names { (name : List ℕ) → O.under result.feed.outside.now name ≡ O.under feed.entry.outside.now name }
 {
-    let (result, feed, drain) = run_raw(alloc, query, plan, feed, drain);
+    let run = QueryRun { alloc, query, plan };
+    let (result, feed, drain) = run.run_raw(feed, drain);
     match result {
         Ok(made) => {
             let ended = raw_outcome_of(made.fin(), &feed, &drain);

@@ -4,7 +4,7 @@ ghost use Rattle.hj_eval.specs.Holds.{holds};
 ghost use Rattle.hj_msg.specs.RunsJoin.{RunsJoin};
 ghost use Rattle.hj_chain.specs.Steps.{GoesWith};
 ghost use Rattle.hj_engine.specs.Running.{IsBegun};
-ghost use Rattle.hj_stores.specs.Stores.{AreReady};
+ghost use Rattle.hj_stores.specs.Stores.{AreReady, AreReadyFor};
 
 use hj_base::{ChainSize, Gate, Memory};
 use hj_chain::{Chain, Chooser};
@@ -57,11 +57,29 @@ fn run_planned<F: Feed<SharedRow>, D: Drain<SharedRow>, G: Gate>(
     ensures refused { OnErr result ((feed.new ≡ feed.old) × (drain.new ≡ drain.old)) }
 {
     let ready = ReadyQuery::new(alloc, query)?;
-    match planned_stores(alloc, query, plan.size.cores)? {
-        PlannedStores::Hash(stores) => run_over(alloc, &ready, plan, stores, feed, drain),
-        PlannedStores::Ordered(stores) => run_over(alloc, &ready, plan, stores, feed, drain),
-        PlannedStores::Columns(stores) => run_over(alloc, &ready, plan, stores, feed, drain),
-        PlannedStores::List(stores) => run_over(alloc, &ready, plan, stores, feed, drain),
+    let stores = planned_stores(alloc, query, plan.size.cores)?;
+    run_kind(alloc, &ready, plan, stores, feed, drain)
+}
+
+/// Runs the join over planned stores, of whichever kind they are.
+fn run_kind<F: Feed<SharedRow>, D: Drain<SharedRow>, G: Gate>(
+    alloc: Global,
+    query: &ReadyQuery<'_>,
+    plan: &SerialPlan<'_, G>,
+    stores: PlannedStores<'_>,
+    feed: &mut F,
+    drain: &mut D,
+) -> Result<Fin, Memory>
+    requires fresh { IsFresh (F.state feed.old) }
+    requires stores { AreReadyFor query.now plan.now.size.cores stores }
+    ensures runs { IfOk result (λ fin. RunsJoin F.gives F.state D.takes (holds query.now) fin feed.old feed.new drain.old drain.new) }
+    ensures refused { OnErr result ((feed.new ≡ feed.old) × (drain.new ≡ drain.old)) }
+{
+    match stores {
+        PlannedStores::Hash(stores) => run_over(alloc, query, plan, stores, feed, drain),
+        PlannedStores::Ordered(stores) => run_over(alloc, query, plan, stores, feed, drain),
+        PlannedStores::Columns(stores) => run_over(alloc, query, plan, stores, feed, drain),
+        PlannedStores::List(stores) => run_over(alloc, query, plan, stores, feed, drain),
     }
 }
 
@@ -92,7 +110,10 @@ fn run_over<
         return Ok(run_sequential(query, stores, feed, drain, plan.gate));
     }
     let mut chain = begun(alloc, query, plan.size, stores, feed)?;
-    Ok(chain.run_serial(plan.chooser, feed, drain, plan.gate))
+    let fin = chain.run_serial(plan.chooser, feed, drain, plan.gate);
+    // by a call, and not part by part
+    drop(chain);
+    Ok(fin)
 }
 
 /// Runs the sequential join over the only store of each stream.

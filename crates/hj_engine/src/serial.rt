@@ -59,7 +59,10 @@ pub fn join_serial_by<L: PairLine, O: Outside, K: Sink, G: Gate>(
     let Ok(mut merger) = Merger::new(alloc, join.query, join.limit) else {
         return Outcome::Memory;
     };
-    join_merged(alloc, join, plan, &mut merger, outside, out)
+    let joined = join_merged(alloc, join, plan, &mut merger, outside, out);
+    // by a call, and not part by part
+    drop(merger);
+    joined
 }
 
 /// Joins the events of a new merger.

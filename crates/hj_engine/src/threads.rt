@@ -6,7 +6,7 @@ ghost use Rattle.hj_stream.specs.Ends.{IsUnasked};
 ghost use Rattle.hj_stream.specs.Joining.{CountsSinkFault, Joins, JoinsBy};
 ghost use Rattle.hj_engine.specs.Showing.{ShowsJoin, ShowsJoinBy};
 
-use crate::crew::run_in_order;
+use crate::crew::QueryRun;
 use crate::lines::LineJoin;
 use hj_base::{Gate, Memory, Outside, Sink};
 use hj_crew::{CrewPlan, Ran};
@@ -79,7 +79,10 @@ pub fn join_threads_by<
     let Ok(mut merger) = Merger::new(alloc, join.query, join.limit) else {
         return (Outcome::Memory, None);
     };
-    join_merged(alloc, join, plan, &mut merger, outside, out)
+    let joined = join_merged(alloc, join, plan, &mut merger, outside, out);
+    // by a call, and not part by part
+    drop(merger);
+    joined
 }
 
 /// Joins the events of a new merger.
@@ -150,7 +153,8 @@ fn join_feed<
     ensures faults { CountsSinkFault result.ended (K.faults drain.entry.out.now) (K.faults result.drain.out.now) }
     ensures names { (name : List ℕ) → O.under result.feed.outside.now name ≡ O.under feed.entry.outside.now name }
 {
-    let (result, feed, drain) = run_in_order(alloc, query, plan, feed, drain);
+    let run = QueryRun { alloc, query, plan };
+    let (result, feed, drain) = run.run_in_order(feed, drain);
     match result {
         Ok(made) => {
             let ended = outcome_of(made.fin(), &feed, &drain);
