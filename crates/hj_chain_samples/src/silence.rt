@@ -11,7 +11,7 @@ use crate::sizes::sizes;
 use crate::threads::SlowCore;
 use hj_base::{CoreNo, EventNo, Gate, OpenGate, Side};
 use hj_chain::{Actor, Chain, Chooser, Stepped};
-use hj_crew::{CrewPlan, CrewSize, Stores, run_threads};
+use hj_crew::{CrewPlan, CrewSize, JoinInput, Stores};
 use hj_msg::{Drain, Drained, Event, Feed, Fin, Given, Pair};
 use std::alloc::Global;
 use std::cell::Cell;
@@ -232,13 +232,16 @@ fn run_on_threads<T: Abort + Threads + Wait + Clock + Sync, G: Gate + Sync>(
         takes_back: false,
         gate,
     };
-    let stores = Stores {
-        left: stores(alloc, size.chain.cores).expect(rt, "memory"),
-        right: stores(alloc, size.chain.cores).expect(rt, "memory"),
+    let input = JoinInput {
+        join: &Cross,
+        stores: Stores {
+            left: stores(alloc, size.chain.cores).expect(rt, "memory"),
+            right: stores(alloc, size.chain.cores).expect(rt, "memory"),
+        },
+        feed: SilentSide::new(&pairs),
     };
-    let feed = SilentSide::new(&pairs);
     let drain = CountedPairs { pairs: &pairs };
-    let (ran, feed, _drain) = run_threads(alloc, &plan, &Cross, stores, feed, drain);
+    let (ran, feed, _drain) = plan.run_threads(alloc, input, drain);
     assert!(rt; ran.expect(rt, "memory").fin() == Fin::Done);
     assert!(rt; pairs.get() == 4);
     assert!(rt; feed.early == 0);

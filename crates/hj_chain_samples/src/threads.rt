@@ -6,7 +6,7 @@ ghost use Rattle.hj_chain_samples.specs.Rounds.{rounds_given};
 use crate::rows::{Cross, Row, UNSHARED, stores};
 use crate::sizes::sizes;
 use hj_base::{CoreNo, EventNo, Gate, OpenGate, Side};
-use hj_crew::{CrewPlan, CrewSize, Stores, run_threads};
+use hj_crew::{CrewPlan, CrewSize, JoinInput, Stores};
 use hj_msg::{Drain, Drained, Event, Feed, Fin, Given, Pair};
 use std::alloc::Global;
 use std::hint::spin_loop;
@@ -183,16 +183,20 @@ fn run<T: Abort + Threads + Wait + Clock + Sync, G: Gate + Sync>(
         takes_back: false,
         gate,
     };
-    let stores = Stores {
-        left: stores(alloc, size.chain.cores).expect(rt, "memory"),
-        right: stores(alloc, size.chain.cores).expect(rt, "memory"),
+    let input = JoinInput {
+        join: &Cross,
+        stores: Stores {
+            left: stores(alloc, size.chain.cores).expect(rt, "memory"),
+            right: stores(alloc, size.chain.cores).expect(rt, "memory"),
+        },
+        feed: rounds,
     };
     let drain = InTurn {
         spins,
         pairs: 0,
         astray: 0,
     };
-    let (ran, feed, drain) = run_threads(alloc, &plan, &Cross, stores, rounds, drain);
+    let (ran, feed, drain) = plan.run_threads(alloc, input, drain);
     Came {
         fin: ran.expect(rt, "memory").fin(),
         stopped: feed.stopped,
