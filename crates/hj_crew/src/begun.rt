@@ -26,6 +26,13 @@ pub(crate) struct Begun<P: Drop, J: Join<P>, L: Store<P, J>, R: Store<P, J>, F, 
     pub(crate) done: Vec<Team<P, J, L, R>>,
 }
 
+/// Where the rounds of a run halted, and what it has then.
+#[derive(Drop)]
+struct Halted<P: Drop, J: Join<P>, L: Store<P, J>, R: Store<P, J>, F, O> {
+    halt: Halt,
+    back: Begun<P, J, L, R, F, O>,
+}
+
 /// What comes back of a run.
 pub(crate) struct Returned<P: Drop, J: Join<P>, L: Store<P, J>, R: Store<P, J>, F, O> {
     pub(crate) caller: Caller<P, F, O>,
@@ -56,7 +63,7 @@ impl<
         let mut begun = self;
         let mut choice = Choice::new();
         for _ in plan.rt.forever() {
-            let (halt, back) = begun.run_under(plan, choice, signals);
+            let Halted { halt, back } = begun.run_under(plan, choice, signals);
             match halt {
                 Halt::Over(fin) => {
                     return Returned {
@@ -78,9 +85,9 @@ impl<
         plan: &CrewPlan<'_, T, G>,
         choice: Choice,
         signals: &[Signals],
-    ) -> (Halt, Self)
+    ) -> Halted<P, J, L, R, F, O>
         requires { CanStart F.state (length signals.now) self }
-        ensures { HasHalted F.gives F.state O.gave O.rests self result.0 result.1 }
+        ensures { HasHalted F.gives F.state O.gave O.rests self result.halt result.back }
     {
         match choice.turners() {
             Turners::Threads => self.run_in_scope(plan, choice.windows(), signals),
@@ -95,9 +102,9 @@ impl<
         plan: &CrewPlan<'_, T, G>,
         windows: Option<u32>,
         signals: &[Signals],
-    ) -> (Halt, Self)
+    ) -> Halted<P, J, L, R, F, O>
         requires { CanStart F.state (length signals.now) self }
-        ensures { HasHalted F.gives F.state O.gave O.rests self result.0 result.1 }
+        ensures { HasHalted F.gives F.state O.gave O.rests self result.halt result.back }
     {
         let stop = AtomicBool::new(false);
         let bell = Bell::new();
@@ -117,17 +124,17 @@ impl<
     fn scoped<G: Gate + Sync, T: Threads + Wait + Clock + Sync>(
         self,
         shared: &Shared<'_, G, T>,
-    ) -> (Halt, Self)
+    ) -> Halted<P, J, L, R, F, O>
         requires { CanStart F.state (length shared.now.signals.now) self }
-        ensures { HasHalted F.gives F.state O.gave O.rests self result.0 result.1 }
+        ensures { HasHalted F.gives F.state O.gave O.rests self result.halt result.back }
     {
         let begun = self;
         thread::scope(
             thread::scope_env(),
             shared.rt,
-            move |scope| -> (Halt, Begun<P, J, L, R, F, O>)
+            move |scope| -> Halted<P, J, L, R, F, O>
                 requires { CanStart F.state (length shared.now.signals.now) begun }
-                ensures { HasHalted F.gives F.state O.gave O.rests begun result.0 result.1 }
+                ensures { HasHalted F.gives F.state O.gave O.rests begun result.halt result.back }
             { begun.all_levels(scope, shared) },
         )
     }
@@ -137,14 +144,14 @@ impl<
         self,
         scope: &'s Scope<'s, E>,
         shared: &Shared<'s, G, T>,
-    ) -> (Halt, Self)
+    ) -> Halted<P, J, L, R, F, O>
     where
         P: 's,
         J: 's,
         L: 's,
         R: 's,
         requires { CanStart F.state (length shared.now.signals.now) self }
-        ensures { HasHalted F.gives F.state O.gave O.rests self result.0 result.1 }
+        ensures { HasHalted F.gives F.state O.gave O.rests self result.halt result.back }
     {
         let mut begun = self;
         let halt = begun.levels(scope, shared);
@@ -154,7 +161,7 @@ impl<
             own: begun.own,
             done: begun.teams,
         };
-        (halt, back)
+        Halted { halt, back }
     }
 
     /// Lets the calling thread turn all teams, until it halts. With `windows` it halts behind so many busy windows of time.
@@ -162,9 +169,9 @@ impl<
         self,
         plan: &CrewPlan<'_, T, G>,
         windows: Option<u32>,
-    ) -> (Halt, Self)
+    ) -> Halted<P, J, L, R, F, O>
         requires { (signals : ℕ) × CanStart F.state signals self }
-        ensures { HasHalted F.gives F.state O.gave O.rests self result.0 result.1 }
+        ensures { HasHalted F.gives F.state O.gave O.rests self result.halt result.back }
     {
         let mut begun = self;
         let halt = drive_alone(
@@ -174,6 +181,6 @@ impl<
             plan.gate,
             windows,
         );
-        (halt, begun)
+        Halted { halt, back: begun }
     }
 }

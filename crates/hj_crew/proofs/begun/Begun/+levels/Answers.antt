@@ -56,11 +56,9 @@ push_reserved-requires g t c =
 
 pub returns : goal.returns
 returns g t c =
-    let begun = c.args.self.now in
-    let new = c.levels-halt.new.self in
     let given = c.levels-halt.ensures in
     let back =
-    comes-back c.keep_refused-child.result (λ h. h.promise.0.value) c.in-Some.team begun.own.items c.keep_refused-child.new.own.items new.own.items c.take_back-back.new.own.items c.take_back-back.result
+    comes-back c.keep_refused-child.result (λ h. h.promise.0.value) c.in-Some.team c.args.self.now.own.items c.keep_refused-child.new.own.items c.levels-halt.new.self.own.items c.take_back-back.new.own.items c.take_back-back.result
     (c.keep_refused-child.ensures.given c.in-Some.team c.start-started.ensures.started c.start-started.ensures.refused) given.own c.take_back-back.ensures.back in
     record {
       goes = given.goes;
@@ -68,6 +66,6 @@ returns g t c =
       own_capacity = c.take_back-back.ensures.capacity ∙ given.own_capacity ∙ c.keep_refused-child.ensures.capacity;
       none = given.none;
       teams_capacity = given.teams_capacity ∙ c.in-Some.ensures.capacity;
-      done = appends-with begun.teams.items c.pop.new.self.items begun.done.items new.done.items c.push_reserved.new.self.items c.in-Some.team c.take_back-back.result c.in-Some.ensures.items given.done back.0 c.push_reserved.ensures.items;
+      done = appends-with c.args.self.now.teams.items c.pop.new.self.items c.args.self.now.done.items c.levels-halt.new.self.done.items c.push_reserved.new.self.items c.in-Some.team c.take_back-back.result c.in-Some.ensures.items given.done back.0 c.push_reserved.ensures.items;
       done_capacity = c.push_reserved.ensures.capacity ∙ given.done_capacity;
     }

@@ -17,7 +17,7 @@ loop-init g c = record {
 
 pub returns-in-Over : goal.returns-in-Over
 returns-in-Over g c =
-    let back = c.run_under-halt.result.1 in
+    let back = c.run_under-halt.result.back in
     let goes : GoesRound g.F.Feed.gives g.F.Feed.state g.O.Outlet.gave g.O.Outlet.rests (Over c.in-Over.fin) c.loop.begun.caller back.caller =
     subst (λ (halt : Halt). GoesRound g.F.Feed.gives g.F.Feed.state g.O.Outlet.gave g.O.Outlet.rests (round_of halt) c.loop.begun.caller back.caller) c.in-Over.is c.run_under-halt.ensures.goes in
     record {
@@ -27,7 +27,7 @@ returns-in-Over g c =
 
 pub loop-preserved : goal.loop-preserved
 loop-preserved g c =
-    let back = c.run_under-halt.result.1 in
+    let back = c.run_under-halt.result.back in
     let goes : GoesRound g.F.Feed.gives g.F.Feed.state g.O.Outlet.gave g.O.Outlet.rests GotOn c.loop.begun.caller back.caller =
     subst (λ (halt : Halt). GoesRound g.F.Feed.gives g.F.Feed.state g.O.Outlet.gave g.O.Outlet.rests (round_of halt) c.loop.begun.caller back.caller) c.in-GoesOn.is c.run_under-halt.ensures.goes in
     record {
