@@ -1,8 +1,8 @@
 -- Teams that come back, one after another.
-use Rattle.std.proofs.Common.{◌≡◌, ◌+◌, ◌<◌, ◌≤◌, List, [], ◌∷◌, ◌++◌, length, Option, Some, None, refl, ap, sym, ◌∙◌, subst, arith, append-nil, append_assoc, length-append}
+use Rattle.std.proofs.Common.{◌≡◌, ℕ, ◌+◌, ◌<◌, ◌≤◌, List, [], ◌∷◌, ◌++◌, length, Option, Some, None, refl, ap, sym, ◌∙◌, subst, arith, append-nil, append_assoc, length-append}
 use Rattle.std.specs.Prelude.{MatchOption, IfNone, vec_capacity, vec_len}
 use Rattle.std.specs.List.{AllZip}
-use Rattle.std.proofs.lemmas.List.{same_from_push}
+use Rattle.std.proofs.lemmas.List.{nil_from_length, same_from_push}
 use Rattle.std.proofs.lemmas.Slice.Zip.{AllZip-long, all_zipped_more}
 use Rattle.std.specs.declared.vec.Vec.{Vec}
 use Rattle.hj_crew.specs.declared.team.Team.{Team}
@@ -15,15 +15,34 @@ module _ {P J L R : Type 0} where
   pub length-appended : (teams old new : List (Team P J L R)) → AppendsTeams teams old new → length new ≡ length old + length teams
   length-appended teams old new more = omega (arith, ap length more.behind, length-append old more.back, AllZip-long TeamStays teams more.back more.same)
 
-  -- behind the others that came back there is room for one team more
-  pub room-behind : {Z : Type 0} (teams fewer old new : Vec (Team P J L R) Z) → AppendsTeams fewer.items old.items new.items → vec_capacity new ≡ vec_capacity old → HasRoom (length teams.items) old → vec_len fewer + 1 ≡ vec_len teams
-      → vec_len new < vec_capacity new
-  room-behind teams fewer old new more capacity room less = omega (arith, length-appended fewer.items old.items new.items more, capacity, room, less, teams.ok.0, fewer.ok.0, old.ok.0, new.ok.0)
-
   -- no team came back where none was left
   pub appends-none : (teams old : List (Team P J L R)) → length teams ≡ 0 → AppendsTeams teams old old
   appends-none [] old none = record { back = []; same = tt; behind = sym (append-nil old) }
   appends-none (team ∷ teams) old none = absurd (omega (arith, none))
+
+  -- ---- teams of which the last one comes off
+
+  module _ {Z : Type 0} where
+    pub none-left : (teams : Vec (Team P J L R) Z) → vec_len teams ≡ 0 → teams.items ≡ []
+    none-left teams none = nil_from_length teams.items (omega (arith, none, teams.ok.0))
+
+    pub appends-none_of : (teams : Vec (Team P J L R) Z) (old : List (Team P J L R)) → vec_len teams ≡ 0 → AppendsTeams teams.items old old
+    appends-none_of teams old none = appends-none teams.items old (omega (arith, none, teams.ok.0))
+
+    module _ (teams fewer : Vec (Team P J L R) Z) (less : vec_len fewer + 1 ≡ vec_len teams) where
+      pub fewer-fit : (most : ℕ) → length teams.items ≤ most → length fewer.items ≤ most
+      fewer-fit most fit = omega (arith, less, fit, teams.ok.0, fewer.ok.0)
+
+      pub fewer-come_back : (done : Vec (Team P J L R) Z) → HasRoom (length teams.items) done → HasRoom (length fewer.items) done
+      fewer-come_back done room = omega (arith, less, room, teams.ok.0, fewer.ok.0)
+
+      -- the one may have gone among the calling thread's own
+      pub fewer-are_own : (own with : Vec (Team P J L R) Z) → HasRoom (length teams.items) own → vec_capacity with ≡ vec_capacity own → length with.items ≤ length own.items + 1 → HasRoom (length fewer.items) with
+      fewer-are_own own with room capacity longer = omega (arith, less, room, capacity, longer, teams.ok.0, fewer.ok.0, own.ok.0, with.ok.0)
+
+      -- behind the others that came back there is room for it
+      pub room-behind : (old new : Vec (Team P J L R) Z) → AppendsTeams fewer.items old.items new.items → vec_capacity new ≡ vec_capacity old → HasRoom (length teams.items) old → vec_len new < vec_capacity new
+      room-behind old new more capacity room = omega (arith, length-appended fewer.items old.items new.items more, capacity, room, less, teams.ok.0, fewer.ok.0, old.ok.0, new.ok.0)
 
   -- one team more came back
   pub appends-with : (teams fewer old middle new : List (Team P J L R)) (team back : Team P J L R) → teams ≡ fewer ++ team ∷ [] → AppendsTeams fewer old middle → TeamStays team back → new ≡ middle ++ back ∷ []

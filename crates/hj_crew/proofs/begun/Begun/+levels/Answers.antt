@@ -1,12 +1,11 @@
-use Rattle.std.proofs.Common.{◌∙◌, List, arith, refl, subst, sym}
+use Rattle.std.proofs.Common.{◌∙◌, List, refl, subst, sym}
 use Rattle.std.specs.Prelude.{vec_capacity}
 use Rattle.std.specs.List.{AllZip}
-use Rattle.std.proofs.lemmas.List.{nil_from_length}
 use Rattle.std.proofs.lemmas.Slice.Zip.{AllZip-long}
 use Rattle.hj_crew.specs.declared.team.Team.{Team}
 use Rattle.hj_crew.specs.Teams.{TeamStays}
 use Rattle.hj_crew.proofs.Staying.{written_back}
-use Rattle.hj_crew.proofs.Teaming.{appends-none, appends-with, as-long, comes-back, room-behind, some-own}
+use Rattle.hj_crew.proofs.Teaming.{appends-none_of, appends-with, as-long, comes-back, fewer-are_own, fewer-come_back, fewer-fit, none-left, room-behind, some-own}
 use Rattle.hj_crew.proofs.begun.Begun.+levels.Goals as goal
 
 pub drive-requires-clause-stands : goal.drive-requires-clause-stands
@@ -26,25 +25,23 @@ returns-in_default g t c =
       goes = c.drive.ensures.goes;
       own = subst (AllZip TeamStays begun.own.items) (sym written) same;
       own_capacity = refl {a = vec_capacity begun.own};
-      none = nil_from_length c.pop.new.self.items (omega (arith, c.in_default.ensures.cases.1));
+      none = none-left c.pop.new.self c.in_default.ensures.cases.1;
       teams_capacity = c.in_default.ensures.capacity;
-      done = appends-none begun.teams.items begun.done.items (omega (arith, c.in_default.ensures.cases.0));
+      done = appends-none_of begun.teams begun.done.items c.in_default.ensures.cases.0;
       done_capacity = refl {a = vec_capacity begun.done};
     }
 
 pub levels-halt-requires-after_bounds : goal.levels-halt-requires-after_bounds
-levels-halt-requires-after_bounds g t c κs within =
-    let begun = c.args.self.now in
-    let with = c.keep_refused-child.new.own.items in
-    let given = c.keep_refused-child.ensures.given c.in-Some.team c.start-started.ensures.started c.start-started.ensures.refused in
-    record {
-      stands = c.requires.stands;
-      cores = c.requires.cores;
-      enough = omega (arith, c.requires.enough, c.in-Some.ensures.len);
-      few = c.requires.few;
-      own = omega (arith, as-long c.keep_refused-child.result (λ h. h.promise.0.value) c.in-Some.team begun.own.items with given, c.keep_refused-child.ensures.capacity, c.requires.own, c.in-Some.ensures.len);
-      done = omega (arith, c.requires.done, c.in-Some.ensures.len);
-    }
+levels-halt-requires-after_bounds g t c κs within = record {
+  stands = c.requires.stands;
+  cores = c.requires.cores;
+  enough = fewer-fit c.args.self.now.teams c.pop.new.self c.in-Some.ensures.cases _ c.requires.enough;
+  few = c.requires.few;
+  own =
+      fewer-are_own c.args.self.now.teams c.pop.new.self c.in-Some.ensures.cases c.args.self.now.own c.keep_refused-child.new.own c.requires.own c.keep_refused-child.ensures.capacity
+      (as-long c.keep_refused-child.result (λ h. h.promise.0.value) c.in-Some.team c.args.self.now.own.items c.keep_refused-child.new.own.items (c.keep_refused-child.ensures.given c.in-Some.team c.start-started.ensures.started c.start-started.ensures.refused));
+  done = fewer-come_back c.args.self.now.teams c.pop.new.self c.in-Some.ensures.cases c.args.self.now.done c.requires.done;
+}
 
 pub take_back-back-requires : goal.take_back-back-requires
 take_back-back-requires g t c =
@@ -52,7 +49,7 @@ take_back-back-requires g t c =
 
 pub push_reserved-requires : goal.push_reserved-requires
 push_reserved-requires g t c =
-    room-behind c.args.self.now.teams c.pop.new.self c.args.self.now.done c.levels-halt.new.self.done c.levels-halt.ensures.done c.levels-halt.ensures.done_capacity c.requires.done c.in-Some.ensures.cases
+    room-behind c.args.self.now.teams c.pop.new.self c.in-Some.ensures.cases c.args.self.now.done c.levels-halt.new.self.done c.levels-halt.ensures.done c.levels-halt.ensures.done_capacity c.requires.done
 
 pub returns : goal.returns
 returns g t c =
