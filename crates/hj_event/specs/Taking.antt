@@ -18,11 +18,14 @@ use Rattle.hj_event.specs.declared.stop.Stop.{Stop}
 use Rattle.hj_event.specs.declared.stop.Stop.TheVariants as stop
 use Rattle.hj_event.specs.declared.source.Ahead.{Ahead}
 use Rattle.hj_event.specs.declared.source.Ahead.TheVariants as ahead
+use Rattle.hj_event.specs.declared.source.LineStep.{LineStep}
+use Rattle.hj_event.specs.declared.source.LineStep.TheVariants as line_step
 use Rattle.hj_event.specs.declared.stop.ReadStep.{ReadStep}
 use Rattle.hj_event.specs.declared.stop.ReadStep.TheVariants as read_step
 use Rattle.hj_event.specs.Rows.{Rows, no_row, then_rows, row_at, in_time, with_time, is_sure, clean, bad, unread}
 use Rattle.hj_event.specs.Sides.{Reading, SideState, in_front, at_its_end, cut_off, MayFollow, Follows, read_ahead, rows_ahead, side_ahead}
 use Rattle.hj_event.specs.Roles.{IsReadOn, IsUnread}
+use Rattle.hj_event.specs.Waiting.{has_sure}
 
 -- The row of a piece, behind rows of which the greatest time is this, unless memory ran out.
 abbrev pub ReadsPiece : Result (Option (List Field)) RecordFault → List Column → ℕ → Option ℤ → List ℕ → Type 0
@@ -158,6 +161,26 @@ abbrev pub step_by : Result Bool Memory → Result ReadStep Stop
 step_by (Ok true) = Ok read_step.More
 step_by (Ok false) = Ok read_step.NoRecord
 step_by (Err why) = Err stop.Memory
+
+-- what was found where the row of a piece was read, or memory ran out
+abbrev pub read_by : {T : Type 0} → Result T Memory → Result ReadStep Stop
+read_by (Ok found) = Ok read_step.NoRecord
+read_by (Err why) = Err stop.Memory
+
+-- a side with these rows that wait, whose next row isn't known
+abbrev pub late_side : Reading → List (List Field) → SideState
+late_side reading waiting = record { head = None; reading = reading; waiting = waiting; stop = None }
+
+-- Lines were read, and the first row that waits then is taken as the next one, if it is sure.
+pub record ReadsLines (next : Option (List Field)) (old : Reading) (before : List (List Field)) (new : Reading) (after : List (List Field)) : Type 0 where
+  pub goes_on : GoesOn (Ok read_step.NoRecord) (late_side old before) (late_side new (option_to_list next ++ after))
+  pub is_next : IsNext next new ahead.Unknown
+
+-- A line was read, whose row waits then.
+abbrev pub ReadsLine : LineStep → Reading → List (List Field) → Reading → List (List Field) → Type 0
+ReadsLine (line_step.Next row) old before new after = ReadsLines (Some row) old before new after
+ReadsLine line_step.NoneSure old before new after = ReadsLines None old before new after × (has_sure new.slack new.time after ≡ false)
+ReadsLine line_step.NoLine old before new after = (new ≡ old) × (after ≡ before)
 
 -- These bytes were needed: the side hadn't ended, and without the last ones, of at most one read, what was read of it gives no row.
 pub record IsNeeded (side : SideState) (bytes : List ℕ) : Type 0 where

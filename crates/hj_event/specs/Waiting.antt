@@ -1,5 +1,5 @@
 -- Rows that wait in order: those that came in order, and those that came late.
-use Rattle.std.specs.Prelude.{◌≡◌, ℕ, ℤ, Bool, true, false, List, [], ◌∷◌, int_lt, None, Some}
+use Rattle.std.specs.Prelude.{◌≡◌, ℕ, ℤ, Bool, true, false, not, ◌&&◌, List, [], ◌∷◌, ◌-ℤ◌, int_lt, int_le, pos, None, Some}
 use Rattle.std.specs.declared.option.Option.{Option}
 use Rattle.std.specs.Ordering.{int_eq}
 use Rattle.hj_value.specs.declared.field.Field.{Field}
@@ -55,6 +55,11 @@ TakesFirst None old new = (old ≡ []) × (new ≡ [])
 abbrev pub has_sure : ℕ → Option ℤ → List (List Field) → Bool
 has_sure slack greatest [] = false
 has_sure slack greatest (row ∷ rows) = is_sure slack greatest row
+
+-- whether a row of this time, below the greatest one, makes no row sure, nor is sure itself
+abbrev pub is_held : ℕ → Option ℤ → ℤ → Bool
+is_held slack None time = false
+is_held slack (Some greatest) time = int_lt time greatest && not (int_le time (greatest -ℤ pos slack))
 
 -- The first row is taken, if it is sure.
 abbrev pub TakesSure : Option (List Field) → ℕ → Option ℤ → List (List Field) → List (List Field) → Type 0

@@ -1,17 +1,17 @@
-ghost use Rattle.std.specs.Prelude.{◌≡◌, ◌≢◌, IsTrue, List, ℕ, [], false, true, is_some, OnOk};
+ghost use Rattle.std.specs.Prelude.{◌≡◌, ◌≢◌, IsTrue, List, ℕ, [], false, true, is_some, IfOk, OnOk};
 ghost use Rattle.hj_event.specs.declared.source.Ahead.TheVariants as known;
 ghost use Rattle.hj_base.specs.Outside.{role_of, ChangesOnly};
 ghost use Rattle.hj_record.specs.Pieces.{Stream};
 ghost use Rattle.hj_event.specs.Roles.{IsInStep};
 ghost use Rattle.hj_event.specs.Reads.{Fills};
 ghost use Rattle.hj_event.specs.Sides.{new_side, rows_ahead, MayFollow};
-ghost use Rattle.hj_event.specs.Waiting.{AreInOrder, TakesSure};
-ghost use Rattle.hj_event.specs.Taking.{step_by, unseen, GoesOn, TakesRow, TakesStraight, IsTold};
+ghost use Rattle.hj_event.specs.Waiting.{AreInOrder, TakesSure, has_sure};
+ghost use Rattle.hj_event.specs.Taking.{read_by, step_by, unseen, GoesOn, ReadsLine, ReadsLines, TakesRow, TakesStraight, IsTold};
 
 use crate::RecordFault;
 use crate::reader::Reader;
 use crate::stop::{ReadStep, Stop};
-use crate::waiting::Waiting;
+use crate::waiting::{Waiting, is_held};
 use hj_base::{Memory, Outside, Side};
 use hj_value::{Schema, SharedRow};
 use std::alloc::Global;
@@ -25,6 +25,17 @@ enum Ahead {
     Over,
     /// The record of this number, after those of the rows that wait, is refused.
     Refused { at: u64, fault: RecordFault },
+}
+
+/// What reading a line gives, whose row waits from then on.
+#[derive(Drop)]
+enum LineStep {
+    /// The first row that waits, which is sure and is taken.
+    Next(SharedRow),
+    /// No row that waits is sure.
+    NoneSure,
+    /// There is no line in the form in which most are.
+    NoLine,
 }
 
 /// The rows of a side in order, of which no more is read than is looked at.
@@ -195,7 +206,7 @@ impl Source {
         if self.knows_next() {
             return Ok(ReadStep::NoRecord);
         }
-        if self.read_row()? {
+        if self.read_other()? {
             Ok(ReadStep::More)
         } else {
             Ok(ReadStep::NoRecord)
@@ -213,6 +224,7 @@ impl Source {
         ensures same { OnOk result ((stream : Stream) → MayFollow self.new.reading.ended stream → rows_ahead self.old stream ≡ rows_ahead self.new stream) }
     {
         for _ in 0..u64::MAX {
+            self.read_straight()?;
             if self.knows_next() {
                 return Ok(());
             }
@@ -220,34 +232,28 @@ impl Source {
                 self.look();
                 return Ok(());
             }
-            self.read_row()?;
+            self.read_other()?;
         }
         Err(Memory)
     }
 
-    /// Reads the row of the next piece, unless it is known what comes next. The row waits from then on, and the first one that
-    /// waits may be sure by it. Returns whether more bytes are wanted.
+    /// Reads lines that are in the form in which most are, until the next row is known or there is no such line.
     #[inline(always)]
-    fn read_row(&mut self) -> Result<bool, Memory>
-        requires late { self.old.reading.slack ≢ 0 }
-        requires going { self.old.stop ≡ None }
-        ensures goes_on { GoesOn (step_by result) self.old self.new }
+    fn read_straight(&mut self) -> Result<(), Memory>
+        requires { self.old.reading.slack ≢ 0 }
+        ensures goes_on { GoesOn (read_by result) self.old self.new }
         ensures slack { self.new.reading.slack ≡ self.old.reading.slack }
     {
-        if is_known(&self.next, &self.ahead) {
-            return Ok(false);
+        if !is_known(&self.next, &self.ahead) {
+            self.next = read_lines(&mut self.reader, &mut self.waiting)?;
         }
-        let Some(row) = self.reader.take_line()? else {
-            return self.read_other();
-        };
-        self.waiting.put(row)?;
-        self.next = take_sure(&self.reader, &mut self.waiting);
-        Ok(false)
+        Ok(())
     }
 
-    /// Reads the row of the next piece as `read_row` does, whatever form it is in.
-    // Called, so that what is mostly done is short enough to be compiled into the loop over rows.
-    #[inline(never)]
+    /// Reads the row of the next piece, in whatever form it is, unless it is known what comes next. The row waits from then on, and the
+    /// first one that waits may be sure by it. Returns whether more bytes are wanted.
+    // Called, and seldom, so that what is mostly done is compiled into the loop over rows.
+    #[cold]
     fn read_other(&mut self) -> Result<bool, Memory>
         requires late { self.old.reading.slack ≢ 0 }
         requires going { self.old.stop ≡ None }
@@ -259,7 +265,7 @@ impl Source {
         }
         match self.reader.cut() {
             Ok(ReadStep::Row(row)) => {
-                self.waiting.put(row)?;
+                self.waiting.put(row.row().time(), row)?;
                 self.next = take_sure(&self.reader, &mut self.waiting);
             }
             Ok(ReadStep::NoRecord) => (),
@@ -283,6 +289,50 @@ impl Source {
         if !is_known(&self.next, &self.ahead) {
             self.next = take_sure(&self.reader, &mut self.waiting);
         }
+    }
+}
+
+/// Reads lines that are in the form in which most are, until the first row that waits is sure, which is taken; None where there is
+/// no such line. The rows wait from then on.
+fn read_lines(reader: &mut Reader, waiting: &mut Waiting) -> Result<Option<SharedRow>, Memory>
+    ensures ended { reader.new.ended ≡ reader.old.ended }
+    ensures slack { reader.new.slack ≡ reader.old.slack }
+    ensures reads { IfOk result (λ next. ReadsLines next reader.old waiting.old reader.new waiting.new) }
+{
+    let mut none_sure = false;
+    for _ in 0..u64::MAX {
+        match read_line(reader, waiting, none_sure)? {
+            LineStep::Next(row) => return Ok(Some(row)),
+            LineStep::NoneSure => none_sure = true,
+            LineStep::NoLine => return Ok(None),
+        }
+    }
+    Err(Memory)
+}
+
+/// Reads a line that is in the form in which most are: its row waits from then on, and the first one that waits may be sure by it. Where
+/// none was sure, and this row changes nothing of it, that isn't looked at.
+fn read_line(
+    reader: &mut Reader,
+    waiting: &mut Waiting,
+    none_sure: bool,
+) -> Result<LineStep, Memory>
+    requires { none_sure ≡ true → has_sure reader.old.slack reader.old.time waiting.old ≡ false }
+    ensures ended { reader.new.ended ≡ reader.old.ended }
+    ensures slack { reader.new.slack ≡ reader.old.slack }
+    ensures reads { IfOk result (λ step. ReadsLine step reader.old waiting.old reader.new waiting.new) }
+{
+    let Some(row) = reader.take_line()? else {
+        return Ok(LineStep::NoLine);
+    };
+    let time = row.row().time();
+    waiting.put(time, row)?;
+    if none_sure && is_held(reader.slack(), reader.greatest(), time) {
+        return Ok(LineStep::NoneSure);
+    }
+    match take_sure(reader, waiting) {
+        Some(next) => Ok(LineStep::Next(next)),
+        None => Ok(LineStep::NoneSure),
     }
 }
 

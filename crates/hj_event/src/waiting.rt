@@ -1,8 +1,9 @@
 ghost use Rattle.std.specs.Prelude.{◌≡◌, ◌-ℤ◌, List, [], OnOk, int_le, pos};
 ghost use Rattle.hj_value.specs.declared.field.Field.{Field};
+ghost use Rattle.hj_value.specs.Row.{time_of};
 ghost use Rattle.hj_event.specs.Rows.{put_in};
 ghost use Rattle.hj_event.specs.Timed.{timed_rows, AreTimed};
-ghost use Rattle.hj_event.specs.Waiting.{first_time, last_time, is_before, has_sure, AreInOrder, TakesFirst, TakesSure};
+ghost use Rattle.hj_event.specs.Waiting.{first_time, last_time, is_before, has_sure, is_held, AreInOrder, TakesFirst, TakesSure};
 
 use crate::late::Late;
 use hj_base::Memory;
@@ -52,12 +53,12 @@ impl Waiting {
         }
     }
 
-    /// Puts a row after all that aren't later. An error drops the row.
+    /// Puts a row of this time after all that aren't later. An error drops the row.
     #[inline(always)]
-    pub(crate) fn put(&mut self, row: SharedRow) -> Result<(), Memory>
+    pub(crate) fn put(&mut self, time: i64, row: SharedRow) -> Result<(), Memory>
+        requires { time ≡ time_of row }
         ensures { OnOk result (self.new ≡ put_in row self.old) }
     {
-        let time = row.row().time();
         if is_before(Some(time), last_time(&self.queue)) {
             self.late.put(time, row)
         } else {
@@ -137,6 +138,18 @@ fn has_sure(slack: u64, greatest: Option<i64>, first: Option<i64>) -> bool
         return false;
     };
     is_sure(slack, greatest, time)
+}
+
+/// Returns whether a row of this time makes no row sure, nor is sure itself, where the greatest time, with its own, is this: where it
+/// is below that one, by less than the slack.
+#[inline(always)]
+pub(crate) fn is_held(slack: u64, greatest: Option<i64>, time: i64) -> bool
+    ensures { result ≡ is_held slack greatest time }
+{
+    match greatest {
+        Some(greatest) => time < greatest && !is_sure(slack, greatest, time),
+        None => false,
+    }
 }
 
 /// Returns whether a time is at most the greatest one less the slack.

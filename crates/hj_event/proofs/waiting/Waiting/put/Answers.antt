@@ -13,15 +13,15 @@ use Rattle.hj_event.proofs.waiting.Waiting.put.Goals as goal
 pub invariant_of-self : goal.invariant_of-self
 invariant_of-self c =
     let queue = timed_rows c.self.inside.queue.items in
-    let fits : FitsSigned w64 c.time-time.result = search rules in
-    let test = test_is _ c.last_time.result c.is_before.result (Some (time_of c.args.row)) (last_time queue) (ap Some (to_z-of_z w64 c.time-time.result fits ∙ (c.time-time.ensures ∙ ap time_of c.row.ensures))) c.last_time.ensures c.is_before.ensures in
+    let fits : FitsSigned w64 c.args.time = search rules in
+    let test = test_is _ c.last_time.result c.is_before.result (Some (time_of c.args.row)) (last_time queue) (ap Some (to_z-of_z w64 c.args.time fits ∙ c.requires)) c.last_time.ensures c.is_before.ensures in
     (c.self.invariant.0, puts_late c.put.result c.args.row queue c.self.inside.late c.put.new.self c.self.invariant.1 (test ∙ c.if-is_before.true) c.put.ensures.ok c.put.ensures.err)
 
 pub invariant_of-self-else-is_before : goal.invariant_of-self-else-is_before
 invariant_of-self-else-is_before c =
     let queue = c.self.inside.queue.items in
-    let fits : FitsSigned w64 c.time-time.result = search rules in
-    let own = to_z-of_z w64 c.time-time.result fits ∙ (c.time-time.ensures ∙ ap time_of c.row.ensures) in
+    let fits : FitsSigned w64 c.args.time = search rules in
+    let own = to_z-of_z w64 c.args.time fits ∙ c.requires in
     let test = test_is _ c.last_time.result c.is_before.result (Some (time_of c.args.row)) (last_time (timed_rows queue)) (ap Some own) c.last_time.ensures c.is_before.ensures in
     subst (λ (rows : List TimedRow). AreTimed rows × AreWaiting (timed_rows rows) c.self.inside.late) (sym c.in_ok-push_back.ensures.items)
     (push_timed queue c.self.inside.late _ own c.self.invariant.0 c.self.invariant.1 (test ∙ c.if-is_before.false))
@@ -32,8 +32,8 @@ returns-then-is_before c = puts_late_row c.put.result c.args.row (timed_rows c.s
 pub returns-in_ok-push_back : goal.returns-in_ok-push_back
 returns-in_ok-push_back c =
     let queue = c.self.inside.queue.items in
-    let fits : FitsSigned w64 c.time-time.result = search rules in
-    let test = test_is _ c.last_time.result c.is_before.result (Some (time_of c.args.row)) (last_time (timed_rows queue)) (ap Some (to_z-of_z w64 c.time-time.result fits ∙ (c.time-time.ensures ∙ ap time_of c.row.ensures))) c.last_time.ensures c.is_before.ensures in
+    let fits : FitsSigned w64 c.args.time = search rules in
+    let test = test_is _ c.last_time.result c.is_before.result (Some (time_of c.args.row)) (last_time (timed_rows queue)) (ap Some (to_z-of_z w64 c.args.time fits ∙ c.requires)) c.last_time.ensures c.is_before.ensures in
     ap (λ (rows : List TimedRow). put_all (timed_rows rows) c.self.inside.late) c.in_ok-push_back.ensures.items
     ∙ (ap (λ (rows : List (List Field)). put_all rows c.self.inside.late) (push_rows queue _)
     ∙ (push_last (timed_rows queue) c.self.inside.late c.args.row c.self.invariant.1 (test ∙ c.if-is_before.false) ∙ ap (put_in c.args.row) c.self.view_is))
