@@ -425,33 +425,12 @@ pub looks : (old new : Reading) (was : Option (List Field)) (waiting after : Lis
 looks old new None waiting after next refused wants none going ordered takes is advances = rw going (looks_at old new waiting after next wants ordered takes is advances)
 looks old new (Some row) waiting after next refused wants none going ordered takes is advances = absurd (true≢false none)
 
-pub goes_nowhere : (side : SideState) → GoesOn (Ok read_step.NoRecord) side side
-goes_nowhere side = record { ended = refl; leads = λ stream follows. refl; wants = tt }
-
--- Steps that found no record lead on together.
-pub goes_further : (old now new : SideState) → GoesOn (Ok read_step.NoRecord) old now → GoesOn (Ok read_step.NoRecord) now new → GoesOn (Ok read_step.NoRecord) old new
-goes_further old now new first then = record {
-  ended = then.ended ∙ first.ended;
-  leads = λ stream follows. first.leads stream (follows_as stream new.reading.ended now.reading.ended then.ended follows) ∙ then.leads stream follows;
-  wants = tt;
-}
-
 -- A row that was read waits, and the first one is taken if it is sure.
 pub takes_line : (next : Option (List Field)) (old new : Reading) (before after : List (List Field)) (row : List Field) → Advances (Ok (read_step.Row row)) old new → TakesSure next new.slack new.time (put_in row before) after → ReadsLines next old before new after
 takes_line next old new before after row advances takes = record {
   goes_on = subst (λ (rows : List (List Field)). GoesOn (Ok read_step.NoRecord) (late_side old before) (late_side new rows)) (sym (all_wait next new.slack new.time (put_in row before) after takes)) (puts_row old new before row advances);
   is_next = next_sure next new (put_in row before) after takes;
 }
-
--- Lines were read behind others.
-pub lines_further : (next : Option (List Field)) (old now new : Reading) (before between after : List (List Field)) → GoesOn (Ok read_step.NoRecord) (late_side old before) (late_side now between) → ReadsLines next now between new after → ReadsLines next old before new after
-lines_further next old now new before between after goes reads = record { goes_on = goes_further (late_side old before) (late_side now between) (late_side new (option_to_list next ++ after)) goes reads.goes_on; is_next = reads.is_next }
-
--- The next row is read among lines.
-pub reads_lines : (old new : Reading) (was next : Option (List Field)) (before after : List (List Field)) (known : Ahead) → is_some was ≡ false → known ≡ ahead.Unknown → ReadsLines next old before new after
-    → GoesOn (Ok read_step.NoRecord) (source old (option_to_list was ++ before) (refused_in known)) (source new (option_to_list next ++ after) (refused_in known))
-reads_lines old new None next before after known none unknown reads = rw unknown reads.goes_on
-reads_lines old new (Some row) next before after known none unknown reads = absurd (true≢false none)
 
 -- Where no row was sure, none is with a row that was read and is held.
 pub held_unsure : (old new : Reading) (row : List Field) (waiting : List (List Field)) (time : ℤ) → Advances (Ok (read_step.Row row)) old new → time ≡ time_of row → has_sure old.slack old.time waiting ≡ false → is_held new.slack new.time time ≡ true

@@ -244,8 +244,11 @@ impl Source {
         ensures goes_on { GoesOn (read_by result) self.old self.new }
         ensures slack { self.new.reading.slack ≡ self.old.reading.slack }
     {
-        if !is_known(&self.next, &self.ahead) {
-            self.next = read_lines(&mut self.reader, &mut self.waiting)?;
+        if is_known(&self.next, &self.ahead) {
+            return Ok(());
+        }
+        if let Some(next) = read_lines(&mut self.reader, &mut self.waiting)? {
+            self.next = Some(next);
         }
         Ok(())
     }
