@@ -19,10 +19,10 @@ use Rattle.hj_crew.specs.Room.{HasRoom}
 use Rattle.hj_crew.specs.Teams.{TeamStays}
 
 -- where nothing was there before, nothing is there
-pub stays-empty : {P J L R : Type 0} (old new : List (Team P J L R)) → old ≡ [] → AllZip TeamStays old new → new ≡ []
+pub stays-empty : {P J S : Type 0} (old new : List (Team P J S)) → old ≡ [] → AllZip TeamStays old new → new ≡ []
 stays-empty old new none same = nil_from_length new (omega (arith, AllZip-long TeamStays old new same, ap length none))
 
-module _ {P J L R F O : Type 0} (gives : F → Given P → F → Type 0) (state : F → FeedState) (gave : O → ℕ → List (Taken P) → Bool → Drained → O → Type 0) (rests : O → CollectorState → Type 0) (begun back : Begun P J L R F O) (halt : Halt)
+module _ {P J S F O : Type 0} (gives : F → Given P → F → Type 0) (state : F → FeedState) (gave : O → ℕ → List (Taken P) → Bool → Drained → O → Type 0) (rests : O → CollectorState → Type 0) (begun back : Begun P J S F O) (halt : Halt)
     (goes : GoesRound gives state gave rests (round_of halt) begun.caller back.caller) (teams : AllZip TeamStays begun.teams.items back.teams.items) where
   -- threads may be started again
   ready : HasRoom (length back.teams.items) back.own → HasRoom (length back.teams.items) back.done → back.own.items ≡ [] → back.done.items ≡ [] → (signals : ℕ) → CanStart state signals begun → CanStart state signals back

@@ -103,10 +103,10 @@ module _ {P J : Type 0} (old new : Desk P) (workers others : List (WorkerSeen P 
   }
 
 -- a desk and the teams that came back
-pub stays-crew : {P J L R : Type 0} (join : J) (n in_flight : ℕ) (old new : Desk P) (teams back : List (Team P J L R)) → AreCrew join n in_flight old teams → KeepsLinks old.ports new.ports
+pub stays-crew : {P J S : Type 0} (join : J) (n in_flight : ℕ) (old new : Desk P) (teams back : List (Team P J S)) → AreCrew join n in_flight old teams → KeepsLinks old.ports new.ports
     → KeepsQueues old.reports.items new.reports.items → new.driver.flight ≡ old.driver.flight → AllZip TeamStays teams back → AreCrew join n in_flight new back
-stays-crew {P} {J} {L} {R} join n in_flight old new teams back crew ports queues flight same =
-    let hands : AllZip (AllZip StaysItself) (workers_in teams) (workers_in back) = related-map (λ (t : Team P J L R). t.workers.items) (AllZip StaysItself) teams back same in
+stays-crew {P} {J} {S} join n in_flight old new teams back crew ports queues flight same =
+    let hands : AllZip (AllZip StaysItself) (workers_in teams) (workers_in back) = related-map (λ (t : Team P J S). t.workers.items) (AllZip StaysItself) teams back same in
     let others = gathered (workers_in back) in
     let those : AllZip StaysItself crew.workers others = subst (λ (l : List (WorkerSeen P J)). AllZip StaysItself l others) crew.dealt_out (related-gathered StaysItself (workers_in teams) (workers_in back) hands) in
     record {

@@ -50,7 +50,7 @@ gives-more {P} worker workers first old new before given = record {
   receivers = given.receivers ∙ before.receivers;
 }
 
-pub makes-none : {P J L R : Type 0} (join : J) (n : ℕ) (ends : ChainEnds P) (teams : List (Team P J L R)) → 0 < n → workers_in teams ≡ replicate (length teams) [] → MakesTeams join n n ends ends teams
+pub makes-none : {P J S : Type 0} (join : J) (n : ℕ) (ends : ChainEnds P) (teams : List (Team P J S)) → 0 < n → workers_in teams ≡ replicate (length teams) [] → MakesTeams join n n ends ends teams
 makes-none {P} {J} join n ends teams some none = record {
   workers = [];
   many = omega arith;
@@ -62,7 +62,7 @@ makes-none {P} {J} join n ends teams some none = record {
       (ap (take (length teams)) none ∙ take_all (length teams) (replicate {A = List (WorkerSeen P J)} (length teams) []) (omega (arith, length-replicate {A = List (WorkerSeen P J)} (length teams) [])));
 }
 
-pub makes-more : {P J L R : Type 0} (join : J) (n place next : ℕ) (first old new : ChainEnds P) (before after : List (Team P J L R)) (worker : WorkerSeen P J) → next ≡ place + 1 → MakesTeams join n next first old before
+pub makes-more : {P J S : Type 0} (join : J) (n place next : ℕ) (first old new : ChainEnds P) (before after : List (Team P J S)) (worker : WorkerSeen P J) → next ≡ place + 1 → MakesTeams join n next first old before
     → worker.join ≡ join → worker.place ≡ place → worker.cores ≡ n → GivesEnds (worker ∷ []) old new → gathered (workers_in after) ≡ worker ∷ gathered (workers_in before) → AreEmpty (place * length after / n) (workers_in after)
     → MakesTeams join n place first new after
 makes-more {P} {J} join n place next first old new before after worker is made joined at of given dealt empty = record {

@@ -28,7 +28,7 @@ module _ {P : Type 0} (cores capacity : ℕ) (ends : ChainEnds P) (last : EndSee
     senders = λ k d low. (new.senders k d low).0;
   }
 
-  module _ {J L R : Type 0} (join : J) (left : ChainEnds P) (teams : List (Team P J L R)) (makes : MakesTeams join cores 0 ends left teams) where
+  module _ {J S : Type 0} (join : J) (left : ChainEnds P) (teams : List (Team P J S)) (makes : MakesTeams join cores 0 ends left teams) where
     many : length makes.workers ≡ cores
     many = omega (arith, makes.many)
 

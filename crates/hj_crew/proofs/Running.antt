@@ -64,11 +64,11 @@ module _ {P J : Type 0} (predicate : J → P → P → Bool) (join : J) (n : ℕ
       (turns-at (place + 1) others cores.3 (λ j d less. turns (suc j) d (omega (arith, less))) k (omega (arith, low)))
 
 -- there are as many queues of reports as cores
-pub as-many_cores : {P J L R : Type 0} (join : J) (n in_flight : ℕ) (desk : Desk P) (teams : List (Team P J L R)) → AreCrew join n in_flight desk teams → cores_of desk ≡ n
+pub as-many_cores : {P J S : Type 0} (join : J) (n in_flight : ℕ) (desk : Desk P) (teams : List (Team P J S)) → AreCrew join n in_flight desk teams → cores_of desk ≡ n
 as-many_cores {P} {J} join n in_flight desk teams crew = sym crew.chain.cores ∙ length-map crew.workers (λ (w : WorkerSeen P J). w.ends.left) ∙ crew.many
 
 -- A crew that nothing happened to may start its threads, between a fresh feed and an outlet.
-pub can-start : {P J L R F O : Type 0} (state : F → FeedState) (join : J) (size : CrewSize) (crew : Crew P J L R) (feed : F) (outlet : O) → IsManned join size crew → IsFresh (state feed)
+pub can-start : {P J S F O : Type 0} (state : F → FeedState) (join : J) (size : CrewSize) (crew : Crew P J S) (feed : F) (outlet : O) → IsManned join size crew → IsFresh (state feed)
     → CanStart state (length crew.signals.items) (record { caller = record { desk = crew.desk; feed = feed; outlet = outlet; awaited = 0 }; teams = crew.teams; own = crew.own; done = crew.done })
 can-start state join size crew feed outlet manned fresh = record {
   can = record {
@@ -83,8 +83,8 @@ can-start state join size crew feed outlet manned fresh = record {
   none_done = manned.done.empty;
 }
 
-module _ {P J L R F O : Type 0} (gives : F → Given P → F → Type 0) (state : F → FeedState) (gave : O → ℕ → List (Taken P) → Bool → Drained → O → Type 0) (rests : O → CollectorState → Type 0) (join : J) (n in_flight : ℕ) (old new : Caller P F O) (ended : Fin)
-    (ends : Ends gives state gave rests ended old new) (teams back : List (Team P J L R)) (crew : AreCrew join n in_flight old.desk teams) (same : AllZip TeamStays teams back) where
+module _ {P J S F O : Type 0} (gives : F → Given P → F → Type 0) (state : F → FeedState) (gave : O → ℕ → List (Taken P) → Bool → Drained → O → Type 0) (rests : O → CollectorState → Type 0) (join : J) (n in_flight : ℕ) (old new : Caller P F O) (ended : Fin)
+    (ends : Ends gives state gave rests ended old new) (teams back : List (Team P J S)) (crew : AreCrew join n in_flight old.desk teams) (same : AllZip TeamStays teams back) where
   pub crew-back : AreCrew join n in_flight new.desk back
   crew-back = stays-crew join n in_flight old.desk new.desk teams back crew ends.goes.links ends.goes.queues ends.goes.flight same
 

@@ -53,9 +53,9 @@ written_back xs ys n as_many is = ap (λ l. take n (ys ++ l)) (drop_all (length 
 
 -- ---- a team
 
-module _ {P J L R : Type 0} where
-  pub team-stays : (team : Team P J L R) → TeamStays team team
+module _ {P J S : Type 0} where
+  pub team-stays : (team : Team P J S) → TeamStays team team
   team-stays team = related-refl StaysItself stays team.workers.items
 
-  pub team-stays-on : (first second third : Team P J L R) → TeamStays first second → TeamStays second third → TeamStays first third
+  pub team-stays-on : (first second third : Team P J S) → TeamStays first second → TeamStays second third → TeamStays first third
   team-stays-on first second third one two = related-trans StaysItself stays-on first.workers.items second.workers.items third.workers.items one two

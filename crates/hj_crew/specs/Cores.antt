@@ -64,7 +64,7 @@ pub record AreForDesk {P : Type 0} (ends : ChainEnds P) (last : EndSeen (Msg P))
 
 -- The workers of the cores from a place on are made, and dealt to teams. Those of the cores before it go to the teams up to one, before
 -- which no team has a worker.
-pub record MakesTeams {P J L R : Type 0} (join : J) (n place : ℕ) (old new : ChainEnds P) (teams : List (Team P J L R)) : Type 0 where
+pub record MakesTeams {P J S : Type 0} (join : J) (n place : ℕ) (old new : ChainEnds P) (teams : List (Team P J S)) : Type 0 where
   pub workers : List (WorkerSeen P J)
   pub many : place + length workers ≡ n
   pub cores : AreCores join n place workers
@@ -74,7 +74,7 @@ pub record MakesTeams {P J L R : Type 0} (join : J) (n place : ℕ) (old new : C
 
 -- A desk and the workers of these teams are the crew of a chain: each core of n has its worker, which has this join, and what
 -- they have are the ends of the chain, on which so many events may be outstanding.
-pub record AreCrew {P J L R : Type 0} (join : J) (n in_flight : ℕ) (desk : Desk P) (teams : List (Team P J L R)) : Type 0 where
+pub record AreCrew {P J S : Type 0} (join : J) (n in_flight : ℕ) (desk : Desk P) (teams : List (Team P J S)) : Type 0 where
   pub workers : List (WorkerSeen P J)
   pub many : length workers ≡ n
   pub cores : AreCores join n 0 workers

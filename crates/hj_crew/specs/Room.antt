@@ -30,6 +30,6 @@ pub record IsChainRoomFor {P : Type 0} (cores : ℕ) (room : ChainRoom P) : Type
   pub queues : IsRoomOf cores room.queues
 
 -- Room for the workers of so many cores too.
-pub record IsRoomFor {P J L R : Type 0} (cores : ℕ) (room : Room P J L R) : Type 0 where
+pub record IsRoomFor {P J S : Type 0} (cores : ℕ) (room : Room P J S) : Type 0 where
   pub workers : IsRoomOf cores room.workers
   pub chain : IsChainRoomFor cores room.chain

@@ -18,36 +18,35 @@ use std::time::Clock;
 
 /// What a run has at hand: all of it while no thread is at work.
 #[derive(Drop)]
-pub(crate) struct Begun<P: Drop, J: Join<P>, L: Store<P, J>, R: Store<P, J>, F, O> {
+pub(crate) struct Begun<P: Drop, J: Join<P>, S: Store<P, J>, F, O> {
     pub(crate) caller: Caller<P, F, O>,
-    pub(crate) teams: Vec<Team<P, J, L, R>>,
+    pub(crate) teams: Vec<Team<P, J, S>>,
     /// Room for the teams that the calling thread turns beside threads, and for those that come back.
-    pub(crate) own: Vec<Team<P, J, L, R>>,
-    pub(crate) done: Vec<Team<P, J, L, R>>,
+    pub(crate) own: Vec<Team<P, J, S>>,
+    pub(crate) done: Vec<Team<P, J, S>>,
 }
 
 /// Where the rounds of a run halted, and what it has then.
 #[derive(Drop)]
-struct Halted<P: Drop, J: Join<P>, L: Store<P, J>, R: Store<P, J>, F, O> {
+struct Halted<P: Drop, J: Join<P>, S: Store<P, J>, F, O> {
     halt: Halt,
-    back: Begun<P, J, L, R, F, O>,
+    back: Begun<P, J, S, F, O>,
 }
 
 /// What comes back of a run.
-pub(crate) struct Returned<P: Drop, J: Join<P>, L: Store<P, J>, R: Store<P, J>, F, O> {
+pub(crate) struct Returned<P: Drop, J: Join<P>, S: Store<P, J>, F, O> {
     pub(crate) caller: Caller<P, F, O>,
-    pub(crate) teams: Vec<Team<P, J, L, R>>,
+    pub(crate) teams: Vec<Team<P, J, S>>,
     pub(crate) fin: Fin,
 }
 
 impl<
     P: Share + Send + Drop,
     J: Join<P> + Send + Drop,
-    L: Store<P, J> + Send + Drop,
-    R: Store<P, J> + Send + Drop,
+    S: Store<P, J> + Send + Drop,
     F: Feed<P> + Drop,
     O: Outlet<P> + Drop,
-> Begun<P, J, L, R, F, O> {
+> Begun<P, J, S, F, O> {
     ghost use Rattle.hj_crew.specs.Begun.{CanStart, HasHalted, HasRun};
 
     /// Lets the calling thread make its rounds until the run has ended, while threads turn the teams, and then now that thread itself
@@ -56,7 +55,7 @@ impl<
         self,
         plan: &CrewPlan<'_, T, G>,
         signals: &[Signals],
-    ) -> Returned<P, J, L, R, F, O>
+    ) -> Returned<P, J, S, F, O>
         requires { CanStart F.state (length signals.now) self }
         ensures { HasRun F.gives F.state O.gave O.rests self result }
     {
@@ -85,7 +84,7 @@ impl<
         plan: &CrewPlan<'_, T, G>,
         choice: Choice,
         signals: &[Signals],
-    ) -> Halted<P, J, L, R, F, O>
+    ) -> Halted<P, J, S, F, O>
         requires { CanStart F.state (length signals.now) self }
         ensures { HasHalted F.gives F.state O.gave O.rests self result.halt result.back }
     {
@@ -102,7 +101,7 @@ impl<
         plan: &CrewPlan<'_, T, G>,
         windows: Option<u32>,
         signals: &[Signals],
-    ) -> Halted<P, J, L, R, F, O>
+    ) -> Halted<P, J, S, F, O>
         requires { CanStart F.state (length signals.now) self }
         ensures { HasHalted F.gives F.state O.gave O.rests self result.halt result.back }
     {
@@ -124,7 +123,7 @@ impl<
     fn scoped<G: Gate + Sync, T: Threads + Wait + Clock + Sync>(
         self,
         shared: &Shared<'_, G, T>,
-    ) -> Halted<P, J, L, R, F, O>
+    ) -> Halted<P, J, S, F, O>
         requires { CanStart F.state (length shared.now.signals.now) self }
         ensures { HasHalted F.gives F.state O.gave O.rests self result.halt result.back }
     {
@@ -132,7 +131,7 @@ impl<
         thread::scope(
             thread::scope_env(),
             shared.rt,
-            move |scope| -> Halted<P, J, L, R, F, O>
+            move |scope| -> Halted<P, J, S, F, O>
                 requires { CanStart F.state (length shared.now.signals.now) begun }
                 ensures { HasHalted F.gives F.state O.gave O.rests begun result.halt result.back }
             { begun.all_levels(scope, shared) },
@@ -144,12 +143,11 @@ impl<
         self,
         scope: &'s Scope<'s, E>,
         shared: &Shared<'s, G, T>,
-    ) -> Halted<P, J, L, R, F, O>
+    ) -> Halted<P, J, S, F, O>
     where
         P: 's,
         J: 's,
-        L: 's,
-        R: 's,
+        S: 's,
         requires { CanStart F.state (length shared.now.signals.now) self }
         ensures { HasHalted F.gives F.state O.gave O.rests self result.halt result.back }
     {
@@ -169,7 +167,7 @@ impl<
         self,
         plan: &CrewPlan<'_, T, G>,
         windows: Option<u32>,
-    ) -> Halted<P, J, L, R, F, O>
+    ) -> Halted<P, J, S, F, O>
         requires { (signals : ℕ) × CanStart F.state signals self }
         ensures { HasHalted F.gives F.state O.gave O.rests self result.halt result.back }
     {

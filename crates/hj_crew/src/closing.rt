@@ -15,17 +15,12 @@ use hj_msg::{Fin, Join, Store};
 use hj_worker::Worker;
 
 /// Returns the run of a crew that came back, over a chain of this size.
-pub(crate) fn close_crew<
-    P: Share + Drop,
-    J: Join<P> + Drop,
-    L: Store<P, J> + Drop,
-    R: Store<P, J> + Drop,
->(
+pub(crate) fn close_crew<P: Share + Drop, J: Join<P> + Drop, S: Store<P, J> + Drop>(
     desk: Desk<P>,
-    teams: Vec<Team<P, J, L, R>>,
+    teams: Vec<Team<P, J, S>>,
     size: ChainSize,
     ended: Fin,
-    room: Room<P, J, L, R>,
+    room: Room<P, J, S>,
 ) -> Ran<P>
     requires crew { (join : J) × AreCrew join size.cores size.flight desk teams.items }
     requires room { IsRoomFor size.cores room }
@@ -40,9 +35,9 @@ pub(crate) fn close_crew<
 }
 
 /// Returns the run of a desk and workers, in the order of their cores.
-fn close_run<P: Share + Drop, J: Join<P> + Drop, L: Store<P, J> + Drop, R: Store<P, J> + Drop>(
+fn close_run<P: Share + Drop, J: Join<P> + Drop, S: Store<P, J> + Drop>(
     desk: Desk<P>,
-    workers: Vec<Worker<P, J, L, R>>,
+    workers: Vec<Worker<P, J, S>>,
     flight: u16,
     ended: Fin,
     room: ChainRoom<P>,
@@ -75,9 +70,9 @@ fn close_run<P: Share + Drop, J: Join<P> + Drop, L: Store<P, J> + Drop, R: Store
 }
 
 /// Hands in the ends of these workers, in the order of their cores, into lists that have room for them and for one right end more.
-fn hand_in_all<P: Share + Drop, J: Join<P> + Drop, L: Store<P, J> + Drop, R: Store<P, J> + Drop>(
+fn hand_in_all<P: Share + Drop, J: Join<P> + Drop, S: Store<P, J> + Drop>(
     ends: &mut ChainEnds<P>,
-    workers: Vec<Worker<P, J, L, R>>,
+    workers: Vec<Worker<P, J, S>>,
 )
     requires { HasEndRoom (length workers.items) ends.old }
     ensures ends { GivesEnds workers.items ends.new ends.old }
@@ -90,9 +85,9 @@ fn hand_in_all<P: Share + Drop, J: Join<P> + Drop, L: Store<P, J> + Drop, R: Sto
 }
 
 /// Hands in the ends of a worker, after those of the cores before it, into lists that have room for them.
-fn hand_in<P: Share + Drop, J: Join<P> + Drop, L: Store<P, J> + Drop, R: Store<P, J> + Drop>(
+fn hand_in<P: Share + Drop, J: Join<P> + Drop, S: Store<P, J> + Drop>(
     ends: &mut ChainEnds<P>,
-    worker: Worker<P, J, L, R>,
+    worker: Worker<P, J, S>,
 )
     requires { HasEndRoom 1 ends.old }
     ensures ends { GivesEnds (worker ∷ []) ends.new ends.old }

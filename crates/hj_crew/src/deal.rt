@@ -11,10 +11,10 @@ use hj_worker::Worker;
 use std::alloc::Global;
 
 /// Makes this many teams without workers.
-pub(crate) fn empty_teams<P: Drop, J: Join<P> + Drop, L: Store<P, J> + Drop, R: Store<P, J> + Drop>(
+pub(crate) fn empty_teams<P: Drop, J: Join<P> + Drop, S: Store<P, J> + Drop>(
     alloc: Global,
     count: usize,
-) -> Result<Vec<Team<P, J, L, R>>, Memory>
+) -> Result<Vec<Team<P, J, S>>, Memory>
     ensures { IfOk result (λ teams. workers_in teams.items ≡ replicate count []) }
 {
     let mut teams = Vec::with_capacity(alloc, count)?;
@@ -39,10 +39,10 @@ pub(crate) fn team_of(place: usize, cores: usize, teams: usize) -> usize
 
 /// Deals a worker to a team, after those that it has. So each team has its workers from the last one to the first,
 /// and the first one comes off by `pop`. The workers of later places were dealt, and none to an earlier team.
-pub(crate) fn deal<P: Drop, J: Join<P> + Drop, L: Store<P, J> + Drop, R: Store<P, J> + Drop>(
-    teams: &mut [Team<P, J, L, R>],
+pub(crate) fn deal<P: Drop, J: Join<P> + Drop, S: Store<P, J> + Drop>(
+    teams: &mut [Team<P, J, S>],
     team: usize,
-    worker: Worker<P, J, L, R>,
+    worker: Worker<P, J, S>,
 ) -> Result<(), Memory>
     requires in_range { team < length teams.old }
     requires empty { AreEmpty team (workers_in teams.old) }
@@ -55,10 +55,10 @@ pub(crate) fn deal<P: Drop, J: Join<P> + Drop, L: Store<P, J> + Drop, R: Store<P
 
 /// Gathers the workers that were dealt to teams, in the order of their places, into a list that has
 /// room for them.
-pub(crate) fn gather<P: Drop, J: Join<P> + Drop, L: Store<P, J> + Drop, R: Store<P, J> + Drop>(
-    teams: Vec<Team<P, J, L, R>>,
-    mut workers: Vec<Worker<P, J, L, R>>,
-) -> Vec<Worker<P, J, L, R>>
+pub(crate) fn gather<P: Drop, J: Join<P> + Drop, S: Store<P, J> + Drop>(
+    teams: Vec<Team<P, J, S>>,
+    mut workers: Vec<Worker<P, J, S>>,
+) -> Vec<Worker<P, J, S>>
     requires { IsRoomOf (length (gathered (workers_in teams.items))) workers }
     ensures { result.items ≡ gathered (workers_in teams.items) }
 {
@@ -69,9 +69,9 @@ pub(crate) fn gather<P: Drop, J: Join<P> + Drop, L: Store<P, J> + Drop, R: Store
 }
 
 /// Takes over the workers of a team, from the first to the last one, into a list that has room for them.
-fn take_over<P: Drop, J: Join<P> + Drop, L: Store<P, J> + Drop, R: Store<P, J> + Drop>(
-    team: Team<P, J, L, R>,
-    workers: &mut Vec<Worker<P, J, L, R>>,
+fn take_over<P: Drop, J: Join<P> + Drop, S: Store<P, J> + Drop>(
+    team: Team<P, J, S>,
+    workers: &mut Vec<Worker<P, J, S>>,
 )
     requires { vec_len workers.old + length team.workers.items ≤ vec_capacity workers.old }
     ensures workers { workers.new.items ≡ workers.old.items ++ reverse team.workers.items }

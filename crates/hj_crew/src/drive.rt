@@ -90,13 +90,12 @@ impl<T: Clock> Beside<T> for Nobody {
 pub(crate) fn drive<
     P: Share + Drop,
     J: Join<P> + Drop,
-    L: Store<P, J> + Drop,
-    R: Store<P, J> + Drop,
+    S: Store<P, J> + Drop,
     F: Feed<P>,
     O: Outlet<P>,
     G: Gate,
     T: Wait + Clock,
->(shared: &Shared<'_, G, T>, caller: &mut Caller<P, F, O>, own: &mut [Team<P, J, L, R>]) -> Halt
+>(shared: &Shared<'_, G, T>, caller: &mut Caller<P, F, O>, own: &mut [Team<P, J, S>]) -> Halt
     requires stands { Stands caller.old.desk (F.state caller.old.feed) }
     requires few { length caller.old.desk.reports.items ≤ 64 }
     ensures goes { GoesRound F.gives F.state O.gave O.rests (round_of result) caller.old caller.new }
@@ -117,8 +116,7 @@ pub(crate) fn drive<
 pub(crate) fn drive_alone<
     P: Share + Drop,
     J: Join<P> + Drop,
-    L: Store<P, J> + Drop,
-    R: Store<P, J> + Drop,
+    S: Store<P, J> + Drop,
     F: Feed<P>,
     O: Outlet<P>,
     G: Gate,
@@ -126,7 +124,7 @@ pub(crate) fn drive_alone<
 >(
     rt: &T,
     caller: &mut Caller<P, F, O>,
-    teams: &mut [Team<P, J, L, R>],
+    teams: &mut [Team<P, J, S>],
     gate: &G,
     windows: Option<u32>,
 ) -> Halt
@@ -145,8 +143,7 @@ pub(crate) fn drive_alone<
 fn make_rounds<
     P: Share + Drop,
     J: Join<P> + Drop,
-    L: Store<P, J> + Drop,
-    R: Store<P, J> + Drop,
+    S: Store<P, J> + Drop,
     F: Feed<P>,
     O: Outlet<P>,
     G: Gate,
@@ -155,7 +152,7 @@ fn make_rounds<
 >(
     rt: &T,
     caller: &mut Caller<P, F, O>,
-    own: &mut [Team<P, J, L, R>],
+    own: &mut [Team<P, J, S>],
     gate: &G,
     load: &mut Load,
     beside: &mut B,
@@ -219,8 +216,7 @@ fn is_callers(signals: Option<&Signals>) -> bool {
 fn round_of_all<
     P: Share + Drop,
     J: Join<P> + Drop,
-    L: Store<P, J> + Drop,
-    R: Store<P, J> + Drop,
+    S: Store<P, J> + Drop,
     F: Feed<P>,
     O: Outlet<P>,
     G: Gate,
@@ -228,7 +224,7 @@ fn round_of_all<
 >(
     rt: &T,
     caller: &mut Caller<P, F, O>,
-    own: &mut [Team<P, J, L, R>],
+    own: &mut [Team<P, J, S>],
     gate: &G,
     load: &mut Load,
 ) -> Round
@@ -277,13 +273,10 @@ fn timed_round<P: Share + Drop, F: Feed<P>, O: Outlet<P>, T: Clock>(
 }
 
 /// Does a round of each team, and returns whether one got on.
-fn turn_all<
-    P: Share + Drop,
-    J: Join<P> + Drop,
-    L: Store<P, J> + Drop,
-    R: Store<P, J> + Drop,
-    G: Gate,
->(teams: &mut [Team<P, J, L, R>], gate: &G) -> bool
+fn turn_all<P: Share + Drop, J: Join<P> + Drop, S: Store<P, J> + Drop, G: Gate>(
+    teams: &mut [Team<P, J, S>],
+    gate: &G,
+) -> bool
     ensures { AllZip TeamStays teams.old teams.new }
 {
     let mut got_on = false;

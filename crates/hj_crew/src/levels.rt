@@ -20,15 +20,14 @@ use std::time::Clock;
 #[derive(Drop)]
 struct SameTeam<T>(Snapshot<T>);
 
-impl<P: Drop, J: Join<P>, L: Store<P, J>, R: Store<P, J>> Promise<Team<P, J, L, R>>
-    for SameTeam<Team<P, J, L, R>> {
+impl<P: Drop, J: Join<P>, S: Store<P, J>> Promise<Team<P, J, S>> for SameTeam<Team<P, J, S>> {
     ghost use Rattle.hj_crew.specs.Teams.{TeamStays};
 
     ghost kept_by = { λ promise team. TeamStays promise.0.value team };
 }
 
 /// A thread that turns a team.
-type Child<P, J, L, R> = PromisedHandle<Team<P, J, L, R>, SameTeam<Team<P, J, L, R>>>;
+type Child<P, J, S> = PromisedHandle<Team<P, J, S>, SameTeam<Team<P, J, S>>>;
 
 /// What all threads of a run use.
 #[derive(Drop)]
@@ -51,11 +50,10 @@ pub(crate) struct Shared<'s, G, T> {
 impl<
     P: Share + Send + Drop,
     J: Join<P> + Send + Drop,
-    L: Store<P, J> + Send + Drop,
-    R: Store<P, J> + Send + Drop,
+    S: Store<P, J> + Send + Drop,
     F: Feed<P>,
     O: Outlet<P>,
-> Begun<P, J, L, R, F, O> {
+> Begun<P, J, S, F, O> {
     ghost use Rattle.hj_crew.specs.Begun.{AreGiven, CanGive};
 
     /// Starts a thread for the last of the teams, does so for the others, and lets the calling thread run once no team
@@ -69,8 +67,7 @@ impl<
     where
         P: 's,
         J: 's,
-        L: 's,
-        R: 's,
+        S: 's,
         requires { CanGive F.state (length shared.now.signals.now) self.old }
         ensures { AreGiven F.gives F.state O.gave O.rests self.old result self.new }
     {
@@ -88,11 +85,11 @@ impl<
 
 /// Takes back a team: from its thread, once that has ended, or where it has none the last one of the calling thread's
 /// `own`.
-fn take_back<P: Drop, J: Join<P> + Drop, L: Store<P, J> + Drop, R: Store<P, J> + Drop, T: Threads>(
+fn take_back<P: Drop, J: Join<P> + Drop, S: Store<P, J> + Drop, T: Threads>(
     rt: &T,
-    child: Option<Child<P, J, L, R>>,
-    own: &mut Vec<Team<P, J, L, R>>,
-) -> Team<P, J, L, R>
+    child: Option<Child<P, J, S>>,
+    own: &mut Vec<Team<P, J, S>>,
+) -> Team<P, J, S>
     requires { IfNone child (0 < length own.old.items) }
     ensures back { MatchOption child (own.old.items ≡ own.new.items ++ result ∷ [])
         (λ child. TeamStays child.promise.0.value result × (own.new.items ≡ own.old.items)) }
@@ -110,12 +107,12 @@ fn take_back<P: Drop, J: Join<P> + Drop, L: Store<P, J> + Drop, R: Store<P, J> +
 }
 
 /// Puts a team that no thread turns behind the calling thread's `own`.
-fn keep_refused<P: Drop, J: Join<P> + Drop, L: Store<P, J> + Drop, R: Store<P, J> + Drop>(
-    started: Result<Child<P, J, L, R>, Team<P, J, L, R>>,
-    own: &mut Vec<Team<P, J, L, R>>,
-) -> Option<Child<P, J, L, R>>
+fn keep_refused<P: Drop, J: Join<P> + Drop, S: Store<P, J> + Drop>(
+    started: Result<Child<P, J, S>, Team<P, J, S>>,
+    own: &mut Vec<Team<P, J, S>>,
+) -> Option<Child<P, J, S>>
     requires { vec_len own.old < vec_capacity own.old }
-    ensures given { (team : Team P J L R) → IfOk started (λ child. child.promise.0.value ≡ team) → IfErr started (TeamStays team)
+    ensures given { (team : Team P J S) → IfOk started (λ child. child.promise.0.value ≡ team) → IfErr started (TeamStays team)
         → MatchOption result (AppendsTeams (team ∷ []) own.old.items own.new.items)
         (λ child. (child.promise.0.value ≡ team) × (own.new.items ≡ own.old.items)) }
     ensures capacity { vec_capacity own.new ≡ vec_capacity own.old }
@@ -136,14 +133,13 @@ impl<'s, G: Gate + Sync + 's, T: Threads + Wait + Clock + Sync + 's> Shared<'s, 
         E,
         P: Share + Send + Drop + 's,
         J: Join<P> + Send + Drop + 's,
-        L: Store<P, J> + Send + Drop + 's,
-        R: Store<P, J> + Send + Drop + 's,
+        S: Store<P, J> + Send + Drop + 's,
     >(
         &self,
         scope: &'s Scope<'s, E>,
         place: usize,
-        team: Team<P, J, L, R>,
-    ) -> Result<Child<P, J, L, R>, Team<P, J, L, R>>
+        team: Team<P, J, S>,
+    ) -> Result<Child<P, J, S>, Team<P, J, S>>
         requires { place < length self.now.signals.now }
         ensures started { IfOk result (λ child. child.promise.0.value ≡ team) }
         ensures refused { IfErr result (TeamStays team) }
@@ -197,21 +193,20 @@ fn spawn<
     E,
     P: Share + Send + Drop + 's,
     J: Join<P> + Send + Drop + 's,
-    L: Store<P, J> + Send + Drop + 's,
-    R: Store<P, J> + Send + Drop + 's,
+    S: Store<P, J> + Send + Drop + 's,
     G: Gate + Sync + 's,
     T: Wait + Clock + Sync + 's,
 >(
     scope: &'s Scope<'s, E>,
     site: TeamSite<'s, G, T>,
-    team: Team<P, J, L, R>,
-) -> Result<Child<P, J, L, R>, Team<P, J, L, R>>
+    team: Team<P, J, S>,
+) -> Result<Child<P, J, S>, Team<P, J, S>>
     ensures started { IfOk result (λ child. child.promise.0.value ≡ team) }
     ensures refused { IfErr result (TeamStays team) }
 {
     let signals = site.signals;
     let promise = SameTeam(Snapshot::of(&team));
-    let turning = move || -> Team<P, J, L, R>
+    let turning = move || -> Team<P, J, S>
         ensures { TeamStays team result }
     { site.work(team) };
     match scope.spawn_with(promise, turning) {

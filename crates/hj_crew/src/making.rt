@@ -23,22 +23,17 @@ use std::alloc::Global;
 
 /// All that turns the chain in a run, before it starts.
 #[derive(Drop)]
-pub(crate) struct Crew<P: Drop, J: Join<P>, L: Store<P, J>, R: Store<P, J>> {
+pub(crate) struct Crew<P: Drop, J: Join<P>, S: Store<P, J>> {
     pub(crate) desk: Desk<P>,
-    pub(crate) teams: Vec<Team<P, J, L, R>>,
+    pub(crate) teams: Vec<Team<P, J, S>>,
     /// What the thread of each team is told.
     pub(crate) signals: Vec<Signals>,
     /// Room for the teams that the calling thread turns itself, and for those that came back.
-    pub(crate) own: Vec<Team<P, J, L, R>>,
-    pub(crate) done: Vec<Team<P, J, L, R>>,
+    pub(crate) own: Vec<Team<P, J, S>>,
+    pub(crate) done: Vec<Team<P, J, S>>,
 }
 
-impl<P: Share + Drop, J: Join<P> + Drop, L: Store<P, J> + Drop, R: Store<P, J> + Drop> Crew<
-    P,
-    J,
-    L,
-    R,
-> {
+impl<P: Share + Drop, J: Join<P> + Drop, S: Store<P, J> + Drop> Crew<P, J, S> {
     ghost use Rattle.hj_crew.specs.Begun.{IsManned};
 
     /// Makes the crew of a chain of this size over these stores, in as many teams as there are threads and cores.
@@ -46,10 +41,10 @@ impl<P: Share + Drop, J: Join<P> + Drop, L: Store<P, J> + Drop, R: Store<P, J> +
         alloc: Global,
         size: CrewSize,
         join: &J,
-        stores: Stores<L, R>,
+        stores: Stores<S>,
     ) -> Result<Self, Memory>
-        requires left { AreReadyOn L.entries L.suits Left join.now size.chain.cores stores.left.items }
-        requires right { AreReadyOn R.entries R.suits Right join.now size.chain.cores stores.right.items }
+        requires left { AreReadyOn S.entries S.suits Left join.now size.chain.cores stores.left.items }
+        requires right { AreReadyOn S.entries S.suits Right join.now size.chain.cores stores.right.items }
         ensures { IfOk result (IsManned join.now size) }
     {
         let count = usize::from(size.threads.min(size.chain.cores));
@@ -93,15 +88,15 @@ fn make_signals(alloc: Global, count: usize) -> Result<Vec<Signals>, Memory>
 }
 
 /// Makes the desk of a chain, and its workers in this many teams.
-fn desk_and_teams<P: Share + Drop, J: Join<P> + Drop, L: Store<P, J> + Drop, R: Store<P, J> + Drop>(
+fn desk_and_teams<P: Share + Drop, J: Join<P> + Drop, S: Store<P, J> + Drop>(
     alloc: Global,
     size: ChainSize,
     join: &J,
-    stores: Stores<L, R>,
+    stores: Stores<S>,
     count: usize,
-) -> Result<(Desk<P>, Vec<Team<P, J, L, R>>), Memory>
-    requires left { AreReadyOn L.entries L.suits Left join.now size.cores stores.left.items }
-    requires right { AreReadyOn R.entries R.suits Right join.now size.cores stores.right.items }
+) -> Result<(Desk<P>, Vec<Team<P, J, S>>), Memory>
+    requires left { AreReadyOn S.entries S.suits Left join.now size.cores stores.left.items }
+    requires right { AreReadyOn S.entries S.suits Right join.now size.cores stores.right.items }
     requires teams { (0 < count) × (count ≤ 64) }
     ensures crew { IfOk result (λ made.
         AreCrew join.now size.cores size.flight made.0 made.1.items) }
@@ -147,25 +142,20 @@ fn desk_at<P: Share + Drop>(
 
 /// Makes the workers of a chain, each with its core and its ends, dealt to this many teams. The last core gets the
 /// last ends, and the first left end is left.
-pub(crate) fn make_teams<
-    P: Share + Drop,
-    J: Join<P> + Drop,
-    L: Store<P, J> + Drop,
-    R: Store<P, J> + Drop,
->(
+pub(crate) fn make_teams<P: Share + Drop, J: Join<P> + Drop, S: Store<P, J> + Drop>(
     alloc: Global,
     join: &J,
-    mut left: Vec<L>,
-    mut right: Vec<R>,
+    mut left: Vec<S>,
+    mut right: Vec<S>,
     ends: &mut ChainEnds<P>,
     count: usize,
-) -> Result<Vec<Team<P, J, L, R>>, Memory>
+) -> Result<Vec<Team<P, J, S>>, Memory>
     requires cores { (1 ≤ length left.items) × (length left.items ≤ 64) }
     requires same { length right.items ≡ length left.items }
-    requires left_empty { All (λ store. L.entries store ≡ []) left.items }
-    requires right_empty { All (λ store. R.entries store ≡ []) right.items }
-    requires left_suits { All (λ store. L.suits store Left join.now) left.items }
-    requires right_suits { All (λ store. R.suits store Right join.now) right.items }
+    requires left_empty { All (λ store. S.entries store ≡ []) left.items }
+    requires right_empty { All (λ store. S.entries store ≡ []) right.items }
+    requires left_suits { All (λ store. S.suits store Left join.now) left.items }
+    requires right_suits { All (λ store. S.suits store Right join.now) right.items }
     requires unused { AreUnused ends.old }
     requires ends { AreEndsFor (length left.items) ends.old }
     requires teams { (0 < count) × (count ≤ 64) }
@@ -188,18 +178,18 @@ pub(crate) fn make_teams<
 }
 
 /// Makes the core at a place of this many, with a share of the join, over these stores.
-fn make_core<P: Share + Drop, J: Join<P> + Drop, L: Store<P, J> + Drop, R: Store<P, J> + Drop>(
+fn make_core<P: Share + Drop, J: Join<P> + Drop, S: Store<P, J> + Drop>(
     alloc: Global,
     join: &J,
-    left: L,
-    right: R,
+    left: S,
+    right: S,
     place: usize,
     cores: u16,
-) -> Result<Core<P, J, L, R>, Memory>
+) -> Result<Core<P, J, S>, Memory>
     requires place { (place < cores) × (cores ≤ 64) }
-    requires left { (L.entries left ≡ []) × L.suits left Left join.now }
-    requires right { (R.entries right ≡ []) × R.suits right Right join.now }
-    ensures state { IfOk result (λ core. state_of L.entries R.entries core ≡ empty_state) }
+    requires left { (S.entries left ≡ []) × S.suits left Left join.now }
+    requires right { (S.entries right ≡ []) × S.suits right Right join.now }
+    ensures state { IfOk result (λ core. state_of S.entries core ≡ empty_state) }
     ensures core { IfOk result (λ core. (core.join ≡ join.now) × (core.place ≡ place) × (core.cores ≡ cores)) }
 {
     let share = join.share()?;
@@ -207,11 +197,11 @@ fn make_core<P: Share + Drop, J: Join<P> + Drop, L: Store<P, J> + Drop, R: Store
 }
 
 /// Makes the worker of a core, which gets the last ones of the ends.
-fn last_worker<P: Share + Drop, J: Join<P> + Drop, L: Store<P, J> + Drop, R: Store<P, J> + Drop>(
-    core: Core<P, J, L, R>,
+fn last_worker<P: Share + Drop, J: Join<P> + Drop, S: Store<P, J> + Drop>(
+    core: Core<P, J, S>,
     ends: &mut ChainEnds<P>,
-) -> Worker<P, J, L, R>
-    requires core { state_of L.entries R.entries core ≡ empty_state }
+) -> Worker<P, J, S>
+    requires core { state_of S.entries core ≡ empty_state }
     requires unused { AreUnused ends.old }
     requires left { 0 < length ends.old.left.items }
     requires right { 0 < length ends.old.right.items }

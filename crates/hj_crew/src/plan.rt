@@ -59,7 +59,7 @@ impl<'r, T, G> CrewPlan<'r, T, G> {
 
 /// Holds the stores of a chain's cores: a left one and a right one for each, by the place of the core.
 #[derive(Drop)]
-pub struct Stores<L, R> {
-    pub left: Vec<L>,
-    pub right: Vec<R>,
+pub struct Stores<S> {
+    pub left: Vec<S>,
+    pub right: Vec<S>,
 }

@@ -10,18 +10,13 @@ use std::alloc::Global;
 /// The lists that the end of a run fills. They are made before the run starts, so that its end
 /// takes no memory.
 #[derive(Drop)]
-pub(crate) struct Room<P: Drop, J: Join<P>, L: Store<P, J>, R: Store<P, J>> {
+pub(crate) struct Room<P: Drop, J: Join<P>, S: Store<P, J>> {
     /// For the workers, by the places of their cores.
-    pub(crate) workers: Vec<Worker<P, J, L, R>>,
+    pub(crate) workers: Vec<Worker<P, J, S>>,
     pub(crate) chain: ChainRoom<P>,
 }
 
-impl<P: Share + Drop, J: Join<P> + Drop, L: Store<P, J> + Drop, R: Store<P, J> + Drop> Room<
-    P,
-    J,
-    L,
-    R,
-> {
+impl<P: Share + Drop, J: Join<P> + Drop, S: Store<P, J> + Drop> Room<P, J, S> {
     ghost use Rattle.hj_crew.specs.Room.{IsRoomFor};
 
     /// Makes room for a chain of this many cores.

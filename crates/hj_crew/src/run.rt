@@ -26,11 +26,11 @@ use std::time::Clock;
 
 /// What a chain of cores joins.
 #[derive(Drop)]
-pub struct JoinInput<'j, J, L, R, F> {
+pub struct JoinInput<'j, J, S, F> {
     /// Says which rows match. Each core gets a share of it.
     pub join: &'j J,
     /// For the rows of each stream. The caller makes them for this join. They are empty.
-    pub stores: Stores<L, R>,
+    pub stores: Stores<S>,
     /// Gives the events, in the order of their numbers. It hasn't given one yet.
     pub feed: F,
 }
@@ -59,18 +59,17 @@ impl<T: Threads + Wait + Clock + Sync, G: Gate + Sync> CrewPlan<'_, T, G> {
     pub fn run_threads<
         P: Share + Send + Drop,
         J: Join<P> + Send + Drop,
-        L: Store<P, J> + Send + Drop,
-        R: Store<P, J> + Send + Drop,
+        S: Store<P, J> + Send + Drop,
         F: Feed<P> + Drop,
         D: Drain<P> + Drop,
     >(
         &self,
         alloc: Global,
-        input: JoinInput<'_, J, L, R, F>,
+        input: JoinInput<'_, J, S, F>,
         drain: D,
     ) -> (Result<Ran<P>, Memory>, F, D)
-        requires left { AreReadyOn L.entries L.suits Left input.join.now self.now.size.chain.cores input.stores.left.items }
-        requires right { AreReadyOn R.entries R.suits Right input.join.now self.now.size.chain.cores input.stores.right.items }
+        requires left { AreReadyOn S.entries S.suits Left input.join.now self.now.size.chain.cores input.stores.left.items }
+        requires right { AreReadyOn S.entries S.suits Right input.join.now self.now.size.chain.cores input.stores.right.items }
         requires fresh { IsFresh (F.state input.feed) }
         ensures runs { IfOk result.0 (RunsOnThreads F.gives F.state D.takes (J.predicate input.entry.join.now)
             self.now.size.chain.cores self.now.size.chain.flight input.entry.feed result.1 drain result.2) }
@@ -100,18 +99,17 @@ impl<T: Threads + Wait + Clock + Sync, G: Gate + Sync> CrewPlan<'_, T, G> {
     pub fn run_raw<
         P: Share + Send + Drop,
         J: Join<P> + Send + Drop,
-        L: Store<P, J> + Send + Drop,
-        R: Store<P, J> + Send + Drop,
+        S: Store<P, J> + Send + Drop,
         F: Feed<P> + Drop,
         D: RawDrain<P> + Drop,
     >(
         &self,
         alloc: Global,
-        input: JoinInput<'_, J, L, R, F>,
+        input: JoinInput<'_, J, S, F>,
         drain: D,
     ) -> (Result<Ran<P>, Memory>, F, D)
-        requires left { AreReadyOn L.entries L.suits Left input.join.now self.now.size.chain.cores input.stores.left.items }
-        requires right { AreReadyOn R.entries R.suits Right input.join.now self.now.size.chain.cores input.stores.right.items }
+        requires left { AreReadyOn S.entries S.suits Left input.join.now self.now.size.chain.cores input.stores.left.items }
+        requires right { AreReadyOn S.entries S.suits Right input.join.now self.now.size.chain.cores input.stores.right.items }
         requires fresh { IsFresh (F.state input.feed) }
         ensures runs { IfOk result.0 (RunsRaw F.gives F.state D.takes (J.predicate input.entry.join.now)
             self.now.size.chain.cores self.now.size.chain.flight input.entry.feed result.1 drain result.2) }
@@ -139,18 +137,17 @@ impl<T: Threads + Wait + Clock + Sync, G: Gate + Sync> CrewPlan<'_, T, G> {
     pub fn run_between<
         P: Share + Send + Drop,
         J: Join<P> + Send + Drop,
-        L: Store<P, J> + Send + Drop,
-        R: Store<P, J> + Send + Drop,
+        S: Store<P, J> + Send + Drop,
         F: Feed<P> + Drop,
         O: Outlet<P> + Drop,
     >(
         &self,
         alloc: Global,
-        input: JoinInput<'_, J, L, R, F>,
+        input: JoinInput<'_, J, S, F>,
         outlet: O,
     ) -> (Result<Ran<P>, Memory>, F, O)
-        requires left { AreReadyOn L.entries L.suits Left input.join.now self.now.size.chain.cores input.stores.left.items }
-        requires right { AreReadyOn R.entries R.suits Right input.join.now self.now.size.chain.cores input.stores.right.items }
+        requires left { AreReadyOn S.entries S.suits Left input.join.now self.now.size.chain.cores input.stores.left.items }
+        requires right { AreReadyOn S.entries S.suits Right input.join.now self.now.size.chain.cores input.stores.right.items }
         requires fresh { IsFresh (F.state input.feed) }
         ensures runs { IfOk result.0 (RunsCrew F.gives F.state O.gave O.rests (J.predicate input.entry.join.now)
             self.now.size.chain.cores self.now.size.chain.flight input.entry.feed result.1 outlet result.2) }
@@ -168,11 +165,10 @@ impl<T: Threads + Wait + Clock + Sync, G: Gate + Sync> CrewPlan<'_, T, G> {
     fn run_crew<
         P: Share + Send + Drop,
         J: Join<P> + Send + Drop,
-        L: Store<P, J> + Send + Drop,
-        R: Store<P, J> + Send + Drop,
+        S: Store<P, J> + Send + Drop,
         F: Feed<P> + Drop,
         O: Outlet<P> + Drop,
-    >(&self, crew: Crew<P, J, L, R>, room: Room<P, J, L, R>, feed: F, outlet: O) -> (Ran<P>, F, O)
+    >(&self, crew: Crew<P, J, S>, room: Room<P, J, S>, feed: F, outlet: O) -> (Ran<P>, F, O)
         requires crew { (join : J) × IsManned join self.now.size crew }
         requires room { IsRoomFor self.now.size.chain.cores room }
         requires fresh { IsFresh (F.state feed) }
@@ -203,14 +199,14 @@ impl<T: Threads + Wait + Clock + Sync, G: Gate + Sync> CrewPlan<'_, T, G> {
 }
 
 /// Makes the crew of a chain over these stores, and room for the end of its run.
-fn crew_and_room<P: Share + Drop, J: Join<P> + Drop, L: Store<P, J> + Drop, R: Store<P, J> + Drop>(
+fn crew_and_room<P: Share + Drop, J: Join<P> + Drop, S: Store<P, J> + Drop>(
     alloc: Global,
     size: CrewSize,
     join: &J,
-    stores: Stores<L, R>,
-) -> Result<(Crew<P, J, L, R>, Room<P, J, L, R>), Memory>
-    requires left { AreReadyOn L.entries L.suits Left join.now size.chain.cores stores.left.items }
-    requires right { AreReadyOn R.entries R.suits Right join.now size.chain.cores stores.right.items }
+    stores: Stores<S>,
+) -> Result<(Crew<P, J, S>, Room<P, J, S>), Memory>
+    requires left { AreReadyOn S.entries S.suits Left join.now size.chain.cores stores.left.items }
+    requires right { AreReadyOn S.entries S.suits Right join.now size.chain.cores stores.right.items }
     ensures crew { IfOk result (λ made. IsManned join.now size made.0) }
     ensures room { IfOk result (λ made. IsRoomFor size.chain.cores made.1) }
 {

@@ -16,8 +16,8 @@ const TURNS: u32 = 32;
 
 /// The workers that one thread turns, one after another.
 #[derive(Drop)]
-pub(crate) struct Team<P: Drop, J: Join<P>, L: Store<P, J>, R: Store<P, J>> {
-    pub(crate) workers: Vec<Worker<P, J, L, R>>,
+pub(crate) struct Team<P: Drop, J: Join<P>, S: Store<P, J>> {
+    pub(crate) workers: Vec<Worker<P, J, S>>,
 }
 
 /// How far a round of turns came.
@@ -46,12 +46,7 @@ impl Progress {
     }
 }
 
-impl<P: Share + Drop, J: Join<P> + Drop, L: Store<P, J> + Drop, R: Store<P, J> + Drop> Team<
-    P,
-    J,
-    L,
-    R,
-> {
+impl<P: Share + Drop, J: Join<P> + Drop, S: Store<P, J> + Drop> Team<P, J, S> {
     /// Turns each worker as long as it gets on, up to a bound.
     pub(crate) fn round<G: Gate>(&mut self, gate: &G) -> Progress
         ensures { AllZip StaysItself self.old.workers.items self.new.workers.items }
@@ -65,13 +60,10 @@ impl<P: Share + Drop, J: Join<P> + Drop, L: Store<P, J> + Drop, R: Store<P, J> +
 }
 
 /// Turns a worker as long as it gets on, up to a bound.
-fn turn_on<
-    P: Share + Drop,
-    J: Join<P> + Drop,
-    L: Store<P, J> + Drop,
-    R: Store<P, J> + Drop,
-    G: Gate,
->(worker: &mut Worker<P, J, L, R>, gate: &G) -> Progress
+fn turn_on<P: Share + Drop, J: Join<P> + Drop, S: Store<P, J> + Drop, G: Gate>(
+    worker: &mut Worker<P, J, S>,
+    gate: &G,
+) -> Progress
     ensures { StaysItself worker.old worker.new }
 {
     for turns in 0..TURNS {
@@ -137,12 +129,10 @@ pub(crate) struct TeamSite<'s, G, T> {
 impl<G: Gate, T: Wait + Clock> TeamSite<'_, G, T> {
     /// Turns a team until it is over, or is to stop or to leave. It is what a started thread does. After a round that got on it rings
     /// its neighbours, which may wait for what was put. So nothing that was put waits for a ring when it sleeps or ends.
-    pub(crate) fn work<
-        P: Share + Drop,
-        J: Join<P> + Drop,
-        L: Store<P, J> + Drop,
-        R: Store<P, J> + Drop,
-    >(self, team: Team<P, J, L, R>) -> Team<P, J, L, R>
+    pub(crate) fn work<P: Share + Drop, J: Join<P> + Drop, S: Store<P, J> + Drop>(
+        self,
+        team: Team<P, J, S>,
+    ) -> Team<P, J, S>
         ensures { AllZip StaysItself team.workers.items result.workers.items }
     {
         let mut team = team;

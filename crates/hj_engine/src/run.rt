@@ -155,7 +155,7 @@ fn begun<'r, 'q, S: Store<SharedRow, QueryJoin<'r>> + Drop, F: Feed<SharedRow>>(
     size: ChainSize,
     stores: ChainStores<S>,
     feed: &mut F,
-) -> Result<Chain<SharedRow, QueryJoin<'r>, S, S>, Memory>
+) -> Result<Chain<SharedRow, QueryJoin<'r>, S>, Memory>
     requires fresh { IsFresh (F.state feed.old) }
     requires stores { AreReady S.entries S.suits query.now size.cores stores }
     ensures begun { IfOk result (λ chain. IsBegun F.gives query.now chain feed.old feed.new) }

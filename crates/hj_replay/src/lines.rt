@@ -28,7 +28,7 @@ use std::alloc::Global;
 /// Makes the steps of a chain that made none, in the order of a rule, and writes the line of each one.
 pub(crate) fn write_lines<'r, S: Store<SharedRow, QueryJoin<'r>> + Drop, O: Outside, K: Sink>(
     alloc: Global,
-    chain: &mut Chain<SharedRow, QueryJoin<'r>, S, S>,
+    chain: &mut Chain<SharedRow, QueryJoin<'r>, S>,
     chooser: Chooser,
     feed: &mut AlwaysReady<'_, O>,
     out: &mut K,
@@ -57,7 +57,7 @@ pub(crate) fn write_lines<'r, S: Store<SharedRow, QueryJoin<'r>> + Drop, O: Outs
 
 /// Makes the step of an actor that is enabled, and writes its line. The pairs that are due then are let go.
 fn write_line<'r, S: Store<SharedRow, QueryJoin<'r>> + Drop, O: Outside, K: Sink>(
-    chain: &mut Chain<SharedRow, QueryJoin<'r>, S, S>,
+    chain: &mut Chain<SharedRow, QueryJoin<'r>, S>,
     actor: Actor,
     feed: &mut AlwaysReady<'_, O>,
     line: &mut Vec<u8>,
@@ -97,7 +97,7 @@ fn write_line<'r, S: Store<SharedRow, QueryJoin<'r>> + Drop, O: Outside, K: Sink
 
 /// Takes the pairs that are due of a chain.
 fn drop_due<'r, S: Store<SharedRow, QueryJoin<'r>> + Drop>(
-    chain: &mut Chain<SharedRow, QueryJoin<'r>, S, S>,
+    chain: &mut Chain<SharedRow, QueryJoin<'r>, S>,
 )
     requires { (feed : FeedState) × GoesWith holds chain.old feed }
     ensures state { chain.new.state ≡ chain.old.state }

@@ -84,7 +84,7 @@ pub(crate) fn trace_end<O: Outside>(
 
 /// Does what `check_due` does in the outside of a feed.
 pub(crate) fn next_pairs<'r, S: Store<SharedRow, QueryJoin<'r>> + Drop, O: Outside>(
-    chain: &mut Chain<SharedRow, QueryJoin<'r>, S, S>,
+    chain: &mut Chain<SharedRow, QueryJoin<'r>, S>,
     output: &mut OutputCheck,
     line: &mut Vec<u8>,
     feed: &mut EventFeed<'_, O>,

@@ -26,7 +26,7 @@ use hj_value::SharedRow;
 
 /// Makes the step of the actor of the line of this number, and makes in `line` what the line says behind the actor.
 fn make_step<'r, S: Store<SharedRow, QueryJoin<'r>> + Drop, O: Outside>(
-    chain: &mut Chain<SharedRow, QueryJoin<'r>, S, S>,
+    chain: &mut Chain<SharedRow, QueryJoin<'r>, S>,
     actor: Actor,
     number: u64,
     feed: &mut AlwaysReady<'_, O>,
@@ -83,7 +83,7 @@ fn given_up<O: Outside>(feed: &AlwaysReady<'_, O>) -> Verdict
 /// are read, and the lines of the pairs that are due then are compared with the output. The error is the verdict where something is
 /// wrong, a read failed or memory ran out.
 pub(crate) fn check_line<'r, S: Store<SharedRow, QueryJoin<'r>> + Drop, O: Outside>(
-    chain: &mut Chain<SharedRow, QueryJoin<'r>, S, S>,
+    chain: &mut Chain<SharedRow, QueryJoin<'r>, S>,
     feed: &mut AlwaysReady<'_, O>,
     texts: &mut ComparedTexts,
     number: u64,

@@ -22,7 +22,7 @@ use hj_value::SharedRow;
 /// Checks a trace, line by line, and an output, against the steps of a chain that made none. The error is the verdict where
 /// something is wrong, a read failed or memory ran out.
 pub(crate) fn check_lines<'r, S: Store<SharedRow, QueryJoin<'r>> + Drop, O: Outside>(
-    chain: &mut Chain<SharedRow, QueryJoin<'r>, S, S>,
+    chain: &mut Chain<SharedRow, QueryJoin<'r>, S>,
     feed: &mut AlwaysReady<'_, O>,
     texts: &mut ComparedTexts,
 ) -> Result<(), Verdict>
@@ -54,7 +54,7 @@ fn next_number(number: u64) -> Result<u64, Verdict>
 /// Checks that a trace ends where the line of this number would begin, and the output with the lines of the pairs, where the chain is
 /// done.
 fn check_ends<'r, S: Store<SharedRow, QueryJoin<'r>> + Drop, O: Outside>(
-    chain: &mut Chain<SharedRow, QueryJoin<'r>, S, S>,
+    chain: &mut Chain<SharedRow, QueryJoin<'r>, S>,
     feed: &mut AlwaysReady<'_, O>,
     texts: &mut ComparedTexts,
     number: u64,

@@ -23,7 +23,7 @@ use hj_value::SharedRow;
 
 /// Takes the pairs that are due of a chain, and compares their lines with the output.
 pub(crate) fn check_due<'r, S: Store<SharedRow, QueryJoin<'r>> + Drop, O: Outside>(
-    chain: &mut Chain<SharedRow, QueryJoin<'r>, S, S>,
+    chain: &mut Chain<SharedRow, QueryJoin<'r>, S>,
     output: &mut OutputCheck,
     line: &mut Vec<u8>,
     outside: &mut O,

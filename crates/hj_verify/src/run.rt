@@ -55,7 +55,7 @@ pub(crate) fn check_over<'r, 'q, S: Store<SharedRow, QueryJoin<'r>> + Drop, O: O
 /// Checks the trace and the output against the steps of a chain that made none.
 fn check_begun<'r, S: Store<SharedRow, QueryJoin<'r>> + Drop, O: Outside>(
     alloc: Global,
-    chain: &mut Chain<SharedRow, QueryJoin<'r>, S, S>,
+    chain: &mut Chain<SharedRow, QueryJoin<'r>, S>,
     feed: &mut AlwaysReady<'_, O>,
 ) -> Result<(), Verdict>
     requires goes { GoesWith holds chain.old (state_of feed.old) }

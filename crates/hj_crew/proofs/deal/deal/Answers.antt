@@ -9,10 +9,10 @@ use Rattle.hj_crew.proofs.deal.deal.Goals as goal
 
 pub returns-clause-dealt : goal.returns-clause-dealt
 returns-clause-dealt g c =
-    let contents = λ (team : Team g.row.P.Denot g.row.J.Denot g.row.L.Denot g.row.R.Denot). team.workers.items in
+    let contents = λ (team : Team g.row.P.Denot g.row.J.Denot g.row.S.Denot). team.workers.items in
     let teams = c.args.teams.now in
     let at = c.args.team in
-    let new : Team g.row.P.Denot g.row.J.Denot g.row.L.Denot g.row.R.Denot = record { workers = c.push.new.self } in
+    let new : Team g.row.P.Denot g.row.J.Denot g.row.S.Denot = record { workers = c.push.new.self } in
     let held : List (List (WorkerSeen g.row.P.Denot g.row.J.Denot)) = workers_in teams in
     let grown : new.workers.items ≡ get_or held at [] ++ c.args.worker ∷ [] =
     c.in_ok-push.ensures.items ∙ ap (λ (l : List (WorkerSeen g.row.P.Denot g.row.J.Denot)). l ++ c.args.worker ∷ []) (sym (get_or-map contents teams at c.index-teams-team.result [] c.requires.in_range)) in
@@ -21,8 +21,8 @@ returns-clause-dealt g c =
 
 pub returns-clause-empty : goal.returns-clause-empty
 returns-clause-empty g c =
-    let contents = λ (team : Team g.row.P.Denot g.row.J.Denot g.row.L.Denot g.row.R.Denot). team.workers.items in
+    let contents = λ (team : Team g.row.P.Denot g.row.J.Denot g.row.S.Denot). team.workers.items in
     let teams = c.args.teams.now in
     let at = c.args.team in
-    let new : Team g.row.P.Denot g.row.J.Denot g.row.L.Denot g.row.R.Denot = record { workers = c.push.new.self } in
+    let new : Team g.row.P.Denot g.row.J.Denot g.row.S.Denot = record { workers = c.push.new.self } in
     ap (λ (hands : List (List (WorkerSeen g.row.P.Denot g.row.J.Denot))). take at hands) (map-set contents teams at new) ∙ take-set (workers_in teams) at new.workers.items ∙ c.requires.empty

@@ -12,9 +12,9 @@ loop-team-init g c =
     let are : into_iter_items c.into_iter-team-iterator.result ≡ c.args.teams.items = c.into_iter-team-iterator.ensures.into_iter_gives.0 in
     record {
       all =
-          ap₂ (λ (l : List (WorkerSeen g.row.P.Denot g.row.J.Denot)) (teams : List (Team g.row.P.Denot g.row.J.Denot g.row.L.Denot g.row.R.Denot)). l ++ gathered (workers_in teams)) c.requires.empty are;
+          ap₂ (λ (l : List (WorkerSeen g.row.P.Denot g.row.J.Denot)) (teams : List (Team g.row.P.Denot g.row.J.Denot g.row.S.Denot)). l ++ gathered (workers_in teams)) c.requires.empty are;
       room =
-          omega (arith, c.requires.room, ap (λ (teams : List (Team g.row.P.Denot g.row.J.Denot g.row.L.Denot g.row.R.Denot)). length (gathered (workers_in teams))) are);
+          omega (arith, c.requires.room, ap (λ (teams : List (Team g.row.P.Denot g.row.J.Denot g.row.S.Denot)). length (gathered (workers_in teams))) are);
     }
 
 pub take_over-requires : goal.take_over-requires
@@ -25,7 +25,7 @@ take_over-requires g c =
     omega (
       arith,
       c.loop-team.invariant.room,
-      ap (λ (teams : List (Team g.row.P.Denot g.row.J.Denot g.row.L.Denot g.row.R.Denot)). length (gathered (workers_in teams))) next,
+      ap (λ (teams : List (Team g.row.P.Denot g.row.J.Denot g.row.S.Denot)). length (gathered (workers_in teams))) next,
       length-append (reverse team.workers.items) (gathered (workers_in after)),
       length-reverse team.workers.items,
     )
@@ -41,7 +41,7 @@ loop-team-preserved g c =
       all =
           ap (λ (l : List (WorkerSeen g.row.P.Denot g.row.J.Denot)). l ++ gathered (workers_in after)) c.take_over.ensures.workers
           ∙ append_assoc held (reverse team.workers.items) (gathered (workers_in after))
-          ∙ ap (λ (teams : List (Team g.row.P.Denot g.row.J.Denot g.row.L.Denot g.row.R.Denot)). held ++ gathered (workers_in teams)) (sym next)
+          ∙ ap (λ (teams : List (Team g.row.P.Denot g.row.J.Denot g.row.S.Denot)). held ++ gathered (workers_in teams)) (sym next)
           ∙ c.loop-team.invariant.all;
       room =
           omega (
@@ -50,7 +50,7 @@ loop-team-preserved g c =
             c.take_over.ensures.capacity,
             ap length c.take_over.ensures.workers,
             length-append held (reverse team.workers.items),
-            ap (λ (teams : List (Team g.row.P.Denot g.row.J.Denot g.row.L.Denot g.row.R.Denot)). length (gathered (workers_in teams))) next,
+            ap (λ (teams : List (Team g.row.P.Denot g.row.J.Denot g.row.S.Denot)). length (gathered (workers_in teams))) next,
             length-append (reverse team.workers.items) (gathered (workers_in after)),
             length-reverse team.workers.items,
           );
@@ -62,5 +62,5 @@ returns g c =
     let none : left ≡ [] = nil_from_length left (omega (arith, c.in-None.ensures.steps.0)) in
     let held = c.loop-team.workers.items in
     sym (append-nil held)
-    ∙ ap (λ (teams : List (Team g.row.P.Denot g.row.J.Denot g.row.L.Denot g.row.R.Denot)). held ++ gathered (workers_in teams)) (sym none)
+    ∙ ap (λ (teams : List (Team g.row.P.Denot g.row.J.Denot g.row.S.Denot)). held ++ gathered (workers_in teams)) (sym none)
     ∙ c.loop-team.invariant.all

@@ -13,6 +13,6 @@ loop-team-preserved g c =
     let teams = c.loop-team.teams in
     let at = c.loop-team.team-index in
     related-goes_on TeamStays team-stays-on c.args.teams.now teams at c.round.new.self c.loop-team.invariant (
-    λ d low. subst (λ (team : Team g.row.P.Denot g.row.J.Denot g.row.L.Denot g.row.R.Denot). TeamStays team c.round.new.self)
+    λ d low. subst (λ (team : Team g.row.P.Denot g.row.J.Denot g.row.S.Denot). TeamStays team c.round.new.self)
     (sym c.team-item.is ∙ get_or_read teams at c.team-item.result low c.team-item.is d) c.round.ensures
     )

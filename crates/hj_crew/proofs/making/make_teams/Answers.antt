@@ -17,7 +17,7 @@ loop-left_store-init g c =
     let teams = c.in_ok-teams.teams.items in
     let none : List (WorkerSeen g.row.P.Denot g.row.J.Denot) = [] in
     let count : length teams ≡ c.args.count =
-    sym (length-map teams (λ (team : Team g.row.P.Denot g.row.J.Denot g.row.L.Denot g.row.R.Denot). team.workers.items)) ∙ ap length c.in_ok-teams.ensures ∙ length-replicate c.args.count none in
+    sym (length-map teams (λ (team : Team g.row.P.Denot g.row.J.Denot g.row.S.Denot). team.workers.items)) ∙ ap length c.in_ok-teams.ensures ∙ length-replicate c.args.count none in
     record {
       same = c.requires.same;
       left_empty = c.requires.left_empty;
@@ -48,10 +48,10 @@ loop-left_store-preserved g c =
     c.team_of-team.ensures ∙ ap₂ (λ (k t : ℕ). k * t / c.len-cores.result) at (sym slots ∙ omega (arith, c.deal.auto.teams)) ∙ ap (λ (n : ℕ). place * length c.deal.new.teams / n) (omega (arith, c.len-cores.ensures, c.args.left.ok.0)) in
     record {
       same = omega (arith, before.same, fewer, right_fewer);
-      left_empty = (All-pop (λ store. g.L.Store.entries store ≡ []) _ _ c.pop.result c.pop.ensures.items before.left_empty).0;
-      right_empty = (All-pop (λ store. g.R.Store.entries store ≡ []) _ _ c.pop-in-Some.result c.pop-in-Some.ensures.items before.right_empty).0;
-      left_suits = (All-pop (λ store. g.L.Store.suits store Left c.args.join.now) _ _ c.pop.result c.pop.ensures.items before.left_suits).0;
-      right_suits = (All-pop (λ store. g.R.Store.suits store Right c.args.join.now) _ _ c.pop-in-Some.result c.pop-in-Some.ensures.items before.right_suits).0;
+      left_empty = (All-pop (λ store. g.S.Store.entries store ≡ []) _ _ c.pop.result c.pop.ensures.items before.left_empty).0;
+      right_empty = (All-pop (λ store. g.S.Store.entries store ≡ []) _ _ c.pop-in-Some.result c.pop-in-Some.ensures.items before.right_empty).0;
+      left_suits = (All-pop (λ store. g.S.Store.suits store Left c.args.join.now) _ _ c.pop.result c.pop.ensures.items before.left_suits).0;
+      right_suits = (All-pop (λ store. g.S.Store.suits store Right c.args.join.now) _ _ c.pop-in-Some.result c.pop-in-Some.ensures.items before.right_suits).0;
       unused = unused-left (worker ∷ []) c.loop-left_store.ends c.last_worker.new.ends given before.unused;
       ends = ends-left (worker ∷ []) c.loop-left_store.ends c.last_worker.new.ends given (length c.loop-left_store.left.items) place fewer before.ends;
       count = ap length back ∙ omega (arith, c.deal.auto.teams, ap length c.as_mut_slice.ensures.value, before.count);
@@ -102,4 +102,4 @@ deal-requires-clause-empty g c =
     (subst (λ (t : ℕ). AreEmpty (length c.loop-left_store.left.items * t / length c.args.left.items) (workers_in c.loop-left_store.teams.items)) c.loop-left_store.invariant.count made.empty)) in
     fewer-empty c.team_of-team.result ((c.len-place.result + 1) * c.args.count / c.len-cores.result) (workers_in held)
     (omega (arith, c.team_of-team.ensures, hand-before c.len-place.result c.len-cores.result c.args.count low (omega (arith, c.requires.teams.0))))
-    (subst (λ (teams : List (Team g.row.P.Denot g.row.J.Denot g.row.L.Denot g.row.R.Denot)). AreEmpty ((c.len-place.result + 1) * c.args.count / c.len-cores.result) (workers_in teams)) (sym c.as_mut_slice.ensures.value) empty)
+    (subst (λ (teams : List (Team g.row.P.Denot g.row.J.Denot g.row.S.Denot)). AreEmpty ((c.len-place.result + 1) * c.args.count / c.len-cores.result) (workers_in teams)) (sym c.as_mut_slice.ensures.value) empty)

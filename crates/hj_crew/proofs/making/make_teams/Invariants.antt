@@ -6,10 +6,10 @@ use Rattle.hj_crew.proofs.making.make_teams.Given as goal
 abbrev pub invariant-loop-left_store : goal.invariant-loop-left_store
 invariant-loop-left_store g l = record {
   same : length l.right.items ≡ length l.left.items;
-  left_empty : All (λ store. g.L.Store.entries store ≡ []) l.left.items;
-  right_empty : All (λ store. g.R.Store.entries store ≡ []) l.right.items;
-  left_suits : All (λ store. g.L.Store.suits store Left l.join) l.left.items;
-  right_suits : All (λ store. g.R.Store.suits store Right l.join) l.right.items;
+  left_empty : All (λ store. g.S.Store.entries store ≡ []) l.left.items;
+  right_empty : All (λ store. g.S.Store.entries store ≡ []) l.right.items;
+  left_suits : All (λ store. g.S.Store.suits store Left l.join) l.left.items;
+  right_suits : All (λ store. g.S.Store.suits store Right l.join) l.right.items;
   unused : AreUnused l.ends;
   ends : AreEndsFor (length l.left.items) l.ends;
   count : length l.teams.items ≡ l.count;

@@ -19,7 +19,7 @@ returns-in_default g t c =
     let begun = c.args.self.now in
     let turned = c.drive.new.own in
     let same : AllZip TeamStays begun.own.items turned =
-    subst (λ (teams : List (Team g.row.P.Denot g.row.J.Denot g.row.L.Denot g.row.R.Denot)). AllZip TeamStays teams turned) c.as_mut_slice.ensures.value c.drive.ensures.own in
+    subst (λ (teams : List (Team g.row.P.Denot g.row.J.Denot g.row.S.Denot)). AllZip TeamStays teams turned) c.as_mut_slice.ensures.value c.drive.ensures.own in
     let written = written_back begun.own.items turned begun.own.len (AllZip-long TeamStays begun.own.items turned same) begun.own.ok.0 in
     record {
       goes = c.drive.ensures.goes;

@@ -14,7 +14,7 @@ returns g c =
     let start = c.requires.1 in
     let turned = c.drive_alone-halt.new.teams in
     let same : AllZip TeamStays begun.teams.items turned =
-    subst (λ (teams : List (Team g.row.P.Denot g.row.J.Denot g.row.L.Denot g.row.R.Denot)). AllZip TeamStays teams turned) c.as_mut_slice.ensures.value c.drive_alone-halt.ensures.teams in
+    subst (λ (teams : List (Team g.row.P.Denot g.row.J.Denot g.row.S.Denot)). AllZip TeamStays teams turned) c.as_mut_slice.ensures.value c.drive_alone-halt.ensures.teams in
     let long = AllZip-long TeamStays begun.teams.items turned same in
     let written = written_back begun.teams.items turned begun.teams.len long begun.teams.ok.0 in
     has-halted g.F.Feed.gives g.F.Feed.state g.O.Outlet.gave g.O.Outlet.rests begun (record { caller = c.drive_alone-halt.new.caller; teams = with_items begun.teams turned; own = begun.own; done = begun.done })
