@@ -70,7 +70,7 @@ impl Feed<Row> for TwoRows {
     }
 }
 
-pub(crate) type RowChain = Chain<Row, Cross, ListStore<Row>, ListStore<Row>>;
+pub(crate) type RowChain = Chain<Row, Cross, ListStore<Row>>;
 
 /// Makes a chain of this many cores before a feed that has given nothing.
 pub(crate) fn chain_of(
@@ -127,13 +127,13 @@ fn actor(rt: &impl Abort, text: &str) -> Actor {
 }
 
 /// Makes the step of a line, which is an actor, and the answer of its step.
-fn step<
-    P: Share + Drop,
-    J: Join<P> + Drop,
-    L: Store<P, J> + Drop,
-    R: Store<P, J> + Drop,
-    F: Feed<P>,
->(rt: &impl Abort, alloc: Global, chain: &mut Chain<P, J, L, R>, feed: &mut F, line: &str)
+fn step<P: Share + Drop, J: Join<P> + Drop, S: Store<P, J> + Drop, F: Feed<P>>(
+    rt: &impl Abort,
+    alloc: Global,
+    chain: &mut Chain<P, J, S>,
+    feed: &mut F,
+    line: &str,
+)
     requires { GoesWith J.predicate chain.old (F.state feed.old) }
     ensures { GoesWith J.predicate chain.new (F.state feed.new) }
 {
@@ -143,13 +143,13 @@ fn step<
 }
 
 /// Makes the steps of a table.
-pub(crate) fn step_all<
-    P: Share + Drop,
-    J: Join<P> + Drop,
-    L: Store<P, J> + Drop,
-    R: Store<P, J> + Drop,
-    F: Feed<P>,
->(rt: &impl Abort, alloc: Global, chain: &mut Chain<P, J, L, R>, feed: &mut F, steps: &str)
+pub(crate) fn step_all<P: Share + Drop, J: Join<P> + Drop, S: Store<P, J> + Drop, F: Feed<P>>(
+    rt: &impl Abort,
+    alloc: Global,
+    chain: &mut Chain<P, J, S>,
+    feed: &mut F,
+    steps: &str,
+)
     requires { GoesWith J.predicate chain.old (F.state feed.old) }
     ensures { GoesWith J.predicate chain.new (F.state feed.new) }
 {

@@ -9,7 +9,7 @@ use hj_rows::ListStore;
 use std::alloc::Global;
 use std::process::Abort;
 
-type RowCore = Core<Row, Cross, ListStore<Row>, ListStore<Row>>;
+type RowCore = Core<Row, Cross, ListStore<Row>>;
 
 /// Makes one of two cores.
 fn core_at(place: u16, alloc: Global) -> RowCore
@@ -110,9 +110,9 @@ fn right_row_comes_first(rt: HostRuntime) {
 }
 
 /// Shows that a core goes to another thread where its rows, its join and its stores do.
-fn sent_core<P: Send, J: Join<P> + Send, L: Store<P, J> + Send, R: Store<P, J> + Send>(
-    core: Core<P, J, L, R>,
-) -> Core<P, J, L, R> {
+fn sent_core<P: Send, J: Join<P> + Send, S: Store<P, J> + Send>(
+    core: Core<P, J, S>,
+) -> Core<P, J, S> {
     sent(core)
 }
 

@@ -69,7 +69,7 @@ impl Store<Row, Cross> for RefusingStore {
     }
 }
 
-type RefusingWorker = Worker<Row, Cross, RefusingStore, RefusingStore>;
+type RefusingWorker = Worker<Row, Cross, RefusingStore>;
 
 /// Makes a worker of the first of two cores, between these ends, with such stores.
 fn worker_between(
@@ -131,11 +131,7 @@ fn a_worker_without_a_place_answers_no_memory(rt: HostRuntime) {
 }
 
 /// Makes a chain of two cores with such stores, before a feed of two rows that has given none.
-fn two_cores(
-    rt: &impl Abort,
-    alloc: Global,
-    feed: &mut TwoRows,
-) -> Chain<Row, Cross, RefusingStore, RefusingStore>
+fn two_cores(rt: &impl Abort, alloc: Global, feed: &mut TwoRows) -> Chain<Row, Cross, RefusingStore>
     requires { feed.old.given ≡ 0 }
     ensures { GoesWith all_match result (rows_given feed.new.first feed.new.given feed.new.stopped) }
 {

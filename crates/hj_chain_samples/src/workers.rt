@@ -12,7 +12,7 @@ use std::alloc::Global;
 use std::cell::Cell;
 use std::process::Abort;
 
-type RowWorker = Worker<Row, Cross, ListStore<Row>, ListStore<Row>>;
+type RowWorker = Worker<Row, Cross, ListStore<Row>>;
 
 /// The second of two cores, with the other ends of its links.
 #[derive(Drop)]
@@ -216,12 +216,9 @@ fn passes_the_gate_in_each_call(rt: HostRuntime) {
 }
 
 /// Shows that a worker goes to another thread where its rows, its join and its stores do.
-fn sent_worker<
-    P: Send + Sync + Drop,
-    J: Join<P> + Send,
-    L: Store<P, J> + Send,
-    R: Store<P, J> + Send,
->(worker: Worker<P, J, L, R>) -> Worker<P, J, L, R> {
+fn sent_worker<P: Send + Sync + Drop, J: Join<P> + Send, S: Store<P, J> + Send>(
+    worker: Worker<P, J, S>,
+) -> Worker<P, J, S> {
     sent(worker)
 }
 
