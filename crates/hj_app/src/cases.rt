@@ -35,9 +35,29 @@ pub struct Chunks {
     ghost some_write: { 1 ≤ write },
 }
 
+/// Reads of 4 bytes, and writes of 100.
+pub const SHORT: Chunks = Chunks {
+    read: 4,
+    write: 100,
+};
+
+/// Reads and writes of 4,096 bytes.
+pub const LARGE: Chunks = Chunks {
+    read: 4_096,
+    write: 4_096,
+};
+
+/// Small portions, and a large one.
+const PORTIONS: [Chunks; 3] = [
+    Chunks { read: 1, write: 1 },
+    Chunks { read: 3, write: 3 },
+    LARGE,
+];
+
 /// A line of a table.
 #[derive(Clone, Copy)]
 struct Case<'a> {
+    line: &'a str,
     failing: &'a str,
     query: &'a str,
     left: &'a str,
@@ -52,6 +72,7 @@ struct Case<'a> {
 fn case_of<'a>(rt: &impl Abort, line: &'a str) -> Case<'a> {
     let mut fields = line.split(';');
     Case {
+        line,
         failing: fields.next().expect(rt, "what fails"),
         query: fields.next().expect(rt, "the query"),
         left: fields.next().expect(rt, "the left stream"),
@@ -225,6 +246,25 @@ fn assert_written(rt: &impl Abort, alloc: Global, found: &[u8], wanted: &str, li
 }
 
 /// Serves the words of a command over the outside of a case, and compares what comes of it.
+fn serve_case(
+    rt: &(impl Abort + Threads + Wait + Clock + Sync),
+    alloc: Global,
+    command: &str,
+    case: Case<'_>,
+    world: &mut World,
+    gate: &(impl Gate + Sync),
+)
+    requires { (of : Role) → (role_at world.old.outside of).phase ≡ unbegun }
+{
+    let line = case.line;
+    let words = words_of(rt, alloc, command);
+    let status = world.serve(rt, alloc, &words, gate);
+    assert_written(rt, alloc, world.out.bytes(), case.out, line);
+    assert_written(rt, alloc, world.notes.bytes(), case.notes, line);
+    assert!(rt; u64::from(status) == number(rt, case.status), "at {line}");
+}
+
+/// Makes the outside of a case, and serves the words of a command over it.
 pub fn run(
     rt: &(impl Abort + Threads + Wait + Clock + Sync),
     alloc: Global,
@@ -234,12 +274,25 @@ pub fn run(
     gate: &(impl Gate + Sync),
 ) {
     let case = case_of(rt, line);
-    let words = words_of(rt, alloc, command);
     let mut world = world_of(rt, alloc, case, chunks);
-    let status = world.serve(rt, alloc, &words, gate);
-    assert_written(rt, alloc, world.out.bytes(), case.out, line);
-    assert_written(rt, alloc, world.notes.bytes(), case.notes, line);
-    assert_eq!(rt; u64::from(status), number(rt, case.status), "at {line}");
+    serve_case(rt, alloc, command, case, &mut world, gate);
+}
+
+/// Runs each case of a table by some commands, in each of these portions.
+fn run_in(
+    rt: &(impl Abort + Threads + Wait + Clock + Sync),
+    alloc: Global,
+    commands: &[&str],
+    table: &str,
+    portions: &[Chunks],
+) {
+    for case in table.lines() {
+        for command in commands {
+            for chunks in portions {
+                run(rt, alloc, command, case, *chunks, &OpenGate);
+            }
+        }
+    }
 }
 
 /// Runs each case of a table by some commands, in small portions and in large ones.
@@ -249,24 +302,8 @@ pub fn run_all(
     commands: &[&str],
     table: &str,
 ) {
-    for case in table.lines() {
-        for command in commands {
-            for size in [1, 3, 4_096] {
-                let chunks = Chunks {
-                    read: size,
-                    write: size,
-                };
-                run(rt, alloc, command, case, chunks, &OpenGate);
-            }
-        }
-    }
+    run_in(rt, alloc, commands, table, &PORTIONS);
 }
-
-/// Reads of 4 bytes, and writes of 100.
-pub const SHORT: Chunks = Chunks {
-    read: 4,
-    write: 100,
-};
 
 /// Runs each case of a table by some commands, with short reads.
 pub fn run_once(
@@ -275,9 +312,5 @@ pub fn run_once(
     commands: &[&str],
     table: &str,
 ) {
-    for case in table.lines() {
-        for command in commands {
-            run(rt, alloc, command, case, SHORT, &OpenGate);
-        }
-    }
+    run_in(rt, alloc, commands, table, &[SHORT]);
 }

@@ -1,5 +1,5 @@
 //! Which threads turn the cores of a chain, and how often.
-use crate::cases::{Chunks, EQUI, SHORT, run};
+use crate::cases::{EQUI, LARGE, SHORT, run};
 use crate::gen_tests::ONE_ROW;
 use hj_base::{CoreNo, Gate};
 use std::alloc::Global;
@@ -41,8 +41,8 @@ fn turns_a_core_once_for_each_message(rt: HostRuntime) {
     run(&rt, rt.alloc(), command, THREE_ROWS, SHORT, &gate);
     // Each has the three rows and both closes; besides, the left one has the ends of two rows, the right one an acknowledgement
     // and an end.
-    assert_eq!(rt; gate.left.load(Ordering::SeqCst), 7);
-    assert_eq!(rt; gate.right.load(Ordering::SeqCst), 7);
+    assert!(rt; gate.left.load(Ordering::SeqCst) == 7);
+    assert!(rt; gate.right.load(Ordering::SeqCst) == 7);
 }
 
 /// Holds the first turns of some cores, from the left, until a number of cores have come to theirs, for a number of tries.
@@ -130,11 +130,7 @@ fn order_under(
     let gate = OrderGate(AtomicU64::new(0));
     let command = format!(in alloc; "join --cores 3 --threads 0 {options} query left right");
     let command = command.expect(rt, "memory");
-    let chunks = Chunks {
-        read: 4_096,
-        write: 4_096,
-    };
-    run(rt, alloc, &command, THREE_ROWS, chunks, &gate);
+    run(rt, alloc, &command, THREE_ROWS, LARGE, &gate);
     gate.0.load(Ordering::SeqCst)
 }
 
