@@ -10,6 +10,7 @@ use Rattle.hj_base.specs.Journals.{IsPrefix}
 use Rattle.atomic_table.proofs.Lists.{set_here, set_else, at_longer, one_turn}
 use Rattle.hj_link.specs.declared.table.MessageSlot.{MessageSlot}
 use Rattle.hj_link.specs.declared.table.MessageSlot.TheVariants.{Empty, Filled}
+use Rattle.hj_link.specs.declared.turn_no.TurnNo.{TurnNo}
 use Rattle.hj_link.specs.Flow.{Flow, AreFilled, AreVacant}
 
 module _ {A : Type 0} where
@@ -119,7 +120,7 @@ module _ {M : Type 0} where
 
   -- the slot of the next place to put into is taken out
   pub flow_reserves : (c base pw tw : ℕ) (hs : Row M) (sent got known : List M) (kt : ℕ) (b : Bool) → Flow c base pw tw hs sent got known kt false b → length sent < kt + c
-      → (t : ℕ) × (get_elem? hs (base + length sent % c) ≡ some (some (Empty t))) × Flow c base pw tw (set hs (base + length sent % c) none) sent got known kt true b
+      → (t : TurnNo) × (get_elem? hs (base + length sent % c) ≡ some (some (Empty t))) × Flow c base pw tw (set hs (base + length sent % c) none) sent got known kt true b
   flow_reserves c base pw tw hs sent got known kt b f room = let n : ℕ = length sent in let g : ℕ = length got in let k : ℕ = base + n % c in let old : kt ≤ g = f.stale in
       let gl : g ≤ length known = prefix_length got known f.taken in let kl : length known ≤ n = prefix_length known sent f.learned in
       let v = f.vacant n (le_refl n) (omega arith) (λ _. refl) in (
@@ -131,7 +132,7 @@ module _ {M : Type 0} where
       )
 
   -- the put is published, and the slot comes home
-  pub flow_publishes : (c base pw tw : ℕ) (hs : Row M) (sent got known : List M) (kt : ℕ) (b : Bool) (t : ℕ) (m : M) (new : ℕ) → Flow c base pw tw hs sent got known kt true b → new ≡ (length sent + 1) % 2 ^ 64
+  pub flow_publishes : (c base pw tw : ℕ) (hs : Row M) (sent got known : List M) (kt : ℕ) (b : Bool) (t : TurnNo) (m : M) (new : ℕ) → Flow c base pw tw hs sent got known kt true b → new ≡ (length sent + 1) % 2 ^ 64
       → Flow c base new tw (set hs (base + length sent % c) (some (Filled t m))) (sent ++ m ∷ []) got known kt false b
   flow_publishes c base pw tw hs sent got known kt b t m new f is = let n : ℕ = length sent in let g : ℕ = length got in let k : ℕ = base + n % c in let old : kt ≤ g = f.stale in let room : n < kt + c = f.free_there refl in
       let gl : g ≤ length known = prefix_length got known f.taken in let kl : length known ≤ n = prefix_length known sent f.learned in
@@ -154,7 +155,7 @@ module _ {M : Type 0} where
 
   -- the slot of the next known put is taken out, and holds its message
   pub flow_fetches : (c base pw tw : ℕ) (hs : Row M) (sent got known : List M) (kt : ℕ) (a : Bool) → Flow c base pw tw hs sent got known kt a false → length got < length known
-      → (t : ℕ) × (x : M) × (get_elem? known (length got) ≡ some x) × (get_elem? hs (base + length got % c) ≡ some (some (Filled t x))) × Flow c base pw tw (set hs (base + length got % c) none) sent got known kt a true
+      → (t : TurnNo) × (x : M) × (get_elem? known (length got) ≡ some x) × (get_elem? hs (base + length got % c) ≡ some (some (Filled t x))) × Flow c base pw tw (set hs (base + length got % c) none) sent got known kt a true
   flow_fetches c base pw tw hs sent got known kt a f some_one = let n : ℕ = length sent in let g : ℕ = length got in let k : ℕ = base + g % c in let old : kt ≤ g = f.stale in
       let w : n ≤ kt + c = f.within in let kl : length known ≤ n = prefix_length known sent f.learned in let pos : 0 < c = omega arith in
       let next = there known g some_one in let x = next.0 in let lies = f.full g x (le_refl g) (prefix_at known sent g x f.learned next.1) (λ _. refl) in (
@@ -168,7 +169,7 @@ module _ {M : Type 0} where
       )
 
   -- the take is published, and the slot comes home empty
-  pub flow_publishes_take : (c base pw tw : ℕ) (hs : Row M) (sent got known : List M) (kt : ℕ) (a : Bool) (x : M) (t : ℕ) (new : ℕ) → Flow c base pw tw hs sent got known kt a true → get_elem? known (length got) ≡ some x → new ≡ (length got + 1) % 2 ^ 64
+  pub flow_publishes_take : (c base pw tw : ℕ) (hs : Row M) (sent got known : List M) (kt : ℕ) (a : Bool) (x : M) (t : TurnNo) (new : ℕ) → Flow c base pw tw hs sent got known kt a true → get_elem? known (length got) ≡ some x → new ≡ (length got + 1) % 2 ^ 64
       → Flow c base pw new (set hs (base + length got % c) (some (Empty t))) sent (got ++ x ∷ []) known kt a false
   flow_publishes_take c base pw tw hs sent got known kt a x t new f next is = let n : ℕ = length sent in let g : ℕ = length got in let k : ℕ = base + g % c in let old : kt ≤ g = f.stale in
       let w : n ≤ kt + c = f.within in let kl : length known ≤ n = prefix_length known sent f.learned in let gl : g < length known = f.some_there refl in let pos : 0 < c = omega arith in

@@ -6,6 +6,7 @@ use native.Mathlib.Decide.{ℕ_discrete}
 use Rattle.atomic_table.specs.Table.{keeps, takes as takes_slot, gives, Allows}
 use Rattle.hj_link.specs.declared.table.MessageSlot.{MessageSlot}
 use Rattle.hj_link.specs.declared.table.MessageSlot.TheVariants.{Empty, Filled}
+use Rattle.hj_link.specs.declared.turn_no.TurnNo.{TurnNo}
 use Rattle.hj_link.specs.declared.endpoints.Words.{Words}
 use Rattle.hj_link.specs.declared.table.Capacities.{Capacities}
 use Rattle.hj_link.specs.declared.table.End.{End}
@@ -103,14 +104,14 @@ module _ {M : Type 0} where
       )
 
   put_published_by : (side : Bool) (c : Capacities) (n id : ℕ) (me : Seated M) (new : ℕ) → IsLaid side me → new ≡ (length (sent (own side me)) + 1) % 2 ^ 64 → Allows (Rule c) n id me (words_of side).puts (λ _. new) (λ _. publishes side me)
-  put_published_by side c n id me new l is = let v : View M = me.0 in let e : End M = end_of side v in let i : ℕ = put_slot side me in let w : ℕ = (words_of side).puts in let t : ℕ = l.turn in let x : M = l.message in
+  put_published_by side c n id me new l is = let v : View M = me.0 in let e : End M = end_of side v in let i : ℕ = put_slot side me in let w : ℕ = (words_of side).puts in let t : TurnNo = l.turn in let x : M = l.message in
       subst (λ (z : List (ℕ × MessageSlot M)). Allows (Rule c) n id (v, z) w (λ _. new) (λ _. publishes side (v, z))) (sym l.held) (λ s r wide at _.
       let f : End M = other_of side r in let o = side_knows side c s r id v at l.has in let did = both_put _ _ _ _ _ _ _ _ _ _ _ t x new o l.is_out is in (
-        with_end side v (after_put e t x f.empty_looks),
+        with_end side v (after_put e t.number x f.empty_looks),
         gives,
         tt,
-        side_goes side c s r id v at l.has (after_put e t x f.empty_looks) (set s.words w new) (set s.homes i (some (Filled t x))) (length-set s.words w new ∙ r.wide) (length-set s.homes i (some (Filled t x)))
-            (put_stored side _ _ _ _ s.words (set s.homes i (some (Filled t x))) (after_put e t x f.empty_looks) f new r.wide did),
+        side_goes side c s r id v at l.has (after_put e t.number x f.empty_looks) (set s.words w new) (set s.homes i (some (Filled t x))) (length-set s.words w new ∙ r.wide) (length-set s.homes i (some (Filled t x)))
+            (put_stored side _ _ _ _ s.words (set s.homes i (some (Filled t x))) (after_put e t.number x f.empty_looks) f new r.wide did),
         (f.empty_looks, refl),
       ))
 
@@ -127,14 +128,14 @@ module _ {M : Type 0} where
       )
 
   take_published_by : (side : Bool) (c : Capacities) (n id : ℕ) (me : Seated M) (new : ℕ) → IsEmptied side me → new ≡ (length (got (own side me)) + 1) % 2 ^ 64 → Allows (Rule c) n id me (words_of side).takes (λ _. new) (λ _. publishes_take side me)
-  take_published_by side c n id me new l is = let v : View M = me.0 in let e : End M = end_of side v in let i : ℕ = take_slot side me in let w : ℕ = (words_of side).takes in let t : ℕ = l.turn in let x : M = l.message in
+  take_published_by side c n id me new l is = let v : View M = me.0 in let e : End M = end_of side v in let i : ℕ = take_slot side me in let w : ℕ = (words_of side).takes in let t : TurnNo = l.turn in let x : M = l.message in
       subst (λ (z : List (ℕ × MessageSlot M)). Allows (Rule c) n id (v, z) w (λ _. new) (λ _. publishes_take side (v, z))) (sym l.held) (λ s r wide at _.
       let f : End M = other_of side r in let o = side_knows side c s r id v at l.has in let did = both_take _ _ _ _ _ _ _ _ _ _ _ t x new o l.is_out l.next is in (
-        with_end side v (after_take e t x f.full_looks),
+        with_end side v (after_take e t.number x f.full_looks),
         gives,
         tt,
-        side_goes side c s r id v at l.has (after_take e t x f.full_looks) (set s.words w new) (set s.homes i (some (Empty t))) (length-set s.words w new ∙ r.wide) (length-set s.homes i (some (Empty t)))
-            (take_stored side _ _ _ _ s.words (set s.homes i (some (Empty t))) (after_take e t x f.full_looks) f new r.wide did),
+        side_goes side c s r id v at l.has (after_take e t.number x f.full_looks) (set s.words w new) (set s.homes i (some (Empty t))) (length-set s.words w new ∙ r.wide) (length-set s.homes i (some (Empty t)))
+            (take_stored side _ _ _ _ s.words (set s.homes i (some (Empty t))) (after_take e t.number x f.full_looks) f new r.wide did),
         (x, l.next, f.full_looks, refl),
       ))
 

@@ -5,10 +5,11 @@ use lib.ListN.{get_elem?}
 use Rattle.hj_base.specs.Journals.{IsPrefix}
 use Rattle.hj_link.specs.declared.table.MessageSlot.{MessageSlot}
 use Rattle.hj_link.specs.declared.table.MessageSlot.TheVariants.{Empty, Filled}
+use Rattle.hj_link.specs.declared.turn_no.TurnNo.{TurnNo}
 
 -- a slot without a message
 abbrev pub IsEmpty : {M : Type 0} → MessageSlot M → Type 0
-IsEmpty slot = (turn : ℕ) × (slot ≡ Empty turn)
+IsEmpty slot = (turn : TurnNo) × (slot ≡ Empty turn)
 
 -- The ring has `capacity` slots from `base` on; the message of place p, counted from 0, lies in the slot p % capacity of it. A
 -- direction of capacity 0 has no slot, and nothing is ever put.
@@ -16,12 +17,12 @@ module _ {M : Type 0} where
   -- a published slot that is at home has the message of its place
   abbrev pub AreFilled : (capacity base : ℕ) → List (Option (MessageSlot M)) → List M → List M → Bool → Type 0
   AreFilled capacity base homes sent got fetching = (p : ℕ) (m : M) → length got ≤ p → get_elem? sent p ≡ some m → (p ≡ length got → fetching ≡ false)
-      → (turn : ℕ) × (get_elem? homes (base + p % capacity) ≡ some (some (Filled turn m)))
+      → (turn : TurnNo) × (get_elem? homes (base + p % capacity) ≡ some (some (Filled turn m)))
 
   -- the slot of a free place is at home and empty unless it is the one that is out for a put
   abbrev pub AreVacant : (capacity base : ℕ) → List (Option (MessageSlot M)) → List M → List M → Bool → Type 0
   AreVacant capacity base homes sent got putting = (p : ℕ) → length sent ≤ p → p < length got + capacity → (p ≡ length sent → putting ≡ false)
-      → (turn : ℕ) × (get_elem? homes (base + p % capacity) ≡ some (some (Empty turn)))
+      → (turn : TurnNo) × (get_elem? homes (base + p % capacity) ≡ some (some (Empty turn)))
 
 -- `sent` was put and `got` was taken. Of `sent` the taking end knows `known`, and of `got` the putting end knows the number
 -- `known_takes`. A list `homes` has each slot's value, or nothing where the slot is out: `putting` says so of the slot of the

@@ -8,6 +8,7 @@ use Rattle.atomic_table.specs.Table.{rest}
 use Rattle.hj_link.specs.declared.table.MessageSlot.{MessageSlot}
 use Rattle.hj_link.specs.declared.table.MessageSlot.TheVariants.{Empty, Filled}
 use Rattle.hj_link.specs.declared.table.Noted.{Noted}
+use Rattle.hj_link.specs.declared.turn_no.TurnNo.{TurnNo}
 use Rattle.hj_link.specs.declared.table.Capacities.{Capacities}
 use Rattle.hj_link.specs.declared.table.End.{End}
 use Rattle.hj_link.specs.declared.table.View.{View}
@@ -21,6 +22,10 @@ one_if false = 0
 abbrev pub mark_if : Bool → ℕ → List ℕ
 mark_if true n = n ∷ []
 mark_if false n = []
+
+-- the turn of this number
+abbrev pub turn_no : ℕ → TurnNo
+turn_no number = record { number = number }
 
 -- no room in either direction
 abbrev pub no_room : Capacities
@@ -97,13 +102,13 @@ module _ {M : Type 0} where
 
   -- take out the slot of the next place to put into, which is empty
   abbrev pub reserves : Bool → Seated M → Seated M → Type 0
-  reserves side m m' = (turn : ℕ) × (m' ≡ (changed side m (set_putting (own side m) true), (put_slot side m, Empty turn) ∷ m.1))
+  reserves side m m' = (turn : TurnNo) × (m' ≡ (changed side m (set_putting (own side m) true), (put_slot side m, Empty turn) ∷ m.1))
 
   -- the end after it published the slot that was taken out last, whose turn and message are those of the put
   abbrev pub laid : End M → List (ℕ × MessageSlot M) → ℕ → End M
   laid end [] empties = end
   laid end ((k, Empty turn) ∷ others) empties = end
-  laid end ((k, Filled turn message) ∷ others) empties = after_put end turn message empties
+  laid end ((k, Filled turn message) ∷ others) empties = after_put end turn.number message empties
 
   -- publish a put: the slot comes home
   abbrev pub publishes : Bool → Seated M → Seated M → Type 0
@@ -111,13 +116,13 @@ module _ {M : Type 0} where
 
   -- take out the slot of the next known put, which has its message
   abbrev pub fetches : Bool → Seated M → Seated M → Type 0
-  fetches side m m' = (turn : ℕ) × (message : M) × (get_elem? (own side m).known (length (got (own side m))) ≡ some message)
+  fetches side m m' = (turn : TurnNo) × (message : M) × (get_elem? (own side m).known (length (got (own side m))) ≡ some message)
       × (m' ≡ (changed side m (set_fetching (own side m) true), (take_slot side m, Filled turn message) ∷ m.1))
 
   -- the end after it published the slot that was taken out last, whose turn is that of the take
   abbrev pub emptied : End M → List (ℕ × MessageSlot M) → M → ℕ → End M
   emptied end [] message fulls = end
-  emptied end ((k, Empty turn) ∷ others) message fulls = after_take end turn message fulls
+  emptied end ((k, Empty turn) ∷ others) message fulls = after_take end turn.number message fulls
   emptied end ((k, Filled turn old) ∷ others) message fulls = end
 
   -- publish a take: its message is the next known put, and the slot comes home
@@ -157,7 +162,7 @@ module _ {M : Type 0} where
 
   -- a message was laid into the slot of the next place, and is to be published
   pub record IsLaid (side : Bool) (m : Seated M) : Type 0 where
-    pub turn : ℕ
+    pub turn : TurnNo
     pub message : M
     pub has : has_end side m.0 ≡ true
     pub is_out : (own side m).putting ≡ true
@@ -165,7 +170,7 @@ module _ {M : Type 0} where
 
   -- the slot of the next known put was emptied, and is to be published
   pub record IsEmptied (side : Bool) (m : Seated M) : Type 0 where
-    pub turn : ℕ
+    pub turn : TurnNo
     pub message : M
     pub has : has_end side m.0 ≡ true
     pub is_out : (own side m).fetching ≡ true

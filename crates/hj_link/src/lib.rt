@@ -12,6 +12,7 @@ mod plays;
 mod ring;
 mod steps;
 mod table;
+mod turn_no;
 
 pub use closing::{Closed, ClosedWay, close, close_way};
 pub use ends::{Full, LeftEnd, Receiver, RightEnd, Sender, duplex, one_way};

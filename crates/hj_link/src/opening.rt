@@ -8,6 +8,7 @@ use crate::endpoints::{OnLeft, OnRight};
 use crate::plays::{Apart, Learn, Together};
 use crate::steps::SeatedEnd;
 use crate::table::{Capacities, LinkSeat, LinkTable, MessageSlot};
+use crate::turn_no::TurnNo;
 use atomic_table::Table;
 use hj_base::Memory;
 use std::alloc::Global;
@@ -31,7 +32,7 @@ pub(crate) fn open<M: Drop>(alloc: Global, capacities: Capacities) -> Result<Ope
     let count = capacities.rightwards + capacities.leftwards;
     let mut slots: Vec<MessageSlot<M>> = Vec::with_capacity(alloc, count)?;
     for _ in 0..count {
-        slots.push_reserved(MessageSlot::Empty(0));
+        slots.push_reserved(MessageSlot::Empty(TurnNo::of(0)));
     }
     let words = [0u64; 64];
     let Ok((table, mut left)) = Table::new(alloc, words.as_slice(), slots, &capacities) else {

@@ -6,12 +6,13 @@ ghost use Rattle.std.specs.Arc.{arc_value};
 ghost use Rattle.hj_link.specs.declared.table.MessageSlot.TheVariants.{Empty, Filled};
 ghost use Rattle.hj_link.specs.Words.{IsOfLink};
 ghost use Rattle.hj_link.specs.Rule.{sent, got};
-ghost use Rattle.hj_link.specs.Steps.{IsLaid, IsEmptied, has_end, own, changed, room_there, put_slot, take_slot, after_put, after_take, looks_for_room, looks_for_message, publishes, publishes_take, holding, holding_taken};
+ghost use Rattle.hj_link.specs.Steps.{IsLaid, IsEmptied, has_end, own, changed, room_there, put_slot, take_slot, after_put, after_take, looks_for_room, looks_for_message, publishes, publishes_take, turn_no, holding, holding_taken};
 ghost use Rattle.hj_link.specs.Halves.{AtTable, IsSeated};
 
 use crate::endpoints::Endpoint;
 use crate::plays::{Fetch, LookForMessage, LookForRoom, PublishPut, PublishTake, Reserve};
 use crate::table::{LinkSeat, LinkTable, MessageSlot};
+use crate::turn_no::TurnNo;
 use std::marker::{Model, PhantomData};
 use std::sync::Arc;
 
@@ -98,14 +99,14 @@ fn lay<M: Drop, D: Endpoint>(
     requires room { length (sent (own D.is_left seat.old.me)) < (own D.is_left seat.old.me).known_takes + room_there D.is_left seat.old.me }
     requires slot { slot ≡ put_slot D.is_left seat.old.me }
     ensures seat { (seat.new.table_id ≡ seat.old.table_id) × (seat.new.id ≡ seat.old.id) }
-    ensures laid { seat.new.me ≡ holding D.is_left seat.old.me (Filled turn message) }
+    ensures laid { seat.new.me ≡ holding D.is_left seat.old.me (Filled (turn_no turn) message) }
     ensures ready { IsLaid D.is_left seat.new.me }
 {
     let words = D::words();
     table.shared.load::<Reserve<D>>(seat, words.puts);
     match table
         .shared
-        .exchange(seat, slot, MessageSlot::Filled(turn, message))
+        .exchange(seat, slot, MessageSlot::Filled(TurnNo::of(turn), message))
     {
         MessageSlot::Empty(_) => (),
         MessageSlot::Filled(..) => unreachable!(),
@@ -138,12 +139,15 @@ fn fetch<M: Drop, D: Endpoint>(
     requires slot { slot ≡ take_slot D.is_left seat.old.me }
     ensures seat { (seat.new.table_id ≡ seat.old.table_id) × (seat.new.id ≡ seat.old.id) }
     ensures next { get_elem? (own D.is_left seat.old.me).known (length (got (own D.is_left seat.old.me))) ≡ some result }
-    ensures emptied { seat.new.me ≡ holding_taken D.is_left seat.old.me (Empty turn) }
+    ensures emptied { seat.new.me ≡ holding_taken D.is_left seat.old.me (Empty (turn_no turn)) }
     ensures ready { IsEmptied D.is_left seat.new.me }
 {
     let words = D::words();
     table.shared.load::<Fetch<D>>(seat, words.takes);
-    match table.shared.exchange(seat, slot, MessageSlot::Empty(turn)) {
+    match table
+        .shared
+        .exchange(seat, slot, MessageSlot::Empty(TurnNo::of(turn)))
+    {
         MessageSlot::Filled(_, message) => message,
         MessageSlot::Empty(_) => unreachable!(),
     }

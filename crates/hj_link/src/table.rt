@@ -1,6 +1,7 @@
 //! The table under a link: what its words, slots and seats are.
 ghost use Rattle.hj_link.specs.Rule.{Rule, opened};
 
+use crate::turn_no::TurnNo;
 use atomic_table::{Seat, Table, TableRule};
 use std::alloc::Global;
 use std::collections::LinkedList;
@@ -8,8 +9,8 @@ use std::collections::LinkedList;
 /// A place for a message, with the turn of the put or of the take that left it so.
 #[derive(Drop)]
 pub enum MessageSlot<M> {
-    Empty(u64),
-    Filled(u64, M),
+    Empty(TurnNo),
+    Filled(TurnNo, M),
 }
 
 /// For how many messages each direction has room. A link that goes one way has none for the way back.

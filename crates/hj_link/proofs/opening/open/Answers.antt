@@ -11,7 +11,7 @@ loop-preserved g c = (
   search rules,
   search rules,
   search rules,
-  subst (All IsEmpty) (sym c.push_reserved.ensures.items) (All-push IsEmpty c.loop.slots.items (Empty 0) c.loop.invariant.4 (0, refl)),
+  subst (All IsEmpty) (sym c.push_reserved.ensures.items) (All-push IsEmpty c.loop.slots.items (Empty c.of.result) c.loop.invariant.4 (c.of.result, refl)),
 )
 
 pub new-requires : goal.new-requires
