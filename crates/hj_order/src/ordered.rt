@@ -4,13 +4,15 @@ ghost use Rattle.std.specs.VecDeque.{deque_len, deque_capacity};
 ghost use Rattle.hj_msg.specs.Emission.{comes_before, is_within};
 ghost use Rattle.hj_msg.specs.Met.{pairs_of};
 ghost use Rattle.hj_msg.specs.Valid.{later};
+ghost use Rattle.hj_collect.specs.Collector.{least_mark};
 ghost use Rattle.hj_collect.specs.Marks.{meaning};
 ghost use Rattle.hj_order.specs.Due.{due_cmp, pairs_in, AreInOrder, NoneBefore, NoneSooner};
+ghost use Rattle.hj_order.specs.Giving.{GivesDue, Releases};
 
 use crate::kept::Kept;
 use hj_base::{Memory, Share};
 use hj_collect::{Collector, Mark};
-use hj_msg::{Pair, Report};
+use hj_msg::{Drain, Drained, Pair, Report};
 use std::alloc::Global;
 use std::collections::{BinaryHeap, VecDeque};
 use std::marker::Model;
@@ -91,6 +93,28 @@ impl<P: Drop> Ordered<P> {
         let pair = self.release_first(up_to)?;
         self.soonest = soonest_of(&self.late, &self.in_order);
         Some(pair)
+    }
+
+    /// Removes the first pair that is due by what a collector knows, and returns it. None if none is due.
+    #[inline(always)]
+    pub fn next_due(&mut self, collector: &Collector) -> Option<Pair<P>>
+        ensures { Releases (least_mark collector.now) self.old result self.new }
+    {
+        let mark = collector.punctuation()?;
+        self.release(mark)
+    }
+
+    /// Gives the pairs that are due by what a collector knows to a drain, the first one first, up to the first one that it refuses.
+    #[inline(always)]
+    pub fn give_due<D: Drain<P>>(&mut self, collector: &Collector, drain: &mut D) -> Drained
+        ensures { GivesDue D.takes (least_mark collector.now) self.old drain.old result self.new drain.new }
+    {
+        while let Some(pair) = self.next_due(collector) {
+            if drain.pair(pair) == Drained::Refused {
+                return Drained::Refused;
+            }
+        }
+        Drained::Kept
     }
 
     /// Removes and returns the first pair, if it is due.
