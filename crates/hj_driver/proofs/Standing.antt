@@ -1,6 +1,6 @@
 -- A driver stands for a log with one more turn.
 use Rattle.std.proofs.Common.{◌≡◌, ℕ, ◌<◌, true, false, List, [], ◌∷◌, ◌++◌, length, Contains, refl, ap, sym, ◌∙◌, subst, inl, inr, arith, append-nil, length-append}
-use Rattle.std.specs.List.{filter_map, filter, list_any}
+use Rattle.std.specs.List.{cons_option, filter_map, filter, list_any}
 use Rattle.std.proofs.lemmas.Bool.{false≢true}
 use Rattle.std.proofs.lemmas.List.Folds.{list_any_at}
 use Rattle.hj_base.specs.declared.numbers.EventNo.{EventNo}
@@ -12,8 +12,9 @@ use Rattle.hj_msg.specs.declared.event.Event.TheVariants.{Arrive, Expire, Quiet}
 use Rattle.hj_msg.specs.declared.message.Msg.{Msg}
 use Rattle.hj_msg.specs.Event.{IsWellFormed}
 use Rattle.hj_msg.specs.Driver.{DriverTurn, admission, receipt, closing, admitted, outstanding, HasComeOut, IsLawful}
-use Rattle.hj_driver.specs.Driver.{DriverState, after_take, after_put, arrival_of, after_message, stays, quiet_stays, after_close, closed, new_driver, is_sent, count_of}
-use Rattle.hj_driver.specs.StandsFor.{StandsFor, is_closing}
+use Rattle.hj_driver.specs.declared.lane.Arrival.{Arrival}
+use Rattle.hj_driver.specs.Driver.{DriverState, after_take, after_put, after_message, stays, quiet_stays, after_close, closed, new_driver, is_sent, count_of}
+use Rattle.hj_driver.specs.StandsFor.{StandsFor, arrival_after, expiry_after, is_closing, quiet_after}
 use Rattle.hj_driver.proofs.Logs.{admitted-push, arrivals_of-receipt, expiries_of-receipt, quiets_of-receipt, closes_of-receipt, arrivals_of-admission, expiries_of-admission, quiets_of-admission, closes_of-admission, arrivals_of-closing, expiries_of-closing, quiets_of-closing, closes_of-closing, length-outstanding, is_sent-closes_of}
 
 has_closing : {P : Type 0} (earlier later : List (DriverTurn P)) → list_any is_closing (earlier ++ closing ∷ later) ≡ true
@@ -110,83 +111,70 @@ stands-closing driver log stands unsent none =
       closes = sym (closes_of-closing log unclosed);
     }
 
+-- What is put joins its list; everything else of the driver stays.
+module _ {P : Type 0} where
+  left_arrivals-put : (put : Event P) (driver : DriverState) → (after_put put driver).left_arrivals ≡ driver.left_arrivals ++ cons_option (arrival_after Left put []) []
+  left_arrivals-put (Arrive at Left row) driver = refl
+  left_arrivals-put (Expire at Left of) driver = sym (append-nil driver.left_arrivals)
+  left_arrivals-put (Quiet at Left) driver = sym (append-nil driver.left_arrivals)
+  left_arrivals-put put driver = sym (append-nil driver.left_arrivals)
+
+  left_expiries-put : (put : Event P) (driver : DriverState) → (after_put put driver).left_expiries ≡ driver.left_expiries ++ cons_option (expiry_after Left put []) []
+  left_expiries-put (Expire at Left of) driver = refl
+  left_expiries-put (Arrive at Left row) driver = sym (append-nil driver.left_expiries)
+  left_expiries-put (Quiet at Left) driver = sym (append-nil driver.left_expiries)
+  left_expiries-put put driver = sym (append-nil driver.left_expiries)
+
+  right_arrivals-put : (put : Event P) (driver : DriverState) → (after_put put driver).right_arrivals ≡ driver.right_arrivals ++ cons_option (arrival_after Right put []) []
+  right_arrivals-put (Arrive at Right row) driver = refl
+  right_arrivals-put (Expire at Left of) driver = sym (append-nil driver.right_arrivals)
+  right_arrivals-put (Quiet at Left) driver = sym (append-nil driver.right_arrivals)
+  right_arrivals-put put driver = sym (append-nil driver.right_arrivals)
+
+  right_expiries-put : (put : Event P) (driver : DriverState) → (after_put put driver).right_expiries ≡ driver.right_expiries ++ cons_option (expiry_after Right put []) []
+  right_expiries-put (Expire at Right of) driver = refl
+  right_expiries-put (Arrive at Left row) driver = sym (append-nil driver.right_expiries)
+  right_expiries-put (Quiet at Left) driver = sym (append-nil driver.right_expiries)
+  right_expiries-put put driver = sym (append-nil driver.right_expiries)
+
+  left_quiets-put : (put : Event P) (driver : DriverState) → (after_put put driver).left_quiets ≡ driver.left_quiets ++ cons_option (quiet_after Left put []) []
+  left_quiets-put (Quiet at Left) driver = refl
+  left_quiets-put (Arrive at Left row) driver = sym (append-nil driver.left_quiets)
+  left_quiets-put (Expire at Left of) driver = sym (append-nil driver.left_quiets)
+  left_quiets-put put driver = sym (append-nil driver.left_quiets)
+
+  right_quiets-put : (put : Event P) (driver : DriverState) → (after_put put driver).right_quiets ≡ driver.right_quiets ++ cons_option (quiet_after Right put []) []
+  right_quiets-put (Quiet at Right) driver = refl
+  right_quiets-put (Arrive at Left row) driver = sym (append-nil driver.right_quiets)
+  right_quiets-put (Expire at Left of) driver = sym (append-nil driver.right_quiets)
+  right_quiets-put put driver = sym (append-nil driver.right_quiets)
+
+  pub closes-put : (put : Event P) (driver : DriverState) → (after_put put driver).closes ≡ driver.closes
+  closes-put (Arrive at Left row) driver = refl
+  closes-put (Expire at Left of) driver = refl
+  closes-put (Quiet at Left) driver = refl
+  closes-put put driver = refl
+
+  -- what is put doesn't change how many may be outstanding
+  pub flight-put : (put : Event P) (driver : DriverState) → (after_put put driver).flight ≡ driver.flight
+  flight-put (Arrive at Left row) driver = refl
+  flight-put (Expire at Left of) driver = refl
+  flight-put (Quiet at Left) driver = refl
+  flight-put put driver = refl
+
 stands-put : {P : Type 0} (driver : DriverState) (log : List (DriverTurn P)) (put : Event P) → StandsFor driver log → IsWellFormed (admitted (log ++ admission put ∷ [])) → IsLawful driver.flight (admitted (log ++ admission put ∷ [])) (log ++ admission put ∷ [])
     → StandsFor (after_put put driver) (log ++ admission put ∷ [])
-stands-put {P} driver log (Arrive at Left row) stands well lawful = record {
+stands-put driver log put stands well lawful = record {
   well_formed = well;
-  lawful = lawful;
-  left_arrivals = ap (λ l. l ++ arrival_of at ∷ []) stands.left_arrivals ∙ sym (arrivals_of-admission Left log (Arrive at Left row));
-  left_expiries = stands.left_expiries ∙ sym (append-nil _) ∙ sym (expiries_of-admission Left log (Arrive at Left row));
-  right_arrivals = stands.right_arrivals ∙ sym (append-nil _) ∙ sym (arrivals_of-admission Right log (Arrive at Left row));
-  right_expiries = stands.right_expiries ∙ sym (append-nil _) ∙ sym (expiries_of-admission Right log (Arrive at Left row));
-  left_quiets = stands.left_quiets ∙ sym (append-nil _) ∙ sym (quiets_of-admission Left log (Arrive at Left row));
-  right_quiets = stands.right_quiets ∙ sym (append-nil _) ∙ sym (quiets_of-admission Right log (Arrive at Left row));
-  closes = stands.closes ∙ sym (closes_of-admission log (Arrive at Left row));
+  lawful = subst (λ (flight : ℕ). IsLawful flight (admitted (log ++ admission put ∷ [])) (log ++ admission put ∷ [])) (sym (flight-put put driver)) lawful;
+  left_arrivals = left_arrivals-put put driver ∙ ap (λ (l : List Arrival). l ++ cons_option (arrival_after Left put []) []) stands.left_arrivals ∙ sym (arrivals_of-admission Left log put);
+  left_expiries = left_expiries-put put driver ∙ ap (λ (l : List EventNo). l ++ cons_option (expiry_after Left put []) []) stands.left_expiries ∙ sym (expiries_of-admission Left log put);
+  right_arrivals = right_arrivals-put put driver ∙ ap (λ (l : List Arrival). l ++ cons_option (arrival_after Right put []) []) stands.right_arrivals ∙ sym (arrivals_of-admission Right log put);
+  right_expiries = right_expiries-put put driver ∙ ap (λ (l : List EventNo). l ++ cons_option (expiry_after Right put []) []) stands.right_expiries ∙ sym (expiries_of-admission Right log put);
+  left_quiets = left_quiets-put put driver ∙ ap (λ (l : List EventNo). l ++ cons_option (quiet_after Left put []) []) stands.left_quiets ∙ sym (quiets_of-admission Left log put);
+  right_quiets = right_quiets-put put driver ∙ ap (λ (l : List EventNo). l ++ cons_option (quiet_after Right put []) []) stands.right_quiets ∙ sym (quiets_of-admission Right log put);
+  closes = closes-put put driver ∙ stands.closes ∙ sym (closes_of-admission log put);
 }
-stands-put {P} driver log (Arrive at Right row) stands well lawful = record {
-  well_formed = well;
-  lawful = lawful;
-  left_arrivals = stands.left_arrivals ∙ sym (append-nil _) ∙ sym (arrivals_of-admission Left log (Arrive at Right row));
-  left_expiries = stands.left_expiries ∙ sym (append-nil _) ∙ sym (expiries_of-admission Left log (Arrive at Right row));
-  right_arrivals = ap (λ l. l ++ arrival_of at ∷ []) stands.right_arrivals ∙ sym (arrivals_of-admission Right log (Arrive at Right row));
-  right_expiries = stands.right_expiries ∙ sym (append-nil _) ∙ sym (expiries_of-admission Right log (Arrive at Right row));
-  left_quiets = stands.left_quiets ∙ sym (append-nil _) ∙ sym (quiets_of-admission Left log (Arrive at Right row));
-  right_quiets = stands.right_quiets ∙ sym (append-nil _) ∙ sym (quiets_of-admission Right log (Arrive at Right row));
-  closes = stands.closes ∙ sym (closes_of-admission log (Arrive at Right row));
-}
-stands-put {P} driver log (Expire at Left of) stands well lawful = record {
-  well_formed = well;
-  lawful = lawful;
-  left_arrivals = stands.left_arrivals ∙ sym (append-nil _) ∙ sym (arrivals_of-admission Left log (Expire at Left of));
-  left_expiries = ap (λ (l : List EventNo). l ++ of ∷ []) stands.left_expiries ∙ sym (expiries_of-admission Left log (Expire at Left of));
-  right_arrivals = stands.right_arrivals ∙ sym (append-nil _) ∙ sym (arrivals_of-admission Right log (Expire at Left of));
-  right_expiries = stands.right_expiries ∙ sym (append-nil _) ∙ sym (expiries_of-admission Right log (Expire at Left of));
-  left_quiets = stands.left_quiets ∙ sym (append-nil _) ∙ sym (quiets_of-admission Left log (Expire at Left of));
-  right_quiets = stands.right_quiets ∙ sym (append-nil _) ∙ sym (quiets_of-admission Right log (Expire at Left of));
-  closes = stands.closes ∙ sym (closes_of-admission log (Expire at Left of));
-}
-stands-put {P} driver log (Expire at Right of) stands well lawful = record {
-  well_formed = well;
-  lawful = lawful;
-  left_arrivals = stands.left_arrivals ∙ sym (append-nil _) ∙ sym (arrivals_of-admission Left log (Expire at Right of));
-  left_expiries = stands.left_expiries ∙ sym (append-nil _) ∙ sym (expiries_of-admission Left log (Expire at Right of));
-  right_arrivals = stands.right_arrivals ∙ sym (append-nil _) ∙ sym (arrivals_of-admission Right log (Expire at Right of));
-  right_expiries = ap (λ (l : List EventNo). l ++ of ∷ []) stands.right_expiries ∙ sym (expiries_of-admission Right log (Expire at Right of));
-  left_quiets = stands.left_quiets ∙ sym (append-nil _) ∙ sym (quiets_of-admission Left log (Expire at Right of));
-  right_quiets = stands.right_quiets ∙ sym (append-nil _) ∙ sym (quiets_of-admission Right log (Expire at Right of));
-  closes = stands.closes ∙ sym (closes_of-admission log (Expire at Right of));
-}
-stands-put {P} driver log (Quiet at Left) stands well lawful = record {
-  well_formed = well;
-  lawful = lawful;
-  left_arrivals = stands.left_arrivals ∙ sym (append-nil _) ∙ sym (arrivals_of-admission Left log (Quiet at Left));
-  left_expiries = stands.left_expiries ∙ sym (append-nil _) ∙ sym (expiries_of-admission Left log (Quiet at Left));
-  left_quiets = ap (λ (l : List EventNo). l ++ at ∷ []) stands.left_quiets ∙ sym (quiets_of-admission Left log (Quiet at Left));
-  right_arrivals = stands.right_arrivals ∙ sym (append-nil _) ∙ sym (arrivals_of-admission Right log (Quiet at Left));
-  right_expiries = stands.right_expiries ∙ sym (append-nil _) ∙ sym (expiries_of-admission Right log (Quiet at Left));
-  right_quiets = stands.right_quiets ∙ sym (append-nil _) ∙ sym (quiets_of-admission Right log (Quiet at Left));
-  closes = stands.closes ∙ sym (closes_of-admission log (Quiet at Left));
-}
-stands-put {P} driver log (Quiet at Right) stands well lawful = record {
-  well_formed = well;
-  lawful = lawful;
-  left_arrivals = stands.left_arrivals ∙ sym (append-nil _) ∙ sym (arrivals_of-admission Left log (Quiet at Right));
-  left_expiries = stands.left_expiries ∙ sym (append-nil _) ∙ sym (expiries_of-admission Left log (Quiet at Right));
-  left_quiets = stands.left_quiets ∙ sym (append-nil _) ∙ sym (quiets_of-admission Left log (Quiet at Right));
-  right_arrivals = stands.right_arrivals ∙ sym (append-nil _) ∙ sym (arrivals_of-admission Right log (Quiet at Right));
-  right_expiries = stands.right_expiries ∙ sym (append-nil _) ∙ sym (expiries_of-admission Right log (Quiet at Right));
-  right_quiets = ap (λ (l : List EventNo). l ++ at ∷ []) stands.right_quiets ∙ sym (quiets_of-admission Right log (Quiet at Right));
-  closes = stands.closes ∙ sym (closes_of-admission log (Quiet at Right));
-}
-
--- what is put doesn't change how many may be outstanding
-pub flight-put : {P : Type 0} (put : Event P) (driver : DriverState) → (after_put put driver).flight ≡ driver.flight
-flight-put (Arrive at Left row) driver = refl
-flight-put (Arrive at Right row) driver = refl
-flight-put (Expire at Left of) driver = refl
-flight-put (Expire at Right of) driver = refl
-flight-put (Quiet at Left) driver = refl
-flight-put (Quiet at Right) driver = refl
 
 pub stands-admission : {P : Type 0} (driver : DriverState) (log : List (DriverTurn P)) (put : Event P) → StandsFor driver log → IsWellFormed (admitted log ++ put ∷ []) → is_sent driver.closes ≡ false → count_of driver < driver.flight → HasComeOut put log
     → StandsFor (after_put put driver) (log ++ admission put ∷ [])

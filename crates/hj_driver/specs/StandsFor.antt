@@ -47,24 +47,22 @@ quiet_after Left (Quiet at Left) log = if took Right (is_QuietL at.0) log then N
 quiet_after Right (Quiet at Right) log = if took Left (is_QuietR at.0) log then None else Some at
 quiet_after side event log = None
 
+-- what a log leaves of the events that were put, each as it is after the turns behind it
+abbrev pub outstanding_by : {P X : Type 0} → (Event P → List (DriverTurn P) → Option X) → List (DriverTurn P) → List X
+outstanding_by after [] = []
+outstanding_by after (admission event ∷ later) = cons_option (after event later) (outstanding_by after later)
+outstanding_by after (receipt port message ∷ later) = outstanding_by after later
+outstanding_by after (closing ∷ later) = outstanding_by after later
+
 -- The outstanding arrivals, expiries and quiet events of a side, each with what was taken of it since it was put.
 abbrev pub arrivals_of : {P : Type 0} → Side → List (DriverTurn P) → List Arrival
-arrivals_of side [] = []
-arrivals_of side (admission event ∷ later) = cons_option (arrival_after side event later) (arrivals_of side later)
-arrivals_of side (receipt port message ∷ later) = arrivals_of side later
-arrivals_of side (closing ∷ later) = arrivals_of side later
+arrivals_of side log = outstanding_by (arrival_after side) log
 
 abbrev pub expiries_of : {P : Type 0} → Side → List (DriverTurn P) → List EventNo
-expiries_of side [] = []
-expiries_of side (admission event ∷ later) = cons_option (expiry_after side event later) (expiries_of side later)
-expiries_of side (receipt port message ∷ later) = expiries_of side later
-expiries_of side (closing ∷ later) = expiries_of side later
+expiries_of side log = outstanding_by (expiry_after side) log
 
 abbrev pub quiets_of : {P : Type 0} → Side → List (DriverTurn P) → List EventNo
-quiets_of side [] = []
-quiets_of side (admission event ∷ later) = cons_option (quiet_after side event later) (quiets_of side later)
-quiets_of side (receipt port message ∷ later) = quiets_of side later
-quiets_of side (closing ∷ later) = quiets_of side later
+quiets_of side log = outstanding_by (quiet_after side) log
 
 abbrev pub is_CloseL : {P : Type 0} → Msg P → Bool
 is_CloseL CloseL = true
