@@ -1,6 +1,6 @@
 -- What gives pairs in order, with one more report or one more pair.
-use Rattle.std.proofs.Common.{◌≡◌, ℕ, zero, suc, ◌<◌, Bool, true, false, List, [], ◌∷◌, ◌++◌, length, get_or, replicate, refl, ap, sym, ◌∙◌, subst, length-append, arith, true≢false}
-use Rattle.std.proofs.lemmas.List.{length-replicate, length-set, map-append, replicate-append-replicate}
+use Rattle.std.proofs.Common.{◌≡◌, ℕ, zero, suc, ◌<◌, Bool, true, false, List, [], ◌∷◌, ◌++◌, length, get_or, replicate, Option, refl, sym, ◌∙◌, subst, arith, true≢false}
+use Rattle.std.proofs.lemmas.List.{length-replicate, length-set, map-append}
 use Rattle.std.proofs.lemmas.List.Sums.{fold-append}
 use Rattle.std.proofs.lemmas.List.Sorted.{IsPermutation-refl}
 use Rattle.std.specs.declared.result.Result.{Result}
@@ -9,21 +9,24 @@ use Rattle.std.specs.Result.{OnErr, OnOk}
 use Rattle.std.specs.List.{fold}
 use Rattle.std.specs.List.Sorted.{IsPermutation}
 use Rattle.hj_msg.specs.declared.drain.Drained.{Drained}
-use Rattle.hj_msg.specs.declared.drain.Drained.TheVariants.{Kept, Refused}
+use Rattle.hj_msg.specs.declared.drain.Drained.TheVariants.{Kept}
 use Rattle.hj_msg.specs.declared.event.Pair.{Pair}
 use Rattle.hj_msg.specs.declared.message.Report.{Report}
-use Rattle.hj_msg.specs.Drain.{AreKept, Drainage, pairs_in}
+use Rattle.hj_msg.specs.Drain.{Drainage, pairs_in}
 use Rattle.hj_msg.specs.Emission.{emitted}
 use Rattle.hj_msg.specs.Met.{met, pairs_of}
+use Rattle.hj_msg.specs.Punctuation.{Mark, punctuation}
 use Rattle.hj_collect.specs.Collector.{CollectorState, least_mark}
 use Rattle.hj_collect.proofs.Following.{least_follows}
+use Rattle.hj_order.specs.Giving.{AreTakenOut, Gives}
+use Rattle.hj_order.proofs.Giving.{answered-both, takes-both}
 use Rattle.hj_raw.specs.Items.{Taken, lists_of, with_taken}
 use Rattle.hj_desk.specs.declared.in_order.InOrder.{InOrder}
-use Rattle.hj_desk.specs.InOrder.{AreAnswered, GivesInOrder}
+use Rattle.hj_desk.specs.InOrder.{GivesInOrder}
 use Rattle.hj_desk.specs.Outlet.{GivesDue, KeepsReport, LosesReport}
 use Rattle.hj_desk.specs.Releases.{Releases}
 use Rattle.hj_desk.proofs.Collecting.{releases-more}
-use Rattle.hj_desk.proofs.Releasing.{IsTakenOut, releases-pair, takes-both}
+use Rattle.hj_desk.proofs.Releasing.{taken-more}
 
 module _ {P : Type 0} where
   length-taken : (lists : List (List (Report P))) (taken : List (Taken P)) → length (fold with_taken lists taken) ≡ length lists
@@ -70,35 +73,20 @@ module _ {P D : Type 0} (takes : D → Pair P → Drained → D → Type 0) (col
     pub loses-report : LosesReport (GivesInOrder takes) collector report old now
     loses-report begun cores taken next over is noted given = with-report over true begun cores taken next is noted.known (λ lasts. absurd (true≢false lasts)) given
 
-  -- ---- pairs that are given, one after another
+  -- ---- all that are due are given
 
-  abbrev answer_in : Drainage P → Drained
-  answer_in one = one.answer
-
-  answered-more : (answer : Drained) (pairs : List (Drainage P)) (pair : Pair P) → AreKept pairs → AreAnswered answer (pairs ++ record { pair = pair; answer = answer } ∷ [])
-  answered-more Kept pairs pair each =
-      let one : Drainage P = record { pair = pair; answer = Kept } in
-      map-append answer_in pairs (one ∷ []) ∙ ap (λ l. l ++ Kept ∷ []) each ∙ replicate-append-replicate (length pairs) 1 Kept ∙ ap (λ (n : ℕ). replicate n Kept) (sym (length-append pairs (one ∷ [])))
-  answered-more Refused pairs pair each =
-      let one : Drainage P = record { pair = pair; answer = Refused } in
-      (length pairs, map-append answer_in pairs (one ∷ []) ∙ ap (λ l. l ++ Refused ∷ []) each)
-
-  pub gives-nothing : (old : InOrder P D) → GivesDue (GivesInOrder takes) collector Kept old old
-  gives-nothing old begun cores taken follows given = given
-
-  pub gives-pair : (old now : InOrder P D) → GivesDue (GivesInOrder takes) collector Kept old now → (left : List (Pair P)) (filled : D) (pair : Pair P) → IsTakenOut (least_mark collector) now.kept left pair → (answer : Drained) → takes now.drain pair answer filled
+  pub gives-due : (old : InOrder P D) (answer : Drained) (left : List (Pair P)) (filled : D) → Gives takes (least_mark collector) old.kept old.drain answer left filled
       → GivesDue (GivesInOrder takes) collector answer old (record { kept = left; drain = filled })
-  gives-pair old now before left filled pair out answer took begun cores taken follows given =
-      let so_far = before begun cores taken follows given in
+  gives-due old answer left filled gives begun cores taken follows given =
       let lists = lists_of cores taken in
-      let one : Drainage P = record { pair = pair; answer = answer } in
+      let out : AreTakenOut (punctuation lists) old.kept (pairs_in gives.pairs) left = subst (λ (m : Option Mark). AreTakenOut m old.kept (pairs_in gives.pairs) left) (least_follows collector lists follows) gives.out in
       record {
-        pairs = so_far.pairs ++ one ∷ [];
-        drain = takes-both takes so_far.pairs (one ∷ []) begun.drain now.drain filled so_far.drain (filled, took, refl);
-        answered = answered-more answer so_far.pairs pair so_far.answered;
+        pairs = given.pairs ++ gives.pairs;
+        drain = takes-both takes given.pairs gives.pairs begun.drain old.drain filled given.drain gives.drain;
+        answered = answered-both answer given.pairs gives.pairs given.answered gives.answered;
         released =
-            subst (λ (given : List (Pair P)). Releases lists false left given) (sym (map-append (λ (o : Drainage P). o.pair) so_far.pairs (one ∷ [])))
-            (releases-pair lists now.kept left (pairs_in so_far.pairs) pair so_far.released (subst (λ m. IsTakenOut m now.kept left pair) (least_follows collector lists follows) out));
+            subst (λ (pairs : List (Pair P)). Releases lists false left pairs) (sym (map-append (λ (o : Drainage P). o.pair) given.pairs gives.pairs))
+            (taken-more lists old.kept left (pairs_in given.pairs) (pairs_in gives.pairs) given.released out);
       }
 
 -- what follows of an answer

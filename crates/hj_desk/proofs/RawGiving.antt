@@ -1,6 +1,6 @@
 -- What gives raw items, with one more report or one more item.
-use Rattle.std.proofs.Common.{◌≡◌, ℕ, ◌≤◌, false, List, [], ◌∷◌, ◌++◌, length, map, replicate, None, Option, refl, ap, ap₂, sym, ◌∙◌, subst, append_assoc, length-append, true≢false}
-use Rattle.std.proofs.lemmas.List.{map-append, replicate-append-replicate}
+use Rattle.std.proofs.Common.{◌≡◌, ℕ, ◌≤◌, false, List, [], ◌∷◌, ◌++◌, map, None, Option, refl, ap, ap₂, sym, ◌∙◌, subst, append_assoc, true≢false}
+use Rattle.std.proofs.lemmas.List.{map-append}
 use Rattle.std.specs.declared.result.Result.{Result}
 use Rattle.std.specs.declared.result.Result.TheVariants.{Ok, Err}
 use Rattle.std.specs.Result.{OnErr}
@@ -12,6 +12,7 @@ use Rattle.hj_msg.specs.Met.{pairs_of}
 use Rattle.hj_msg.specs.Punctuation.{Mark, punctuation}
 use Rattle.hj_collect.specs.Collector.{CollectorState, least_mark}
 use Rattle.hj_collect.proofs.Following.{least_follows}
+use Rattle.hj_order.proofs.Giving.{all-kept, last-refused}
 use Rattle.hj_raw.specs.Drain.{AreKept, Offer, TakesItems, items_in}
 use Rattle.hj_raw.specs.Items.{Item, Taken, items_of_report, joined, lists_of, mark_behind, raw_items, with_taken}
 use Rattle.hj_raw.specs.Waiting.{Waiting, with_report}
@@ -85,12 +86,8 @@ module _ {P D : Type 0} (takes : D → Item P → Drained → D → Type 0) wher
     answer_in one = one.answer
 
     answered-more : (answer : Drained) (offers : List (Offer P)) (item : Item P) → AreKept offers → AreAnswered answer (offers ++ record { item = item; answer = answer } ∷ [])
-    answered-more Kept offers item each =
-        let one : Offer P = record { item = item; answer = Kept } in
-        map-append answer_in offers (one ∷ []) ∙ ap (λ l. l ++ Kept ∷ []) each ∙ replicate-append-replicate (length offers) 1 Kept ∙ ap (λ (n : ℕ). replicate n Kept) (sym (length-append offers (one ∷ [])))
-    answered-more Refused offers item each =
-        let one : Offer P = record { item = item; answer = Refused } in
-        (length offers, map-append answer_in offers (one ∷ []) ∙ ap (λ l. l ++ Refused ∷ []) each)
+    answered-more Kept offers item each = all-kept answer_in offers (record { item = item; answer = Kept } ∷ []) each refl
+    answered-more Refused offers item each = last-refused answer_in offers (record { item = item; answer = Refused } ∷ []) each (0, refl)
 
     pub raw-nothing : (old : Raw P D) → GivesDue (GivesRaw takes) collector Kept old old
     raw-nothing old begun cores taken follows given = given

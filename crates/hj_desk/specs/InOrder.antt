@@ -1,17 +1,12 @@
 -- Pairs that are given in the order of the sequential join.
 use Rattle.std.specs.Prelude.{ℕ, Bool, List}
 use Rattle.hj_msg.specs.declared.drain.Drained.{Drained}
-use Rattle.hj_msg.specs.declared.drain.Drained.TheVariants.{Kept, Refused}
 use Rattle.hj_msg.specs.declared.event.Pair.{Pair}
-use Rattle.hj_msg.specs.Drain.{AreKept, Drainage, IsLastRefused, TakesAll, pairs_in}
+use Rattle.hj_msg.specs.Drain.{Drainage, TakesAll, pairs_in}
+pub use Rattle.hj_order.specs.Giving.{AreAnswered}
 use Rattle.hj_raw.specs.Items.{Taken, lists_of}
 use Rattle.hj_desk.specs.declared.in_order.InOrder.{InOrder}
 use Rattle.hj_desk.specs.Releases.{Releases}
-
--- How pairs were answered: each one was kept; or the last one was refused, and each other one kept.
-abbrev pub AreAnswered : {P : Type 0} → Drained → List (Drainage P) → Type 0
-AreAnswered Kept pairs = AreKept pairs
-AreAnswered Refused pairs = IsLastRefused pairs
 
 -- The drain took pairs, the first ones of those that are emitted of these reports.
 pub record GivesInOrder {P D : Type 0} (takes : D → Pair P → Drained → D → Type 0) (begun : InOrder P D) (cores : ℕ) (taken : List (Taken P)) (over : Bool) (answer : Drained) (now : InOrder P D) : Type 0 where

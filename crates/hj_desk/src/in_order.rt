@@ -49,14 +49,6 @@ impl<P: Share + Drop, D: Drain<P>> Outlet<P> for InOrder<P, D> {
     }
 
     fn release(&mut self, collector: &Collector) -> Drained {
-        let Some(mark) = collector.punctuation() else {
-            return Drained::Kept;
-        };
-        while let Some(pair) = self.kept.release(mark) {
-            if self.drain.pair(pair) == Drained::Refused {
-                return Drained::Refused;
-            }
-        }
-        Drained::Kept
+        self.kept.give_due(collector, &mut self.drain)
     }
 }

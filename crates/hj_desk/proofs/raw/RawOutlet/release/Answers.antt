@@ -5,7 +5,7 @@ use Rattle.hj_raw.specs.Waiting.{Waiting, item_of}
 use Rattle.hj_desk.specs.Outlet.{GivesDue}
 use Rattle.hj_desk.specs.Raw.{GivesRaw}
 use Rattle.hj_desk.proofs.RawGiving.{raw-gives}
-use Rattle.hj_desk.proofs.Releasing.{was-kept}
+use Rattle.hj_order.proofs.Giving.{was-kept}
 use Rattle.hj_desk.proofs.raw.RawOutlet.release.Goals as goal
 
 pub returns-then-eq-clause-due : goal.returns-then-eq-clause-due
