@@ -1,2 +1,3 @@
 pub mod HeldChannel
 pub mod PortWord
+pub mod Spelled

@@ -10,10 +10,10 @@ mod outside;
 mod role_stream;
 mod role_streams;
 mod sink;
-#[cfg(test)]
-mod tests;
 
+pub use channel::Channel;
 pub use collected::Collected;
 pub use output::{BehindOutput, Output};
 pub use outside::RealOutside;
+pub use role_stream::RoleStream;
 pub use sink::RealSink;

@@ -1,7 +1,10 @@
-//! Worked examples of the parts that a join is made of, from bytes to rows, windows and lines, and of the words of the
-//! command line, over the public calls of crates below. A crate that has tests of its own is proved twice.
+//! Worked examples of the parts that a join is made of, from bytes to rows, windows and lines, of the words of the command
+//! line, and of the real edge, over the public calls of crates below. A crate that has tests of its own is proved twice.
+//! What has many parts, as an outside, is dropped by a call, so that how these are let go is proved once for its type.
 #![tactic(auto)]
 
+#[cfg(test)]
+mod edge;
 #[cfg(test)]
 mod generated;
 #[cfg(test)]

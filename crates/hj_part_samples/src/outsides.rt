@@ -38,7 +38,7 @@ fn writes_until_a_listed_call(rt: HostRuntime) {
 }
 
 /// Starts a role, and asserts that it is ready.
-fn starts<O: Outside>(rt: &impl Abort, outside: &mut O, role: Role, name: &str)
+pub(crate) fn starts<O: Outside>(rt: &impl Abort, outside: &mut O, role: Role, name: &str)
     requires { (O.state outside.old role).phase ≡ unbegun }
     ensures open { IsOpen (O.state outside.new role).phase }
     ensures others { ChangesOnly role (O.state outside.old) (O.state outside.new) }
@@ -48,7 +48,7 @@ fn starts<O: Outside>(rt: &impl Abort, outside: &mut O, role: Role, name: &str)
 }
 
 /// Starts a role, and asserts that it fails.
-fn fails_to_start<O: Outside>(rt: &impl Abort, outside: &mut O, role: Role, name: &str)
+pub(crate) fn fails_to_start<O: Outside>(rt: &impl Abort, outside: &mut O, role: Role, name: &str)
     requires { (O.state outside.old role).phase ≡ unbegun }
     ensures { ChangesOnly role (O.state outside.old) (O.state outside.new) }
 {
@@ -57,7 +57,13 @@ fn fails_to_start<O: Outside>(rt: &impl Abort, outside: &mut O, role: Role, name
 }
 
 /// Reads a role once, and asserts that this word comes: the bytes, `end` or `failed`.
-fn reads_once<O: Outside>(rt: &impl Abort, outside: &mut O, role: Role, buf: &mut [u8], word: &str)
+pub(crate) fn reads_once<O: Outside>(
+    rt: &impl Abort,
+    outside: &mut O,
+    role: Role,
+    buf: &mut [u8],
+    word: &str,
+)
     requires open { IsOpen (O.state outside.old role).phase }
     requires room { 0 < length buf.old }
     ensures open { IsOpen (O.state outside.new role).phase }
@@ -182,6 +188,7 @@ fn run(rt: &impl Abort, alloc: Global, chunk: usize, look: Look)
 {
     let mut outside = one_name(rt, alloc, chunk);
     looks(rt, &mut outside, look);
+    drop(outside);
 }
 
 #[test]

@@ -1,16 +1,18 @@
+//! The real edge: files and ports that are read, and output that is collected before it is handed on.
+
 ghost use Rattle.std.specs.Prelude.{◌≡◌, ◌<◌, length};
 ghost use Rattle.hj_base.specs.Outside.{unbegun, IsOpen};
 ghost use Rattle.hj_base.specs.declared.outside.Role.TheVariants as role;
+ghost use Rattle.hj_net.specs.RealOutside.{role_at};
 ghost use Rattle.hj_net.specs.RoleStream.{role_of};
 
-use crate::address::{Address, address_of};
-use crate::channel::{Channel, open};
-use crate::role_stream::RoleStream;
-use crate::{Output, RealOutside, RealSink};
+use crate::outsides::{fails_to_start, reads_once, starts};
+use crate::texts::same;
 use hj_base::{Got, Opened, Outside, Put, Role, Sink};
+use hj_net::{Channel, Output, RealOutside, RealSink, RoleStream};
 use std::alloc::Global;
 use std::cell::Cell;
-use std::io::{ErrorKind, Read, Write};
+use std::io::{ErrorKind, Read, Sink as Nowhere, Write};
 use std::net::{Ipv4Addr, Net, OpenListener, SocketAddr, TcpListener, TcpStream};
 use std::process::Abort;
 use std::rt::Files;
@@ -85,9 +87,9 @@ fn has_written(rt: &impl Abort, written: &Written, writes: usize, bytes: usize) 
     );
 }
 
-/// Makes an output whose writes are counted.
-fn counted<'a>(rt: &impl Abort, alloc: Global, written: &'a Written) -> Output<Counting<'a>> {
-    Output::new(alloc, Counting { written }).expect(rt, "memory")
+/// Makes an output over this writer.
+fn output_to<W: Write + Drop>(rt: &impl Abort, alloc: Global, writer: W) -> Output<W> {
+    Output::new(alloc, writer).expect(rt, "memory")
 }
 
 /// Writes a piece once, and asserts the answer.
@@ -95,10 +97,6 @@ fn puts<S: Sink>(rt: &impl Abort, sink: &mut S, piece: &[u8], put: Put)
     requires { 0 < length piece.now }
 {
     assert_eq!(rt; sink.write(piece), put);
-}
-
-fn holds(rt: &impl Abort, found: &[u8], bytes: &[u8]) {
-    assert_eq!(rt; found, bytes);
 }
 
 fn puts_lines<W: Write + Drop>(rt: &impl Abort, output: &Output<W>) {
@@ -115,7 +113,7 @@ fn hands_on<W: Write + Drop>(rt: &impl Abort, output: &Output<W>) {
 #[test]
 fn collects_until_handed_on(rt: HostRuntime) {
     let written = Written::new();
-    let output = counted(&rt, rt.alloc(), &written);
+    let output = output_to(&rt, rt.alloc(), Counting { written: &written });
     puts_lines(&rt, &output);
     has_written(&rt, &written, 0, 0);
     hands_on(&rt, &output);
@@ -126,7 +124,7 @@ fn collects_until_handed_on(rt: HostRuntime) {
 #[test]
 fn tells_how_much_was_taken(rt: HostRuntime) {
     let written = Written::new();
-    let output = counted(&rt, rt.alloc(), &written);
+    let output = output_to(&rt, rt.alloc(), Counting { written: &written });
     let mut sink = RealSink::output(&output);
     puts(&rt, &mut sink, &[b'x'; 10_000], Put::Wrote(3_000));
     has_written(&rt, &written, 1, 3_000);
@@ -148,7 +146,7 @@ fn puts_past_the_room<W: Write + Drop, E: Write + Drop>(
 }
 
 fn fills(rt: &impl Abort, alloc: Global, room: &mut [u8], written: &mut [u8]) {
-    let output = Output::new(alloc, room).expect(rt, "memory");
+    let output = output_to(rt, alloc, room);
     puts_past_the_room(rt, &output, written);
 }
 
@@ -156,33 +154,8 @@ fn fills(rt: &impl Abort, alloc: Global, room: &mut [u8], written: &mut [u8]) {
 fn keeps_a_refusal(rt: HostRuntime) {
     let (mut room, mut written) = ([0; 5], [0; 7]);
     fills(&rt, rt.alloc(), &mut room, &mut written);
-    holds(&rt, &room, b"1,7\n2");
-    holds(&rt, &written, b"note\n\0\0");
-}
-
-/// Starts the left stream, and asserts that its one line is read.
-fn reads_a_line<O: Outside + Drop>(rt: &impl Abort, mut outside: O, name: &str)
-    requires { (O.state outside role.Left).phase ≡ unbegun }
-{
-    let opened = outside.start(Role::Left, name);
-    assert!(rt; matches!(opened, Opened::Ready));
-    let mut buf = [0; 5];
-    let got = outside.read(Role::Left, &mut buf);
-    assert!(rt; matches!(got, Got::Bytes(4)));
-    holds(rt, &buf, b"1,7\n\0");
-}
-
-fn makes_a_file(rt: &(impl Files + Abort), name: &str) {
-    assert!(rt; fs::write(rt, name, "1,7\n").is_ok());
-}
-
-fn reads_a_file<R, W>(rt: &R, alloc: Global, output: &Output<W>, name: &str)
-where
-    R: Files + Net + Abort,
-    W: Write + Drop,
-{
-    let outside = RealOutside::new(rt, alloc, output);
-    reads_a_line(rt, outside, name);
+    same(&rt, "lines", &room, b"1,7\n2");
+    same(&rt, "notes", &written, b"note\n\0\0");
 }
 
 fn puts_a_pair<W: Write + Drop>(rt: &impl Abort, output: &Output<W>) {
@@ -204,7 +177,8 @@ fn is_refused_once<W: Write + Drop>(rt: &impl Abort, output: Output<W>) {
 #[test]
 fn hands_on_what_waits_at_its_end(rt: HostRuntime) {
     let written = Written::new();
-    lets_go(&rt, counted(&rt, rt.alloc(), &written));
+    let writer = Counting { written: &written };
+    lets_go(&rt, output_to(&rt, rt.alloc(), writer));
     has_written(&rt, &written, 1, 7);
 }
 
@@ -212,31 +186,76 @@ fn hands_on_what_waits_at_its_end(rt: HostRuntime) {
 fn hands_on_nothing_after_a_refusal(rt: HostRuntime) {
     let written = Written::new();
     let writer = Refusing { written: &written };
-    let output = Output::new(rt.alloc(), writer).expect(&rt, "memory");
-    is_refused_once(&rt, output);
+    is_refused_once(&rt, output_to(&rt, rt.alloc(), writer));
     has_written(&rt, &written, 1, 0);
+}
+
+/// Makes the streams of the system, beside an output.
+fn edge<R: Files + Net + Drop, W: Write + Drop>(
+    rt: R,
+    alloc: Global,
+    output: &Output<W>,
+) -> RealOutside<'_, R, W>
+    ensures { (role_at result role.Left).phase ≡ unbegun }
+{
+    RealOutside::new(rt, alloc, output)
+}
+
+/// Starts the left stream, and asserts that its one line is read.
+fn reads_a_line<O: Outside>(rt: &impl Abort, outside: &mut O, name: &str)
+    requires { (O.state outside.old role.Left).phase ≡ unbegun }
+{
+    starts(rt, outside, Role::Left, name);
+    let mut buf = [0; 5];
+    reads_once(rt, outside, Role::Left, &mut buf, "1,7\n");
+    same(rt, name, &buf, b"1,7\n\0");
+}
+
+/// Writes a line into a file of this name.
+fn makes_a_file(rt: &(impl Files + Abort), name: &str) {
+    assert!(rt; fs::write(rt, name, "1,7\n").is_ok());
+}
+
+fn removes(rt: &(impl Files + Abort), name: &str) {
+    assert!(rt; fs::remove_file(rt, name).is_ok());
+}
+
+/// Makes a file of this name, reads it beside an output, and removes it.
+fn reads_a_file<R, W>(rt: &R, alloc: Global, output: &Output<W>, name: &str)
+where
+    R: Files + Net + Abort,
+    W: Write + Drop,
+{
+    makes_a_file(rt, name);
+    reads_a_line(rt, &mut edge(rt, alloc, output), name);
+    removes(rt, name);
 }
 
 #[test]
 fn hands_on_before_it_reads(rt: HostRuntime) {
-    let name = "hands_on_before_it_reads.csv";
-    makes_a_file(&rt, name);
     let written = Written::new();
-    let output = counted(&rt, rt.alloc(), &written);
+    let output = output_to(&rt, rt.alloc(), Counting { written: &written });
     puts_a_pair(&rt, &output);
-    reads_a_file(&rt, rt.alloc(), &output, name);
+    reads_a_file(&rt, rt.alloc(), &output, "hands_on_before_it_reads.csv");
     has_written(&rt, &written, 1, 7);
-    assert!(rt; fs::remove_file(&rt, name).is_ok());
+}
+
+fn nowhere(rt: &impl Abort, alloc: Global) -> Output<Nowhere> {
+    output_to(rt, alloc, io::sink())
 }
 
 #[test]
 fn opens_a_file_under_exactly_its_name(rt: HostRuntime) {
-    let name = " with a blank at each end ";
-    makes_a_file(&rt, name);
-    let written = Written::new();
-    let output = counted(&rt, rt.alloc(), &written);
-    reads_a_file(&rt, rt.alloc(), &output, name);
-    assert!(rt; fs::remove_file(&rt, name).is_ok());
+    let output = nowhere(&rt, rt.alloc());
+    for name in [" with a blank at each end ", "./listen:80", "listen"] {
+        reads_a_file(&rt, rt.alloc(), &output, name);
+    }
+}
+
+/// Asserts that nothing is opened under a name.
+fn is_refused<R: Files + Net + Abort>(rt: &R, alloc: Global, name: &str) {
+    let output = nowhere(rt, alloc);
+    fails_to_start(rt, &mut edge(rt, alloc, &output), Role::Left, name);
 }
 
 /// Returns a listener of a port that was free, and the port.
@@ -246,60 +265,37 @@ fn free_port<R: Net + Abort>(rt: &R) -> (R::Listener, u16) {
     (listener, port)
 }
 
-fn is_refused<R: Files + Net + Abort>(rt: &R, name: &str) {
-    assert!(rt; open(rt, name).is_none(), "at {name}");
+/// Makes the name under which a role listens to a port.
+fn listening(rt: &impl Abort, alloc: Global, port: u16) -> String {
+    format!(in alloc; "listen:{port}").expect(rt, "memory")
 }
 
 #[test]
 fn refuses_what_it_cannot_open(rt: HostRuntime) {
-    for name in ["no_such_file.csv", ".", "listen:0", "listen:"] {
-        is_refused(&rt, name);
+    for name in ["no_such_file.csv", ".", ""] {
+        is_refused(&rt, rt.alloc(), name);
     }
     let (_taken, port) = free_port(&rt);
-    is_refused(&rt, &listening(&rt, rt.alloc(), port));
+    is_refused(&rt, rt.alloc(), &listening(&rt, rt.alloc(), port));
 }
 
-const PORTS: &str = "\
-listen:47811 47811
-listen:1 1
-listen:65535 65535
-listen:080 80";
-
-/// One name per line, the last of which is empty.
-const FILES: &str = "\
-./listen:80
-listen
-";
-
-const REFUSED: &str = "\
-listen:65536
-listen:0
-listen:
-listen:+80
-listen:80 ";
-
-/// Asserts what a name spells.
-fn spells(rt: &impl Abort, name: &str, address: Option<Address>) {
-    assert!(rt; address_of(name) == address, "at {name}");
-}
-
-/// Asserts that the name on a line spells the port on it.
-fn spells_a_port(rt: &impl Abort, line: &str) {
-    let (name, digits) = line.split_once(' ').expect(rt, "a port");
-    let port = digits.parse::<u16>().expect(rt, "a number");
-    spells(rt, name, Some(Address::Port(port)));
+/// Asserts that nothing is opened under a name, even where a file has it.
+fn is_no_address(rt: &(impl Files + Net + Abort), alloc: Global, name: &str) {
+    makes_a_file(rt, name);
+    is_refused(rt, alloc, name);
+    removes(rt, name);
 }
 
 #[test]
-fn reads_addresses(rt: HostRuntime) {
-    for line in PORTS.lines() {
-        spells_a_port(&rt, line);
-    }
-    for name in FILES.split('\n') {
-        spells(&rt, name, Some(Address::File));
-    }
-    for name in REFUSED.lines() {
-        spells(&rt, name, None);
+fn refuses_what_is_no_port(rt: HostRuntime) {
+    for name in [
+        "listen:",
+        "listen:0",
+        "listen:65536",
+        "listen:+80",
+        "listen:80 ",
+    ] {
+        is_no_address(&rt, rt.alloc(), name);
     }
 }
 
@@ -347,7 +343,7 @@ fn begun<S: Read + Drop>(rt: &impl Abort, alloc: Global, stream: S) -> RoleStrea
 }
 
 /// Reads the stream of a role once, and asserts the answer.
-fn reads_once<S: Read + Drop>(
+fn answers<S: Read + Drop>(
     rt: &impl Abort,
     role_stream: &mut RoleStream<S>,
     buf: &mut [u8],
@@ -369,11 +365,11 @@ fn reads_on_after_a_failed_read(rt: HostRuntime) {
     let channel: FailingChannel = Channel::File(stream);
     let mut role_stream = begun(&rt, rt.alloc(), channel);
     let mut buf = [0; 3];
-    reads_once(&rt, &mut role_stream, &mut buf, Got::Bytes(3));
-    reads_once(&rt, &mut role_stream, &mut buf, Got::Failed);
-    reads_once(&rt, &mut role_stream, &mut buf, Got::Bytes(1));
-    holds(&rt, &buf, b"dbc");
-    reads_once(&rt, &mut role_stream, &mut buf, Got::End);
+    answers(&rt, &mut role_stream, &mut buf, Got::Bytes(3));
+    answers(&rt, &mut role_stream, &mut buf, Got::Failed);
+    answers(&rt, &mut role_stream, &mut buf, Got::Bytes(1));
+    same(&rt, "what was read", &buf, b"dbc");
+    answers(&rt, &mut role_stream, &mut buf, Got::End);
 }
 
 #[test]
@@ -381,30 +377,30 @@ fn fails_where_no_peer_comes(rt: HostRuntime) {
     let channel: FailingChannel = Channel::Listening(Lonely);
     let mut role_stream = begun(&rt, rt.alloc(), channel);
     let mut buf = [0; 3];
-    reads_once(&rt, &mut role_stream, &mut buf, Got::Failed);
-    reads_once(&rt, &mut role_stream, &mut buf, Got::Failed);
+    answers(&rt, &mut role_stream, &mut buf, Got::Failed);
+    answers(&rt, &mut role_stream, &mut buf, Got::Failed);
 }
 
-/// Makes the name under which a role listens to a port.
-fn listening(rt: &impl Abort, alloc: Global, port: u16) -> String {
-    format!(in alloc; "listen:{port}").expect(rt, "memory")
+/// Returns whether a peer can connect to a port at an address.
+fn connects(rt: &impl Net, address: Ipv4Addr, port: u16) -> bool {
+    TcpStream::connect(rt, (address, port)).is_ok()
 }
 
-/// Asserts that a channel listens to this port of this machine, and so to no other one.
-fn listens_at<F, L: OpenListener, S>(rt: &impl Abort, channel: &Channel<F, L, S>, port: u16) {
-    let Channel::Listening(listener) = channel else {
-        panic!(rt; "no listener");
-    };
-    let address = listener.local_addr().expect(rt, "an address");
-    assert!(rt; address == SocketAddr::from((Ipv4Addr::LOCALHOST, port)));
+/// Starts the left stream at a port, and asserts that a peer can connect to it at the address of this machine alone.
+fn listens_here<O: Outside>(rt: &(impl Net + Abort), outside: &mut O, name: &str, port: u16)
+    requires { (O.state outside.old role.Left).phase ≡ unbegun }
+{
+    starts(rt, outside, Role::Left, name);
+    assert!(rt; !connects(rt, Ipv4Addr::new(127, 0, 0, 2), port));
+    assert!(rt; connects(rt, Ipv4Addr::LOCALHOST, port));
 }
 
 #[test]
 fn listens_to_this_machine_alone(rt: HostRuntime) {
     let (_, port) = free_port(&rt);
     let name = listening(&rt, rt.alloc(), port);
-    let channel = open(&rt, &name).expect(&rt, "the port is taken");
-    listens_at(&rt, &channel, port);
+    let output = nowhere(&rt, rt.alloc());
+    listens_here(&rt, &mut edge(&rt, rt.alloc(), &output), &name, port);
 }
 
 /// Connects to a port, sends bytes and closes.
@@ -413,20 +409,24 @@ fn send(rt: &(impl Net + Abort), port: u16, bytes: &[u8]) {
     assert!(rt; peer.write_all(bytes).is_ok());
 }
 
-/// Reads once, and asserts that this many bytes come.
-fn reads_bytes<C: Read>(rt: &impl Abort, channel: &mut C, buf: &mut [u8], count: usize) {
-    assert_eq!(rt; channel.read(buf).ok(), Some(count));
+/// Starts the left stream at a port to which two peers send, and asserts that it has the bytes of the first one.
+fn reads_one_peer<O: Outside>(rt: &(impl Net + Abort), outside: &mut O, name: &str, port: u16)
+    requires { (O.state outside.old role.Left).phase ≡ unbegun }
+{
+    starts(rt, outside, Role::Left, name);
+    send(rt, port, b"1,7");
+    send(rt, port, b"2,7\n");
+    let mut buf = [0; 4];
+    reads_once(rt, outside, Role::Left, &mut buf, "1,7");
+    same(rt, name, &buf, b"1,7\0");
+    reads_once(rt, outside, Role::Left, &mut buf, "end");
 }
 
 #[test]
 fn reads_the_first_peer_alone(rt: HostRuntime) {
     let (_, port) = free_port(&rt);
-    let name = listening(&rt, rt.alloc(), port);
-    let mut channel = open(&rt, &name).expect(&rt, "the port is taken");
-    send(&rt, port, b"1,7");
-    send(&rt, port, b"2,7\n");
-    let mut buf = [0; 4];
-    reads_bytes(&rt, &mut channel, &mut buf, 3);
-    holds(&rt, &buf, b"1,7\0");
-    reads_bytes(&rt, &mut channel, &mut buf, 0);
+    // Zeros in front don't change a port.
+    let name = format!(in rt.alloc(); "listen:0{port}").expect(&rt, "memory");
+    let output = nowhere(&rt, rt.alloc());
+    reads_one_peer(&rt, &mut edge(&rt, rt.alloc(), &output), &name, port);
 }
