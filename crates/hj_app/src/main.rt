@@ -3,42 +3,12 @@
 //! that a seed determines.
 #![tactic(auto)]
 
-#[cfg(test)]
-mod cases;
-mod ended;
-#[cfg(test)]
-mod failure_tests;
-#[cfg(test)]
-mod gen_tests;
-mod generate;
-mod join;
-#[cfg(test)]
-mod join_tests;
-#[cfg(test)]
-mod note_tests;
-#[cfg(test)]
-mod peer;
-mod plan;
-mod recipe;
-mod serial;
-mod serve;
-mod trace;
-#[cfg(test)]
-mod trace_tests;
-#[cfg(test)]
-mod turn_tests;
-mod twice;
-#[cfg(test)]
-mod twice_tests;
-#[cfg(test)]
-mod word_tests;
-
 use hj_base::OpenGate;
 use hj_net::{Output, RealOutside, RealSink};
 use hj_notes::{Note, Reason};
-use serve::{Parties, serve};
+use hj_serve::{Parties, serve};
 use std::env;
-use std::io::ErrorKind;
+use std::io::{ErrorKind, Write};
 use std::process::ExitCode;
 use std::sync::Wait;
 use std::thread::Threads;
@@ -59,20 +29,35 @@ fn main(rt: HostRuntime) -> ExitCode {
 
 /// Serves the words and hands on the output. Returns the status, or a note that wasn't written yet. `threads` may start threads.
 fn run<T: Threads + Wait + Clock + Sync>(rt: HostRuntime, threads: &T) -> Result<u8, Note> {
-    let alloc = rt.alloc();
     let words = words_after_name(&rt)?;
-    let output = Output::new(alloc, rt.stdout())?;
-    let mut out = RealSink::output(&output);
-    let mut notes = RealSink::errors(&output, rt.stderr());
-    let mut outside = RealOutside::new(rt, alloc, &output);
+    let output = Output::new(rt.alloc(), rt.stdout())?;
+    let status = serve_over(rt, threads, &words, &output);
+    // Where output was refused, no note was written after it.
+    output.hand_on().map_err(|_| Note::Sink)?;
+    Ok(status)
+}
+
+/// Serves the words over files and ports, beside this output.
+fn serve_over<T: Threads + Wait + Clock + Sync, W: Write + Drop>(
+    rt: HostRuntime,
+    threads: &T,
+    words: &[String],
+    output: &Output<W>,
+) -> u8 {
+    let alloc = rt.alloc();
+    let mut out = RealSink::output(output);
+    let mut notes = RealSink::errors(output, rt.stderr());
+    let mut outside = RealOutside::new(rt, alloc, output);
     let parties = Parties {
         rt: threads,
         gate: &OpenGate,
     };
-    let served = serve(alloc, &words, &parties, &mut outside, &mut out, &mut notes);
-    // Where output was refused, no note was written after it.
-    output.hand_on().map_err(|_| Note::Sink)?;
-    Ok(served.status)
+    let served = serve(alloc, words, &parties, &mut outside, &mut out, &mut notes);
+    let status = served.status;
+    // Both are dropped by a call, so that how their parts are let go is proved once for each type.
+    drop(served);
+    drop(outside);
+    status
 }
 
 /// Returns the words after the program's name, or the note that says why they couldn't be read.

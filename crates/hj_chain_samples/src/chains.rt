@@ -418,6 +418,7 @@ fn run(rt: &impl Abort, alloc: Global, rows: TwoRows, flight: u16, look: Look)
     let mut feed = rows;
     let mut chain = chain_of(rt, alloc, 2, flight, &mut feed);
     looks(rt, alloc, &mut chain, &mut feed, look);
+    drop(chain);
 }
 
 #[test]

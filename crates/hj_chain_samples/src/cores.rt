@@ -32,8 +32,9 @@ fn handled(alloc: Global, core: &mut RowCore, msg: Msg<Row>) -> Result<String, M
     let text = format!(in alloc;
         "{:?} / {:?} {:?} / {:?}",
         sends.to_left, sends.to_right, sends.to_right_then, sends.entry
-    )?;
-    Ok(text)
+    );
+    drop(sends);
+    Ok(text?)
 }
 
 /// Handles the message of a line, and looks what is sent and reported for it.
@@ -43,15 +44,18 @@ fn handles(rt: &impl Abort, alloc: Global, core: &mut RowCore, line: &str) {
     same(rt, line, &found, want);
 }
 
-/// Makes a core of two that handled messages: a line is a message, and what it sent and reported for it.
-fn run(rt: &impl Abort, alloc: Global, place: u16, steps: &str) -> RowCore
+/// Has one of two cores handle messages: a line is a message, and what is sent and reported for it. Returns whether the core has ended
+/// then, and its place.
+fn run(rt: &impl Abort, alloc: Global, place: u16, steps: &str) -> (bool, CoreNo)
     requires { place < 2 }
 {
     let mut core = core_at(place, alloc);
     for line in steps.lines() {
         handles(rt, alloc, &mut core, line);
     }
-    core
+    let seen = (core.ended(), core.place());
+    drop(core);
+    seen
 }
 
 /// The left row is the first. At the right core the right row is in flight; then it is acknowledged, and rests there unsettled.
@@ -104,9 +108,9 @@ CloseR: Some(CloseR) / None None / Some(Ended)";
 #[test]
 fn right_row_comes_first(rt: HostRuntime) {
     run(&rt, rt.alloc(), 1, RIGHT_FIRST_AT_1);
-    let core = run(&rt, rt.alloc(), 0, RIGHT_FIRST_AT_0);
-    assert!(rt; core.ended());
-    assert!(rt; core.place() == CoreNo(0));
+    let (ended, place) = run(&rt, rt.alloc(), 0, RIGHT_FIRST_AT_0);
+    assert!(rt; ended);
+    assert!(rt; place == CoreNo(0));
 }
 
 /// Shows that a core goes to another thread where its rows, its join and its stores do.
@@ -120,4 +124,5 @@ fn sent_core<P: Send, J: Join<P> + Send, S: Store<P, J> + Send>(
 fn cores_are_sent(rt: HostRuntime) {
     let core = sent_core(core_at(1, rt.alloc()));
     assert!(rt; !core.ended());
+    drop(core);
 }

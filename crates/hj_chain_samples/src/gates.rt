@@ -59,6 +59,7 @@ fn steps_drawn(rt: &impl Abort, alloc: Global, seed: u64, flight: u16) -> Vec<(C
     let mut chain = chain_of(rt, alloc, 3, flight, &mut feed);
     let mut steps = Vec::new(alloc);
     note_steps(rt, &mut chain, &mut feed, seed, &mut steps);
+    drop(chain);
     steps
 }
 
@@ -93,6 +94,7 @@ fn runs_so(rt: &impl Abort, alloc: Global, seed: u64, flight: u16, steps: &[(Cor
     let mut chain = chain_of(rt, alloc, 3, flight, &mut feed);
     let mut drain = room_for(1);
     let fin = chain.run_serial(Chooser::Seeded(seed), &mut feed, &mut drain, &gate);
+    drop(chain);
     assert!(rt; fin == Fin::Done);
     assert!(rt; gate.passes.get() == steps.len());
     assert!(rt; !gate.astray.get());

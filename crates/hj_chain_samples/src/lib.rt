@@ -1,5 +1,6 @@
 //! Worked rows of the chain of cores, over the public calls of crates below: messages, links, stores, cores, workers, the driver, what
-//! is collected and released, chains on one thread, and runs on threads. A crate that has tests of its own is proved twice.
+//! is collected and released, chains on one thread, and runs on threads. A crate that has tests of its own is proved twice. What has
+//! many parts, as a chain, is dropped by a call, so that how these are let go is proved once for its type.
 #![tactic(auto)]
 
 #[cfg(test)]

@@ -128,6 +128,10 @@ fn a_worker_without_a_place_answers_no_memory(rt: HostRuntime) {
     let (sender, mut reports) = one_way(rt.alloc(), 4).expect(&rt, "memory");
     let mut worker = worker_between(rt.alloc(), at_left, at_right, sender);
     finds_no_place(&rt, &mut worker, &mut left, &mut right, &mut reports);
+    drop(worker);
+    drop(left);
+    drop(right);
+    drop(reports);
 }
 
 /// Makes a chain of two cores with such stores, before a feed of two rows that has given none.
@@ -164,4 +168,5 @@ fn a_chain_without_a_place_is_over(rt: HostRuntime) {
     step_all(&rt, rt.alloc(), &mut chain, &mut feed, NO_PLACE);
     assert!(rt; chain.enabled() == 0);
     assert!(rt; chain.pair().is_none());
+    drop(chain);
 }

@@ -197,6 +197,7 @@ fn a_quiet_event_lets_pairs_out(rt: HostRuntime) {
     assert!(rt; next_pair(&mut chain).is_none());
     put_quiet(&rt, &mut chain, &mut feed);
     gives_two(&rt, &mut chain);
+    drop(chain);
 }
 
 /// Runs the chain serially: the feed is asked for no event before the pairs came that the quiet events let out.
@@ -206,6 +207,7 @@ fn runs_serially(rt: &impl Abort, alloc: Global, chooser: Chooser) {
     let mut chain = two_cores(rt, alloc, &mut feed);
     let mut drain = CountedPairs { pairs: &pairs };
     let fin = chain.run_serial(chooser, &mut feed, &mut drain, &OpenGate);
+    drop(chain);
     assert!(rt; fin == Fin::Done);
     assert!(rt; pairs.get() == 4);
     assert!(rt; feed.early == 0);

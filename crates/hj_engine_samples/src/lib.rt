@@ -1,4 +1,5 @@
-//! Joins of whole streams, over the public calls of crates below: a crate that has tests of its own is proved twice.
+//! Joins of whole streams, over the public calls of crates below: a crate that has tests of its own is proved twice. What has many
+//! parts, as a query, is dropped by a call, so that how these are let go is proved once for its type.
 #![tactic(auto)]
 
 #[cfg(test)]

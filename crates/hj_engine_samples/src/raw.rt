@@ -29,6 +29,7 @@ fn join_case<R: Abort + Threads + Wait + Clock + Sync, O: Outside, K: Sink>(
     let plan = crew_plan(rt, way, &OpenGate);
     start_two(rt, outside);
     let (ended, ran) = join_raw(alloc, &query, &plan, limit, outside, sink);
+    drop(query);
     is_done(rt, ran);
     is_ended(rt, alloc, ended, case);
 }
@@ -49,6 +50,7 @@ fn joined_raw<R: Abort + Threads + Wait + Clock + Sync>(
     let mut outside = streams_of(rt, alloc, case);
     let mut sink = MemSink::new(alloc, 100);
     join_case(rt, alloc, way, case, &mut outside, &mut sink);
+    drop(outside);
     sink
 }
 

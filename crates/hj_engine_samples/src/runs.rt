@@ -60,14 +60,16 @@ pub(crate) fn joined<R: Abort + Threads + Wait + Clock + Sync, O: Outside, K: Si
     let query = query_of(rt, alloc, case.query);
     let limit = u64::from(number(rt, Some(case.limit)));
     start_two(rt, outside);
-    match mode {
+    let ended = match mode {
         Mode::Serial(plan) => join_serial(alloc, &query, plan, limit, outside, sink),
         Mode::Threads(plan) => {
             let (ended, ran) = join_threads(alloc, &query, plan, limit, outside, sink);
             is_done(rt, ran);
             ended
         }
-    }
+    };
+    drop(query);
+    ended
 }
 
 /// Joins the streams left and right, and their pairs with the third stream, and tells how that ends.
@@ -91,7 +93,10 @@ fn joined_twice<R: Abort + Threads + Wait + Clock + Sync, O: Outside, K: Sink, G
         second: &second,
         limit: u64::from(number(rt, Some(case.limit))),
     };
-    join_twice(alloc, joins, mode, outside, sink)
+    let ended = join_twice(alloc, joins, mode, outside, sink);
+    drop(first);
+    drop(second);
+    ended
 }
 
 /// Makes the join of a case, or its two joins, and tells how that ends.
@@ -151,6 +156,8 @@ pub(crate) fn run<R: Abort + Threads + Wait + Clock + Sync, G: Gate + Sync>(
     let mut sink = MemSink::new(alloc, 100);
     make(rt, alloc, way, case, gate, &mut outside, &mut sink);
     is_written(rt, alloc, &sink, case);
+    drop(outside);
+    drop(sink);
 }
 
 /// Runs a case in some ways.

@@ -88,7 +88,10 @@ fn watched<R: Abort + Threads + Wait + Clock + Sync>(
         sink: MemSink::new(alloc, 100),
         lines,
     };
-    watch(rt, alloc, case, &mut outside, &mut sink)
+    let found = watch(rt, alloc, case, &mut outside, &mut sink);
+    drop(outside);
+    drop(sink);
+    found
 }
 
 const FIVE_ROWS: &str = "\

@@ -95,6 +95,7 @@ fn compares_pairs(rt: &impl Abort, alloc: Global, condition: &str, orders: &str)
     for pair in PAIRS.lines() {
         compares(rt, alloc, &query, orders, pair);
     }
+    drop(query);
 }
 
 #[test]
@@ -154,6 +155,7 @@ fn evaluates(rt: &impl Abort, alloc: Global, line: &str) {
     let want = want.parse::<bool>().expect(rt, "whether it holds");
     let query = query(rt, alloc, condition);
     let (found, ready) = says_of(rt, alloc, &query, left, right);
+    drop(query);
     same(rt, line, found, want);
     same(rt, line, ready, want);
 }

@@ -1,6 +1,7 @@
-//! Worked rows of queries, over the public calls of crates below: their texts, what their conditions say of rows, and the merge
-//! of two streams under their windows. A crate that has tests of its own is proved twice. A table is one text, a line for each
-//! row, since a row that is code costs the check more than the rest of its test.
+//! Worked rows of queries, over the public calls of crates below: their texts, what their conditions say of rows, the merge of two
+//! streams under their windows, and the notes on standard error. A crate that has tests of its own is proved twice. A table is one
+//! text, a line for each row, since a row that is code costs the check more than the rest of its test. What has many parts, as a
+//! query, is dropped by a call, so that how these are let go is proved once for its type.
 #![tactic(auto)]
 
 #[cfg(test)]
@@ -11,6 +12,8 @@ mod canonical_texts;
 mod conditions;
 #[cfg(test)]
 mod merges;
+#[cfg(test)]
+mod notes;
 #[cfg(test)]
 mod parts;
 #[cfg(test)]

@@ -216,7 +216,7 @@ fn rows_left<O: Outside>(
 }
 
 /// What is asked of a merger: its answers; whether it is ready for each, and its answers; or the first one alone.
-#[derive(Clone, Copy, PartialEq, Eq)]
+#[derive(Clone, Copy)]
 enum Ask {
     Answers,
     ReadyAnswers,
@@ -231,7 +231,7 @@ fn puts_ready(rt: &impl Abort, text: &mut String, merger: &Merger) {
 
 /// Adds to a text whether a merger is ready, if that is asked.
 fn puts_asked(rt: &impl Abort, text: &mut String, merger: &Merger, ask: Ask) {
-    if ask == Ask::ReadyAnswers {
+    if matches!(ask, Ask::ReadyAnswers) {
         puts_ready(rt, text, merger);
     }
 }
@@ -272,7 +272,7 @@ fn answers<O: Outside>(
     requires left { IsInStep merger.old.sides.left.reading.ended (O.state outside.old role.Left) }
     requires right { IsInStep merger.old.sides.right.reading.ended (O.state outside.old role.Right) }
 {
-    let text = if ask == Ask::First {
+    let text = if matches!(ask, Ask::First) {
         rows_left(rt, alloc, merger, outside)
     } else {
         merged(rt, alloc, merger, outside, ask)
@@ -287,6 +287,7 @@ fn asks<O: Outside>(rt: &impl Abort, alloc: Global, case: &Case<'_>, outside: &m
 {
     let mut merger = begun(rt, alloc, case, outside);
     answers(rt, alloc, &mut merger, outside, ask, case.want);
+    drop(merger);
 }
 
 /// Merges the streams of a case, of which a read gives at most `chunk` bytes, and one fails, if it is named.
@@ -303,6 +304,7 @@ fn run(
     let mut outside = contents(rt, alloc, case, chunk);
     fails(rt, &mut outside, failing);
     asks(rt, alloc, case, &mut outside, ask);
+    drop(outside);
 }
 
 /// Merges the streams of a line, read in small, middling and large portions.
