@@ -60,3 +60,11 @@ ChangesOnly role old new = (other : Role) → other ≢ role → new other ≡ o
 -- Nothing changes but the roles of the two streams of a join.
 abbrev pub ChangesOnlyStreams : (Role → RoleState) → (Role → RoleState) → Type 0
 ChangesOnlyStreams old new = (other : Role) → other ≢ role.Left → other ≢ role.Right → new other ≡ old other
+
+-- No role has begun.
+abbrev pub NoneBegun : (Role → RoleState) → Type 0
+NoneBegun state = (of : Role) → (state of).phase ≡ unbegun
+
+-- Under each name stands what stood there.
+abbrev pub NamesStay : (List ℕ → Option (List ℕ)) → (List ℕ → Option (List ℕ)) → Type 0
+NamesStay before now = (name : List ℕ) → now name ≡ before name

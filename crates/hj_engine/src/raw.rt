@@ -1,4 +1,5 @@
-ghost use Rattle.std.specs.Prelude.{◌≡◌, false, List, ℕ, IfNone, IfSome};
+ghost use Rattle.std.specs.Prelude.{◌≡◌, false, ℕ, IfNone, IfSome};
+ghost use Rattle.hj_base.specs.Outside.{NamesStay};
 ghost use Rattle.hj_base.specs.declared.outside.Role.TheVariants as role;
 ghost use Rattle.hj_event.specs.Merger.{IsNew};
 ghost use Rattle.hj_event.specs.Roles.{IsInStep};
@@ -49,7 +50,7 @@ pub fn join_raw<T: Threads + Wait + Clock + Sync, O: Outside, K: Sink, G: Gate +
     ensures no_run { IfNone result.1 (result.0 ≡ Outcome.Memory) }
     ensures untouched { IfNone result.1 ((O.state outside.new ≡ O.state outside.old) × (K.told out.new ≡ K.told out.old)) }
     ensures faults { CountsSinkFault result.0 (K.faults out.old) (K.faults out.new) }
-    ensures names { (name : List ℕ) → O.under outside.new name ≡ O.under outside.old name }
+    ensures names { NamesStay (O.under outside.old) (O.under outside.new) }
 {
     let Ok(mut merger) = Merger::new(alloc, query, limit) else {
         return (Outcome::Memory, None);
@@ -78,7 +79,7 @@ fn join_merged<T: Threads + Wait + Clock + Sync, O: Outside, K: Sink, G: Gate + 
     ensures no_run { IfNone result.1 (result.0 ≡ Outcome.Memory) }
     ensures untouched { IfNone result.1 ((O.state outside.new ≡ O.state outside.old) × (K.told out.new ≡ K.told out.old)) }
     ensures faults { CountsSinkFault result.0 (K.faults out.old) (K.faults out.new) }
-    ensures names { (name : List ℕ) → O.under outside.new name ≡ O.under outside.old name }
+    ensures names { NamesStay (O.under outside.old) (O.under outside.new) }
 {
     let feed = EventFeed::new(merger, limit, outside);
     let mut line = Vec::new(alloc);
@@ -119,7 +120,7 @@ fn join_feed<'f, 'd, T: Threads + Wait + Clock + Sync, O: Outside, K: Sink, G: G
     ensures untouched { IfNone ran.new ((O.state result.feed.outside.now ≡ O.state feed.entry.outside.now)
         × (K.told result.drain.out.now ≡ K.told drain.entry.out.now)) }
     ensures faults { CountsSinkFault result.ended (K.faults drain.entry.out.now) (K.faults result.drain.out.now) }
-    ensures names { (name : List ℕ) → O.under result.feed.outside.now name ≡ O.under feed.entry.outside.now name }
+    ensures names { NamesStay (O.under feed.entry.outside.now) (O.under result.feed.outside.now) }
 {
     let run = QueryRun { alloc, query, plan };
     let (result, feed, drain) = run.run_raw(feed, drain);

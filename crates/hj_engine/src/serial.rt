@@ -1,4 +1,5 @@
-ghost use Rattle.std.specs.Prelude.{◌≡◌, false, List, ℕ};
+ghost use Rattle.std.specs.Prelude.{◌≡◌, false, ℕ};
+ghost use Rattle.hj_base.specs.Outside.{NamesStay};
 ghost use Rattle.hj_base.specs.declared.outside.Role.TheVariants as role;
 ghost use Rattle.hj_event.specs.Merger.{IsNew};
 ghost use Rattle.hj_event.specs.Roles.{IsInStep};
@@ -31,7 +32,7 @@ pub fn join_serial<O: Outside, K: Sink, G: Gate>(
     ensures joins { Joins result query.now limit (O.state outside.old) (O.state outside.new)
         (K.told out.old) (K.told out.new) }
     ensures faults { CountsSinkFault result (K.faults out.old) (K.faults out.new) }
-    ensures names { (name : List ℕ) → O.under outside.new name ≡ O.under outside.old name }
+    ensures names { NamesStay (O.under outside.old) (O.under outside.new) }
 {
     let join = LineJoin {
         query,
@@ -54,7 +55,7 @@ pub fn join_serial_by<L: PairLine, O: Outside, K: Sink, G: Gate>(
     ensures joins { JoinsBy (L.line join.now.lines.now) result join.now.query.now join.now.limit (O.state outside.old) (O.state outside.new)
         (K.told out.old) (K.told out.new) }
     ensures faults { CountsSinkFault result (K.faults out.old) (K.faults out.new) }
-    ensures names { (name : List ℕ) → O.under outside.new name ≡ O.under outside.old name }
+    ensures names { NamesStay (O.under outside.old) (O.under outside.new) }
 {
     let Ok(mut merger) = Merger::new(alloc, join.query, join.limit) else {
         return Outcome::Memory;
@@ -80,7 +81,7 @@ fn join_merged<L: PairLine, O: Outside, K: Sink, G: Gate>(
     ensures joins { JoinsBy (L.line join.now.lines.now) result join.now.query.now join.now.limit (O.state outside.old) (O.state outside.new)
         (K.told out.old) (K.told out.new) }
     ensures faults { CountsSinkFault result (K.faults out.old) (K.faults out.new) }
-    ensures names { (name : List ℕ) → O.under outside.new name ≡ O.under outside.old name }
+    ensures names { NamesStay (O.under outside.old) (O.under outside.new) }
 {
     let mut feed = EventFeed::new(merger, join.limit, outside);
     let mut line = Vec::new(alloc);
@@ -102,7 +103,7 @@ fn join_feed<O: Outside, K: Sink, L: PairLine, G: Gate>(
     ensures joins { (limit : ℕ) → IsUnasked query.now limit feed.old → JoinsBy (L.line drain.old.lines.now) result query.now limit
         (O.state feed.old.outside.now) (O.state feed.new.outside.now) (K.told drain.old.out.now) (K.told drain.new.out.now) }
     ensures faults { CountsSinkFault result (K.faults drain.old.out.now) (K.faults drain.new.out.now) }
-    ensures names { (name : List ℕ) → O.under feed.new.outside.now name ≡ O.under feed.old.outside.now name }
+    ensures names { NamesStay (O.under feed.old.outside.now) (O.under feed.new.outside.now) }
 {
     let fin = run_chain(alloc, query, plan, feed, drain);
     outcome_of(fin, feed, drain)

@@ -1,4 +1,5 @@
-ghost use Rattle.std.specs.Prelude.{◌≡◌, false, List, ℕ, IfNone, IfSome};
+ghost use Rattle.std.specs.Prelude.{◌≡◌, false, ℕ, IfNone, IfSome};
+ghost use Rattle.hj_base.specs.Outside.{NamesStay};
 ghost use Rattle.hj_base.specs.declared.outside.Role.TheVariants as role;
 ghost use Rattle.hj_event.specs.Merger.{IsNew};
 ghost use Rattle.hj_event.specs.Roles.{IsInStep};
@@ -43,7 +44,7 @@ pub fn join_threads<T: Threads + Wait + Clock + Sync, O: Outside, K: Sink, G: Ga
     ensures no_run { IfNone result.1 (result.0 ≡ Outcome.Memory) }
     ensures untouched { IfNone result.1 ((O.state outside.new ≡ O.state outside.old) × (K.told out.new ≡ K.told out.old)) }
     ensures faults { CountsSinkFault result.0 (K.faults out.old) (K.faults out.new) }
-    ensures names { (name : List ℕ) → O.under outside.new name ≡ O.under outside.old name }
+    ensures names { NamesStay (O.under outside.old) (O.under outside.new) }
 {
     let join = LineJoin {
         query,
@@ -74,7 +75,7 @@ pub fn join_threads_by<
     ensures no_run { IfNone result.1 (result.0 ≡ Outcome.Memory) }
     ensures untouched { IfNone result.1 ((O.state outside.new ≡ O.state outside.old) × (K.told out.new ≡ K.told out.old)) }
     ensures faults { CountsSinkFault result.0 (K.faults out.old) (K.faults out.new) }
-    ensures names { (name : List ℕ) → O.under outside.new name ≡ O.under outside.old name }
+    ensures names { NamesStay (O.under outside.old) (O.under outside.new) }
 {
     let Ok(mut merger) = Merger::new(alloc, join.query, join.limit) else {
         return (Outcome::Memory, None);
@@ -102,7 +103,7 @@ fn join_merged<L: PairLine, T: Threads + Wait + Clock + Sync, O: Outside, K: Sin
     ensures no_run { IfNone result.1 (result.0 ≡ Outcome.Memory) }
     ensures untouched { IfNone result.1 ((O.state outside.new ≡ O.state outside.old) × (K.told out.new ≡ K.told out.old)) }
     ensures faults { CountsSinkFault result.0 (K.faults out.old) (K.faults out.new) }
-    ensures names { (name : List ℕ) → O.under outside.new name ≡ O.under outside.old name }
+    ensures names { NamesStay (O.under outside.old) (O.under outside.new) }
 {
     let feed = EventFeed::new(merger, join.limit, outside);
     let mut line = Vec::new(alloc);
@@ -151,7 +152,7 @@ fn join_feed<
     ensures untouched { IfNone ran.new ((O.state result.feed.outside.now ≡ O.state feed.entry.outside.now)
         × (K.told result.drain.out.now ≡ K.told drain.entry.out.now)) }
     ensures faults { CountsSinkFault result.ended (K.faults drain.entry.out.now) (K.faults result.drain.out.now) }
-    ensures names { (name : List ℕ) → O.under result.feed.outside.now name ≡ O.under feed.entry.outside.now name }
+    ensures names { NamesStay (O.under feed.entry.outside.now) (O.under result.feed.outside.now) }
 {
     let run = QueryRun { alloc, query, plan };
     let (result, feed, drain) = run.run_in_order(feed, drain);

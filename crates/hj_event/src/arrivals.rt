@@ -1,6 +1,6 @@
-ghost use Rattle.std.specs.Prelude.{◌≡◌, IsTrue, List, ℕ, None};
+ghost use Rattle.std.specs.Prelude.{◌≡◌, IsTrue, None};
 ghost use Rattle.hj_base.specs.declared.outside.Role.TheVariants as role;
-ghost use Rattle.hj_base.specs.Outside.{role_of, ChangesOnly};
+ghost use Rattle.hj_base.specs.Outside.{role_of, ChangesOnly, NamesStay};
 ghost use Rattle.hj_event.specs.Arriving.{first_side, last_of, TakesArrival, TakesHead};
 ghost use Rattle.hj_event.specs.Roles.{IsInStep};
 ghost use Rattle.hj_event.specs.Sides.{new_side, new_sides};
@@ -45,7 +45,7 @@ impl PeekedRows {
         requires { IsInStep self.old.reading.ended (O.state outside.old (role_of side)) }
         ensures looks { LooksAt result self.old self.new (O.state outside.old (role_of side)) (O.state outside.new (role_of side)) }
         ensures others { ChangesOnly (role_of side) (O.state outside.old) (O.state outside.new) }
-        ensures names { (name : List ℕ) → O.under outside.new name ≡ O.under outside.old name }
+        ensures names { NamesStay (O.under outside.old) (O.under outside.new) }
     {
         if self.head.is_some() {
             return Ok(());
@@ -66,7 +66,7 @@ impl PeekedRows {
         requires unknown { self.old.head ≡ None }
         ensures looks { LooksAt result self.old self.new (O.state outside.old (role_of side)) (O.state outside.new (role_of side)) }
         ensures others { ChangesOnly (role_of side) (O.state outside.old) (O.state outside.new) }
-        ensures names { (name : List ℕ) → O.under outside.new name ≡ O.under outside.old name }
+        ensures names { NamesStay (O.under outside.old) (O.under outside.new) }
     {
         match self.source.take_last() {
             Some(row) => {
@@ -84,7 +84,7 @@ impl PeekedRows {
         requires unknown { self.old.head ≡ None }
         ensures looks { LooksAt result self.old self.new (O.state outside.old (role_of side)) (O.state outside.new (role_of side)) }
         ensures others { ChangesOnly (role_of side) (O.state outside.old) (O.state outside.new) }
-        ensures names { (name : List ℕ) → O.under outside.new name ≡ O.under outside.old name }
+        ensures names { NamesStay (O.under outside.old) (O.under outside.new) }
     {
         self.head = self.source.next_row(side, outside)?;
         Ok(())
@@ -135,7 +135,7 @@ impl Arrivals {
         requires left { IsInStep self.old.left.reading.ended (O.state outside.old role.Left) }
         requires right { IsInStep self.old.right.reading.ended (O.state outside.old role.Right) }
         ensures takes { TakesArrival result self.old self.new (O.state outside.old) (O.state outside.new) }
-        ensures names { (name : List ℕ) → O.under outside.new name ≡ O.under outside.old name }
+        ensures names { NamesStay (O.under outside.old) (O.under outside.new) }
     {
         match self.left.look(Side::Left, outside) {
             Ok(()) => (),

@@ -1,4 +1,5 @@
-ghost use Rattle.std.specs.Prelude.{◌≡◌, IfOk, IsTrue, List, ℕ, false};
+ghost use Rattle.std.specs.Prelude.{◌≡◌, IfOk, IsTrue, false};
+ghost use Rattle.hj_base.specs.Outside.{NamesStay};
 ghost use Rattle.hj_base.specs.declared.outside.Role.TheVariants as role;
 ghost use Rattle.hj_event.specs.Merger.{answer_of, Answers, Arrives, Steps, IsNew, ReadsNothingNext};
 ghost use Rattle.hj_event.specs.Numbering.{has_due};
@@ -77,7 +78,7 @@ impl Merger {
         requires left { IsInStep self.old.sides.left.reading.ended (O.state outside.old role.Left) }
         requires right { IsInStep self.old.sides.right.reading.ended (O.state outside.old role.Right) }
         ensures answers { Answers result self.old self.new (O.state outside.old) (O.state outside.new) }
-        ensures names { (name : List ℕ) → O.under outside.new name ≡ O.under outside.old name }
+        ensures names { NamesStay (O.under outside.old) (O.under outside.new) }
     {
         if let Some(last) = self.over {
             return answer(last);
@@ -105,7 +106,7 @@ impl Merger {
         requires left { IsInStep self.old.sides.left.reading.ended (O.state outside.old role.Left) }
         requires right { IsInStep self.old.sides.right.reading.ended (O.state outside.old role.Right) }
         ensures steps { Steps result self.old self.new (O.state outside.old) (O.state outside.new) }
-        ensures names { (name : List ℕ) → O.under outside.new name ≡ O.under outside.old name }
+        ensures names { NamesStay (O.under outside.old) (O.under outside.new) }
     {
         if self.numbering.has_due() {
             return self.numbering.give();
@@ -120,7 +121,7 @@ impl Merger {
         requires right { IsInStep self.old.sides.right.reading.ended (O.state outside.old role.Right) }
         requires none { has_due self.old.numbering.due ≡ false }
         ensures steps { Steps result self.old self.new (O.state outside.old) (O.state outside.new) }
-        ensures names { (name : List ℕ) → O.under outside.new name ≡ O.under outside.old name }
+        ensures names { NamesStay (O.under outside.old) (O.under outside.new) }
     {
         self.arrive(outside)?;
         self.numbering.give()
@@ -133,7 +134,7 @@ impl Merger {
         requires right { IsInStep self.old.sides.right.reading.ended (O.state outside.old role.Right) }
         requires none { has_due self.old.numbering.due ≡ false }
         ensures arrives { Arrives result self.old self.new (O.state outside.old) (O.state outside.new) }
-        ensures names { (name : List ℕ) → O.under outside.new name ≡ O.under outside.old name }
+        ensures names { NamesStay (O.under outside.old) (O.under outside.new) }
     {
         let (side, row) = self.arrivals.next_arrival(outside)?;
         self.numbering.arrive(side, row)?;

@@ -1,5 +1,5 @@
-ghost use Rattle.std.specs.Prelude.{◌≡◌, ◌-◌, ◌<◌, ◌≤◌, List, ℕ, [], true, false, not, length, take, slice_index, position, IfOk, IsTrue};
-ghost use Rattle.hj_base.specs.Outside.{role_of, ChangesOnly};
+ghost use Rattle.std.specs.Prelude.{◌≡◌, ◌-◌, ◌<◌, ◌≤◌, [], true, false, not, length, take, slice_index, position, IfOk, IsTrue};
+ghost use Rattle.hj_base.specs.Outside.{role_of, ChangesOnly, NamesStay};
 ghost use Rattle.hj_record.specs.Blank.{is_blank};
 ghost use Rattle.hj_record.specs.LineEnd.{inside_after};
 ghost use Rattle.hj_record.specs.Cutter.{cleared};
@@ -167,7 +167,7 @@ impl Reader {
         requires rest { self.old.rest ≡ [] }
         ensures fills { Fills result self.old self.new (O.state outside.old (role_of side)) (O.state outside.new (role_of side)) }
         ensures others { ChangesOnly (role_of side) (O.state outside.old) (O.state outside.new) }
-        ensures names { (name : List ℕ) → O.under outside.new name ≡ O.under outside.old name }
+        ensures names { NamesStay (O.under outside.old) (O.under outside.new) }
     {
         match outside.read(side.role(), &mut self.portion) {
             Got::Bytes(count) => {

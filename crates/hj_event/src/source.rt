@@ -1,6 +1,6 @@
-ghost use Rattle.std.specs.Prelude.{◌≡◌, ◌≢◌, IsTrue, List, ℕ, [], false, true, is_some, IfOk, OnOk};
+ghost use Rattle.std.specs.Prelude.{◌≡◌, ◌≢◌, IsTrue, [], false, true, is_some, IfOk, OnOk};
 ghost use Rattle.hj_event.specs.declared.source.Ahead.TheVariants as known;
-ghost use Rattle.hj_base.specs.Outside.{role_of, ChangesOnly};
+ghost use Rattle.hj_base.specs.Outside.{role_of, ChangesOnly, NamesStay};
 ghost use Rattle.hj_record.specs.Pieces.{Stream};
 ghost use Rattle.hj_event.specs.Roles.{IsInStep};
 ghost use Rattle.hj_event.specs.Reads.{Fills};
@@ -86,7 +86,7 @@ impl Source {
         requires { IsInStep self.old.reading.ended (O.state outside.old (role_of side)) }
         ensures takes { TakesRow result (unseen self.old) (unseen self.new) (O.state outside.old (role_of side)) (O.state outside.new (role_of side)) }
         ensures others { ChangesOnly (role_of side) (O.state outside.old) (O.state outside.new) }
-        ensures names { (name : List ℕ) → O.under outside.new name ≡ O.under outside.old name }
+        ensures names { NamesStay (O.under outside.old) (O.under outside.new) }
     {
         for _ in 0..u64::MAX {
             match self.go_on()? {
@@ -134,7 +134,7 @@ impl Source {
         ensures fills { Fills result self.old.reading self.new.reading (O.state outside.old (role_of side)) (O.state outside.new (role_of side)) }
         ensures same { self.new ≡ record self.old { reading = self.new.reading } }
         ensures others { ChangesOnly (role_of side) (O.state outside.old) (O.state outside.new) }
-        ensures names { (name : List ℕ) → O.under outside.new name ≡ O.under outside.old name }
+        ensures names { NamesStay (O.under outside.old) (O.under outside.new) }
     {
         self.reader.fill(side, outside)
     }

@@ -5,7 +5,7 @@ use Rattle.std.specs.declared.result.Result.{Result}
 use Rattle.hj_base.specs.declared.outside.Role.{Role}
 use Rattle.hj_base.specs.declared.outside.Role.TheVariants as role
 use Rattle.hj_base.specs.Counts.{Rose}
-use Rattle.hj_base.specs.Outside.{RoleState, ChangesOnly, unbegun}
+use Rattle.hj_base.specs.Outside.{RoleState, ChangesOnly, unbegun, NoneBegun}
 use Rattle.hj_notes.specs.declared.note.Note.{Note}
 use Rattle.hj_notes.specs.declared.note.Note.TheVariants as why
 use Rattle.hj_notes.specs.declared.twice_note.TwiceNote.{TwiceNote}
@@ -44,7 +44,7 @@ pub record GetsSecond (got : Result Parts TwiceNote) (name : List ℕ) (under : 
 pub record GoesBehind (first : Parts) (name : List ℕ) (names : TwiceNames) (under : List ℕ → Option (List ℕ))
     (before : Role → RoleState) (told : List ℕ → Option (List ℕ)) (now : Role → RoleState) : Type 0 where
   pub second : names.second ≡ name
-  pub none : (of : Role) → (before of).phase ≡ unbegun
+  pub none : NoneBegun before
   pub gets : GetsQuery (Ok first) role.Query (named names.query) under before now
   pub told_as : told name ≡ under name
 

@@ -1,6 +1,5 @@
-ghost use Rattle.std.specs.Prelude.{◌≡◌};
 ghost use Rattle.hj_base.specs.declared.outside.Role.{Role};
-ghost use Rattle.hj_base.specs.Outside.{unbegun};
+ghost use Rattle.hj_base.specs.Outside.{NoneBegun};
 ghost use Rattle.hj_opening.specs.Calls.{call};
 ghost use Rattle.hj_opening.specs.Check.{SendsCanonical};
 ghost use Rattle.hj_opening.specs.Run.{RunsOrder};
@@ -21,7 +20,7 @@ pub fn check<O: Outside, K: Sink>(
     outside: &mut O,
     out: &mut K,
 ) -> Result<(), Note>
-    requires { (of : Role) → (O.state outside.old of).phase ≡ unbegun }
+    requires { NoneBegun (O.state outside.old) }
     ensures { RunsOrder result (check_query name.now)
         (call (O.under outside.old) (O.state outside.old) (O.state outside.new) (K.told out.old) (K.told out.new)
         (K.faults out.old) (K.faults out.new)) }

@@ -1,7 +1,7 @@
 ghost use Rattle.std.specs.Prelude.{◌≡◌, List, ℕ};
 ghost use Rattle.hj_base.specs.declared.outside.Role.{Role};
 ghost use Rattle.hj_base.specs.declared.outside.Role.TheVariants as roles;
-ghost use Rattle.hj_base.specs.Outside.{unbegun, ChangesOnly, IsOpen};
+ghost use Rattle.hj_base.specs.Outside.{unbegun, ChangesOnly, IsOpen, NamesStay, NoneBegun};
 ghost use Rattle.hj_opening.specs.Opening.{GetsQuery, Opens, Parses, ReadsText, refusal_of};
 ghost use Rattle.hj_opening.specs.Orders.{source_seen};
 ghost use Rattle.hj_opening.specs.Words.{named};
@@ -25,9 +25,9 @@ pub fn query_of<O: Outside>(
     source: Source<'_>,
     outside: &mut O,
 ) -> Result<Query, Note>
-    requires { (of : Role) → (O.state outside.old of).phase ≡ unbegun }
+    requires { NoneBegun (O.state outside.old) }
     ensures gets { GetsQuery result roles.Query (source_seen source.entry) (O.under outside.old) (O.state outside.old) (O.state outside.new) }
-    ensures names { (name : List ℕ) → O.under outside.new name ≡ O.under outside.old name }
+    ensures names { NamesStay (O.under outside.old) (O.under outside.new) }
 {
     match source {
         Source::Keyed(keyed) => Ok(equi(alloc, keyed.rows)?),
@@ -71,7 +71,7 @@ fn read_text<O: Outside>(alloc: Global, role: Role, outside: &mut O) -> Result<V
     requires { IsOpen (O.state outside.old role).phase }
     ensures reads { ReadsText result role (O.state outside.old role) (O.state outside.new role) }
     ensures others { ChangesOnly role (O.state outside.old) (O.state outside.new) }
-    ensures names { (name : List ℕ) → O.under outside.new name ≡ O.under outside.old name }
+    ensures names { NamesStay (O.under outside.old) (O.under outside.new) }
 {
     let mut text = Vec::new(alloc);
     let mut portion = [0; MOST_IN_READ];

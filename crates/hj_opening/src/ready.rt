@@ -1,6 +1,5 @@
-ghost use Rattle.std.specs.Prelude.{◌≡◌, List, ℕ};
 ghost use Rattle.hj_base.specs.declared.outside.Role.{Role};
-ghost use Rattle.hj_base.specs.Outside.{unbegun};
+ghost use Rattle.hj_base.specs.Outside.{NamesStay, NoneBegun};
 ghost use Rattle.hj_opening.specs.Orders.{join_seen};
 ghost use Rattle.hj_opening.specs.Ready.{MakesReady};
 ghost use Rattle.hj_opening.specs.Words.{TextKind};
@@ -19,9 +18,9 @@ pub fn make_ready<O: Outside>(
     join: JoinOrder<'_>,
     outside: &mut O,
 ) -> Result<Query, Note>
-    requires { (of : Role) → (O.state outside.old of).phase ≡ unbegun }
+    requires { NoneBegun (O.state outside.old) }
     ensures ready { (kind : TextKind) → MakesReady result (join_seen kind join.entry) (O.under outside.old) (O.state outside.old) (O.state outside.new) }
-    ensures names { (name : List ℕ) → O.under outside.new name ≡ O.under outside.old name }
+    ensures names { NamesStay (O.under outside.old) (O.under outside.new) }
 {
     let query = query_of(alloc, join.source, outside)?;
     open(outside, Role::Left, join.left)?;

@@ -1,6 +1,5 @@
-ghost use Rattle.std.specs.Prelude.{◌≡◌, List, ℕ};
 ghost use Rattle.hj_base.specs.declared.outside.Role.{Role};
-ghost use Rattle.hj_base.specs.Outside.{unbegun};
+ghost use Rattle.hj_base.specs.Outside.{NamesStay, NoneBegun};
 ghost use Rattle.hj_opening.specs.Orders.{chain_seen, checked_names_seen};
 ghost use Rattle.hj_opening.specs.ReadyToCheck.{MakesReadyToCheck};
 
@@ -20,10 +19,10 @@ pub fn make_ready_to_check<O: Outside>(
     check: CheckOrder<'_>,
     outside: &mut O,
 ) -> Result<Query, Note>
-    requires { (of : Role) → (O.state outside.old of).phase ≡ unbegun }
+    requires { NoneBegun (O.state outside.old) }
     ensures ready { MakesReadyToCheck result (chain_seen check.entry.size) check.entry.query.now (checked_names_seen check.entry) check.entry.limit
         (O.under outside.old) (O.state outside.old) (O.state outside.new) }
-    ensures names { (name : List ℕ) → O.under outside.new name ≡ O.under outside.old name }
+    ensures names { NamesStay (O.under outside.old) (O.under outside.new) }
 {
     let join = JoinOrder {
         source: Source::Named(check.query),

@@ -2,7 +2,7 @@ ghost use Rattle.std.specs.Prelude.{◌≡◌, List, ℕ};
 ghost use Rattle.std.specs.declared.option.Option.{Option};
 ghost use Rattle.hj_base.specs.declared.outside.Role.{Role};
 ghost use Rattle.hj_base.specs.declared.outside.Role.TheVariants as roles;
-ghost use Rattle.hj_base.specs.Outside.{RoleState, unbegun};
+ghost use Rattle.hj_base.specs.Outside.{RoleState, unbegun, NamesStay, NoneBegun};
 ghost use Rattle.hj_opening.specs.ReadyTwice.{GetsBoth, GetsSecond, GoesBehind, MakesTwiceReady, second_note};
 ghost use Rattle.hj_opening.specs.RunTwice.{common, end_of_second, end_of_twice, twice_names};
 ghost use Rattle.hj_opening.specs.Words.{TwiceNames};
@@ -48,7 +48,7 @@ pub fn make_twice_ready<O: Outside>(
     joins: TwiceOrder<'_>,
     outside: &mut O,
 ) -> Result<TwoQueries, TwiceNote>
-    requires { (of : Role) → (O.state outside.old of).phase ≡ unbegun }
+    requires { NoneBegun (O.state outside.old) }
     ensures { MakesTwiceReady result (twice_names joins.entry) joins.entry.limit (O.under outside.old) (O.state outside.old) (O.state outside.new) }
 {
     let queries = read_both(alloc, joins, outside)?;
@@ -65,9 +65,9 @@ fn read_both<O: Outside>(
     joins: TwiceOrder<'_>,
     outside: &mut O,
 ) -> Result<TwoQueries, TwiceNote>
-    requires { (of : Role) → (O.state outside.old of).phase ≡ unbegun }
+    requires { NoneBegun (O.state outside.old) }
     ensures gets { GetsBoth result (twice_names joins.entry) joins.entry.limit (O.under outside.old) (O.state outside.old) (O.state outside.new) }
-    ensures names { (name : List ℕ) → O.under outside.new name ≡ O.under outside.old name }
+    ensures names { NamesStay (O.under outside.old) (O.under outside.new) }
 {
     let first = read_query(alloc, Role::Query, joins.query, outside)?;
     read_behind(alloc, first, joins.second, outside)

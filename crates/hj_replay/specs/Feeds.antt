@@ -1,11 +1,11 @@
 -- What is seen of a feed of two streams' events, and what steps of a chain do to it.
-use Rattle.std.specs.Prelude.{◌≡◌, ◌-◌, ℕ, List, [], None, Some, is_some}
+use Rattle.std.specs.Prelude.{◌≡◌, ◌-◌, List, [], None, Some, is_some}
 use Rattle.std.specs.declared.option.Option.{Option}
 use Rattle.hj_value.specs.declared.field.Field.{Field}
 use Rattle.hj_base.specs.declared.outside.Outside.{Ghosts as OutsideGhosts}
 use Rattle.hj_base.specs.declared.outside.Role.{Role}
 use Rattle.hj_base.specs.declared.outside.Role.TheVariants as role
-use Rattle.hj_base.specs.Outside.{RoleState, ChangesOnlyStreams}
+use Rattle.hj_base.specs.Outside.{RoleState, ChangesOnlyStreams, NamesStay}
 use Rattle.hj_msg.specs.declared.event.Event.{Event}
 use Rattle.hj_msg.specs.declared.feed.Given.{Given}
 use Rattle.hj_msg.specs.Feed.{Answers, FeedState, GoesOverAnswers, numbering_of}
@@ -49,7 +49,7 @@ module _ {O : Type 0} {outside : OutsideGhosts O} where
   -- an answer of the feed
   abbrev pub gives : AlwaysReady O outside → Given (List Field) → AlwaysReady O outside → Type 0
   gives old answer new = (new.feed.outside.ghost_name ≡ old.feed.outside.ghost_name)
-      × ((name : List ℕ) → outside.under new.feed.outside.now name ≡ outside.under old.feed.outside.now name)
+      × NamesStay (outside.under old.feed.outside.now) (outside.under new.feed.outside.now)
       × Gives answer (record { merger = old.feed.merger.now; roles = roles_of old; events = old.feed.events; ended = old.feed.ended })
       (record { merger = new.feed.merger.now; roles = roles_of new; events = new.feed.events; ended = new.feed.ended })
       × Answers answer (state_of old) (state_of new)
@@ -57,7 +57,7 @@ module _ {O : Type 0} {outside : OutsideGhosts O} where
   -- The outside of a feed is the same one, and so are its names.
   pub record SameOutside (old new : AlwaysReady O outside) : Type 0 where
     pub same : new.feed.outside.ghost_name ≡ old.feed.outside.ghost_name
-    pub names : (name : List ℕ) → outside.under new.feed.outside.now name ≡ outside.under old.feed.outside.now name
+    pub names : NamesStay (outside.under old.feed.outside.now) (outside.under new.feed.outside.now)
 
   -- The feed gave answers, and nothing else was read.
   pub record Fed (old new : AlwaysReady O outside) : Type 0 where

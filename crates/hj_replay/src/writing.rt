@@ -1,4 +1,5 @@
 ghost use Rattle.std.specs.Prelude.{◌≡◌, ◌≢◌, None, false, List, ℕ, IfOk, OnErr};
+ghost use Rattle.hj_base.specs.Outside.{NamesStay};
 ghost use Rattle.hj_base.specs.declared.outside.Role.TheVariants as role;
 ghost use Rattle.hj_msg.specs.Feed.{IsFresh};
 ghost use Rattle.hj_eval.specs.Holds.{holds};
@@ -44,7 +45,7 @@ pub fn write_trace<O: Outside, K: Sink>(
     ensures writes { WritesTrace result query.now plan.size.cores plan.size.flight plan.chooser limit
         (O.state outside.old) (O.state outside.new) (K.told out.old) (K.told out.new) }
     ensures faults { CountsSinkFault result (K.faults out.old) (K.faults out.new) }
-    ensures names { (name : List ℕ) → O.under outside.new name ≡ O.under outside.old name }
+    ensures names { NamesStay (O.under outside.old) (O.under outside.new) }
 {
     let Ok(mut merger) = Merger::new(alloc, query, limit) else {
         return Outcome::Memory;
@@ -71,7 +72,7 @@ fn trace_merged<O: Outside, K: Sink>(
     ensures writes { WritesTrace result query.now plan.size.cores plan.size.flight plan.chooser limit
         (O.state outside.old) (O.state outside.new) (K.told out.old) (K.told out.new) }
     ensures faults { CountsSinkFault result (K.faults out.old) (K.faults out.new) }
-    ensures names { (name : List ℕ) → O.under outside.new name ≡ O.under outside.old name }
+    ensures names { NamesStay (O.under outside.old) (O.under outside.new) }
 {
     let events = EventFeed::new(merger, limit, outside);
     let mut feed = AlwaysReady { feed: events };
@@ -88,7 +89,7 @@ fn trace_feed<O: Outside, K: Sink>(
 ) -> Outcome
     requires { (limit : ℕ) × IsUnasked query.now limit feed.old.feed }
     ensures same_outside { feed.new.feed.outside.ghost_name ≡ feed.old.feed.outside.ghost_name }
-    ensures names { (name : List ℕ) → O.under feed.new.feed.outside.now name ≡ O.under feed.old.feed.outside.now name }
+    ensures names { NamesStay (O.under feed.old.feed.outside.now) (O.under feed.new.feed.outside.now) }
     ensures writes { (limit : ℕ) → IsUnasked query.now limit feed.old.feed
         → WritesTrace result query.now plan.size.cores plan.size.flight plan.chooser limit
         (roles_of feed.old) (roles_of feed.new) (K.told out.old) (K.told out.new) }

@@ -1,7 +1,7 @@
-ghost use Rattle.std.specs.Prelude.{◌≡◌, ℕ, List, IfOk};
+ghost use Rattle.std.specs.Prelude.{ℕ, List, IfOk};
 ghost use Rattle.std.specs.declared.option.Option.{Option};
 ghost use Rattle.hj_base.specs.declared.outside.Role.{Role};
-ghost use Rattle.hj_base.specs.Outside.{RoleState, unbegun};
+ghost use Rattle.hj_base.specs.Outside.{RoleState, NoneBegun};
 ghost use Rattle.hj_opening.specs.Calls.{call};
 ghost use Rattle.hj_serve.specs.Crew.{ShowsMade};
 ghost use Rattle.hj_opening.specs.Generating.{IsSummary};
@@ -52,7 +52,7 @@ pub fn generate<T: Threads + Wait + Clock + Sync, K: Sink, G: Gate + Sync>(
     plan: &CrewPlan<'_, T, G>,
     out: &mut K,
 ) -> Ended
-    ensures { (under : List ℕ → Option (List ℕ)) (roles : Role → RoleState) → ((of : Role) → (roles of).phase ≡ unbegun)
+    ensures { (under : List ℕ → Option (List ℕ)) (roles : Role → RoleState) → NoneBegun roles
         → RunsOnCrew (crew_seen plan.now.size) result (sum_up (recipe_seen recipe))
         (call under roles roles (K.told out.old) (K.told out.new) (K.faults out.old) (K.faults out.new)) }
 {

@@ -1,7 +1,6 @@
-ghost use Rattle.std.specs.Prelude.{◌≡◌, false, List, ℕ, IfNone, IfSome};
-ghost use Rattle.hj_base.specs.declared.outside.Role.{Role};
+ghost use Rattle.std.specs.Prelude.{◌≡◌, false, IfNone, IfSome};
 ghost use Rattle.hj_base.specs.declared.outside.Role.TheVariants as role;
-ghost use Rattle.hj_base.specs.Outside.{unbegun};
+ghost use Rattle.hj_base.specs.Outside.{NamesStay, NoneBegun};
 ghost use Rattle.hj_event.specs.Roles.{IsInStep};
 ghost use Rattle.hj_stream.specs.Joining.{CountsSinkFault};
 ghost use Rattle.hj_opening.specs.Calls.{call};
@@ -37,7 +36,7 @@ pub fn join_alone<O: Outside, K: Sink, G: Gate>(
     outside: &mut O,
     out: &mut K,
 ) -> Result<(), Note>
-    requires { (of : Role) → (O.state outside.old of).phase ≡ unbegun }
+    requires { NoneBegun (O.state outside.old) }
     ensures { RunsOrder result (join_seen pair_lines join.entry)
         (call (O.under outside.old) (O.state outside.old) (O.state outside.new) (K.told out.old) (K.told out.new)
         (K.faults out.old) (K.faults out.new)) }
@@ -56,7 +55,7 @@ pub fn join_on_threads<T: Threads + Wait + Clock + Sync, O: Outside, K: Sink, G:
     outside: &mut O,
     out: &mut K,
 ) -> Ended
-    requires { (of : Role) → (O.state outside.old of).phase ≡ unbegun }
+    requires { NoneBegun (O.state outside.old) }
     ensures { RunsOnCrew (crew_seen plan.now.size) result (join_seen (kind_of writing) join.entry)
         (call (O.under outside.old) (O.state outside.old) (O.state outside.new) (K.told out.old) (K.told out.new)
         (K.faults out.old) (K.faults out.new)) }
@@ -90,7 +89,7 @@ fn join_ready<T: Threads + Wait + Clock + Sync, O: Outside, K: Sink, G: Gate + S
         (O.state outside.old) (O.state outside.new) (K.told out.old) (K.told out.new)) }
     ensures no_run { IfNone result.1 (result.0 ≡ Outcome.Memory) }
     ensures faults { CountsSinkFault result.0 (K.faults out.old) (K.faults out.new) }
-    ensures names { (name : List ℕ) → O.under outside.new name ≡ O.under outside.old name }
+    ensures names { NamesStay (O.under outside.old) (O.under outside.new) }
 {
     match writing {
         Writing::InOrder => join_threads(alloc, query, plan, limit, outside, out),

@@ -1,6 +1,5 @@
-ghost use Rattle.std.specs.Prelude.{◌≡◌, Some};
-ghost use Rattle.hj_base.specs.declared.outside.Role.{Role};
-ghost use Rattle.hj_base.specs.Outside.{unbegun};
+ghost use Rattle.std.specs.Prelude.{Some};
+ghost use Rattle.hj_base.specs.Outside.{NoneBegun};
 ghost use Rattle.hj_opening.specs.Calls.{call};
 ghost use Rattle.hj_opening.specs.Run.{RunsOrder};
 ghost use Rattle.hj_opening.specs.Serve.{Serves};
@@ -25,7 +24,7 @@ pub fn serve_serial<O: Outside, K: Sink, N: Sink, G: Gate>(
     notes: &mut N,
     gate: &G,
 ) -> u8
-    requires roles { (of : Role) → (O.state outside.old of).phase ≡ unbegun }
+    requires roles { NoneBegun (O.state outside.old) }
     ensures serves { Serves result (Some (asked_alone order.entry))
         (call (O.under outside.old) (O.state outside.old) (O.state outside.new) (K.told out.old) (K.told out.new)
         (K.faults out.old) (K.faults out.new)) (N.told notes.old) (N.told notes.new) (N.refusals notes.old) (N.refusals notes.new) }
@@ -42,7 +41,7 @@ fn run_alone<O: Outside, K: Sink, G: Gate>(
     out: &mut K,
     gate: &G,
 ) -> Result<(), Note>
-    requires roles { (of : Role) → (O.state outside.old of).phase ≡ unbegun }
+    requires roles { NoneBegun (O.state outside.old) }
     ensures { RunsOrder result (asked_alone order.entry)
         (call (O.under outside.old) (O.state outside.old) (O.state outside.new) (K.told out.old) (K.told out.new)
         (K.faults out.old) (K.faults out.new)) }

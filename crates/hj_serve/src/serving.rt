@@ -1,6 +1,5 @@
 ghost use Rattle.std.specs.Prelude.{◌≡◌, ◌≢◌, ◌↔◌, IsSome, IfSome, None, Some, map, string_bytes};
-ghost use Rattle.hj_base.specs.declared.outside.Role.{Role};
-ghost use Rattle.hj_base.specs.Outside.{unbegun};
+ghost use Rattle.hj_base.specs.Outside.{NoneBegun};
 ghost use Rattle.hj_words.specs.Ranges.{IsInRange};
 ghost use Rattle.hj_opening.specs.Calls.{call};
 ghost use Rattle.hj_serve.specs.Crew.{CameToJoin, ShowsRun, crew_in, crew_of, spelled_in};
@@ -75,7 +74,7 @@ pub fn serve<T: Threads + Wait + Clock + Sync, O: Outside, K: Sink, N: Sink, G: 
     out: &mut K,
     notes: &mut N,
 ) -> Served
-    requires { (of : Role) → (O.state outside.old of).phase ≡ unbegun }
+    requires { NoneBegun (O.state outside.old) }
 
     // What is served, by the status.
     ensures serves { Serves result.status (order_of (map string_bytes words.now))
@@ -107,7 +106,7 @@ fn serve_order<T: Threads + Wait + Clock + Sync, O: Outside, K: Sink, N: Sink, G
     notes: &mut N,
 ) -> Served
     requires ranges { IsInRange order.now }
-    requires roles { (of : Role) → (O.state outside.old of).phase ≡ unbegun }
+    requires roles { NoneBegun (O.state outside.old) }
     ensures serves { Serves result.status (Some (asked_by order.now))
         (call (O.under outside.old) (O.state outside.old) (O.state outside.new) (K.told out.old) (K.told out.new)
         (K.faults out.old) (K.faults out.new)) (N.told notes.old) (N.told notes.new) (N.refusals notes.old) (N.refusals notes.new) }
@@ -161,7 +160,7 @@ fn run_on_threads<T: Threads + Wait + Clock + Sync, O: Outside, K: Sink, G: Gate
     outside: &mut O,
     out: &mut K,
 ) -> Ended
-    requires roles { (of : Role) → (O.state outside.old of).phase ≡ unbegun }
+    requires roles { NoneBegun (O.state outside.old) }
     ensures { RunsOnCrew (crew_seen plan.now.size) result (asked_threads order.entry)
         (call (O.under outside.old) (O.state outside.old) (O.state outside.new) (K.told out.old) (K.told out.new)
         (K.faults out.old) (K.faults out.new)) }

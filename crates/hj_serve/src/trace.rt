@@ -1,7 +1,6 @@
 ghost use Rattle.std.specs.Prelude.{◌≡◌, List, ℕ};
 ghost use Rattle.std.specs.declared.option.Option.{Option};
-ghost use Rattle.hj_base.specs.declared.outside.Role.{Role};
-ghost use Rattle.hj_base.specs.Outside.{unbegun};
+ghost use Rattle.hj_base.specs.Outside.{NoneBegun};
 ghost use Rattle.hj_opening.specs.Calls.{call};
 ghost use Rattle.hj_opening.specs.Orders.{chain_seen, check_seen, join_seen};
 ghost use Rattle.hj_opening.specs.ReadyToCheck.{RunsVerify};
@@ -25,7 +24,7 @@ pub fn trace_join<O: Outside, K: Sink>(
     outside: &mut O,
     out: &mut K,
 ) -> Result<(), Note>
-    requires { (of : Role) → (O.state outside.old of).phase ≡ unbegun }
+    requires { NoneBegun (O.state outside.old) }
     ensures { RunsOrder result (join_seen (step_lines (chain_seen plan.size) plan.chooser) join.entry)
         (call (O.under outside.old) (O.state outside.old) (O.state outside.new) (K.told out.old) (K.told out.new)
         (K.faults out.old) (K.faults out.new)) }
@@ -42,7 +41,7 @@ pub fn check_trace<O: Outside>(
     check: CheckOrder<'_>,
     outside: &mut O,
 ) -> Result<(), VerifyNote>
-    requires { (of : Role) → (O.state outside.old of).phase ≡ unbegun }
+    requires { NoneBegun (O.state outside.old) }
     ensures { (told : Option (List ℕ)) (faults : ℕ) → RunsVerify result (check_seen check.entry)
         (call (O.under outside.old) (O.state outside.old) (O.state outside.new) told told faults faults) }
 {

@@ -1,6 +1,4 @@
-ghost use Rattle.std.specs.Prelude.{◌≡◌};
-ghost use Rattle.hj_base.specs.declared.outside.Role.{Role};
-ghost use Rattle.hj_base.specs.Outside.{unbegun};
+ghost use Rattle.hj_base.specs.Outside.{NoneBegun};
 ghost use Rattle.hj_opening.specs.Calls.{call};
 ghost use Rattle.hj_opening.specs.RunTwice.{RunsTwice, twice_names};
 
@@ -27,7 +25,7 @@ pub fn join_in_row<T: Threads + Wait + Clock + Sync, O: Outside, K: Sink, G: Gat
     outside: &mut O,
     out: &mut K,
 ) -> Result<(), TwiceNote>
-    requires { (of : Role) → (O.state outside.old of).phase ≡ unbegun }
+    requires { NoneBegun (O.state outside.old) }
     ensures { RunsTwice result (twice_names joins.entry) joins.entry.limit
         (call (O.under outside.old) (O.state outside.old) (O.state outside.new) (K.told out.old) (K.told out.new)
         (K.faults out.old) (K.faults out.new)) }

@@ -3,10 +3,10 @@
 //! of the check of a trace, has besides what stands under `second` and `third`. `/` stands for a line feed and `~` for a carriage
 //! return, and a stream that is `?` isn't there. A query that begins with `on` is one of rows of two numbers over windows of ten
 //! rows.
-ghost use Rattle.std.specs.Prelude.{◌≡◌, ◌≤◌};
+ghost use Rattle.std.specs.Prelude.{◌≤◌};
 ghost use Rattle.hj_base.specs.declared.outside.Role.{Role};
 ghost use Rattle.hj_base.specs.MemOutside.{role_at};
-ghost use Rattle.hj_base.specs.Outside.{unbegun};
+ghost use Rattle.hj_base.specs.Outside.{NoneBegun};
 
 use hj_base::{Gate, MemOutside, MemSink, OpenGate, Role};
 use hj_serve::{Parties, serve};
@@ -148,7 +148,7 @@ pub struct World {
 
 impl World {
     pub fn new(alloc: Global, chunks: Chunks) -> World
-        ensures { (of : Role) → (role_at result.outside of).phase ≡ unbegun }
+        ensures { NoneBegun (role_at result.outside) }
     {
         World {
             outside: MemOutside::new(alloc, chunks.read),
@@ -159,16 +159,16 @@ impl World {
 
     /// Puts bytes under a name.
     pub fn add(&mut self, rt: &impl Abort, name: &str, bytes: &[u8])
-        requires { (of : Role) → (role_at self.old.outside of).phase ≡ unbegun }
-        ensures { (of : Role) → (role_at self.new.outside of).phase ≡ unbegun }
+        requires { NoneBegun (role_at self.old.outside) }
+        ensures { NoneBegun (role_at self.new.outside) }
     {
         self.outside.add(name, bytes).expect(rt, "memory");
     }
 
     /// Puts a text of a table under a name.
     fn put(&mut self, rt: &impl Abort, alloc: Global, name: &str, text: &str)
-        requires { (of : Role) → (role_at self.old.outside of).phase ≡ unbegun }
-        ensures { (of : Role) → (role_at self.new.outside of).phase ≡ unbegun }
+        requires { NoneBegun (role_at self.old.outside) }
+        ensures { NoneBegun (role_at self.new.outside) }
     {
         if text != "?" {
             self.add(rt, name, unescaped(rt, alloc, text).as_bytes());
@@ -177,8 +177,8 @@ impl World {
 
     /// Has a start, a read or a write fail.
     fn fail(&mut self, rt: &impl Abort, failing: Failing)
-        requires { (of : Role) → (role_at self.old.outside of).phase ≡ unbegun }
-        ensures { (of : Role) → (role_at self.new.outside of).phase ≡ unbegun }
+        requires { NoneBegun (role_at self.old.outside) }
+        ensures { NoneBegun (role_at self.new.outside) }
     {
         match failing {
             Failing::Start(role) => self.outside.fail_start(role).expect(rt, "memory"),
@@ -211,7 +211,7 @@ impl World {
         words: &[String],
         gate: &(impl Gate + Sync),
     ) -> u8
-        requires { (of : Role) → (role_at self.old.outside of).phase ≡ unbegun }
+        requires { NoneBegun (role_at self.old.outside) }
     {
         let served = serve(
             alloc,
@@ -227,7 +227,7 @@ impl World {
 
 /// Makes the outside of a case.
 fn world_of(rt: &impl Abort, alloc: Global, case: Case<'_>, chunks: Chunks) -> World
-    ensures { (of : Role) → (role_at result.outside of).phase ≡ unbegun }
+    ensures { NoneBegun (role_at result.outside) }
 {
     let mut world = World::new(alloc, chunks);
     world.put(rt, alloc, "query", case.query);
@@ -266,7 +266,7 @@ fn serve_case(
     world: &mut World,
     gate: &(impl Gate + Sync),
 )
-    requires { (of : Role) → (role_at world.old.outside of).phase ≡ unbegun }
+    requires { NoneBegun (role_at world.old.outside) }
 {
     let line = case.line;
     let words = words_of(rt, alloc, command);

@@ -1,4 +1,5 @@
-ghost use Rattle.std.specs.Prelude.{◌≡◌, ◌-◌, ◌<◌, ◌^◌, List, ℕ, None, Some, false, true, is_some, length};
+ghost use Rattle.std.specs.Prelude.{◌≡◌, ◌-◌, ◌<◌, ◌^◌, None, Some, false, true, is_some, length};
+ghost use Rattle.hj_base.specs.Outside.{NamesStay};
 ghost use Rattle.hj_base.specs.declared.outside.Role.TheVariants as role;
 ghost use Rattle.hj_msg.specs.Feed.{numbering_of};
 ghost use Rattle.hj_event.specs.Roles.{IsInStep};
@@ -79,7 +80,7 @@ impl<O: Outside> Feed<SharedRow> for EventFeed<'_, O> {
     ghost use Rattle.hj_stream.specs.Feeding.{Gives};
 
     ghost gives = { λ old answer new. (new.outside.ghost_name ≡ old.outside.ghost_name)
-        × ((name : List ℕ) → O.under new.outside.now name ≡ O.under old.outside.now name)
+        × NamesStay (O.under old.outside.now) (O.under new.outside.now)
         × Gives answer
         (record { merger = old.merger.now; roles = O.state old.outside.now; events = old.events; ended = old.ended })
         (record { merger = new.merger.now; roles = O.state new.outside.now; events = new.events; ended = new.ended })

@@ -1,6 +1,6 @@
-ghost use Rattle.std.specs.Prelude.{◌≡◌, ◌<◌, ◌∷◌, ◌++◌, List, ℕ, [], true, false, None, Some, IfSome, length, drop, slice_get};
+ghost use Rattle.std.specs.Prelude.{◌≡◌, ◌<◌, ◌∷◌, ◌++◌, [], true, false, None, Some, IfSome, length, drop, slice_get};
 ghost use Rattle.hj_trace.specs.Actors.{IsNumbered, actor_text};
-ghost use Rattle.hj_base.specs.Outside.{ChangesOnly};
+ghost use Rattle.hj_base.specs.Outside.{ChangesOnly, NamesStay};
 ghost use Rattle.hj_trace.specs.Stream.{Compares, GoesWith, IsActorOf, ReadsActor, StandsNext, Uses, look_failed};
 
 use crate::actors::{MOST_IN_ACTOR, read_actor};
@@ -85,7 +85,7 @@ impl TextStream {
         ensures looks { Uses (look_failed result) [] self.old (O.state outside.old self.old.role) self.new (O.state outside.new self.old.role) }
         ensures next { StandsNext result self.new }
         ensures others { ChangesOnly self.old.role (O.state outside.old) (O.state outside.new) }
-        ensures names { (name : List ℕ) → O.under outside.new name ≡ O.under outside.old name }
+        ensures names { NamesStay (O.under outside.old) (O.under outside.new) }
     {
         if self.used < self.filled {
             return NextByte::Byte(self.portion[self.used]);
@@ -104,7 +104,7 @@ impl TextStream {
         ensures looks { Uses (look_failed result) [] self.old (O.state outside.old self.old.role) self.new (O.state outside.new self.old.role) }
         ensures next { StandsNext result self.new }
         ensures others { ChangesOnly self.old.role (O.state outside.old) (O.state outside.new) }
-        ensures names { (name : List ℕ) → O.under outside.new name ≡ O.under outside.old name }
+        ensures names { NamesStay (O.under outside.old) (O.under outside.new) }
     {
         match outside.read(self.role, &mut self.portion) {
             Got::Bytes(count) => {
@@ -140,7 +140,7 @@ impl TextStream {
         requires { GoesWith self.old (O.state outside.old self.old.role) }
         ensures compares { Compares result expected.now self.old (O.state outside.old self.old.role) self.new (O.state outside.new self.old.role) }
         ensures others { ChangesOnly self.old.role (O.state outside.old) (O.state outside.new) }
-        ensures names { (name : List ℕ) → O.under outside.new name ≡ O.under outside.old name }
+        ensures names { NamesStay (O.under outside.old) (O.under outside.new) }
     {
         // Mostly all of them wait.
         if self.use_waiting(expected) {
@@ -167,7 +167,7 @@ impl TextStream {
         requires { GoesWith self.old (O.state outside.old self.old.role) }
         ensures compares { Compares result expected.now self.old (O.state outside.old self.old.role) self.new (O.state outside.new self.old.role) }
         ensures others { ChangesOnly self.old.role (O.state outside.old) (O.state outside.new) }
-        ensures names { (name : List ℕ) → O.under outside.new name ≡ O.under outside.old name }
+        ensures names { NamesStay (O.under outside.old) (O.under outside.new) }
     {
         for (at, byte) in expected.iter().enumerate() {
             match self.look(outside) {
@@ -189,7 +189,7 @@ impl TextStream {
         requires { GoesWith self.old (O.state outside.old self.old.role) }
         ensures reads { ReadsActor result self.old (O.state outside.old self.old.role) self.new (O.state outside.new self.old.role) }
         ensures others { ChangesOnly self.old.role (O.state outside.old) (O.state outside.new) }
-        ensures names { (name : List ℕ) → O.under outside.new name ≡ O.under outside.old name }
+        ensures names { NamesStay (O.under outside.old) (O.under outside.new) }
     {
         // Mostly all of it waits.
         if let Some(actor) = self.use_waiting_actor() {
@@ -217,7 +217,7 @@ impl TextStream {
         requires { GoesWith self.old (O.state outside.old self.old.role) }
         ensures reads { ReadsActor result self.old (O.state outside.old self.old.role) self.new (O.state outside.new self.old.role) }
         ensures others { ChangesOnly self.old.role (O.state outside.old) (O.state outside.new) }
-        ensures names { (name : List ℕ) → O.under outside.new name ≡ O.under outside.old name }
+        ensures names { NamesStay (O.under outside.old) (O.under outside.new) }
     {
         let mut text = [0; MOST_IN_ACTOR + 1];
         for length in 0..MOST_IN_ACTOR + 1 {

@@ -1,6 +1,6 @@
-ghost use Rattle.std.specs.Prelude.{◌≡◌, false, List, ℕ, Some};
+ghost use Rattle.std.specs.Prelude.{◌≡◌, false, Some};
 ghost use Rattle.hj_base.specs.declared.outside.Role.TheVariants as role;
-ghost use Rattle.hj_base.specs.Outside.{ChangesOnly};
+ghost use Rattle.hj_base.specs.Outside.{ChangesOnly, NamesStay};
 ghost use Rattle.hj_event.specs.Roles.{IsInStep};
 ghost use Rattle.hj_held.specs.Held.{HeldState};
 ghost use Rattle.hj_stream.specs.Joining.{CountsSinkFault, Joins, JoinsBy};
@@ -52,7 +52,7 @@ pub fn join_twice<T: Threads + Wait + Clock + Sync, O: Outside, K: Sink, G: Gate
     ensures joins { JoinsTwice result joins.entry.first.now joins.entry.second.now joins.entry.limit (O.state outside.old) (O.state outside.new)
         (K.told out.old) (K.told out.new) }
     ensures faults { CountsFault result (K.faults out.old) (K.faults out.new) }
-    ensures names { (name : List ℕ) → O.under outside.new name ≡ O.under outside.old name }
+    ensures names { NamesStay (O.under outside.old) (O.under outside.new) }
 {
     let mut relay = KeptText::new(alloc);
     match join_first(alloc, joins, mode, outside, &mut relay) {
@@ -78,7 +78,7 @@ fn join_first<T: Threads + Wait + Clock + Sync, O: Outside, G: Gate + Sync>(
     ensures joins { JoinsBy relay_line result joins.entry.first.now joins.entry.limit (O.state outside.old) (O.state outside.new)
         (Some relay.old.text) (Some relay.new.text) }
     ensures faults { CountsSinkFault result 0 0 }
-    ensures names { (name : List ℕ) → O.under outside.new name ≡ O.under outside.old name }
+    ensures names { NamesStay (O.under outside.old) (O.under outside.new) }
 {
     let join = LineJoin {
         query: joins.first,
@@ -103,7 +103,7 @@ fn join_relay<T: Threads + Wait + Clock + Sync, O: Outside, K: Sink, G: Gate + S
         (relayed_role relay.old (O.state outside.old)) (relayed_role after (O.state outside.new)) (K.told out.old) (K.told out.new) }
     ensures others { ChangesOnly role.Third (O.state outside.old) (O.state outside.new) }
     ensures faults { CountsSinkFault result (K.faults out.old) (K.faults out.new) }
-    ensures names { (name : List ℕ) → O.under outside.new name ≡ O.under outside.old name }
+    ensures names { NamesStay (O.under outside.old) (O.under outside.new) }
 {
     let mut relayed = RelayedOutside { relay, outside };
     join_relayed(alloc, joins, mode, &mut relayed, out)
@@ -125,7 +125,7 @@ fn join_relayed<T: Threads + Wait + Clock + Sync, O: Outside, K: Sink, G: Gate +
         (K.told out.old) (K.told out.new) }
     ensures others { ChangesOnly role.Third (O.state relayed.old.outside.now) (O.state relayed.new.outside.now) }
     ensures faults { CountsSinkFault result (K.faults out.old) (K.faults out.new) }
-    ensures names { (name : List ℕ) → O.under relayed.new.outside.now name ≡ O.under relayed.old.outside.now name }
+    ensures names { NamesStay (O.under relayed.old.outside.now) (O.under relayed.new.outside.now) }
 {
     let join = LineJoin {
         query: joins.second,
@@ -148,7 +148,7 @@ fn join_by<L: PairLine, T: Threads + Wait + Clock + Sync, O: Outside, K: Sink, G
     ensures joins { JoinsBy (L.line join.now.lines.now) result join.now.query.now join.now.limit (O.state outside.old) (O.state outside.new)
         (K.told out.old) (K.told out.new) }
     ensures faults { CountsSinkFault result (K.faults out.old) (K.faults out.new) }
-    ensures names { (name : List ℕ) → O.under outside.new name ≡ O.under outside.old name }
+    ensures names { NamesStay (O.under outside.old) (O.under outside.new) }
 {
     match mode {
         Mode::Serial(plan) => join_serial_by(alloc, join, plan, outside, out),

@@ -1,8 +1,8 @@
 -- A role that is read in the outside of a feed, beside the streams of its events.
-use Rattle.std.specs.Prelude.{◌≡◌, ℕ, List}
+use Rattle.std.specs.Prelude.{◌≡◌}
 use Rattle.hj_base.specs.declared.outside.Outside.{Ghosts as OutsideGhosts}
 use Rattle.hj_base.specs.declared.outside.Role.{Role}
-use Rattle.hj_base.specs.Outside.{ChangesOnly}
+use Rattle.hj_base.specs.Outside.{ChangesOnly, NamesStay}
 use Rattle.hj_stream.specs.declared.feed.EventFeed.{EventFeed}
 
 module _ {O : Type 0} {outside : OutsideGhosts O} where
@@ -14,5 +14,5 @@ module _ {O : Type 0} {outside : OutsideGhosts O} where
     pub ended : new.ended ≡ old.ended
     pub given : new.given.items ≡ old.given.items
     pub same : new.outside.ghost_name ≡ old.outside.ghost_name
-    pub names : (name : List ℕ) → outside.under new.outside.now name ≡ outside.under old.outside.now name
+    pub names : NamesStay (outside.under old.outside.now) (outside.under new.outside.now)
     pub others : ChangesOnly of (outside.state old.outside.now) (outside.state new.outside.now)

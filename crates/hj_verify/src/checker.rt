@@ -1,4 +1,5 @@
 ghost use Rattle.std.specs.Prelude.{◌≡◌, ◌≢◌, ℕ, List, None, Some, false};
+ghost use Rattle.hj_base.specs.Outside.{NamesStay};
 ghost use Rattle.hj_base.specs.declared.outside.Role.TheVariants as role;
 ghost use Rattle.hj_event.specs.Merger.{IsNew};
 ghost use Rattle.hj_event.specs.Roles.{IsInStep};
@@ -37,7 +38,7 @@ pub fn verify<O: Outside>(
     requires trace { IsInStep false (O.state outside.old role.Trace) }
     requires output { IsInStep false (O.state outside.old role.Output) }
     ensures verifies { Verifies result query.now size.cores size.flight limit (O.state outside.old) (O.state outside.new) }
-    ensures names { (name : List ℕ) → O.under outside.new name ≡ O.under outside.old name }
+    ensures names { NamesStay (O.under outside.old) (O.under outside.new) }
 {
     let Ok(mut merger) = Merger::new(alloc, query, limit) else {
         return Verdict::Ended(Outcome::Memory);
@@ -63,7 +64,7 @@ fn verify_merged<O: Outside>(
     requires trace { IsInStep false (O.state outside.old role.Trace) }
     requires output { IsInStep false (O.state outside.old role.Output) }
     ensures verifies { Verifies result query.now size.cores size.flight limit (O.state outside.old) (O.state outside.new) }
-    ensures names { (name : List ℕ) → O.under outside.new name ≡ O.under outside.old name }
+    ensures names { NamesStay (O.under outside.old) (O.under outside.new) }
 {
     let events = EventFeed::new(merger, limit, outside);
     let mut feed = AlwaysReady { feed: events };

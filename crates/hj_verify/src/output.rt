@@ -1,5 +1,5 @@
 ghost use Rattle.std.specs.Prelude.{◌≡◌, ◌++◌, List, ℕ, [], false};
-ghost use Rattle.hj_base.specs.Outside.{ChangesOnly, RoleState};
+ghost use Rattle.hj_base.specs.Outside.{ChangesOnly, RoleState, NamesStay};
 ghost use Rattle.hj_base.specs.declared.outside.Role.TheVariants as role;
 ghost use Rattle.hj_trace.specs.Stream.{GoesWith as IsReadOf, StreamState};
 ghost use Rattle.hj_verify.specs.Output.{Agrees, ComparesOn, Counts, EndsOutput};
@@ -47,7 +47,7 @@ impl OutputCheck {
             → Agrees text start before self.old (O.state outside.old self.old.stream.role)
             → ComparesOn result (text ++ expected.now) start before self.new (O.state outside.new self.new.stream.role) }
         ensures others { ChangesOnly self.old.stream.role (O.state outside.old) (O.state outside.new) }
-        ensures names { (name : List ℕ) → O.under outside.new name ≡ O.under outside.old name }
+        ensures names { NamesStay (O.under outside.old) (O.under outside.new) }
     {
         if self.differs {
             return Ok(());
@@ -80,7 +80,7 @@ impl OutputCheck {
             → Agrees text start before self.old (O.state outside.old self.old.stream.role)
             → EndsOutput result text start before self.new.stream (O.state outside.new self.new.stream.role) }
         ensures others { ChangesOnly self.old.stream.role (O.state outside.old) (O.state outside.new) }
-        ensures names { (name : List ℕ) → O.under outside.new name ≡ O.under outside.old name }
+        ensures names { NamesStay (O.under outside.old) (O.under outside.new) }
     {
         if self.differs {
             return Err(Verdict::Refused(TraceFault::Output(self.same)));

@@ -1,5 +1,5 @@
 ghost use Rattle.std.specs.Prelude.{◌≡◌, ◌++◌, List, ℕ, take};
-ghost use Rattle.hj_base.specs.Outside.{ChangesOnly, RoleState};
+ghost use Rattle.hj_base.specs.Outside.{ChangesOnly, RoleState, NamesStay};
 ghost use Rattle.hj_value.specs.declared.field.Field.{Field};
 ghost use Rattle.hj_msg.specs.declared.event.Event.{Event};
 ghost use Rattle.hj_msg.specs.declared.event.Pair.{Pair as Pairs};
@@ -41,7 +41,7 @@ pub(crate) fn check_due<'r, S: Store<SharedRow, QueryJoin<'r>> + Drop, O: Outsid
         → Agrees (lines_of (take given pairs)) start before output.old (O.state outside.old output.old.stream.role)
         → ChecksDue result chain.new schedule events pairs start before output.new (O.state outside.new output.new.stream.role) }
     ensures others { ChangesOnly output.old.stream.role (O.state outside.old) (O.state outside.new) }
-    ensures names { (name : List ℕ) → O.under outside.new name ≡ O.under outside.old name }
+    ensures names { NamesStay (O.under outside.old) (O.under outside.new) }
 {
     while let Some(pair) = chain.pair() {
         check_pair(&pair, output, line, outside)?;
@@ -63,7 +63,7 @@ fn check_pair<O: Outside>(
         → Agrees text start before output.old (O.state outside.old output.old.stream.role)
         → ComparesOn result (text ++ pair_line pair.now) start before output.new (O.state outside.new output.new.stream.role) }
     ensures others { ChangesOnly output.old.stream.role (O.state outside.old) (O.state outside.new) }
-    ensures names { (name : List ℕ) → O.under outside.new name ≡ O.under outside.old name }
+    ensures names { NamesStay (O.under outside.old) (O.under outside.new) }
 {
     match JoinedLine.fill(line, pair) {
         Ok(()) => output.compare(line, outside),

@@ -1,5 +1,5 @@
 ghost use Rattle.std.specs.Prelude.{◌≡◌, List, ℕ, false};
-ghost use Rattle.hj_base.specs.Outside.{ChangesOnly, RoleState};
+ghost use Rattle.hj_base.specs.Outside.{ChangesOnly, RoleState, NamesStay};
 ghost use Rattle.hj_base.specs.declared.outside.Role.TheVariants as role;
 ghost use Rattle.hj_trace.specs.Stream.{GoesWith as IsReadOf, StreamState, Uses};
 ghost use Rattle.hj_verify.specs.Lines.{EndsTrace, ReadsMaker, ReadsRest};
@@ -26,7 +26,7 @@ pub(crate) fn read_maker<O: Outside>(
         → Uses false text start before trace.old (O.state outside.old trace.old.role)
         → ReadsMaker result number text start before trace.new (O.state outside.new trace.new.role) }
     ensures others { ChangesOnly trace.old.role (O.state outside.old) (O.state outside.new) }
-    ensures names { (name : List ℕ) → O.under outside.new name ≡ O.under outside.old name }
+    ensures names { NamesStay (O.under outside.old) (O.under outside.new) }
 {
     match trace.look(outside) {
         NextByte::Byte(_) => {}
@@ -54,7 +54,7 @@ pub(crate) fn read_rest<O: Outside>(
         → Uses false text start before trace.old (O.state outside.old trace.old.role)
         → ReadsRest result expected.now number text start before trace.new (O.state outside.new trace.new.role) }
     ensures others { ChangesOnly trace.old.role (O.state outside.old) (O.state outside.new) }
-    ensures names { (name : List ℕ) → O.under outside.new name ≡ O.under outside.old name }
+    ensures names { NamesStay (O.under outside.old) (O.under outside.new) }
 {
     match trace.compare(expected, outside) {
         Compared::Same => Ok(()),
@@ -74,7 +74,7 @@ pub(crate) fn read_end<O: Outside>(
         → Uses false text start before trace.old (O.state outside.old trace.old.role)
         → EndsTrace result number text start before trace.new (O.state outside.new trace.new.role) }
     ensures others { ChangesOnly trace.old.role (O.state outside.old) (O.state outside.new) }
-    ensures names { (name : List ℕ) → O.under outside.new name ≡ O.under outside.old name }
+    ensures names { NamesStay (O.under outside.old) (O.under outside.new) }
 {
     match trace.look(outside) {
         NextByte::End => Ok(()),
