@@ -6,7 +6,7 @@ use Rattle.std.proofs.lemmas.Bool.Decides.{eqb_tells, nat_tests}
 use Rattle.hj_base.specs.declared.numbers.EventNo.{EventNo}
 use Rattle.hj_driver.specs.declared.lane.Departure.{Departure}
 use Rattle.hj_driver.specs.declared.lane.Departure.TheVariants.{Row, End}
-use Rattle.hj_driver.specs.declared.lane.Arrival.{Arrival}
+use Rattle.hj_driver.specs.declared.lane.OutstandingArrival.{OutstandingArrival}
 use Rattle.hj_driver.specs.Lane.{after_departure, is_other, is_taken, is_same, with_departure, waits_for}
 use Rattle.hj_driver.specs.Driver.{arrival_of}
 use Rattle.hj_chain.proofs.Balance.{count-cons_option, all_stay, none_go}
@@ -37,7 +37,7 @@ still-waits number departure taken false at before = omega arith
 still-waits number departure taken true at None = omega (arith, narrower (number == at.0) (not (is_same taken departure)))
 still-waits number departure taken true at (Some before) = kept-or-not (waits_for number departure) (is_same before taken) (record { no = at; taken = Some before })
 
-waits-take : (number other : ℕ) (departure taken : Departure) (arrivals : List Arrival) → count (waits_for number departure) (filter_map (after_departure other taken) arrivals) ≤ count (waits_for number departure) arrivals
+waits-take : (number other : ℕ) (departure taken : Departure) (arrivals : List OutstandingArrival) → count (waits_for number departure) (filter_map (after_departure other taken) arrivals) ≤ count (waits_for number departure) arrivals
 waits-take number other departure taken [] = omega arith
 waits-take number other departure taken (a ∷ later) = omega (
   arith,
@@ -54,13 +54,13 @@ waits-not number End at None = omega (arith, neither (number == at.0))
 waits-not number End at (Some End) = omega (arith, neither (number == at.0))
 waits-not number End at (Some Row) = refl
 
-waits-gone : (number : ℕ) (departure : Departure) (a : Arrival) → count (waits_for number departure) (option_to_list (after_departure number departure a)) ≡ 0
+waits-gone : (number : ℕ) (departure : Departure) (a : OutstandingArrival) → count (waits_for number departure) (option_to_list (after_departure number departure a)) ≡ 0
 waits-gone number departure a = elim (eqb_tells number a.no.0) [
   | inl w ↦ ap (λ b. count (waits_for number departure) (option_to_list (cond b (with_departure departure a a.taken) (Some a)))) w.0 ∙ waits-not number departure a.no a.taken
   | inr w ↦ ap (λ b. count (waits_for number departure) (option_to_list (cond b (with_departure departure a a.taken) (Some a)))) w.0 ∙ ap (λ b. one (b && not (is_taken departure a.taken)) + 0) w.0
 ]
 
-pub waits-taken : (number : ℕ) (departure : Departure) (arrivals : List Arrival) → count (waits_for number departure) (filter_map (after_departure number departure) arrivals) ≡ 0
+pub waits-taken : (number : ℕ) (departure : Departure) (arrivals : List OutstandingArrival) → count (waits_for number departure) (filter_map (after_departure number departure) arrivals) ≡ 0
 waits-taken number departure [] = refl
 waits-taken number departure (a ∷ later) = omega (
   arith,
@@ -69,24 +69,24 @@ waits-taken number departure (a ∷ later) = omega (
   count-cons_option (waits_for number departure) (after_departure number departure a) (filter_map (after_departure number departure) later),
 )
 
-waits-same : (number : ℕ) (departure : Departure) (arrivals : List Arrival) → count (waits_for number departure) (filter_map (λ (a : Arrival). Some a) arrivals) ≡ count (waits_for number departure) arrivals
+waits-same : (number : ℕ) (departure : Departure) (arrivals : List OutstandingArrival) → count (waits_for number departure) (filter_map (λ (a : OutstandingArrival). Some a) arrivals) ≡ count (waits_for number departure) arrivals
 waits-same number departure arrivals = ap (count (waits_for number departure)) (sym (all_stay arrivals))
 
 -- of arrivals of which one message is taken, by its number
-pub taken-one : (number at : ℕ) (departure : Departure) (arrivals : List Arrival) → Fewer (count (waits_for number departure) (filter_map (after_departure at departure) arrivals)) (one (at == number)) (count (waits_for number departure) arrivals)
+pub taken-one : (number at : ℕ) (departure : Departure) (arrivals : List OutstandingArrival) → Fewer (count (waits_for number departure) (filter_map (after_departure at departure) arrivals)) (one (at == number)) (count (waits_for number departure) arrivals)
 taken-one number at departure arrivals = elim (eqb_tells at number) [
   | inl w ↦ inl (ap (λ i. count (waits_for number departure) (filter_map (after_departure i departure) arrivals)) w.1 ∙ waits-taken number departure arrivals)
   | inr w ↦ inr (omega (arith, waits-take number at departure departure arrivals, ap one w.0))
 ]
 
 -- one more arrival
-pub waits-put : (number : ℕ) (departure : Departure) (arrivals : List Arrival) (at : EventNo) → count (waits_for number departure) (arrivals ++ arrival_of at ∷ []) ≡ count (waits_for number departure) arrivals + one (at.0 == number)
+pub waits-put : (number : ℕ) (departure : Departure) (arrivals : List OutstandingArrival) (at : EventNo) → count (waits_for number departure) (arrivals ++ arrival_of at ∷ []) ≡ count (waits_for number departure) arrivals + one (at.0 == number)
 waits-put number departure arrivals at = grind (arith, nat_tests, count-append (waits_for number departure) arrivals (arrival_of at ∷ []))
 
-pub waits-others : (number at : ℕ) (departure taken : Departure) (arrivals : List Arrival) (gone : ℕ) → gone ≡ 0 → Fewer (count (waits_for number departure) (filter_map (after_departure at taken) arrivals)) gone (count (waits_for number departure) arrivals)
+pub waits-others : (number at : ℕ) (departure taken : Departure) (arrivals : List OutstandingArrival) (gone : ℕ) → gone ≡ 0 → Fewer (count (waits_for number departure) (filter_map (after_departure at taken) arrivals)) gone (count (waits_for number departure) arrivals)
 waits-others number at departure taken arrivals gone none = inr (omega (arith, waits-take number at departure taken arrivals, none))
 
-pub waits-still : (number : ℕ) (departure : Departure) (arrivals : List Arrival) (gone : ℕ) → gone ≡ 0 → Fewer (count (waits_for number departure) (filter_map (λ (a : Arrival). Some a) arrivals)) gone (count (waits_for number departure) arrivals)
+pub waits-still : (number : ℕ) (departure : Departure) (arrivals : List OutstandingArrival) (gone : ℕ) → gone ≡ 0 → Fewer (count (waits_for number departure) (filter_map (λ (a : OutstandingArrival). Some a) arrivals)) gone (count (waits_for number departure) arrivals)
 waits-still number departure arrivals gone none = inr (omega (arith, waits-same number departure arrivals, none))
 
 -- how many events that leave by one message are outstanding under a number: expiries, by that of their row, or quiet events

@@ -18,9 +18,9 @@ use Rattle.hj_msg.specs.Run.{LogEntry, port_journal}
 use Rattle.hj_msg.proofs.Members.{Contains-head, Contains-cons}
 use Rattle.hj_driver.specs.declared.lane.Departure.{Departure}
 use Rattle.hj_driver.specs.declared.lane.Departure.TheVariants.{Row, End}
-use Rattle.hj_driver.specs.declared.lane.Arrival.{Arrival}
+use Rattle.hj_driver.specs.declared.lane.OutstandingArrival.{OutstandingArrival}
 use Rattle.hj_driver.specs.Lane.{after_departure, is_other, is_taken, with_departure, IsRising, AreDistinct}
-use Rattle.hj_driver.specs.Driver.{DriverState, after_put, after_take, after_message, arrival_of, stays, quiet_stays, closed, is_sent, IsNew, new_driver}
+use Rattle.hj_driver.specs.Driver.{DriverState, after_put, after_take, after_message, arrival_of, stays, quiet_stays, closed, is_sent, IsNewEvent, new_driver}
 use Rattle.hj_driver.proofs.Arrivals.{filter_map-same, none_changes, rising_after, rising_push, distinct_after, distinct_push}
 use Rattle.hj_chain.proofs.Journals.{puts-append, takes-append, entries, puts-entries, takes-entries, took_at, sent_at, port_journal-push}
 use Rattle.hj_chain.proofs.Counts.{count, count-append}
@@ -28,21 +28,21 @@ use Rattle.hj_chain.proofs.MessageKinds.{a_R, an_S, an_EndR, an_EndS, an_ExpR, a
 use Rattle.hj_chain.proofs.Driving.{sent-take}
 
 -- one of the two messages of an arrival is still to be taken
-abbrev pub is_waiting : Departure → Arrival → Bool
+abbrev pub is_waiting : Departure → OutstandingArrival → Bool
 is_waiting departure arrival = not (is_taken departure arrival.taken)
 
-abbrev pub waiting : Departure → List Arrival → ℕ
+abbrev pub waiting : Departure → List OutstandingArrival → ℕ
 waiting departure arrivals = count (is_waiting departure) arrivals
 
 pub count-cons_option : {X : Type 0} (p : X → Bool) (o : Option X) (xs : List X) → count p (cons_option o xs) ≡ count p (option_to_list o) + count p xs
 count-cons_option p None xs = omega arith
 count-cons_option p (Some x) xs = omega arith
 
-absent : (number : ℕ) (a : Arrival) (later : List Arrival) → number ≡ a.no.0 → All (λ (other : Arrival). a.no.0 < other.no.0) later → All (λ (other : Arrival). other.no.0 ≡ number → ⊥) later
-absent number a later is above = All-weaker (λ (other : Arrival). a.no.0 < other.no.0) (λ (other : Arrival). other.no.0 ≡ number → ⊥) (λ other less same. omega (arith, less, same, is)) later above
+absent : (number : ℕ) (a : OutstandingArrival) (later : List OutstandingArrival) → number ≡ a.no.0 → All (λ (other : OutstandingArrival). a.no.0 < other.no.0) later → All (λ (other : OutstandingArrival). other.no.0 ≡ number → ⊥) later
+absent number a later is above = All-weaker (λ (other : OutstandingArrival). a.no.0 < other.no.0) (λ (other : OutstandingArrival). other.no.0 ≡ number → ⊥) (λ other less same. omega (arith, less, same, is)) later above
 
 -- the take of a message leaves at most one arrival the less that waits for such a one
-waiting-take : (number : ℕ) (departure : Departure) (arrivals : List Arrival) → IsRising arrivals → waiting departure arrivals ≤ waiting departure (filter_map (after_departure number departure) arrivals) + 1
+waiting-take : (number : ℕ) (departure : Departure) (arrivals : List OutstandingArrival) → IsRising arrivals → waiting departure arrivals ≤ waiting departure (filter_map (after_departure number departure) arrivals) + 1
 waiting-take number departure [] rising = omega arith
 waiting-take number departure (a ∷ later) rising = elim (eqb_tells number a.no.0) [
   | inl w ↦
@@ -83,24 +83,26 @@ still_waits-Row false at None = omega arith
 still_waits-Row false at (Some Row) = omega arith
 still_waits-Row false at (Some End) = omega arith
 
-waiting-End : (number : ℕ) (arrivals : List Arrival) → waiting End arrivals ≤ waiting End (filter_map (after_departure number Row) arrivals)
+waiting-End : (number : ℕ) (arrivals : List OutstandingArrival)
+    → waiting End arrivals ≤ waiting End (filter_map (after_departure number Row) arrivals)
 waiting-End number [] = omega arith
 waiting-End number (a ∷ later) =
     omega (arith, still_waits-End (number == a.no.0) a.no a.taken, waiting-End number later, count-cons_option (is_waiting End) (after_departure number Row a) (filter_map (after_departure number Row) later))
 
-waiting-Row : (number : ℕ) (arrivals : List Arrival) → waiting Row arrivals ≤ waiting Row (filter_map (after_departure number End) arrivals)
+waiting-Row : (number : ℕ) (arrivals : List OutstandingArrival)
+    → waiting Row arrivals ≤ waiting Row (filter_map (after_departure number End) arrivals)
 waiting-Row number [] = omega arith
 waiting-Row number (a ∷ later) =
     omega (arith, still_waits-Row (number == a.no.0) a.no a.taken, waiting-Row number later, count-cons_option (is_waiting Row) (after_departure number End a) (filter_map (after_departure number End) later))
 
-pub all_stay : (arrivals : List Arrival) → arrivals ≡ filter_map (λ (a : Arrival). Some a) arrivals
-all_stay arrivals = sym (filter_map-same (λ (a : Arrival). Some a) arrivals (λ k d low. refl))
+pub all_stay : (arrivals : List OutstandingArrival) → arrivals ≡ filter_map (λ (a : OutstandingArrival). Some a) arrivals
+all_stay arrivals = sym (filter_map-same (λ (a : OutstandingArrival). Some a) arrivals (λ k d low. refl))
 
-same_waiting : (departure : Departure) (arrivals : List Arrival) (more : ℕ) → waiting departure arrivals ≤ waiting departure (filter_map (λ (a : Arrival). Some a) arrivals) + more
+same_waiting : (departure : Departure) (arrivals : List OutstandingArrival) (more : ℕ) → waiting departure arrivals ≤ waiting departure (filter_map (λ (a : OutstandingArrival). Some a) arrivals) + more
 same_waiting departure arrivals more = omega (arith, ap (waiting departure) (all_stay arrivals))
 
 -- Of the arrivals of a side, by the message that is taken at a port.
-module _ {P : Type 0} (arrivals : List Arrival) (rising : IsRising arrivals) where
+module _ {P : Type 0} (arrivals : List OutstandingArrival) (rising : IsRising arrivals) where
   left_rows : (port : Side) (m : Msg P) → waiting Row arrivals ≤ waiting Row (filter_map (after_message Left port m) arrivals) + count a_R (only_at port Right m)
   left_rows Right (R at row) = omega (arith, waiting-take at.0 Row arrivals rising)
   left_rows Left (EndR at) = omega (arith, waiting-Row at.0 arrivals)
@@ -196,7 +198,7 @@ came_out port p log = count p (takes (port_journal port log))
 
 -- What was put in of a side and didn't come out is outstanding; and there is one close at most. Its rows go in at its own port, and
 -- so do its quiet events and its close; its expiries go in `there`, at the other one.
-pub record BalancedSide {P : Type 0} (a_row an_end an_expiry a_quiet a_close : Msg P → Bool) (here there : Side) (arrivals : List Arrival) (expiring quieted : List EventNo) (sent : Bool) (log : List (LogEntry P)) : Type 0 where
+pub record BalancedSide {P : Type 0} (a_row an_end an_expiry a_quiet a_close : Msg P → Bool) (here there : Side) (arrivals : List OutstandingArrival) (expiring quieted : List EventNo) (sent : Bool) (log : List (LogEntry P)) : Type 0 where
   pub rows : put_in here a_row log ≤ waiting Row arrivals + came_out there a_row log
   pub ends : put_in here a_row log ≤ waiting End arrivals + came_out here an_end log
   pub expiries : put_in there an_expiry log ≤ length expiring + came_out here an_expiry log
@@ -227,8 +229,8 @@ module _ {P : Type 0} (log : List (LogEntry P)) (number : ℕ) (turn : DriverTur
       ∙ count-append p (takes (port_journal port log)) (took_at port turn)
 
   -- what is outstanding grows as much at least as what is put in, but for what comes out
-  module _ {a_row an_end an_expiry a_quiet a_close : Msg P → Bool} {here there : Side} {arrivals : List Arrival} {expiring quieted : List EventNo} {sent : Bool} (old : BalancedSide a_row an_end an_expiry a_quiet a_close here there arrivals expiring quieted sent log) where
-    moved : {arrivals' : List Arrival} {expiring' quieted' : List EventNo} {sent' : Bool}
+  module _ {a_row an_end an_expiry a_quiet a_close : Msg P → Bool} {here there : Side} {arrivals : List OutstandingArrival} {expiring quieted : List EventNo} {sent : Bool} (old : BalancedSide a_row an_end an_expiry a_quiet a_close here there arrivals expiring quieted sent log) where
+    moved : {arrivals' : List OutstandingArrival} {expiring' quieted' : List EventNo} {sent' : Bool}
         → waiting Row arrivals + count a_row (sent_at here turn) ≤ waiting Row arrivals' + count a_row (took_at there turn)
         → waiting End arrivals + count a_row (sent_at here turn) ≤ waiting End arrivals' + count an_end (took_at here turn)
         → length expiring + count an_expiry (sent_at there turn) ≤ length expiring' + count an_expiry (took_at here turn)
@@ -252,7 +254,7 @@ module _ {P : Type 0} (log : List (LogEntry P)) (number : ℕ) (turn : DriverTur
     stays-balanced rows expiries quiets close =
         moved (omega (arith, rows)) (omega (arith, rows)) (omega (arith, expiries)) (omega (arith, quiets)) (omega (arith, close)) old.rising old.distinct old.distinct_quiets
 
-waiting-put : (departure : Departure) (arrivals : List Arrival) (at : EventNo) → waiting departure (arrivals ++ arrival_of at ∷ []) ≡ waiting departure arrivals + 1
+waiting-put : (departure : Departure) (arrivals : List OutstandingArrival) (at : EventNo) → waiting departure (arrivals ++ arrival_of at ∷ []) ≡ waiting departure arrivals + 1
 waiting-put departure arrivals at = count-append (is_waiting departure) arrivals (arrival_of at ∷ [])
 
 module _ {P : Type 0} (driver : DriverState) (log : List (LogEntry P)) (number : ℕ) (old : Balanced {P = P} driver log) where
@@ -272,7 +274,7 @@ module _ {P : Type 0} (driver : DriverState) (log : List (LogEntry P)) (number :
         right = moved log number closing old.right (omega arith) (omega arith) (omega arith) (omega arith) (omega (arith, sent)) old.right.rising old.right.distinct old.right.distinct_quiets;
       }
 
-  pub balanced-admission : (event : Event P) → IsNew event driver → Balanced (after_put event driver) (log ++ record { number = number; turn = admission event } ∷ [])
+  pub balanced-admission : (event : Event P) → IsNewEvent event driver → Balanced (after_put event driver) (log ++ record { number = number; turn = admission event } ∷ [])
   balanced-admission (Arrive at Left row) new = record {
     left = moved log number (admission (Arrive at Left row)) old.left (omega (arith, waiting-put Row driver.left_arrivals at)) (omega (arith, waiting-put End driver.left_arrivals at)) (omega arith) (omega arith) (omega arith) (rising_push driver.left_arrivals (arrival_of at) old.left.rising new) old.left.distinct old.left.distinct_quiets;
     right = stays-balanced log number (admission (Arrive at Left row)) old.right refl refl refl refl;

@@ -15,7 +15,7 @@ use Rattle.hj_queue.specs.Queues.{Queues, no_messages}
 use Rattle.hj_chain.specs.declared.actor.Actor.{Actor}
 use Rattle.hj_chain.specs.Links.{link_at, put_in, take_in}
 use Rattle.hj_chain.specs.Chain.{FeedAnswer, ChainState, Action, drives, handles, after_action, empty_chain, capacity}
-use Rattle.hj_chain.specs.Reached.{Reached, History, no_history, recorded, history_of, left_end, right_end}
+use Rattle.hj_chain.specs.Reached.{Reached, StepHistory, no_history, recorded, history_of, left_end, right_end}
 use Rattle.hj_msg.specs.Feed.{event_in}
 use Rattle.hj_chain.proofs.Doing.{Doing, inquires, admits, shuts, receives, works, gathers, taken_by}
 use Rattle.hj_chain.proofs.Shape.{Shape, links-length}
@@ -174,7 +174,7 @@ in_chain chain action (works here side other rest low is room) place end message
 in_chain chain action (gathers here report rest low is) place end message same = absurd (cc)
 
 module _ {P : Type 0} (matches : P → P → Bool) (n most : ℕ) where
-  abbrev Carried : ℕ → List (Event P) → ChainState P → History P → Type 0
+  abbrev Carried : ℕ → List (Event P) → ChainState P → StepHistory P → Type 0
   Carried number events chain history = (k : ℕ) → k ≤ n → Carries (left_end history k) (right_end n history k) (rights chain k) (lefts chain k)
 
   nothing_yet : (first : Given P) → Carried 0 (event_in (Some first)) (empty_chain n most first) no_history
@@ -182,7 +182,7 @@ module _ {P : Type 0} (matches : P → P → Bool) (n most : ℕ) where
       let empty : link_at (replicate (n + 1) (no_messages (capacity most))) k ≡ no_messages {M = Msg P} (capacity most) = get_or-replicate (n + 1) k (no_messages (capacity most)) (no_messages 0) (omega arith) in
       carries-nothing _ _ _ _ (left_end-nothing P k) (neither (k == n)) (ap (λ (q : Queues (Msg P)). q.rightwards) empty) (ap (λ (q : Queues (Msg P)). q.leftwards) empty)
 
-  carried-step : (number : ℕ) (events : List (Event P)) (chain : ChainState P) (history : History P) (action : Action P) (answer : FeedAnswer P)
+  carried-step : (number : ℕ) (events : List (Event P)) (chain : ChainState P) (history : StepHistory P) (action : Action P) (answer : FeedAnswer P)
       → Shape n most chain → Doing chain action → Carried number events chain history
       → Carried (suc number) (events ++ taken_by action answer) (after_action matches chain (Some action) answer) (recorded matches chain number (Some action) history)
   carried-step number events chain history action answer shape doing old k within =

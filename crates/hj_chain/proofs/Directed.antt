@@ -12,7 +12,7 @@ use Rattle.hj_queue.specs.Queues.{Queues, no_messages}
 use Rattle.hj_chain.specs.declared.actor.Actor.{Actor}
 use Rattle.hj_chain.specs.Links.{incoming}
 use Rattle.hj_chain.specs.Chain.{FeedAnswer, ChainState, Action, drives, handles, collects, after_action, empty_chain, capacity, asks}
-use Rattle.hj_chain.specs.Reached.{Reached, History, no_history, recorded, history_of, turn_at}
+use Rattle.hj_chain.specs.Reached.{Reached, StepHistory, no_history, recorded, history_of, turn_at}
 use Rattle.hj_msg.specs.Feed.{event_in}
 use Rattle.hj_chain.proofs.Doing.{Doing, inquires, admits, shuts, receives, works, gathers, taken_by}
 use Rattle.hj_chain.proofs.Shape.{Shape, links-length}
@@ -28,7 +28,7 @@ pub record ComesIn {P : Type 0} (turn : Turn P) : Type 0 where
   pub at_left : count goes_left (only_at turn.end Left turn.message) ≡ 0
   pub at_right : count goes_right (only_at turn.end Right turn.message) ≡ 0
 
-pub record Directed {P : Type 0} (n : ℕ) (chain : ChainState P) (history : History P) : Type 0 where
+pub record Directed {P : Type 0} (n : ℕ) (chain : ChainState P) (history : StepHistory P) : Type 0 where
   pub rightwards : (k : ℕ) → k ≤ n → count goes_left (rights chain k) ≡ 0
   pub leftwards : (k : ℕ) → k ≤ n → count goes_right (lefts chain k) ≡ 0
   pub come_in : (k : ℕ) → AllByRecursion ComesIn (history.turns k)
@@ -74,7 +74,7 @@ comes_in {P} Right message rest queue turn is at_end of left right = record {
 }
 
 module _ {P : Type 0} (matches : P → P → Bool) (n most : ℕ) where
-  abbrev Kept : ℕ → List (Event P) → ChainState P → History P → Type 0
+  abbrev Kept : ℕ → List (Event P) → ChainState P → StepHistory P → Type 0
   Kept number events chain history = Directed n chain history
 
   begin : (first : Given P) → Kept 0 (event_in (Some first)) (empty_chain n most first) no_history
@@ -84,7 +84,7 @@ module _ {P : Type 0} (matches : P → P → Bool) (n most : ℕ) where
     come_in = λ k. tt;
   }
 
-  right-step : (chain : ChainState P) (history : History P) (action : Action P) (answer : FeedAnswer P) → Shape n most chain → Doing chain action → Directed n chain history
+  right-step : (chain : ChainState P) (history : StepHistory P) (action : Action P) (answer : FeedAnswer P) → Shape n most chain → Doing chain action → Directed n chain history
       → (k : ℕ) → k ≤ n → count goes_left (rights (after_action matches chain (Some action) answer) k) ≡ 0
   right-step chain history action answer shape doing old k within =
       let low : k < length chain.links = omega (arith, links-length n most chain shape) in
@@ -99,7 +99,7 @@ module _ {P : Type 0} (matches : P → P → Bool) (n most : ℕ) where
         nothing_sent_right (length chain.cores) action k,
       )
 
-  left-step : (chain : ChainState P) (history : History P) (action : Action P) (answer : FeedAnswer P) → Shape n most chain → Doing chain action → Directed n chain history
+  left-step : (chain : ChainState P) (history : StepHistory P) (action : Action P) (answer : FeedAnswer P) → Shape n most chain → Doing chain action → Directed n chain history
       → (k : ℕ) → k ≤ n → count goes_right (lefts (after_action matches chain (Some action) answer) k) ≡ 0
   left-step chain history action answer shape doing old k within =
       let low : k < length chain.links = omega (arith, links-length n most chain shape) in
@@ -114,7 +114,7 @@ module _ {P : Type 0} (matches : P → P → Bool) (n most : ℕ) where
         nothing_sent_left (length chain.cores) action k,
       )
 
-  turns-step : (number : ℕ) (chain : ChainState P) (history : History P) (action : Action P) → Shape n most chain → Doing chain action → Directed n chain history
+  turns-step : (number : ℕ) (chain : ChainState P) (history : StepHistory P) (action : Action P) → Shape n most chain → Doing chain action → Directed n chain history
       → (k : ℕ) → AllByRecursion ComesIn ((recorded matches chain number (Some action) history).turns k)
   turns-step number chain history action shape (admits event is free) old k = old.come_in k
   turns-step number chain history action shape (inquires is) old k = old.come_in k
@@ -128,7 +128,7 @@ module _ {P : Type 0} (matches : P → P → Bool) (n most : ℕ) where
       (comes_in Right message rest (incoming Right place chain.links) _ is refl refl (λ same. absurd (cc)) (λ same. old.leftwards (place + 1) (omega (arith, low, shape.cores))))
   turns-step number chain history action shape (gathers place report rest low is) old k = old.come_in k
 
-  step : (number : ℕ) (events : List (Event P)) (chain : ChainState P) (history : History P) (action : Action P) (answer : FeedAnswer P)
+  step : (number : ℕ) (events : List (Event P)) (chain : ChainState P) (history : StepHistory P) (action : Action P) (answer : FeedAnswer P)
       → Shape n most chain → Doing chain action → Kept number events chain history
       → Kept (suc number) (events ++ taken_by action answer) (after_action matches chain (Some action) answer) (recorded matches chain number (Some action) history)
   step number events chain history action answer shape doing old = record {

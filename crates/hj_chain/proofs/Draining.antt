@@ -17,7 +17,7 @@ use Rattle.hj_msg.specs.Met.{met}
 use Rattle.hj_chain.specs.declared.actor.Actor.{Actor}
 use Rattle.hj_chain.specs.Chain.{Contents}
 use Rattle.hj_chain.specs.Reached.{StandsFor, collected_of, next_pair}
-use Rattle.hj_chain.specs.Serial.{Gives, Releases}
+use Rattle.hj_chain.specs.Serial.{GivesPairs, Releases}
 use Rattle.hj_chain.proofs.Goings.{Stood}
 use Rattle.hj_chain.proofs.Looking.{at-dropped, take-at}
 
@@ -146,7 +146,7 @@ module _ {P J D : Type 0} (takes : D → Pair P → Drained → D → Type 0) {p
   abbrev Gift : List Drained → Contents P J → D → Type 0
   Gift last now filled = Gave takes predicate schedule events given (collected_of stood.reached) unfilled last now filled
 
-  gift : (now : Contents P J) (filled : D) (last : List Drained) (gave : Gift last now filled) (answer : Drained) → Gives answer gave.pairs gave.stood.stands → Releases takes stood unfilled answer now filled
+  gift : (now : Contents P J) (filled : D) (last : List Drained) (gave : Gift last now filled) (answer : Drained) → GivesPairs answer gave.pairs gave.stood.stands → Releases takes stood unfilled answer now filled
   gift now filled last gave answer gives = record {
     pairs = gave.pairs;
     drain = gave.drain;

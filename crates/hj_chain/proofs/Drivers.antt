@@ -10,7 +10,7 @@ use Rattle.hj_driver.specs.declared.answers.Why.{Why}
 use Rattle.hj_driver.specs.declared.answers.Admitted.{Admitted}
 use Rattle.hj_driver.specs.declared.answers.Admitted.TheVariants as admitted_as
 use Rattle.hj_driver.specs.declared.closes.Closes.{Closes}
-use Rattle.hj_driver.specs.declared.lane.Arrival.{Arrival}
+use Rattle.hj_driver.specs.declared.lane.OutstandingArrival.{OutstandingArrival}
 use Rattle.hj_driver.specs.Driver.{DriverState, after_put, after_take, answer_to, cause_of as wait_of, count_of}
 use Rattle.hj_driver.specs.StandsFor.{StandsFor, cause_after}
 use Rattle.hj_driver.proofs.ComingOut.{cause_of-same, no_cause, has_come_out, row_cause-not_out}
@@ -20,9 +20,9 @@ use Rattle.hj_chain.proofs.Driving.{flight-put}
 unique : {P : Type 0} (one other : DriverState) (log : List (DriverTurn P)) → StandsFor one log → StandsFor other log → one.flight ≡ other.flight → one ≡ other
 unique one other log a b same =
     ap (λ (f : ℕ). record one { flight = f }) same
-    ∙ ap (λ (l : List Arrival). record one { flight = other.flight; left_arrivals = l }) (a.left_arrivals ∙ sym b.left_arrivals)
+    ∙ ap (λ (l : List OutstandingArrival). record one { flight = other.flight; left_arrivals = l }) (a.left_arrivals ∙ sym b.left_arrivals)
     ∙ ap (λ (l : List EventNo). record one { flight = other.flight; left_arrivals = other.left_arrivals; left_expiries = l }) (a.left_expiries ∙ sym b.left_expiries)
-    ∙ ap (λ (l : List Arrival). record other { right_arrivals = l; right_expiries = one.right_expiries; left_quiets = one.left_quiets; right_quiets = one.right_quiets; closes = one.closes }) (a.right_arrivals ∙ sym b.right_arrivals)
+    ∙ ap (λ (l : List OutstandingArrival). record other { right_arrivals = l; right_expiries = one.right_expiries; left_quiets = one.left_quiets; right_quiets = one.right_quiets; closes = one.closes }) (a.right_arrivals ∙ sym b.right_arrivals)
     ∙ ap (λ (l : List EventNo). record other { right_expiries = l; left_quiets = one.left_quiets; right_quiets = one.right_quiets; closes = one.closes }) (a.right_expiries ∙ sym b.right_expiries)
     ∙ ap (λ (l : List EventNo). record other { left_quiets = l; right_quiets = one.right_quiets; closes = one.closes }) (a.left_quiets ∙ sym b.left_quiets)
     ∙ ap (λ (l : List EventNo). record other { right_quiets = l; closes = one.closes }) (a.right_quiets ∙ sym b.right_quiets)

@@ -24,7 +24,7 @@ use Rattle.hj_driver.proofs.Standing.{stands-new, stands-admission, stands-recei
 use Rattle.hj_driver.proofs.States.{length-filter_map, length-filter}
 use Rattle.hj_chain.specs.declared.actor.Actor.{Actor}
 use Rattle.hj_chain.specs.Chain.{FeedAnswer, ChainState, Action, if_there, asks, drives, after_action, empty_chain}
-use Rattle.hj_chain.specs.Reached.{Reached, History, no_history, recorded, history_of}
+use Rattle.hj_chain.specs.Reached.{Reached, StepHistory, no_history, recorded, history_of}
 use Rattle.hj_msg.specs.Feed.{event_in}
 use Rattle.hj_chain.proofs.Doing.{Doing, inquires, admits, shuts, receives, works, gathers, taken_by}
 use Rattle.hj_chain.proofs.Shape.{Shape}
@@ -41,7 +41,7 @@ pub record Driven {P : Type 0} (events : List (Event P)) (chain : ChainState P) 
   pub last : is_sent chain.driver.closes ≡ true → chain.next ≡ Some given.Stop
   pub few : count_of chain.driver ≤ chain.driver.flight
 
-abbrev DrivenIfWell : {P : Type 0} → ℕ → List (Event P) → ChainState P → History P → Type 0
+abbrev DrivenIfWell : {P : Type 0} → ℕ → List (Event P) → ChainState P → StepHistory P → Type 0
 DrivenIfWell number events chain history = IsWellFormed events → Driven events chain (turns_of history.log)
 
 count-put : {P : Type 0} (event : Event P) (driver : DriverState) → count_of (after_put event driver) ≡ count_of driver + 1
@@ -121,7 +121,7 @@ module _ {P : Type 0} (matches : P → P → Bool) (n most : ℕ) where
     few = omega arith;
   }
 
-  driven-admission : (number : ℕ) (events : List (Event P)) (chain : ChainState P) (history : History P) (event : Event P) (answer : FeedAnswer P) → chain.next ≡ Some (given.Event event)
+  driven-admission : (number : ℕ) (events : List (Event P)) (chain : ChainState P) (history : StepHistory P) (event : Event P) (answer : FeedAnswer P) → chain.next ≡ Some (given.Event event)
       → Driven events chain (turns_of history.log) → IsWellFormed events → Doing chain (drives (admission event))
       → Driven (events ++ event_in (if_there answer)) (after_action matches chain (Some (drives (admission event))) answer) (turns_of history.log ++ admission event ∷ [])
   driven-admission number events chain history event answer next old well (admits put is free) =
@@ -136,7 +136,7 @@ module _ {P : Type 0} (matches : P → P → Bool) (n most : ℕ) where
         few = omega (arith, may.below, old.few, count-put event chain.driver, flight-put event chain.driver);
       }
 
-  driven-shut : (events : List (Event P)) (chain : ChainState P) (history : History P) (answer : FeedAnswer P)
+  driven-shut : (events : List (Event P)) (chain : ChainState P) (history : StepHistory P) (answer : FeedAnswer P)
       → Driven events chain (turns_of history.log) → Doing chain (drives closing)
       → Driven events (after_action matches chain (Some (drives closing)) answer) (turns_of history.log ++ closing ∷ [])
   driven-shut events chain history answer old (shuts next free) =
@@ -158,7 +158,7 @@ module _ {P : Type 0} (matches : P → P → Bool) (n most : ℕ) where
     few = old.few;
   }
 
-  driven-receipt : (events : List (Event P)) (chain : ChainState P) (history : History P) (port : Side) (message : Msg P) (answer : FeedAnswer P)
+  driven-receipt : (events : List (Event P)) (chain : ChainState P) (history : StepHistory P) (port : Side) (message : Msg P) (answer : FeedAnswer P)
       → Driven events chain (turns_of history.log)
       → Driven events (after_action matches chain (Some (drives (receipt port message))) answer) (turns_of history.log ++ receipt port message ∷ [])
   driven-receipt events chain history port message answer old =
@@ -171,7 +171,7 @@ module _ {P : Type 0} (matches : P → P → Bool) (n most : ℕ) where
       }
 
   -- one turn more in the log
-  pushed : (events : List (Event P)) (chain : ChainState P) (history : History P) (number : ℕ) (turn : DriverTurn P)
+  pushed : (events : List (Event P)) (chain : ChainState P) (history : StepHistory P) (number : ℕ) (turn : DriverTurn P)
       → Driven events chain (turns_of history.log ++ turn ∷ []) → Driven events chain (turns_of (history.log ++ record { number = number; turn = turn } ∷ []))
   pushed events chain history number turn d =
       subst (Driven events chain) (sym (map-append (λ (entry : LogEntry P). entry.turn) history.log (record { number = number; turn = turn } ∷ []))) d
@@ -180,7 +180,7 @@ module _ {P : Type 0} (matches : P → P → Bool) (n most : ℕ) where
   unchanged : (events : List (Event P)) (chain : ChainState P) (log : List (DriverTurn P)) → Driven events chain log → Driven (events ++ []) chain log
   unchanged events chain log d = subst (λ (es : List (Event P)). Driven es chain log) (sym (append-nil events)) d
 
-  driven-step : (number : ℕ) (events : List (Event P)) (chain : ChainState P) (history : History P) (action : Action P) (answer : FeedAnswer P)
+  driven-step : (number : ℕ) (events : List (Event P)) (chain : ChainState P) (history : StepHistory P) (action : Action P) (answer : FeedAnswer P)
       → Shape n most chain → Doing chain action → DrivenIfWell number events chain history
       → DrivenIfWell (suc number) (events ++ taken_by action answer) (after_action matches chain (Some action) answer) (recorded matches chain number (Some action) history)
   driven-step number events chain history action answer shape (inquires is) before well =

@@ -22,7 +22,7 @@ use Rattle.hj_driver.proofs.MayClose.{may_close}
 use Rattle.hj_chain.specs.declared.actor.Actor.{Actor}
 use Rattle.hj_chain.specs.Reports.{queue_at}
 use Rattle.hj_chain.specs.Chain.{FeedAnswer, ChainState, Action, after_action, empty_chain, capacity, if_there}
-use Rattle.hj_chain.specs.Reached.{Reached, History, recorded}
+use Rattle.hj_chain.specs.Reached.{Reached, StepHistory, recorded}
 use Rattle.hj_msg.specs.Feed.{event_in}
 use Rattle.hj_chain.proofs.Doing.{Doing, admits, shuts, receives, works, gathers, taken_by, inquires}
 use Rattle.hj_chain.proofs.Driving.{closes-put, sent-take}
@@ -235,10 +235,10 @@ module _ {P : Type 0} (matches : P → P → Bool) (chain : ChainState P) (answe
   paid-step number events action doing old = omega (arith, old, fewer-come action doing, longer events (taken_by action answer))
 
 module _ {P : Type 0} (matches : P → P → Bool) (n most : ℕ) where
-  abbrev Kept : ℕ → List (Event P) → ChainState P → History P → Type 0
+  abbrev Kept : ℕ → List (Event P) → ChainState P → StepHistory P → Type 0
   Kept number events chain history = Paid n number events chain
 
-  step : (number : ℕ) (events : List (Event P)) (chain : ChainState P) (history : History P) (action : Action P) (answer : FeedAnswer P)
+  step : (number : ℕ) (events : List (Event P)) (chain : ChainState P) (history : StepHistory P) (action : Action P) (answer : FeedAnswer P)
       → Shape n most chain → Doing chain action → Kept number events chain history
       → Kept (suc number) (events ++ taken_by action answer) (after_action matches chain (Some action) answer) (recorded matches chain number (Some action) history)
   step number events chain history action answer shape doing old =

@@ -9,7 +9,7 @@ use Rattle.hj_msg.specs.declared.message.Report.{Report}
 use Rattle.hj_collect.specs.StandsFor.{with_report}
 use Rattle.hj_chain.specs.declared.actor.Actor.{Actor}
 use Rattle.hj_chain.specs.Chain.{ChainState, Action, asks, drives, handles, collects}
-use Rattle.hj_chain.specs.Reached.{Reached, History, history_of, recorded, with_last, collected_of}
+use Rattle.hj_chain.specs.Reached.{Reached, StepHistory, history_of, recorded, with_last, collected_of}
 use Rattle.hj_chain.proofs.Ways.{same_place}
 use Rattle.hj_chain.proofs.Journals.{takes-append}
 
@@ -25,10 +25,10 @@ abbrev pub told : {P : Type 0} → Option (Action P) → List (List (Report P)) 
 told (Some (collects place report)) lists = with_report place report lists
 told other lists = lists
 
-abbrev taken_of : {P : Type 0} → ℕ → History P → List (List (Report P))
+abbrev taken_of : {P : Type 0} → ℕ → StepHistory P → List (List (Report P))
 taken_of n history = map (λ k. takes (history.collected k)) (range_with_len 0 n)
 
-module _ {P : Type 0} (matches : P → P → Bool) (chain : ChainState P) (n number : ℕ) (history : History P) where
+module _ {P : Type 0} (matches : P → P → Bool) (chain : ChainState P) (n number : ℕ) (history : StepHistory P) where
   with-report : (place : ℕ) (report : Report P) → taken_of n (recorded matches chain number (Some (collects place report)) history) ≡ with_report place report (taken_of n history)
   with-report place report = sym (fill_by_all new (set lists place more) n [] (length-set lists place more ∙ all) each)
     where

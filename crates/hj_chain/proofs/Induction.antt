@@ -4,7 +4,7 @@ use Rattle.hj_msg.specs.declared.event.Event.{Event}
 use Rattle.hj_msg.specs.declared.feed.Given.{Given}
 use Rattle.hj_chain.specs.declared.actor.Actor.{Actor}
 use Rattle.hj_chain.specs.Chain.{FeedAnswer, ChainState, Action, action_of, after_action, empty_chain}
-use Rattle.hj_chain.specs.Reached.{Reached, begins, steps, History, no_history, recorded, history_of, asked}
+use Rattle.hj_chain.specs.Reached.{Reached, begins, steps, StepHistory, no_history, recorded, history_of, asked}
 use Rattle.hj_msg.specs.Feed.{event_in}
 use Rattle.hj_chain.proofs.Doing.{Doing, Deed, deed, taken_by}
 use Rattle.hj_chain.proofs.Shape.{Shape, shape}
@@ -12,9 +12,9 @@ use Rattle.hj_chain.proofs.Shape.{Shape, shape}
 length-push : {X : Type 0} (xs : List X) (x : X) → suc (length xs) ≡ length (xs ++ x ∷ [])
 length-push xs x = omega (arith, length-append xs (x ∷ []))
 
-module _ {P : Type 0} (matches : P → P → Bool) (n most : ℕ) (Kept : ℕ → List (Event P) → ChainState P → History P → Type 0)
+module _ {P : Type 0} (matches : P → P → Bool) (n most : ℕ) (Kept : ℕ → List (Event P) → ChainState P → StepHistory P → Type 0)
     (begin : (first : Given P) → Kept 0 (event_in (Some first)) (empty_chain n most first) no_history)
-    (step : (number : ℕ) (events : List (Event P)) (chain : ChainState P) (history : History P) (action : Action P) (answer : FeedAnswer P)
+    (step : (number : ℕ) (events : List (Event P)) (chain : ChainState P) (history : StepHistory P) (action : Action P) (answer : FeedAnswer P)
     → Shape n most chain → Doing chain action → Kept number events chain history
     → Kept (suc number) (events ++ taken_by action answer) (after_action matches chain (Some action) answer) (recorded matches chain number (Some action) history)) where
   pub by_steps : {schedule : List Actor} {events : List (Event P)} {chain : ChainState P} (reached : Reached matches n most schedule events chain) → Kept (length schedule) events chain (history_of reached)

@@ -15,7 +15,7 @@ use Rattle.hj_msg.specs.Turns.{Turn, only_at, at_left, at_right}
 use Rattle.hj_msg.specs.Driver.{DriverTurn, admission, receipt, closing, message_of, port_of}
 use Rattle.hj_msg.specs.Run.{LogEntry, close_of, at_port, port_journal}
 use Rattle.hj_chain.specs.Chain.{ChainState, Action, asks, drives, handles, collects}
-use Rattle.hj_chain.specs.Reached.{History, turn_at, recorded, left_end, right_end}
+use Rattle.hj_chain.specs.Reached.{StepHistory, turn_at, recorded, left_end, right_end}
 use Rattle.hj_chain.proofs.Ways.{when, same_place}
 
 -- what stands in a journal when more is appended
@@ -123,7 +123,7 @@ with_turn : {P : Type 0} (f : Turn P → List (Entry (Msg P))) (b : Bool) (numbe
 with_turn f true number took sent turns turn is = flat_map-push f turns turn ∙ ap (λ es. flat_map f turns ++ es) is
 with_turn f false number took sent turns turn is = sym (append-nil _)
 
-module _ {P : Type 0} (matches : P → P → Bool) (chain : ChainState P) (number : ℕ) (history : History P) where
+module _ {P : Type 0} (matches : P → P → Bool) (chain : ChainState P) (number : ℕ) (history : StepHistory P) where
   abbrev n : ℕ
   n = length chain.cores
 

@@ -16,7 +16,7 @@ use Rattle.hj_msg.specs.Turns.{Turn, at_reports}
 use Rattle.hj_msg.specs.Run.{LogEntry}
 use Rattle.hj_chain.specs.declared.actor.Actor.{Actor}
 use Rattle.hj_chain.specs.Chain.{FeedAnswer, ChainState, Action, asks, drives, handles, collects, after_action, empty_chain}
-use Rattle.hj_chain.specs.Reached.{Reached, History, no_history, recorded, history_of, turn_at, left_end, right_end}
+use Rattle.hj_chain.specs.Reached.{Reached, StepHistory, no_history, recorded, history_of, turn_at, left_end, right_end}
 use Rattle.hj_msg.specs.Feed.{event_in}
 use Rattle.hj_chain.proofs.Doing.{Doing, taken_by}
 use Rattle.hj_chain.proofs.Shape.{Shape}
@@ -74,7 +74,7 @@ earlier-more {M} number journal journal' took sent old is =
 pub earlier-nothing : {M : Type 0} (journal : List (Entry M)) → journal ≡ [] → Earlier 0 journal
 earlier-nothing {M} journal is = subst (Earlier 0) (sym is) (record { in_turn = λ i j d below low. absurd (omega (arith, low)); below = All-nil (λ x. x < 0) })
 
-pub record Numbered {P : Type 0} (n number : ℕ) (history : History P) : Type 0 where
+pub record Numbered {P : Type 0} (n number : ℕ) (history : StepHistory P) : Type 0 where
   pub log : Rises number (map (λ entry. entry.number) history.log)
   pub turns : (k : ℕ) → Rises number (map (λ turn. turn.number) (history.turns k))
   pub left : (k : ℕ) → Earlier number (left_end history k)
@@ -104,7 +104,7 @@ still : {M : Type 0} (number : ℕ) (journal : List (Entry M)) → Earlier numbe
 still number journal old = earlier-more number journal journal [] [] old (sym (append-nil journal))
 
 module _ {P : Type 0} (matches : P → P → Bool) (n most : ℕ) where
-  abbrev Kept : ℕ → List (Event P) → ChainState P → History P → Type 0
+  abbrev Kept : ℕ → List (Event P) → ChainState P → StepHistory P → Type 0
   Kept number events chain history = Numbered n number history
 
   begin : (first : Given P) → Kept 0 (event_in (Some first)) (empty_chain n most first) no_history
@@ -117,10 +117,10 @@ module _ {P : Type 0} (matches : P → P → Bool) (n most : ℕ) where
     receiver = λ k. earlier-nothing [] refl;
   }
 
-  left-step : (number : ℕ) (chain : ChainState P) (history : History P) (action : Action P) (k : ℕ) → Earlier number (left_end history k) → Earlier (suc number) (left_end (recorded matches chain number (Some action) history) k)
+  left-step : (number : ℕ) (chain : ChainState P) (history : StepHistory P) (action : Action P) (k : ℕ) → Earlier number (left_end history k) → Earlier (suc number) (left_end (recorded matches chain number (Some action) history) k)
   left-step number chain history action k old = earlier-more number (left_end history k) _ (left_took action k) (left_sent (length chain.cores) action k) old (left_end-more matches chain number history action k)
 
-  right-step : (number : ℕ) (chain : ChainState P) (history : History P) (action : Action P) → Shape n most chain → Doing chain action → (k : ℕ)
+  right-step : (number : ℕ) (chain : ChainState P) (history : StepHistory P) (action : Action P) → Shape n most chain → Doing chain action → (k : ℕ)
       → Earlier number (right_end n history k) → Earlier (suc number) (right_end n (recorded matches chain number (Some action) history) k)
   right-step number chain history action shape doing k old =
       let c = length chain.cores in
@@ -128,7 +128,7 @@ module _ {P : Type 0} (matches : P → P → Bool) (n most : ℕ) where
       (earlier-more number (right_end c history k) _ (right_took c action k) (right_sent c action k) (subst (λ (m : ℕ). Earlier number (right_end m history k)) (sym shape.cores) old)
       (right_end-more matches chain number history action (in_chain chain action doing) k))
 
-  step : (number : ℕ) (events : List (Event P)) (chain : ChainState P) (history : History P) (action : Action P) (answer : FeedAnswer P)
+  step : (number : ℕ) (events : List (Event P)) (chain : ChainState P) (history : StepHistory P) (action : Action P) (answer : FeedAnswer P)
       → Shape n most chain → Doing chain action → Kept number events chain history
       → Kept (suc number) (events ++ taken_by action answer) (after_action matches chain (Some action) answer) (recorded matches chain number (Some action) history)
   step number events chain history asks answer shape doing old = record {

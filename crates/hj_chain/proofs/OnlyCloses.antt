@@ -15,7 +15,7 @@ use Rattle.hj_driver.proofs.ComingOut.{no_cause}
 use Rattle.hj_driver.proofs.MayClose.{may_close}
 use Rattle.hj_chain.specs.declared.actor.Actor.{Actor}
 use Rattle.hj_chain.specs.Chain.{FeedAnswer, ChainState, Action, after_action, empty_chain}
-use Rattle.hj_chain.specs.Reached.{Reached, History, no_history, recorded, history_of}
+use Rattle.hj_chain.specs.Reached.{Reached, StepHistory, no_history, recorded, history_of}
 use Rattle.hj_msg.specs.Feed.{event_in}
 use Rattle.hj_chain.proofs.Balance.{is_waiting}
 use Rattle.hj_chain.proofs.Carrying.{rights, lefts}
@@ -37,13 +37,13 @@ abbrev AreGone : DriverState → Type 0
 AreGone driver = is_sent driver.closes ≡ true → count_of driver ≡ 0
 
 module _ {P : Type 0} (matches : P → P → Bool) (n most : ℕ) where
-  abbrev Kept : ℕ → List (Event P) → ChainState P → History P → Type 0
+  abbrev Kept : ℕ → List (Event P) → ChainState P → StepHistory P → Type 0
   Kept number events chain history = AreGone chain.driver
 
   begin : (first : Given P) → Kept 0 (event_in (Some first)) (empty_chain n most first) no_history
   begin first sent = refl
 
-  step : (number : ℕ) (events : List (Event P)) (chain : ChainState P) (history : History P) (action : Action P) (answer : FeedAnswer P)
+  step : (number : ℕ) (events : List (Event P)) (chain : ChainState P) (history : StepHistory P) (action : Action P) (answer : FeedAnswer P)
       → Shape n most chain → Doing chain action → Kept number events chain history
       → Kept (suc number) (events ++ taken_by action answer) (after_action matches chain (Some action) answer) (recorded matches chain number (Some action) history)
   step number events chain history action answer shape (inquires is) old sent = old sent
@@ -56,10 +56,10 @@ module _ {P : Type 0} (matches : P → P → Bool) (n most : ℕ) where
   step number events chain history action answer shape (gathers place report rest low is) old sent = old sent
 
   -- nor is any to come
-  abbrev Last : ℕ → List (Event P) → ChainState P → History P → Type 0
+  abbrev Last : ℕ → List (Event P) → ChainState P → StepHistory P → Type 0
   Last number events chain history = is_sent chain.driver.closes ≡ true → chain.next ≡ Some given.Stop
 
-  last-step : (number : ℕ) (events : List (Event P)) (chain : ChainState P) (history : History P) (action : Action P) (answer : FeedAnswer P)
+  last-step : (number : ℕ) (events : List (Event P)) (chain : ChainState P) (history : StepHistory P) (action : Action P) (answer : FeedAnswer P)
       → Shape n most chain → Doing chain action → Last number events chain history
       → Last (suc number) (events ++ taken_by action answer) (after_action matches chain (Some action) answer) (recorded matches chain number (Some action) history)
   last-step number events chain history action answer shape (inquires is) old sent = absurd (cc (old sent, is))

@@ -9,7 +9,7 @@ use Rattle.hj_driver.proofs.ComingOut.{is_new}
 use Rattle.hj_driver.proofs.MayClose.{may_close}
 use Rattle.hj_chain.specs.declared.actor.Actor.{Actor}
 use Rattle.hj_chain.specs.Chain.{FeedAnswer, ChainState, Action, after_action}
-use Rattle.hj_chain.specs.Reached.{Reached, begins, steps, History, recorded, history_of, asked}
+use Rattle.hj_chain.specs.Reached.{Reached, begins, steps, StepHistory, recorded, history_of, asked}
 use Rattle.hj_msg.specs.Feed.{event_in}
 use Rattle.hj_chain.proofs.Doing.{Doing, Deed, deed, inquires, admits, shuts, receives, works, gathers}
 use Rattle.hj_chain.proofs.Shape.{shape}
@@ -17,7 +17,7 @@ use Rattle.hj_chain.proofs.Driving.{Driven, driven, turns_of}
 use Rattle.hj_chain.proofs.Balance.{Balanced, balanced-begin, balanced-admission, balanced-closing, balanced-receipt}
 
 module _ {P : Type 0} (matches : P → P → Bool) (n most : ℕ) where
-  balanced-step : (number : ℕ) (events : List (Event P)) (chain : ChainState P) (history : History P) (action : Action P) (answer : FeedAnswer P) → Doing chain action
+  balanced-step : (number : ℕ) (events : List (Event P)) (chain : ChainState P) (history : StepHistory P) (action : Action P) (answer : FeedAnswer P) → Doing chain action
       → Driven events chain (turns_of history.log) → IsWellFormed events → Balanced chain.driver history.log
       → Balanced (after_action matches chain (Some action) answer).driver (recorded matches chain number (Some action) history).log
   balanced-step number events chain history action answer (inquires is) driving well old = old

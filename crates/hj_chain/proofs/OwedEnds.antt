@@ -13,7 +13,7 @@ use Rattle.hj_msg.specs.Core.{sends, only_if, is_last}
 use Rattle.hj_msg.specs.Driver.{message_of, port_of}
 use Rattle.hj_msg.specs.Messages.{is_R, is_S, is_EndR, is_EndS}
 use Rattle.hj_driver.specs.declared.lane.Departure.TheVariants.{Row, End}
-use Rattle.hj_driver.specs.declared.lane.Arrival.{Arrival}
+use Rattle.hj_driver.specs.declared.lane.OutstandingArrival.{OutstandingArrival}
 use Rattle.hj_driver.specs.Lane.{waits_for}
 use Rattle.hj_driver.specs.Driver.{DriverState, after_put, after_message}
 use Rattle.hj_chain.proofs.Counts.{count}
@@ -42,7 +42,7 @@ module _ (P : Type 0) (n number : ℕ) (some : 1 ≤ n) where
   none_out : (message : Msg P) → at_exit end_left Right n message ≡ 0
   none_out message = ap (λ b. cond b 0 (one (is_R number message))) (eq-eqb n n refl)
 
-  end_left-taking : (port : Side) (message : Msg P) (arrivals : List Arrival)
+  end_left-taking : (port : Side) (message : Msg P) (arrivals : List OutstandingArrival)
       → Fewer (count (waits_for number End) (filter_map (after_message Left port message) arrivals)) (at_exit end_left port n message) (count (waits_for number End) arrivals)
   end_left-taking Left (EndR at) arrivals = taken-one number at.0 End arrivals
   end_left-taking Left message arrivals = waits-still number End arrivals 0 refl
@@ -80,7 +80,7 @@ module _ (P : Type 0) (n number : ℕ) (some : 1 ≤ n) where
   end_right-putting (Quiet at Left) driver = omega arith
   end_right-putting (Quiet at Right) driver = omega arith
 
-  end_right-taking : (port : Side) (message : Msg P) (arrivals : List Arrival)
+  end_right-taking : (port : Side) (message : Msg P) (arrivals : List OutstandingArrival)
       → Fewer (count (waits_for number End) (filter_map (after_message Right port message) arrivals)) (at_exit end_right port n message) (count (waits_for number End) arrivals)
   end_right-taking Right (EndS at) arrivals = taken-one number at.0 End arrivals
   end_right-taking Left (S at row) arrivals = waits-others number at.0 End Row arrivals 0 refl

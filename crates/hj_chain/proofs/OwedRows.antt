@@ -12,7 +12,7 @@ use Rattle.hj_msg.specs.Core.{sends}
 use Rattle.hj_msg.specs.Driver.{message_of, port_of}
 use Rattle.hj_msg.specs.Messages.{is_R, is_S, is_ExpR, is_ExpS, is_QuietL, is_QuietR}
 use Rattle.hj_driver.specs.declared.lane.Departure.TheVariants.{Row, End}
-use Rattle.hj_driver.specs.declared.lane.Arrival.{Arrival}
+use Rattle.hj_driver.specs.declared.lane.OutstandingArrival.{OutstandingArrival}
 use Rattle.hj_driver.specs.Lane.{waits_for}
 use Rattle.hj_driver.specs.Driver.{DriverState, after_put, after_message, stays, quiet_stays}
 use Rattle.hj_chain.proofs.Counts.{count, count-append}
@@ -34,7 +34,7 @@ module _ (P : Type 0) (n number : ℕ) where
   row_left-putting (Quiet at Left) driver = omega arith
   row_left-putting (Quiet at Right) driver = omega arith
 
-  row_left-taking : (port : Side) (message : Msg P) (arrivals : List Arrival)
+  row_left-taking : (port : Side) (message : Msg P) (arrivals : List OutstandingArrival)
       → Fewer (count (waits_for number Row) (filter_map (after_message Left port message) arrivals)) (at_exit row_left port n message) (count (waits_for number Row) arrivals)
   row_left-taking Right (R at row) arrivals = taken-one number at.0 Row arrivals
   row_left-taking Left (EndR at) arrivals = waits-others number at.0 Row End arrivals 0 refl
@@ -66,7 +66,7 @@ module _ (P : Type 0) (n number : ℕ) where
   row_right-putting (Quiet at Left) driver = omega arith
   row_right-putting (Quiet at Right) driver = omega arith
 
-  row_right-taking : (port : Side) (message : Msg P) (arrivals : List Arrival)
+  row_right-taking : (port : Side) (message : Msg P) (arrivals : List OutstandingArrival)
       → Fewer (count (waits_for number Row) (filter_map (after_message Right port message) arrivals)) (at_exit row_right port n message) (count (waits_for number Row) arrivals)
   row_right-taking Left (S at row) arrivals = taken-one number at.0 Row arrivals
   row_right-taking Right (EndS at) arrivals = waits-others number at.0 Row End arrivals 0 refl

@@ -13,7 +13,7 @@ use Rattle.hj_driver.specs.Driver.{DriverState, new_driver, after_put, after_tak
 use Rattle.hj_chain.specs.declared.actor.Actor.{Actor}
 use Rattle.hj_chain.specs.Links.{changed_at}
 use Rattle.hj_chain.specs.Chain.{FeedAnswer, ChainState, Action, after_action, empty_chain}
-use Rattle.hj_chain.specs.Reached.{Reached, History, no_history, recorded}
+use Rattle.hj_chain.specs.Reached.{Reached, StepHistory, no_history, recorded}
 use Rattle.hj_msg.specs.Feed.{event_in}
 use Rattle.hj_chain.proofs.Doing.{Doing, admits, shuts, receives, works, gathers, taken_by, inquires}
 use Rattle.hj_chain.proofs.Induction.{by_steps}
@@ -62,13 +62,13 @@ module _ {P : Type 0} (weights : Weights (Msg P)) (owed : DriverState → List (
   owed-step matches chain answer owes all action (gathers place report rest low is) old = old
 
   module _ (matches : P → P → Bool) (n most : ℕ) (owes : Owes n weights owed) where
-    abbrev Kept : ℕ → List (Event P) → ChainState P → History P → Type 0
+    abbrev Kept : ℕ → List (Event P) → ChainState P → StepHistory P → Type 0
     Kept number events chain history = Carried chain
 
     begin : (first : Given P) → Kept 0 (event_in (Some first)) (empty_chain n most first) no_history
     begin first = omega (arith, owes.beginning most)
 
-    step : (number : ℕ) (events : List (Event P)) (chain : ChainState P) (history : History P) (action : Action P) (answer : FeedAnswer P)
+    step : (number : ℕ) (events : List (Event P)) (chain : ChainState P) (history : StepHistory P) (action : Action P) (answer : FeedAnswer P)
         → Shape n most chain → Doing chain action → Kept number events chain history
         → Kept (suc number) (events ++ taken_by action answer) (after_action matches chain (Some action) answer) (recorded matches chain number (Some action) history)
     step number events chain history action answer shape doing old =

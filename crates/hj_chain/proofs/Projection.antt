@@ -17,7 +17,7 @@ use Rattle.hj_driver.proofs.Logs.{is_sent-closes_of}
 use Rattle.hj_chain.specs.declared.actor.Actor.{Actor}
 use Rattle.hj_chain.specs.Reports.{queue_at}
 use Rattle.hj_chain.specs.Chain.{ChainState}
-use Rattle.hj_chain.specs.Reached.{Reached, History, history_of, left_end, right_end, run_of, collected_of}
+use Rattle.hj_chain.specs.Reached.{Reached, StepHistory, history_of, left_end, right_end, run_of, collected_of}
 use Rattle.hj_msg.specs.Feed.{event_in}
 use Rattle.hj_chain.proofs.Shape.{shape, some_core}
 use Rattle.hj_chain.proofs.Driving.{Driven, driven, turns_of}
@@ -53,7 +53,7 @@ lawful {P} events chain log most same d =
     }
 
 module _ {P : Type 0} (matches : P → P → Bool) (n most : ℕ) {schedule : List Actor} {events : List (Event P)} {chain : ChainState P} (reached : Reached matches n most schedule events chain) (well : IsWellFormed events) where
-  abbrev history : History P
+  abbrev history : StepHistory P
   history = history_of reached
 
   room_right : (k : ℕ) → k ≤ n → length (puts (left_end history k)) ≤ length (takes (right_end n history k)) + (2 * most + 2)

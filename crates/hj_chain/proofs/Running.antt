@@ -13,7 +13,7 @@ use Rattle.hj_chain.specs.declared.actor.Stepped.TheVariants.{Did, NotEnabled, M
 use Rattle.hj_chain.specs.Chain.{ChainState, Contents, FeedAnswer}
 use Rattle.hj_chain.specs.Reached.{StandsFor, asked}
 use Rattle.hj_chain.specs.declared.actor.NotNow.{NotNow}
-use Rattle.hj_chain.specs.Steps.{Gathers, Ran, RunsOver, ended, did, passed_over, stopped, Steps, asks}
+use Rattle.hj_chain.specs.Steps.{Gathers, RunsSchedule, RunsOver, ended, did, passed_over, stopped, Steps, asks}
 use Rattle.hj_chain.proofs.FewSteps.{few_steps}
 use Rattle.hj_chain.proofs.Goings.{Sound, stands-did, stands-stays, next-of, next_known}
 
@@ -132,7 +132,7 @@ module _ {P J F : Type 0} (predicate : J → P → P → Bool) (gives : F → Gi
   runs-further (no-memory actor later old new from to step gathers same) before events count stands =
       nothing_taken before events count old.state.next new from to step.feed (stands-stays predicate old new actor step.answer same Memory before events count stands step.chain gathers (λ same. cc))
 
-  ran : {schedule : List Actor} {old : Contents P J} {from : F} {result : Stepped} {new : Contents P J} {to : F} → (done : List Actor) × Asks gives is_ready predicate schedule old from done result new to → Ran gives is_ready predicate schedule old from result new to
+  ran : {schedule : List Actor} {old : Contents P J} {from : F} {result : Stepped} {new : Contents P J} {to : F} → (done : List Actor) × Asks gives is_ready predicate schedule old from done result new to → RunsSchedule gives is_ready predicate schedule old from result new to
   ran {new = new} (done, more) = record {
     done = done;
     steps = runs-over more;
@@ -165,13 +165,13 @@ module _ {P J F : Type 0} (gives : F → Given P → F → Type 0) (is_ready : F
           (leads-over (drop (suc i) schedule) (get_or schedule i d) result step gathers other (next_first d low))
 
       pub ran-stopped : (d : Actor) (result : Stepped) → i < length schedule → Steps gives is_ready (predicate now.join) (get_or schedule i d) now.state at result mid.state between → Gathers (get_or schedule i d) now result mid → result ≡ Memory
-          → Ran gives is_ready predicate schedule old from Memory mid between
+          → RunsSchedule gives is_ready predicate schedule old from Memory mid between
       ran-stopped d result low step gathers memory =
           ran predicate gives is_ready ((next_first d low).whole [] Memory mid between
           (no-memory (get_or schedule i d) (drop (suc i) schedule) now mid at between (subst (λ (r : Stepped). Steps gives is_ready (predicate now.join) (get_or schedule i d) now.state at r mid.state between) memory step)
           (subst (λ (r : Stepped). Gathers (get_or schedule i d) now r mid) memory gathers) same))
 
-    pub ran-over : i ≡ length schedule → Ran gives is_ready predicate schedule old from Did now at
+    pub ran-over : i ≡ length schedule → RunsSchedule gives is_ready predicate schedule old from Did now at
     ran-over all =
         let over : Leads gives is_ready predicate schedule [] old now from at = subst (λ (later : List Actor). Leads gives is_ready predicate schedule later old now from at) (ap (λ (k : ℕ). drop k schedule) all ∙ drop-length schedule) leads in
         ran predicate gives is_ready (over.whole [] Did now at (all-asked now at))

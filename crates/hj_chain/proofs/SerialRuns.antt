@@ -34,7 +34,7 @@ use Rattle.hj_msg.specs.declared.fin.Fin.TheVariants as fin
 use Rattle.hj_chain.specs.Chain.{FeedAnswer, ChainState, Contents, Action, action_of, after_action, cause}
 use Rattle.hj_chain.specs.Progress.{IsDone}
 use Rattle.hj_chain.specs.Reached.{Reached, steps, StandsFor, asked, collected_of, next_pair}
-use Rattle.hj_chain.specs.Serial.{Choosing, IsWithin, LetsOut, MakesSteps, begins, goes_on, runs_out, Releases, RunsSerially, chosen, choosing_after, first_choosing, Ends}
+use Rattle.hj_chain.specs.Serial.{Choosing, IsPlaceWithin, LetsOut, MakesSteps, begins, goes_on, runs_out, Releases, RunsSerially, chosen, choosing_after, first_choosing, EndsSerial}
 use Rattle.hj_chain.specs.Steps.{GoesWith, Gathers, Steps, asks, was_asked}
 use Rattle.hj_chain.proofs.ChosenActors.{chosen-enabled, none-enabled}
 use Rattle.hj_chain.proofs.Doing.{deed, taken_by}
@@ -357,7 +357,7 @@ module _ {P J F D : Type 0} (gives : F → Given P → F → Type 0) (is_ready :
     abbrev Ran : Fin → Type 0
     Ran ended = RunsSerially gives is_ready takes predicate rule schedule events given_before old from unfilled ended now to filled
 
-    ran : (last : List Drained) (under : Underway last choosing now to filled) (ended : Fin) → Ends ended under.gave.pairs under.gave.stood.stands → (ended ≡ fin.Refused → Before under.made under.taken (length under.gave.pairs)) → Ran ended
+    ran : (last : List Drained) (under : Underway last choosing now to filled) (ended : Fin) → EndsSerial ended under.gave.pairs under.gave.stood.stands → (ended ≡ fin.Refused → Before under.made under.taken (length under.gave.pairs)) → Ran ended
     ran last under ended ends before = record {
       made = under.made;
       choosing = choosing;
@@ -471,7 +471,7 @@ module _ {P J F : Type 0} (gives : F → Given P → F → Type 0) (is_ready : F
 
 -- ---- what stays from one step to the next
 
-pub first-within : (n : ℕ) (rule : Chooser) → IsWithin n (first_choosing rule)
+pub first-within : (n : ℕ) (rule : Chooser) → IsPlaceWithin n (first_choosing rule)
 first-within n chooser.InTurn = omega arith
 first-within n (chooser.Seeded seed) = tt
 
@@ -486,7 +486,7 @@ module _ {P J F D : Type 0} (gives : F → Given P → F → Type 0) (is_ready :
     pub join : now.join ≡ old.join
     pub cores : length now.state.cores ≡ length old.state.cores
     pub goes : GoesWith predicate now (state to)
-    pub within : IsWithin (length now.state.cores) choosing
+    pub within : IsPlaceWithin (length now.state.cores) choosing
     pub under : (schedule : List Actor) (events : List (Event P)) (given : ℕ) → StandsFor predicate old schedule events given → Underway gives is_ready takes predicate rule schedule events given old from unfilled [] choosing now to filled
 
   pub running-begins : GoesWith predicate old (state from) → (choosing : Choosing) → choosing ≡ first_choosing rule → Running choosing old from unfilled
@@ -494,7 +494,7 @@ module _ {P J F D : Type 0} (gives : F → Given P → F → Type 0) (is_ready :
     join = refl;
     cores = refl;
     goes = goes;
-    within = subst (IsWithin (length old.state.cores)) (sym first) (first-within (length old.state.cores) rule);
+    within = subst (IsPlaceWithin (length old.state.cores)) (sym first) (first-within (length old.state.cores) rule);
     under = λ schedule events given stands.
         subst (λ (c : Choosing). Underway gives is_ready takes predicate rule schedule events given old from unfilled [] c old from unfilled) (sym first) (underway-begins gives is_ready takes predicate rule schedule events given old from unfilled stands);
   }
@@ -518,7 +518,7 @@ module _ {P J F D : Type 0} (gives : F → Given P → F → Type 0) (is_ready :
         join = ap (λ (c : Contents P J). c.join) others ∙ running.join;
         cores = ap (λ (s : ChainState P). length s.cores) same-state ∙ running.cores;
         goes = goes;
-        within = subst (λ (s : ChainState P). IsWithin (length s.cores) choosing) (sym same-state) running.within;
+        within = subst (λ (s : ChainState P). IsPlaceWithin (length s.cores) choosing) (sym same-state) running.within;
         under = λ schedule events given stands.
             subst (λ (a : Drained). Underway gives is_ready takes predicate rule schedule events given old from unfilled (last_of a) choosing new to more) kept (onward schedule events given stands);
       }
@@ -555,12 +555,12 @@ module _ {P J F D : Type 0} (gives : F → Given P → F → Type 0) (is_ready :
         pub was-going : now.state.over ≡ false
         was-going = enabled_going now.state actor made.chain.0
 
-        pub running-step : (now.state.over ≡ false → Settled now) → GoesWith predicate new (state onto) → (next : Choosing) → next ≡ choosing_after (length now.state.cores) actor choosing → IsWithin (length now.state.cores) next → Running next new onto filled
+        pub running-step : (now.state.over ≡ false → Settled now) → GoesWith predicate new (state onto) → (next : Choosing) → next ≡ choosing_after (length now.state.cores) actor choosing → IsPlaceWithin (length now.state.cores) next → Running next new onto filled
         running-step settled goes next is within = record {
           join = same_join ∙ running.join;
           cores = cores-stay gives is_ready state predicate now new actor to onto running.goes made ∙ running.cores;
           goes = goes;
-          within = subst (λ (n : ℕ). IsWithin n next) (sym (cores-stay gives is_ready state predicate now new actor to onto running.goes made)) within;
+          within = subst (λ (n : ℕ). IsPlaceWithin n next) (sym (cores-stay gives is_ready state predicate now new actor to onto running.goes made)) within;
           under = λ schedule events given stands.
               subst (λ (c : Choosing). Underway gives is_ready takes predicate rule schedule events given old from unfilled [] c new onto filled) (ap (λ (n : ℕ). choosing_after n actor choosing) (sym running.cores) ∙ sym is)
               (underway-step gives is_ready takes predicate rule schedule events given old from unfilled choosing now to filled (running.under schedule events given stands) running.join sound actor (sym named) new onto same_join (settled was-going) made gathered);

@@ -22,7 +22,7 @@ use Rattle.hj_driver.specs.declared.closes.Closes.{Closes}
 use Rattle.hj_driver.specs.declared.closes.Closes.TheVariants.{Unsent, Sent}
 use Rattle.hj_driver.specs.declared.lane.Departure.{Departure}
 use Rattle.hj_driver.specs.declared.lane.Departure.TheVariants.{Row, End}
-use Rattle.hj_driver.specs.declared.lane.Arrival.{Arrival}
+use Rattle.hj_driver.specs.declared.lane.OutstandingArrival.{OutstandingArrival}
 use Rattle.hj_driver.specs.Lane.{is_taken, waits_for}
 use Rattle.hj_driver.specs.Driver.{DriverState, awaits_close, count_of, is_finished, is_sent, row_cause}
 use Rattle.hj_driver.proofs.ComingOut.{no_cause}
@@ -89,7 +89,7 @@ waits-some None = omega arith
 waits-some (Some Row) = omega arith
 waits-some (Some End) = omega arith
 
-no_arrivals : (arrivals : List Arrival) → ((i : ℕ) → count (waits_for i Row) arrivals ≡ 0) → ((i : ℕ) → count (waits_for i End) arrivals ≡ 0) → arrivals ≡ []
+no_arrivals : (arrivals : List OutstandingArrival) → ((i : ℕ) → count (waits_for i Row) arrivals ≡ 0) → ((i : ℕ) → count (waits_for i End) arrivals ≡ 0) → arrivals ≡ []
 no_arrivals [] rows ends = refl
 no_arrivals (a ∷ later) rows ends = absurd (omega (
   arith,

@@ -16,7 +16,7 @@ use Rattle.hj_chain.specs.declared.actor.Actor.{Actor}
 use Rattle.hj_chain.specs.Links.{changed_at}
 use Rattle.hj_chain.specs.Reports.{queue_at}
 use Rattle.hj_chain.specs.Chain.{FeedAnswer, ChainState, Action, handles, collects, after_action, empty_chain, capacity}
-use Rattle.hj_chain.specs.Reached.{Reached, History, no_history, recorded, history_of, turn_at}
+use Rattle.hj_chain.specs.Reached.{Reached, StepHistory, no_history, recorded, history_of, turn_at}
 use Rattle.hj_msg.specs.Feed.{event_in}
 use Rattle.hj_chain.proofs.Doing.{Doing, inquires, admits, shuts, receives, works, gathers, taken_by}
 use Rattle.hj_chain.proofs.Shape.{Shape}
@@ -95,10 +95,10 @@ module _ {P : Type 0} (matches : P → P → Bool) (n most k number : ℕ) (stat
         room = omega (arith, old.room, ap length is);
       }
 
-abbrev pub Turned : {P : Type 0} → (P → P → Bool) → ℕ → ℕ → ChainState P → History P → Type 0
+abbrev pub Turned : {P : Type 0} → (P → P → Bool) → ℕ → ℕ → ChainState P → StepHistory P → Type 0
 Turned matches n most chain history = (k : ℕ) → k < n → TurnedAt matches n most k (state_at chain k) (queue_at chain.reports k) (history.turns k) (history.collected k)
 
-module _ {P : Type 0} (matches : P → P → Bool) (most : ℕ) (chain : ChainState P) (history : History P) (number : ℕ) (answer : FeedAnswer P) where
+module _ {P : Type 0} (matches : P → P → Bool) (most : ℕ) (chain : ChainState P) (history : StepHistory P) (number : ℕ) (answer : FeedAnswer P) where
   abbrev n : ℕ
   n = length chain.cores
 
@@ -139,7 +139,7 @@ module _ {P : Type 0} (matches : P → P → Bool) (most : ℕ) (chain : ChainSt
       ]
 
 module _ {P : Type 0} (matches : P → P → Bool) (n most : ℕ) where
-  abbrev Kept : ℕ → List (Event P) → ChainState P → History P → Type 0
+  abbrev Kept : ℕ → List (Event P) → ChainState P → StepHistory P → Type 0
   Kept number events chain history = Turned matches n most chain history
 
   begin : (first : Given P) → Kept 0 (event_in (Some first)) (empty_chain n most first) no_history
@@ -147,7 +147,7 @@ module _ {P : Type 0} (matches : P → P → Bool) (n most : ℕ) where
       turned-as matches n most k (get_or-replicate n k core.empty_state core.empty_state within) (get_or-replicate n k [] [] within) refl refl
       (record { whole = tt; keeps = refl; reports = refl; room = omega arith })
 
-  step : (number : ℕ) (events : List (Event P)) (chain : ChainState P) (history : History P) (action : Action P) (answer : FeedAnswer P)
+  step : (number : ℕ) (events : List (Event P)) (chain : ChainState P) (history : StepHistory P) (action : Action P) (answer : FeedAnswer P)
       → Shape n most chain → Doing chain action → Kept number events chain history
       → Kept (suc number) (events ++ taken_by action answer) (after_action matches chain (Some action) answer) (recorded matches chain number (Some action) history)
   step number events chain history action answer shape (admits event is free) old = old

@@ -15,7 +15,7 @@ use Rattle.hj_msg.specs.Driver.{DriverTurn}
 use Rattle.hj_msg.specs.Run.{LogEntry, at_port, port_journal}
 use Rattle.hj_chain.specs.declared.actor.Actor.{Actor}
 use Rattle.hj_chain.specs.Chain.{ChainState}
-use Rattle.hj_chain.specs.Reached.{Reached, History, history_of, left_end, right_end}
+use Rattle.hj_chain.specs.Reached.{Reached, StepHistory, history_of, left_end, right_end}
 use Rattle.hj_chain.proofs.Journals.{puts-append, at_port-entries, puts-entries, took_at, sent_at}
 use Rattle.hj_chain.proofs.Carrying.{rights, lefts, carried}
 use Rattle.hj_chain.proofs.Turning.{messages, turned}
@@ -108,7 +108,7 @@ module _ {P : Type 0} (matches : P → P → Bool) (m most : ℕ) {schedule : Li
   abbrev pub n : ℕ
   n = suc m
 
-  abbrev pub history : History P
+  abbrev pub history : StepHistory P
   history = history_of reached
 
   -- to the right: what was put at the left end of link k, what was taken at its right end, and what is under way

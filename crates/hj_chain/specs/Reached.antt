@@ -44,12 +44,12 @@ pub data Reached {P : Type 0} (matches : P → P → Bool) (n flight : ℕ) : Li
 
 -- What steps leave in the journals: the driver's log, each core's turns, and what was taken of each core's reports. Each step is
 -- a turn of its own, under its place in the schedule.
-pub record History (P : Type 0) : Type 0 where
+pub record StepHistory (P : Type 0) : Type 0 where
   pub log : List (LogEntry P)
   pub turns : ℕ → List (Turn P)
   pub collected : ℕ → List (Entry (Report P))
 
-abbrev pub no_history : {P : Type 0} → History P
+abbrev pub no_history : {P : Type 0} → StepHistory P
 no_history = record { log = []; turns = λ k. []; collected = λ k. [] }
 
 -- the turn of the core at a place that handles a message
@@ -70,7 +70,7 @@ abbrev pub with_last : {X : Type 0} → ℕ → X → (ℕ → List X) → ℕ �
 with_last place x lists k = if k == place then lists k ++ x ∷ [] else lists k
 
 -- the journals with one turn more
-abbrev pub recorded : {P : Type 0} → (P → P → Bool) → ChainState P → ℕ → Option (Action P) → History P → History P
+abbrev pub recorded : {P : Type 0} → (P → P → Bool) → ChainState P → ℕ → Option (Action P) → StepHistory P → StepHistory P
 recorded matches chain number None history = history
 recorded matches chain number (Some asks) history = history
 recorded matches chain number (Some (drives turn)) history = record history { log = history.log ++ record { number = number; turn = turn } ∷ [] }
@@ -79,23 +79,23 @@ recorded matches chain number (Some (handles place end message)) history =
 recorded matches chain number (Some (collects place report)) history = record history { collected = with_last place (taken number report) history.collected }
 
 abbrev pub history_of : {P : Type 0} {matches : P → P → Bool} {n flight : ℕ} {schedule : List Actor} {events : List (Event P)} {chain : ChainState P}
-    → Reached matches n flight schedule events chain → History P
+    → Reached matches n flight schedule events chain → StepHistory P
 history_of (begins some first) = no_history
 history_of {matches = matches} (steps schedule events chain actor answer before enabled) = recorded matches chain (length schedule) (action_of chain actor) (history_of before)
 
 -- The journals of the ends of link k, and of the queue of reports of core k. The left end of link 0 and the right end of link n
 -- are the driver's; of the other ends, the left one of link k + 1 and the right one of link k are those of core k.
-abbrev pub left_end : {P : Type 0} → History P → ℕ → List (Entry (Msg P))
+abbrev pub left_end : {P : Type 0} → StepHistory P → ℕ → List (Entry (Msg P))
 left_end history zero = port_journal Left history.log
 left_end history (suc k) = flat_map at_right (history.turns k)
 
-abbrev pub right_end : {P : Type 0} → ℕ → History P → ℕ → List (Entry (Msg P))
+abbrev pub right_end : {P : Type 0} → ℕ → StepHistory P → ℕ → List (Entry (Msg P))
 right_end n history k = if k == n then port_journal Right history.log else flat_map at_left (history.turns k)
 
-abbrev pub link_of : {P : Type 0} → ℕ → History P → ℕ → Link (Msg P)
+abbrev pub link_of : {P : Type 0} → ℕ → StepHistory P → ℕ → Link (Msg P)
 link_of n history k = record { left = left_end history k; right = right_end n history k }
 
-abbrev pub queue_of : {P : Type 0} → History P → ℕ → OneWay (Report P)
+abbrev pub queue_of : {P : Type 0} → StepHistory P → ℕ → OneWay (Report P)
 queue_of history k = record { sender = flat_map at_reports (history.turns k); receiver = history.collected k }
 
 -- The run that the steps give.

@@ -91,9 +91,9 @@ choosing_after n actor (from_place place) = from_place (place_behind n actor)
 choosing_after n actor (by_draw held) = by_draw (lcg.next held)
 
 -- the place is one of those of n cores, or the one behind them all
-abbrev pub IsWithin : ℕ → Choosing → Type 0
-IsWithin n (from_place place) = place ≤ length (actors n)
-IsWithin n (by_draw held) = Unit {0}
+abbrev pub IsPlaceWithin : ℕ → Choosing → Type 0
+IsPlaceWithin n (from_place place) = place ≤ length (actors n)
+IsPlaceWithin n (by_draw held) = Unit {0}
 
 -- A place that may be tried next where a rule stands at this one: the rule names the actor there if it is enabled; else it names
 -- the same one from the next place on.
@@ -115,10 +115,10 @@ pub data MakesSteps {P F : Type 0} (gives : F → Given P → F → Type 0) (is_
       → MakesSteps gives is_ready matches first old from made choosing new to
 
 -- How pairs were given: each one kept, and no further pair due; or the last one refused, and each other one kept.
-abbrev pub Gives : {P J : Type 0} {predicate : J → P → P → Bool} {chain : Contents P J} {schedule : List Actor} {events : List (Event P)} {given : ℕ}
+abbrev pub GivesPairs : {P J : Type 0} {predicate : J → P → P → Bool} {chain : Contents P J} {schedule : List Actor} {events : List (Event P)} {given : ℕ}
     → Drained → List (Drainage P) → StandsFor predicate chain schedule events given → Type 0
-Gives Kept pairs stands = (map (λ one. one.answer) pairs ≡ replicate (length pairs) Kept) × (next_pair stands ≡ None)
-Gives Refused pairs stands = (kept : ℕ) × (map (λ one. one.answer) pairs ≡ replicate kept Kept ++ Refused ∷ [])
+GivesPairs Kept pairs stands = (map (λ one. one.answer) pairs ≡ replicate (length pairs) Kept) × (next_pair stands ≡ None)
+GivesPairs Refused pairs stands = (kept : ℕ) × (map (λ one. one.answer) pairs ≡ replicate kept Kept ++ Refused ∷ [])
 
 -- Pairs that were given to a drain: the next ones of the emission of what the chain stood for. It stands for the same, with so
 -- many pairs more.
@@ -129,7 +129,7 @@ pub record Releases {P J D : Type 0} (takes : D → Pair P → Drained → D →
   pub stands : StandsFor predicate new schedule events (given + length pairs)
   pub collected : collected_of stands.reached ≡ collected_of stood.reached
   pub in_order : map (λ one. one.pair) pairs ≡ take (length pairs) (drop given (emitted (collected_of stands.reached)))
-  pub gives : Gives answer pairs stands
+  pub gives : GivesPairs answer pairs stands
 
 -- The last one of these steps let out a pair that was to be given: before it the chain had given fewer than so many, and no further
 -- one was due.
@@ -148,12 +148,12 @@ pub record LetsOut {P J : Type 0} (predicate : J → P → P → Bool) (schedule
 
 -- How the run ended: with each pair kept, no further pair due, and the chain done, in which memory never ran out and the feed has
 -- stopped; with the last pair refused, and each other one kept; or with memory run out, and each pair kept.
-abbrev pub Ends : {P J : Type 0} {predicate : J → P → P → Bool} {chain : Contents P J} {schedule : List Actor} {events : List (Event P)} {given : ℕ}
+abbrev pub EndsSerial : {P J : Type 0} {predicate : J → P → P → Bool} {chain : Contents P J} {schedule : List Actor} {events : List (Event P)} {given : ℕ}
     → Fin → List (Drainage P) → StandsFor predicate chain schedule events given → Type 0
-Ends {chain = chain} fin.Done pairs stands =
+EndsSerial {chain = chain} fin.Done pairs stands =
     (map (λ one. one.answer) pairs ≡ replicate (length pairs) Kept) × (next_pair stands ≡ None) × (chain.state.over ≡ false) × (is_stop chain.state.next ≡ true) × IsDone chain.state
-Ends fin.Refused pairs stands = (kept : ℕ) × (map (λ one. one.answer) pairs ≡ replicate kept Kept ++ Refused ∷ [])
-Ends {chain = chain} fin.Memory pairs stands = (map (λ one. one.answer) pairs ≡ replicate (length pairs) Kept) × (chain.state.over ≡ true)
+EndsSerial fin.Refused pairs stands = (kept : ℕ) × (map (λ one. one.answer) pairs ≡ replicate kept Kept ++ Refused ∷ [])
+EndsSerial {chain = chain} fin.Memory pairs stands = (map (λ one. one.answer) pairs ≡ replicate (length pairs) Kept) × (chain.state.over ≡ true)
 
 -- A serial run of a chain that stood for a schedule and events, and had given so many pairs: its steps are those that the rule
 -- names; the chain stands for that schedule with them behind it, for the events with those that the feed gave on the way, and
@@ -171,7 +171,7 @@ pub record RunsSerially {P J F D : Type 0} (gives : F → Given P → F → Type
   -- there are at most 4n + 4 steps for each event and for the closes
   pub few : length (schedule ++ made) ≤ (4 * length new.state.cores + 4) * (length (events ++ taken) + 1)
   pub in_order : map (λ one. one.pair) pairs ≡ take (length pairs) (drop given (emitted (collected_of stands.reached)))
-  pub ends : Ends ended pairs stands
+  pub ends : EndsSerial ended pairs stands
   -- no step is made behind a pair that is refused
   pub last : ended ≡ fin.Refused → (made ≡ []) ⊎ LetsOut predicate schedule events given made taken (length pairs)
 

@@ -120,7 +120,7 @@ pub record StandsFurther {P J F : Type 0} (gives : F → Given P → F → Type 
   pub few : length schedule ≤ (4 * length chain.state.cores + 4) * (length (events ++ taken) + 1)
 
 -- What a schedule did: its steps, and whatever the chain stood for before, it stands for that with these steps behind it.
-pub record Ran {P J F : Type 0} (gives : F → Given P → F → Type 0) (is_ready : F → Bool) (predicate : J → P → P → Bool) (schedule : List Actor) (old : Contents P J) (from : F) (result : Stepped) (new : Contents P J) (to : F) : Type 0 where
+pub record RunsSchedule {P J F : Type 0} (gives : F → Given P → F → Type 0) (is_ready : F → Bool) (predicate : J → P → P → Bool) (schedule : List Actor) (old : Contents P J) (from : F) (result : Stepped) (new : Contents P J) (to : F) : Type 0 where
   pub done : List Actor
   pub steps : RunsOver gives is_ready (predicate old.join) schedule old.state from done result new.state to
   pub stands : (before : List Actor) (events : List (Event P)) (given : ℕ) → StandsFor predicate old before events given → StandsFurther gives predicate (before ++ done) events given from new to

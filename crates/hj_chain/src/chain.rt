@@ -11,7 +11,7 @@ ghost use Rattle.hj_chain.specs.Chain.{FeedAnswer, empty_chain, if_there};
 ghost use Rattle.hj_collect.specs.Collector.{nothing_taken};
 ghost use Rattle.hj_chain.specs.Reached.{StandsFor, next_pair};
 ghost use Rattle.hj_chain.specs.Progress.{IsDone};
-ghost use Rattle.hj_chain.specs.Steps.{at_port, GoesWith, Gathers, HasRoom, IsGoing, MakesStep, Ran, StandsFurther, Steps, StepsTo, Tells, was_asked};
+ghost use Rattle.hj_chain.specs.Steps.{at_port, GoesWith, Gathers, HasRoom, IsGoing, MakesStep, RunsSchedule, StandsFurther, Steps, StepsTo, Tells, was_asked};
 
 use self::surroundings::Surroundings;
 use crate::links::Links;
@@ -190,7 +190,7 @@ impl<P: Share + Drop, J: Join<P> + Drop, S: Store<P, J> + Drop> Chain<P, J, S> {
     /// well-formed events well formed.
     pub fn run<F: Feed<P>>(&mut self, schedule: &[Actor], feed: &mut F) -> Stepped
         requires { GoesWith J.predicate self.old (F.state feed.old) }
-        ensures runs { Ran F.gives F.ready J.predicate schedule.now self.old feed.old result self.new feed.new }
+        ensures runs { RunsSchedule F.gives F.ready J.predicate schedule.now self.old feed.old result self.new feed.new }
         ensures join { self.new.join ≡ self.old.join }
         ensures goes { GoesWith J.predicate self.new (F.state feed.new) }
         ensures fed { (before taken : List (Event P)) → GoesOnWith before (F.state feed.old) → GoesOver F.gives feed.old taken feed.new → GoesOnWith (before ++ taken) (F.state feed.new) }
@@ -334,7 +334,7 @@ impl<P: Share + Drop, J: Join<P> + Drop, S: Store<P, J> + Drop> Chain<P, J, S> {
         let Some(report) = self.reports.take_first(place) else {
             unreachable!()
         };
-        self.collector.note(core, &report);
+        self.collector.update_marks(core, &report);
         Stepped::Did
     }
 }

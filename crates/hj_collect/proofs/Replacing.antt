@@ -3,7 +3,7 @@ use Rattle.std.proofs.Common.{◌≡◌, ℕ, zero, suc, ◌<◌, List, [], ◌�
 use Rattle.std.specs.declared.option.Option.{Option}
 use Rattle.std.proofs.lemmas.List.{map-set, length-map}
 use Rattle.hj_msg.specs.Punctuation.{Mark as Meaning}
-use Rattle.hj_collect.specs.declared.least.Least.{Least}
+use Rattle.hj_collect.specs.declared.least.LeastMark.{LeastMark}
 use Rattle.hj_collect.specs.declared.reach.Reach.{Reach}
 use Rattle.hj_collect.specs.declared.reach.Reach.TheVariants.{Nowhere}
 use Rattle.hj_collect.specs.Marks.{compared}
@@ -21,12 +21,13 @@ module _ (items : List Reach) (core : ℕ) (low : core < length items) where
   abbrev pub rest : List (Option Meaning)
   rest = others (map reached items) core
 
-  pub least_with : (least : Least) (before : Reach) → before ≡ get_or items core before → IsLeast least (map reached items) → IsLeast least (reached before ∷ rest)
+  pub least_with : (least : LeastMark) (before : Reach) → before ≡ get_or items core before → IsLeast least (map reached items) → IsLeast least (reached before ∷ rest)
   least_with least before e is =
       let counts = taken_out (reached least.mark) least.holders (map reached items) core (reached before) (at_place reached items core before e low) (is.mark, is.holders) in
       record { mark = counts.0; holders = counts.1 }
 
-  pub least_put : (least : Least) (mark : Reach) → IsLeast least (reached mark ∷ rest) → IsLeast least (map reached (set items core mark))
+  pub least_put : (least : LeastMark) (mark : Reach) → IsLeast least (reached mark ∷ rest)
+      → IsLeast least (map reached (set items core mark))
   least_put least mark is =
       let counts = put_in (reached least.mark) least.holders (map reached items) core (reached mark) (omega (arith, low, length-map items reached)) (is.mark, is.holders) in
       subst (IsLeast least) (sym (map-set reached items core mark)) (record { mark = counts.0; holders = counts.1 })
@@ -41,12 +42,12 @@ module _ (items : List Reach) (core : ℕ) (low : core < length items) where
       stands (y ∷ ys) (suc i) x e low = stands ys i x e (omega (arith, low))
 
   -- where a mark above the least of the others comes
-  pub put_above : (least : Least) (mark : Reach) → IsLeast least rest → Less ≡ compared (reached least.mark) (reached mark) → IsLeast least (map reached (set items core mark))
+  pub put_above : (least : LeastMark) (mark : Reach) → IsLeast least rest → Less ≡ compared (reached least.mark) (reached mark) → IsLeast least (map reached (set items core mark))
   put_above least mark is under =
       let put = with_greater (reached mark) (reached least.mark) least.holders rest (is.mark, is.holders) (less_by_cmp (reached least.mark) (reached mark) under) in
       least_put least mark (record { mark = put.0; holders = put.1 })
 
-  pub fewer : (least : Least) (before : Reach) → before ≡ get_or items core before → IsLeast least rest → least.holders < length items
+  pub fewer : (least : LeastMark) (before : Reach) → before ≡ get_or items core before → IsLeast least rest → least.holders < length items
   fewer least before e is =
       let held = few (reached least.mark) least.holders (map reached items) core (reached before) (at_place reached items core before e low) (is.mark, is.holders) in
       omega (arith, held, length-map items reached)

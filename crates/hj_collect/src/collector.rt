@@ -76,7 +76,7 @@ impl Collector {
         ensures err { OnErr result (self.new ≡ self.old) }
     {
         let pairs = self.pairs(report)?;
-        self.note(core, report);
+        self.update_marks(core, report);
         Ok(pairs)
     }
 
@@ -112,14 +112,14 @@ impl Collector {
 
     /// Takes note of the next report of a core: of the marks that it gives, or that the core stopped.
     #[inline(always)]
-    pub fn note<P>(&mut self, core: CoreNo, report: &Report<P>)
+    pub fn update_marks<P>(&mut self, core: CoreNo, report: &Report<P>)
         requires { core.0 < length self.old.left }
         ensures { self.new ≡ after_report core report.now self.old }
     {
         let at = usize::from(core.0);
         let (no, side) = match report {
             Report::Handled { no, side, .. } | Report::Quiet { no, side } => (*no, *side),
-            Report::Ended => return self.end(at),
+            Report::Ended => return self.mark_ended(at),
             Report::NoMemory => {
                 self.stopped = self.stopped.or(Some(core));
                 return;
@@ -154,12 +154,12 @@ impl Collector {
     }
 
     /// Takes note that a core reported its end.
-    fn end(&mut self, core: usize)
+    fn mark_ended(&mut self, core: usize)
         requires { core < length self.old.left }
         ensures { self.new ≡ record self.old { left = with_end core self.old.left; right = with_end core self.old.right } }
     {
-        self.left.end(core);
-        self.right.end(core);
+        self.left.mark_ended(core);
+        self.right.mark_ended(core);
         self.least = least_of(&self.left, &self.right);
     }
 

@@ -9,12 +9,12 @@ use std::cmp::Ordering;
 
 /// The least of some marks, and how many of them it is.
 #[derive(Clone, Copy, Debug)]
-pub struct Least {
+pub struct LeastMark {
     pub(crate) mark: Reach,
     pub(crate) holders: usize,
 }
 
-impl Least {
+impl LeastMark {
     ghost use Rattle.hj_collect.specs.Least.{IsLeast};
 
     /// Takes the least of these marks in its place.
@@ -23,7 +23,7 @@ impl Least {
     pub(crate) fn look_anew(&mut self, marks: &[Reach])
         ensures { IsLeast self.new (map reached marks.now) }
     {
-        *self = Least::of(marks);
+        *self = LeastMark::of(marks);
     }
 
     /// Returns the least of these marks; past every number if there is none.
@@ -31,9 +31,9 @@ impl Least {
     pub(crate) fn of(marks: &[Reach]) -> Self
         ensures { IsLeast result (map reached marks.now) }
     {
-        match Least::of_numbers(marks) {
+        match LeastMark::of_numbers(marks) {
             Some(least) => least,
-            None => Least::of_any(marks),
+            None => LeastMark::of_any(marks),
         }
     }
 
@@ -43,8 +43,8 @@ impl Least {
         ensures { IfSome result (λ least. IsLeast least (map reached marks.now)) }
     {
         let (first, others) = marks.split_first()?;
-        let lowest = Lowest::of(first.number()?, others)?;
-        Some(Least {
+        let lowest = LeastNumber::of(first.number()?, others)?;
+        Some(LeastMark {
             mark: Reach::UpTo(lowest.no),
             holders: lowest.holders,
         })
@@ -55,7 +55,7 @@ impl Least {
     fn of_any(marks: &[Reach]) -> Self
         ensures { IsLeast result (map reached marks.now) }
     {
-        let mut least = Least {
+        let mut least = LeastMark {
             mark: Reach::All,
             holders: 0,
         };
@@ -72,8 +72,8 @@ impl Least {
         ensures { (marks : List (Option Meaning)) → IsLeast self marks → IsLeast result (reached mark ∷ marks) }
     {
         match mark.compare(self.mark) {
-            Ordering::Less => Least { mark, holders: 1 },
-            Ordering::Equal => Least {
+            Ordering::Less => LeastMark { mark, holders: 1 },
+            Ordering::Equal => LeastMark {
                 mark,
                 holders: self.holders + 1,
             },
@@ -94,7 +94,7 @@ impl Least {
         if holders == 0 {
             return None;
         }
-        Some(Least {
+        Some(LeastMark {
             mark: self.mark,
             holders,
         })
@@ -103,12 +103,12 @@ impl Least {
 
 /// The least of some numbers, and how many of them it is.
 #[derive(Clone, Copy, Debug)]
-pub(crate) struct Lowest {
+pub(crate) struct LeastNumber {
     no: EventNo,
     holders: usize,
 }
 
-impl Lowest {
+impl LeastNumber {
     ghost use Rattle.hj_collect.specs.Least.{IsLowest};
 
     /// Returns the least of a number and of these marks, where each is a number; None where one isn't.
@@ -116,7 +116,7 @@ impl Lowest {
     fn of(first: EventNo, marks: &[Reach]) -> Option<Self>
         ensures { IfSome result (λ lowest. IsLowest lowest (Some (up_to first.0) ∷ map reached marks.now)) }
     {
-        let mut lowest = Lowest {
+        let mut lowest = LeastNumber {
             no: first,
             holders: 1,
         };
@@ -133,10 +133,10 @@ impl Lowest {
         ensures { (marks : List (Option Meaning)) → IsLowest self marks → IsLowest result (Some (up_to no.0) ∷ marks) }
     {
         if no.0 < self.no.0 {
-            return Lowest { no, holders: 1 };
+            return LeastNumber { no, holders: 1 };
         }
         if no.0 == self.no.0 {
-            return Lowest {
+            return LeastNumber {
                 no,
                 holders: self.holders + 1,
             };

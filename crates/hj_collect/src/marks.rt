@@ -2,7 +2,7 @@ ghost use Rattle.std.specs.Prelude.{◌≡◌, ◌<◌, false, length, replicate
 ghost use Rattle.hj_collect.specs.Marks.{least_of, with_raised, with_end};
 ghost use Rattle.hj_collect.specs.Reach.{reached};
 
-use crate::least::Least;
+use crate::least::LeastMark;
 use crate::reach::Reach;
 use hj_base::{EventNo, Memory};
 use std::alloc::Global;
@@ -13,7 +13,7 @@ use std::mem;
 #[derive(Debug, Drop)]
 pub(crate) struct Marks {
     of_cores: Vec<Reach>,
-    least: Least,
+    least: LeastMark,
 }
 
 impl Model for Marks {
@@ -36,7 +36,7 @@ impl Marks {
         ensures { IfOk result (λ marks. marks ≡ replicate cores None) }
     {
         let of_cores = vec![in alloc; Reach::Nowhere; usize::from(cores)]?;
-        let least = Least::of(&of_cores);
+        let least = LeastMark::of(&of_cores);
         Ok(Marks { of_cores, least })
     }
 
@@ -88,7 +88,7 @@ impl Marks {
     }
 
     /// Takes note that a core reported its end.
-    pub(crate) fn end(&mut self, core: usize)
+    pub(crate) fn mark_ended(&mut self, core: usize)
         requires { core < length self.old }
         ensures { self.new ≡ with_end core self.old }
     {
@@ -103,7 +103,7 @@ impl Marks {
         let before = mem::replace(&mut self.of_cores[core], mark);
         self.least = match self.least.without(before) {
             Some(least) => least.with(mark),
-            None => Least::of(&self.of_cores),
+            None => LeastMark::of(&self.of_cores),
         };
     }
 }

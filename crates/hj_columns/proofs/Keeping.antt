@@ -7,20 +7,20 @@ use Rattle.std.proofs.lemmas.Simd.{map-map}
 use Rattle.hj_base.specs.declared.numbers.Side.{Side}
 use Rattle.hj_rows.specs.declared.key_filter.KeyRange.{KeyRange}
 use Rattle.hj_rows.specs.declared.place.RestingRow.{RestingRow}
-use Rattle.hj_rows.specs.Keys.{IsWithin}
+use Rattle.hj_rows.specs.Keys.{IsKeyWithin}
 use Rattle.hj_rows.specs.Places.{place_rows, StayInPlace}
 use Rattle.hj_rows.proofs.Rows.{Places}
 use Rattle.hj_columns.specs.declared.key_column.KeyColumn.{KeyColumn}
-use Rattle.hj_columns.specs.Columns.{filters_of, AreIn, AreLetIn, HasRoom, IsColumn, Waits}
+use Rattle.hj_columns.specs.Columns.{filters_of, AreIn, AreLetIn, HasWholeBlocks, IsKeyColumn, Waits}
 use Rattle.hj_columns.specs.Masks.{is_in}
 use Rattle.hj_columns.specs.Store.{keys_behind}
 use Rattle.hj_columns.proofs.Listing.{agree-map, map-agree, within-length}
 
 module _ {P F : Type 0} (key : F → P → ℕ) where
   -- a key that is put behind all places
-  pub put-keeps : (places : List (Option P)) (at : ℕ) (old new : KeyColumn F) → length places ≡ at → IsColumn key places old → new.filter ≡ old.filter
+  pub put-keeps : (places : List (Option P)) (at : ℕ) (old new : KeyColumn F) → length places ≡ at → IsKeyColumn key places old → new.filter ≡ old.filter
       → ((k : ℕ) → k < at → slice_get new.keys.items k ≡ slice_get old.keys.items k) → length old.keys.items ≤ length new.keys.items → length new.keys.items % 64 ≡ 0
-      → IsColumn key places new
+      → IsKeyColumn key places new
   put-keeps places at old new long column same before room blocks = record {
     room = record { keys = let keys = column.room.keys in omega (arith, keys, room); blocks = blocks };
     keyed = λ k row e.
@@ -31,26 +31,26 @@ module _ {P F : Type 0} (key : F → P → ℕ) where
   put-waits places at row old new k long same is put = ap (slice_get new.keys.items) long ∙ put ∙ ap Some is ∙ ap (λ filter. Some (key filter row)) (sym same)
 
   -- keys that were made anew, below a place
-  pub filled : (places : List (Option P)) (column : KeyColumn F) → HasRoom places column
-      → ((at : ℕ) (row : P) → at < length places → slice_get places at ≡ Some (Some row) → slice_get column.keys.items at ≡ Some (key column.filter row)) → IsColumn key places column
+  pub filled : (places : List (Option P)) (column : KeyColumn F) → HasWholeBlocks places column
+      → ((at : ℕ) (row : P) → at < length places → slice_get places at ≡ Some (Some row) → slice_get column.keys.items at ≡ Some (key column.filter row)) → IsKeyColumn key places column
   filled places column room keyed = record { room = room; keyed = λ at row e. keyed at row (within-length places at (Some row) e) e }
 
   -- rows that stay in their places
-  stays : (before after : List (Option P)) → length after ≡ length before → StayInPlace before after → (column : KeyColumn F) → IsColumn key before column → IsColumn key after column
+  stays : (before after : List (Option P)) → length after ≡ length before → StayInPlace before after → (column : KeyColumn F) → IsKeyColumn key before column → IsKeyColumn key after column
   stays before after long stay column is = record {
     room = record { keys = let keys = is.room.keys in omega (arith, keys, long); blocks = is.room.blocks };
     keyed = λ at row e. is.keyed at row (stay at row e);
   }
 
-  pub all-stay : (before after : List (Option P)) (columns : List (KeyColumn F)) → length after ≡ length before → StayInPlace before after → All (IsColumn key before) columns → All (IsColumn key after) columns
-  all-stay before after columns long stay all = All-weaker (IsColumn key before) (IsColumn key after) (stays before after long stay) columns all
+  pub all-stay : (before after : List (Option P)) (columns : List (KeyColumn F)) → length after ≡ length before → StayInPlace before after → All (IsKeyColumn key before) columns → All (IsKeyColumn key after) columns
+  all-stay before after columns long stay all = All-weaker (IsKeyColumn key before) (IsKeyColumn key after) (stays before after long stay) columns all
 
   -- fewer places, whatever rows they have
-  roomy : (before after : List (Option P)) → length after ≤ length before → (column : KeyColumn F) → IsColumn key before column → HasRoom after column
+  roomy : (before after : List (Option P)) → length after ≤ length before → (column : KeyColumn F) → IsKeyColumn key before column → HasWholeBlocks after column
   roomy before after few column is = record { keys = let keys = is.room.keys in omega (arith, keys, few); blocks = is.room.blocks }
 
-  pub all-roomy : (before after : List (Option P)) (columns : List (KeyColumn F)) → length after ≤ length before → All (IsColumn key before) columns → All (HasRoom after) columns
-  all-roomy before after columns few all = All-weaker (IsColumn key before) (HasRoom after) (roomy before after few) columns all
+  pub all-roomy : (before after : List (Option P)) (columns : List (KeyColumn F)) → length after ≤ length before → All (IsKeyColumn key before) columns → All (HasWholeBlocks after) columns
+  all-roomy before after columns few all = All-weaker (IsKeyColumn key before) (HasWholeBlocks after) (roomy before after few) columns all
 
   get-append : {A : Type 0} (xs : List A) (x y : A) (k : ℕ) → slice_get (xs ++ x ∷ []) k ≡ Some y → (P : Type 0) → (slice_get xs k ≡ Some y → P) → (k ≡ length xs → x ≡ y → P) → P
   get-append [] x y zero e P first last = last refl (some_same x y e)
@@ -62,7 +62,7 @@ module _ {P F : Type 0} (key : F → P → ℕ) where
   get-append (z ∷ xs) x y (suc k) e P first last = get-append xs x y k e P first (λ at same. last (ap suc at) same)
 
   -- a row more behind the last place, whose key waits there
-  appends : (places : List (Option P)) (row : P) (column : KeyColumn F) → IsColumn key places column → Waits key places row column → IsColumn key (places ++ Some row ∷ []) column
+  appends : (places : List (Option P)) (row : P) (column : KeyColumn F) → IsKeyColumn key places column → Waits key places row column → IsKeyColumn key (places ++ Some row ∷ []) column
   appends places row column is waits = record {
     room = record {
       keys = let low = within-length column.keys.items (length places) (key column.filter row) waits in omega (arith, low, length-append places (Some row ∷ []));
@@ -76,13 +76,13 @@ module _ {P F : Type 0} (key : F → P → ℕ) where
       some_same : (x y : P) → Some x ≡ Some y → x ≡ y
       some_same x y e = cc
 
-  pub all-append : (places after : List (Option P)) (row : P) (columns : List (KeyColumn F)) → after ≡ places ++ Some row ∷ [] → All (IsColumn key places) columns → All (Waits key places row) columns → All (IsColumn key after) columns
+  pub all-append : (places after : List (Option P)) (row : P) (columns : List (KeyColumn F)) → after ≡ places ++ Some row ∷ [] → All (IsKeyColumn key places) columns → All (Waits key places row) columns → All (IsKeyColumn key after) columns
   all-append places after row columns is all waits =
-      subst (λ ps. All (IsColumn key ps) columns) (sym is) (λ k d low. appends places row (get_or columns k d) (all k d low) (waits k d low))
+      subst (λ ps. All (IsKeyColumn key ps) columns) (sym is) (λ k d low. appends places row (get_or columns k d) (all k d low) (waits k d low))
 
   -- a row that all filters let in has its keys in all ranges
   pub let-in : (range : F → Option KeyRange) (places : List (Option P)) (columns : List (KeyColumn F)) (ranges : List KeyRange) (at : ℕ) (row : P)
-      → All (IsColumn key places) columns → map (λ r. Some r) ranges ≡ map (λ column. range column.filter) columns → slice_get places at ≡ Some (Some row)
+      → All (IsKeyColumn key places) columns → map (λ r. Some r) ranges ≡ map (λ column. range column.filter) columns → slice_get places at ≡ Some (Some row)
       → AreLetIn range key row columns → AreIn columns ranges at
   let-in range places [] ranges at row all same here lets j column r low = absurd (omega arith)
   let-in range places (c ∷ columns) [] at row all same here lets j column r low = absurd cc
@@ -93,9 +93,9 @@ module _ {P F : Type 0} (key : F → P → ℕ) where
       heads : (a b : Option KeyRange) (us vs : List (Option KeyRange)) → a ∷ us ≡ b ∷ vs → a ≡ b
       heads a b us vs e = cc
 
-      first : (o : Option KeyRange) → o ≡ Some x → IsWithin o (key c.filter row) → slice_get c.keys.items at ≡ Some (key c.filter row) → is_in x (get_or c.keys.items at 0) ≡ true
+      first : (o : Option KeyRange) → o ≡ Some x → IsKeyWithin o (key c.filter row) → slice_get c.keys.items at ≡ Some (key c.filter row) → is_in x (get_or c.keys.items at 0) ≡ true
       first o e within stands =
-          let bounds = subst (λ (o : Option KeyRange). IsWithin o (key c.filter row)) e within in
+          let bounds = subst (λ (o : Option KeyRange). IsKeyWithin o (key c.filter row)) e within in
           ap (is_in x) (got c.keys.items at (key c.filter row) stands) ∙ tests x.low (key c.filter row) x.high bounds.0 bounds.1
         where
           got : (xs : List ℕ) (k x : ℕ) → slice_get xs k ≡ Some x → get_or xs k 0 ≡ x
@@ -119,8 +119,8 @@ pub length-places : {P : Type 0} (es : Places P) → length (place_rows es) ≡ 
 length-places {P} es = length-map es (λ (place : ℕ × Option (RestingRow P)). option_map (λ rest. rest.row) place.1)
 
 -- a store with no rows
-pub empty-column : {P F : Type 0} (key : F → P → ℕ) (places : List (Option P)) (column : KeyColumn F) → places ≡ [] → column.keys.items ≡ [] → IsColumn key places column
-empty-column {P} {F} key places column none empty = subst (λ (ps : List (Option P)). IsColumn key ps column) (sym none) (record {
+pub empty-column : {P F : Type 0} (key : F → P → ℕ) (places : List (Option P)) (column : KeyColumn F) → places ≡ [] → column.keys.items ≡ [] → IsKeyColumn key places column
+empty-column {P} {F} key places column none empty = subst (λ (ps : List (Option P)). IsKeyColumn key ps column) (sym none) (record {
   room = record { keys = omega arith; blocks = ap (λ (keys : List ℕ). length keys % 64) empty };
   keyed = λ at row e. absurd (no_place at row e);
 })

@@ -7,12 +7,12 @@ use Rattle.hj_msg.specs.declared.partner.Partner.{Partner}
 use Rattle.hj_msg.specs.Store.{Resting, by_number, joins, settled_matches, settled_partners}
 use Rattle.hj_rows.specs.declared.key_filter.KeyRange.{KeyRange}
 use Rattle.hj_rows.specs.declared.place.RestingRow.{RestingRow}
-use Rattle.hj_rows.specs.Keys.{Keeps}
+use Rattle.hj_rows.specs.Keys.{KeepsKeys}
 use Rattle.hj_rows.specs.Places.{joining, place_rows, rows_of}
 use Rattle.hj_rows.proofs.Rows.{Places}
 use Rattle.hj_columns.specs.declared.key_column.KeyColumn.{KeyColumn}
 use Rattle.hj_columns.specs.declared.found_rows.FoundRows.{FoundRows}
-use Rattle.hj_columns.specs.Columns.{filters_of, AreIn, AreLetIn, IsColumn}
+use Rattle.hj_columns.specs.Columns.{filters_of, AreIn, AreLetIn, IsKeyColumn}
 use Rattle.hj_columns.specs.Probing.{joined_at, partners_in, IsInOrder}
 use Rattle.hj_columns.proofs.Finding.{partners-block}
 use Rattle.hj_columns.proofs.Keeping.{let-in}
@@ -55,7 +55,7 @@ no-join {P} test es at none = by (slice_get es at) refl
 
 -- the keys of a row that joins lie in all ranges
 pub let-all : {P F : Type 0} (predicate : P → P → Bool) (side : Side) (against : P) (key : F → Side → P → ℕ) (range : F → Side → P → Option KeyRange) (columns : List (KeyColumn F))
-    → All (λ filter. Keeps predicate (key filter) (range filter)) (filters_of columns) → (row : P) → joins predicate side row against ≡ true
+    → All (λ filter. KeepsKeys predicate (key filter) (range filter)) (filters_of columns) → (row : P) → joins predicate side row against ≡ true
     → AreLetIn (λ filter. range filter side against) (λ filter. key filter side) row columns
 let-all predicate side against key range [] keeps row joined k d low = absurd (omega arith)
 let-all predicate side against key range (c ∷ columns) keeps row joined zero d low = keeps zero c.filter (omega arith) side row against joined
@@ -63,8 +63,8 @@ let-all predicate side against key range (c ∷ columns) keeps row joined (suc k
 
 -- what is left out doesn't join
 pub left-out : {P F : Type 0} (key : F → Side → P → ℕ) (range : F → Side → P → Option KeyRange) (predicate : P → P → Bool) (side : Side) (against : P) (columns : List (KeyColumn F)) (ranges : List KeyRange) (es : Places P) (at bit : ℕ)
-    → All (IsColumn (λ filter. key filter side) (place_rows es)) columns → map (λ r. Some r) ranges ≡ map (λ column. range column.filter side against) columns
-    → All (λ filter. Keeps predicate (key filter) (range filter)) (filters_of columns) → (AreIn columns ranges at → bit ≡ 1) → bit ≡ 0
+    → All (IsKeyColumn (λ filter. key filter side) (place_rows es)) columns → map (λ r. Some r) ranges ≡ map (λ column. range column.filter side against) columns
+    → All (λ filter. KeepsKeys predicate (key filter) (range filter)) (filters_of columns) → (AreIn columns ranges at → bit ≡ 1) → bit ≡ 0
     → joined_at (λ row. joins predicate side row against) es at ≡ None
 left-out {P} {F} key range predicate side against columns ranges es at bit all same keeps set unset =
     no-join (λ row. joins predicate side row against) es at (λ row here joined.
@@ -77,13 +77,13 @@ left-out {P} {F} key range predicate side against columns ranges es at bit all s
 -- ---- blocks
 
 pub block-room : {P F : Type 0} (key : F → P → ℕ) (places : List (Option P)) (columns : List (KeyColumn F)) (block blocks : ℕ) → 64 * blocks < length places + 64 → block < blocks
-    → All (IsColumn key places) columns → All (λ column. 64 * block + 64 ≤ length column.keys.items) columns
-block-room {P} {F} key places columns block blocks most low all = All-weaker (IsColumn key places) (λ (column : KeyColumn F). 64 * block + 64 ≤ length column.keys.items) roomy columns all
+    → All (IsKeyColumn key places) columns → All (λ column. 64 * block + 64 ≤ length column.keys.items) columns
+block-room {P} {F} key places columns block blocks most low all = All-weaker (IsKeyColumn key places) (λ (column : KeyColumn F). 64 * block + 64 ≤ length column.keys.items) roomy columns all
   where
     whole : (block keys places : ℕ) → keys % 64 ≡ 0 → places ≤ keys → 64 * block < places → 64 * block + 64 ≤ keys
     whole block keys places blocks le lt = omega arith
 
-    roomy : (column : KeyColumn F) → IsColumn key places column → 64 * block + 64 ≤ length column.keys.items
+    roomy : (column : KeyColumn F) → IsKeyColumn key places column → 64 * block + 64 ≤ length column.keys.items
     roomy column is = whole block (length column.keys.items) (length places) is.room.blocks is.room.keys (omega arith)
 
 pub same-count : {F : Type 0} (f : KeyColumn F → Option KeyRange) (ranges : List KeyRange) (columns : List (KeyColumn F)) → map (λ r. Some r) ranges ≡ map f columns → length ranges ≡ length columns

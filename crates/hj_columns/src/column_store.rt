@@ -1,13 +1,13 @@
 ghost use Rattle.std.specs.Prelude.{◌≡◌, ℕ, ◌+◌, ◌*◌, ◌≤◌, ◌<◌, ◌^◌, [], true, Some, List, map, All, IfOk, option_map};
 ghost use Rattle.hj_base.specs.declared.numbers.Side.{Side};
 ghost use Rattle.hj_msg.specs.Store.{joins, settled_matches};
-ghost use Rattle.hj_rows.specs.Keys.{Keeps};
+ghost use Rattle.hj_rows.specs.Keys.{KeepsKeys};
 
 use crate::key_column::{KeyColumn, fill, new_columns, reserve_keys};
 use crate::probing::probe_columns;
 use hj_base::{EventNo, Memory, Share, Side};
 use hj_msg::{Join, Partners, Store};
-use hj_rows::{KeyFilter, Numbered};
+use hj_rows::{KeyFilter, NumberedRows};
 use std::alloc::Global;
 use std::marker::Model;
 
@@ -18,14 +18,14 @@ pub struct ColumnStore<P, F: KeyFilter<P>> {
     alloc: Global,
     /// The side of the rows at rest.
     side: Side,
-    rows: Numbered<P>,
+    rows: NumberedRows<P>,
     columns: Vec<KeyColumn<F>>,
 }
 
 impl<P, F: KeyFilter<P>> Model for ColumnStore<P, F> {
     ghost use Rattle.std.specs.Prelude.{All};
-    ghost use Rattle.hj_rows.specs.Numbered.{places_in, room_in, rows_in};
-    ghost use Rattle.hj_columns.specs.Columns.{filters_of, IsColumn};
+    ghost use Rattle.hj_rows.specs.NumberedRows.{places_in, room_in, rows_in};
+    ghost use Rattle.hj_columns.specs.Columns.{filters_of, IsKeyColumn};
     ghost use Rattle.hj_columns.specs.Store.{keys_behind, ColumnRows};
 
     ghost Value = { ColumnRows P F };
@@ -38,7 +38,7 @@ impl<P, F: KeyFilter<P>> Model for ColumnStore<P, F> {
       waiting = keys_behind (places_in s.rows) s.columns.items;
     } };
 
-    ghost invariant = { λ s. All (IsColumn (λ filter. F.key filter s.side) (places_in s.rows)) s.columns.items };
+    ghost invariant = { λ s. All (IsKeyColumn (λ filter. F.key filter s.side) (places_in s.rows)) s.columns.items };
 }
 
 impl<P: Drop, F: KeyFilter<P> + Copy + Drop> ColumnStore<P, F> {
@@ -51,7 +51,7 @@ impl<P: Drop, F: KeyFilter<P> + Copy + Drop> ColumnStore<P, F> {
         Ok(ColumnStore {
             alloc,
             side,
-            rows: Numbered::new(alloc),
+            rows: NumberedRows::new(alloc),
             columns: new_columns(alloc, filters)?,
         })
     }
@@ -62,7 +62,7 @@ impl<P: Share + Drop, F: KeyFilter<P>, J: Join<P>> Store<P, J> for ColumnStore<P
 
     ghost has_place = { λ store no row. (1 < store.room) × (store.waiting ≡ map (λ filter. Some (F.key filter store.side row)) store.filters) };
 
-    ghost suits = { λ store side join. (store.side ≡ side) × All (λ filter. Keeps (J.predicate join) (F.key filter) (F.range filter)) store.filters };
+    ghost suits = { λ store side join. (store.side ≡ side) × All (λ filter. KeepsKeys (J.predicate join) (F.key filter) (F.range filter)) store.filters };
 
     fn reserve(&mut self, _no: EventNo, row: &P) -> Result<(), Memory> {
         self.rows.reserve()?;

@@ -1,12 +1,12 @@
 ghost use Rattle.std.specs.Prelude.{◌≡◌, ℕ, ◌+◌, ◌^◌, ◌%◌, ◌≤◌, ◌<◌, [], Some, length, map, slice_get, All, IfOk, OnOk, MatchOption, option_and_then};
 ghost use Rattle.std.specs.Int.{bit_at};
 ghost use Rattle.std.specs.Option.{option_copied};
-ghost use Rattle.hj_rows.specs.Numbered.{places_in};
-ghost use Rattle.hj_columns.specs.Columns.{filters_of, AreIn, AreLetIn, HasRoom, IsColumn, Waits};
+ghost use Rattle.hj_rows.specs.NumberedRows.{places_in};
+ghost use Rattle.hj_columns.specs.Columns.{filters_of, AreIn, AreLetIn, HasWholeBlocks, IsKeyColumn, Waits};
 
 use crate::mask::within;
 use hj_base::{Memory, Side};
-use hj_rows::{KeyFilter, KeyRange, Numbered};
+use hj_rows::{KeyFilter, KeyRange, NumberedRows};
 use std::alloc::Global;
 
 /// The keys of rows by a filter, in the order of the rows' places, in blocks of 64. A key at an empty place or after the last one
@@ -38,12 +38,12 @@ pub(crate) fn new_columns<F: Copy + Drop>(
 /// Puts the keys of a row of `side` after the last place, where they are those of no row.
 pub(crate) fn reserve_keys<P, F: KeyFilter<P>>(
     columns: &mut Vec<KeyColumn<F>>,
-    rows: &Numbered<P>,
+    rows: &NumberedRows<P>,
     side: Side,
     row: &P,
 ) -> Result<(), Memory>
-    requires { All (IsColumn (λ filter. F.key filter side) (places_in rows.now)) columns.old.items }
-    ensures columns { All (IsColumn (λ filter. F.key filter side) (places_in rows.now)) columns.new.items }
+    requires { All (IsKeyColumn (λ filter. F.key filter side) (places_in rows.now)) columns.old.items }
+    ensures columns { All (IsKeyColumn (λ filter. F.key filter side) (places_in rows.now)) columns.new.items }
     ensures filters { filters_of columns.new.items ≡ filters_of columns.old.items }
     ensures wait { OnOk result (All (Waits (λ filter. F.key filter side) (places_in rows.now) row.now) columns.new.items) }
 {
@@ -59,11 +59,11 @@ pub(crate) fn reserve_keys<P, F: KeyFilter<P>>(
 /// Makes all keys anew, of rows of `side`.
 pub(crate) fn fill<P, F: KeyFilter<P>>(
     columns: &mut Vec<KeyColumn<F>>,
-    rows: &Numbered<P>,
+    rows: &NumberedRows<P>,
     side: Side,
 )
-    requires { All (HasRoom (places_in rows.now)) columns.old.items }
-    ensures columns { All (IsColumn (λ filter. F.key filter side) (places_in rows.now)) columns.new.items }
+    requires { All (HasWholeBlocks (places_in rows.now)) columns.old.items }
+    ensures columns { All (IsKeyColumn (λ filter. F.key filter side) (places_in rows.now)) columns.new.items }
     ensures filters { filters_of columns.new.items ≡ filters_of columns.old.items }
 {
     for at in 0..columns.len() {
@@ -91,11 +91,11 @@ impl<F> KeyColumn<F> {
     }
 
     /// Makes all keys anew, of rows of `side`.
-    fn fill<P>(&mut self, rows: &Numbered<P>, side: Side)
+    fn fill<P>(&mut self, rows: &NumberedRows<P>, side: Side)
     where
         F: KeyFilter<P>,
-        requires { HasRoom (places_in rows.now) self.old }
-        ensures column { IsColumn (λ filter. F.key filter side) (places_in rows.now) self.new }
+        requires { HasWholeBlocks (places_in rows.now) self.old }
+        ensures column { IsKeyColumn (λ filter. F.key filter side) (places_in rows.now) self.new }
         ensures filter { self.new.filter ≡ self.old.filter }
     {
         for at in 0..rows.places() {
@@ -109,7 +109,7 @@ impl<F> KeyColumn<F> {
 
 /// Returns the row of a place; None where it is empty, and after the last place.
 #[inline(always)]
-fn row_at<P>(rows: &Numbered<P>, at: usize) -> Option<&P>
+fn row_at<P>(rows: &NumberedRows<P>, at: usize) -> Option<&P>
     ensures { option_copied result ≡ option_and_then (λ row. row) (slice_get (places_in rows.now) at) }
 {
     let (_, place) = rows.places.get_index(at)?;

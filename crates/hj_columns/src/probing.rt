@@ -1,29 +1,29 @@
 ghost use Rattle.std.specs.Prelude.{◌≡◌, ◌≢◌, ℕ, ◌+◌, ◌≤◌, ◌<◌, ◌^◌, ◌*◌, ◌++◌, true, None, Some, All, IfOk, IfSome, length, map, option_map, take, drop};
 ghost use Rattle.std.specs.Int.{bit_at};
 ghost use Rattle.hj_msg.specs.Store.{joins, settled_matches};
-ghost use Rattle.hj_rows.specs.Keys.{Keeps};
-ghost use Rattle.hj_rows.specs.Numbered.{places_in, rows_in};
-ghost use Rattle.hj_columns.specs.Columns.{filters_of, IsColumn};
+ghost use Rattle.hj_rows.specs.Keys.{KeepsKeys};
+ghost use Rattle.hj_rows.specs.NumberedRows.{places_in, rows_in};
+ghost use Rattle.hj_columns.specs.Columns.{filters_of, IsKeyColumn};
 ghost use Rattle.hj_columns.specs.Probing.{as_partner, joined_at, partners_in, IsInOrder};
 
 use crate::found_rows::FoundRows;
 use crate::key_column::{KeyColumn, mask_of, ranges_for};
 use hj_base::{Memory, Share, Side};
 use hj_msg::{Join, Partners};
-use hj_rows::{KeyFilter, KeyRange, Numbered, joining_row, probe_sorted};
+use hj_rows::{KeyFilter, KeyRange, NumberedRows, joining_row, probe_sorted};
 use std::alloc::Global;
 
 /// Finds the settled rows of `side` that join with `against`, a row of the other side, by their keys.
 pub(crate) fn probe_columns<P: Share + Drop, F: KeyFilter<P>, J: Join<P>>(
     alloc: Global,
-    rows: &Numbered<P>,
+    rows: &NumberedRows<P>,
     columns: &[KeyColumn<F>],
     side: Side,
     against: &P,
     join: &J,
 ) -> Result<Partners<P>, Memory>
-    requires columns { All (IsColumn (λ filter. F.key filter side) (places_in rows.now)) columns.now }
-    requires keeps { All (λ filter. Keeps (J.predicate join.now) (F.key filter) (F.range filter)) (filters_of columns.now) }
+    requires columns { All (IsKeyColumn (λ filter. F.key filter side) (places_in rows.now)) columns.now }
+    requires keeps { All (λ filter. KeepsKeys (J.predicate join.now) (F.key filter) (F.range filter)) (filters_of columns.now) }
     ensures { IfOk result (λ partners. partners ≡ settled_matches (J.predicate join.now) side against.now (rows_in rows.now)) }
 {
     let found = ranges_for(alloc, columns, side, against)?;
@@ -41,16 +41,16 @@ pub(crate) fn probe_columns<P: Share + Drop, F: KeyFilter<P>, J: Join<P>>(
 /// numbers. There is a range of keys for each column.
 fn probe_blocks<P: Share + Drop, F: KeyFilter<P>, J: Join<P>>(
     alloc: Global,
-    rows: &Numbered<P>,
+    rows: &NumberedRows<P>,
     columns: &[KeyColumn<F>],
     ranges: &[KeyRange],
     side: Side,
     against: &P,
     join: &J,
 ) -> Result<Option<Partners<P>>, Memory>
-    requires columns { All (IsColumn (λ filter. F.key filter side) (places_in rows.now)) columns.now }
+    requires columns { All (IsKeyColumn (λ filter. F.key filter side) (places_in rows.now)) columns.now }
     requires ranges { map (λ range. Some range) ranges.now ≡ map (λ column. F.range column.filter side against.now) columns.now }
-    requires keeps { All (λ filter. Keeps (J.predicate join.now) (F.key filter) (F.range filter)) (filters_of columns.now) }
+    requires keeps { All (λ filter. KeepsKeys (J.predicate join.now) (F.key filter) (F.range filter)) (filters_of columns.now) }
     ensures { IfOk result (λ found. IfSome found (λ partners. partners ≡ settled_matches (J.predicate join.now) side against.now (rows_in rows.now))) }
 {
     let partners = Partners::new(alloc);
@@ -66,7 +66,7 @@ fn probe_blocks<P: Share + Drop, F: KeyFilter<P>, J: Join<P>>(
 }
 
 /// Returns how many blocks of 64 places there are; the last one may have fewer.
-fn blocks_of<P>(rows: &Numbered<P>) -> usize
+fn blocks_of<P>(rows: &NumberedRows<P>) -> usize
     ensures enough { length (places_in rows.now) ≤ 64 * result }
     ensures most { 64 * result < length (places_in rows.now) + 64 }
     ensures few { length (places_in rows.now) < 2 ^ 63 }
@@ -77,7 +77,7 @@ fn blocks_of<P>(rows: &Numbered<P>) -> usize
 /// Adds what a probe finds among the 64 places from `from` on. Only those are looked at that the mask names, and no other has a row
 /// that joins. Returns false where it doesn't stand in the order of numbers.
 fn probe_block<P: Share + Drop, J: Join<P>>(
-    rows: &Numbered<P>,
+    rows: &NumberedRows<P>,
     from: usize,
     mask: u64,
     side: Side,
@@ -105,7 +105,7 @@ fn probe_block<P: Share + Drop, J: Join<P>>(
 /// Adds what a probe finds at a place; returns false where it doesn't stand in the order of numbers.
 #[inline(always)]
 fn probe_place<P: Share + Drop, J: Join<P>>(
-    rows: &Numbered<P>,
+    rows: &NumberedRows<P>,
     at: usize,
     side: Side,
     against: &P,
@@ -125,7 +125,7 @@ fn probe_place<P: Share + Drop, J: Join<P>>(
 /// Returns the row of a place, under its number, where it is settled and joins with a row of the other side.
 #[inline(always)]
 fn joining_at<'a, P, J: Join<P>>(
-    rows: &'a Numbered<P>,
+    rows: &'a NumberedRows<P>,
     at: usize,
     side: Side,
     against: &P,

@@ -11,6 +11,6 @@ abbrev pub rows_of : {P : Type 0} → List (Flying P) → List (InFlight P)
 rows_of flying = map (λ one. record { no = one.no.0; row = one.row }) flying
 
 -- no number stands twice, and none is above the highest
-pub record IsKept {P : Type 0} (highest : ℕ) (rows : List (InFlight P)) : Type 0 where
+pub record IsSoundBuffer {P : Type 0} (highest : ℕ) (rows : List (InFlight P)) : Type 0 where
   pub distinct : AllPairs (λ one later. one.no ≢ later.no) rows
   pub below : All (λ one. one.no ≤ highest) rows

@@ -4,9 +4,9 @@ ghost use Rattle.hj_base.specs.declared.numbers.Side.{Side as Sides};
 ghost use Rattle.hj_msg.specs.Core.{is_home, with_home_row};
 ghost use Rattle.hj_msg.specs.Store.{with_entry, with_settled, without_entry};
 ghost use Rattle.hj_core.specs.Homes.{AreAtHome};
-ghost use Rattle.hj_core.specs.Ready.{IsReady};
+ghost use Rattle.hj_core.specs.Ready.{IsReadyRow};
 
-use crate::place::Place;
+use crate::place::CorePlace;
 use hj_base::{EventNo, Memory, Share};
 use hj_msg::{Join, Store};
 
@@ -14,13 +14,13 @@ use hj_msg::{Join, Store};
 #[inline(always)]
 pub(crate) fn share_at_home<P: Share + Drop, J: Join<P>, S: Store<P, J>>(
     store: &mut S,
-    place: &Place,
+    place: &CorePlace,
     no: EventNo,
     row: &P,
 ) -> Result<Option<P>, Memory>
     ensures entries { S.entries store.new ≡ S.entries store.old }
     ensures suits { (side : Sides) (join : J) → S.suits store.new side join ↔ S.suits store.old side join }
-    ensures ready { IfOk result (IsReady (is_home place.now.place place.now.cores no.0) row.now (S.has_place store.new no.0 row.now)) }
+    ensures ready { IfOk result (IsReadyRow (is_home place.now.place place.now.cores no.0) row.now (S.has_place store.new no.0 row.now)) }
 {
     if place.is_home(no) {
         store.reserve(no, row)?;
@@ -54,7 +54,7 @@ pub(crate) fn rest_at_home<P: Drop, J: Join<P>, S: Store<P, J>>(
 #[inline(always)]
 pub(crate) fn keep_at_home<P: Share + Drop, J: Join<P>, S: Store<P, J>>(
     store: &mut S,
-    place: &Place,
+    place: &CorePlace,
     no: EventNo,
     row: &P,
     settled: bool,
@@ -77,7 +77,7 @@ pub(crate) fn keep_at_home<P: Share + Drop, J: Join<P>, S: Store<P, J>>(
 #[inline(always)]
 pub(crate) fn settle_at_home<P: Drop, J: Join<P>, S: Store<P, J>>(
     store: &mut S,
-    place: &Place,
+    place: &CorePlace,
     no: EventNo,
 )
     requires { AreAtHome place.now.place place.now.cores (S.entries store.old) }
@@ -94,7 +94,7 @@ pub(crate) fn settle_at_home<P: Drop, J: Join<P>, S: Store<P, J>>(
 #[inline(always)]
 pub(crate) fn remove_at_home<P: Drop, J: Join<P>, S: Store<P, J>>(
     store: &mut S,
-    place: &Place,
+    place: &CorePlace,
     no: EventNo,
 )
     requires { AreAtHome place.now.place place.now.cores (S.entries store.old) }

@@ -4,7 +4,7 @@ ghost use Rattle.hj_msg.specs.Core.{empty_state, after, sends, report};
 ghost use Rattle.hj_msg.specs.Store.{with_element};
 ghost use Rattle.hj_msg.specs.declared.message.Msg.TheVariants.{R as LeftRow, S as RightRow, CloseL, CloseR};
 ghost use Rattle.hj_core.specs.Passing.{is_row, way_of};
-ghost use Rattle.hj_core.specs.Ready.{IsReady};
+ghost use Rattle.hj_core.specs.Ready.{IsReadyRow};
 ghost use Rattle.hj_core.specs.Rows.{row_message};
 ghost use Rattle.hj_core.specs.Sent.{passed_on};
 
@@ -12,7 +12,7 @@ mod preparing;
 
 use crate::at_home::{keep_at_home, remove_at_home, settle_at_home};
 use crate::flight::Flight;
-use crate::place::Place;
+use crate::place::CorePlace;
 use crate::sends::when;
 use crate::{Sends, Way};
 use hj_base::{CoreNo, EventNo, Memory, Share, Side};
@@ -29,7 +29,7 @@ pub struct Core<P, J: Join<P>, S: Store<P, J>> {
     flight: Flight<P>,
     closed_left: bool,
     closed_right: bool,
-    place: Place,
+    place: CorePlace,
 }
 
 impl<P, J: Join<P>, S: Store<P, J>> Model for Core<P, J, S> {
@@ -75,7 +75,7 @@ impl<P: Share + Drop, J: Join<P> + Drop, S: Store<P, J> + Drop> Core<P, J, S> {
             flight: Flight::new(alloc),
             closed_left: false,
             closed_right: false,
-            place: Place::new(place, cores),
+            place: CorePlace::new(place, cores),
         }
     }
 
@@ -135,7 +135,7 @@ impl<P: Share + Drop, J: Join<P> + Drop, S: Store<P, J> + Drop> Core<P, J, S> {
             Msg::CloseL => self.close_left(),
             Msg::CloseR => self.close_right(),
             passing => {
-                self.pass(passing);
+                self.handle_passing(passing);
                 None
             }
         }
@@ -144,7 +144,7 @@ impl<P: Share + Drop, J: Join<P> + Drop, S: Store<P, J> + Drop> Core<P, J, S> {
     /// Handles a message of which nothing is reported, whatever the core holds: it takes no memory. Returns the way that the message
     /// goes on; None for any other message, which isn't handled.
     #[inline(always)]
-    pub fn pass(&mut self, msg: &Msg<P>) -> Option<Way>
+    pub fn handle_passing(&mut self, msg: &Msg<P>) -> Option<Way>
         ensures way { result ≡ way_of msg.now }
         ensures state { IfSome result (λ way. state_of S.entries self.new ≡ after self.old.place self.old.cores (state_of S.entries self.old) msg.now) }
         ensures sends { IfSome result (λ way. sends self.old.place self.old.cores msg.now ≡ passed_on way msg.now) }
@@ -288,7 +288,7 @@ fn share_in_flight<P: Share + Drop>(
     row: &P,
 ) -> Result<Option<P>, Memory>
     ensures rows { flight.new.rows ≡ flight.old.rows }
-    ensures ready { IfOk result (IsReady (not first) row.now (0 < flight.new.room)) }
+    ensures ready { IfOk result (IsReadyRow (not first) row.now (0 < flight.new.room)) }
 {
     if first {
         Ok(None)

@@ -7,14 +7,14 @@ use std::marker::Model;
 /// The place of a core among so many. It tells of which events the core is the home: of those whose number modulo the number of cores
 /// is its own.
 #[derive(Drop)]
-pub(crate) struct Place {
+pub(crate) struct CorePlace {
     core: CoreNo,
     cores: u16,
     /// The bits of a number that tell its home, where the cores are a power of two; else 0. A division takes long.
     mask: u64,
 }
 
-impl Model for Place {
+impl Model for CorePlace {
     ghost use Rattle.std.specs.Prelude.{◌<◌};
     ghost use Rattle.hj_core.specs.Homes.{Among, IsMask};
 
@@ -28,7 +28,7 @@ impl Model for Place {
     } };
 }
 
-impl Place {
+impl CorePlace {
     /// Makes the place of a core among this many.
     pub(crate) fn new(core: CoreNo, cores: u16) -> Self
         requires { 0 < cores }
@@ -40,7 +40,7 @@ impl Place {
         } else {
             0
         };
-        Place { core, cores, mask }
+        CorePlace { core, cores, mask }
     }
 
     /// Returns which core it is.

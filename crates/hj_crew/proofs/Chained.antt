@@ -20,10 +20,10 @@ use Rattle.hj_msg.specs.Turns.{Turns, TakesTurns}
 use Rattle.hj_collect.specs.Collector.{CollectorState}
 use Rattle.hj_collect.specs.StandsFor as collect
 use Rattle.hj_link.specs.Seen.{EndSeen, LinkSeen, WaySeen, closed, closed_way, link_of, one_way_of}
-use Rattle.hj_raw.specs.Items.{Taken, lists_of}
+use Rattle.hj_raw.specs.Items.{TakenReport, lists_of}
 use Rattle.hj_desk.specs.declared.desk.Desk.{Desk}
 use Rattle.hj_desk.specs.Caller.{last_answer}
-use Rattle.hj_desk.specs.Desk.{History, StandsFor}
+use Rattle.hj_desk.specs.Desk.{DeskHistory, StandsFor}
 use Rattle.hj_crew.specs.Ends.{FormChain}
 use Rattle.hj_crew.specs.Links.{closed_links, closed_queues}
 use Rattle.hj_crew.specs.Ran.{RanSeen, link_at, queue_at}
@@ -103,7 +103,7 @@ module _ {P : Type 0} (matches : P → P → Bool) (desk : Desk P) (lefts rights
         queue = λ k. queue-at k i;
       }
 
-  module _ (feed : FeedState) (history : History P) (stood : StandsFor desk feed history) (some : 1 ≤ cores_of desk) (links_agree : All (λ link. Agrees link.capacity link.link) links)
+  module _ (feed : FeedState) (history : DeskHistory P) (stood : StandsFor desk feed history) (some : 1 ≤ cores_of desk) (links_agree : All (λ link. Agrees link.capacity link.link) links)
       (queues_agree : All (λ queue. AgreesOneWay queue.capacity queue.way) queues)
       (each : (k : ℕ) → k < cores_of desk → (turns : Turns P) × TurnsOf matches k (cores_of desk) (get_or (map end_journal lefts) k []) (get_or (map end_journal rights) k []) (get_or (map end_journal senders) k []) turns) where
     abbrev room : ℕ
@@ -161,15 +161,15 @@ module _ {P : Type 0} (matches : P → P → Bool) (desk : Desk P) (lefts rights
 
 -- Where a desk stands for what a feed answered and the reports that it took, what its outlet gave of them is known, and what it and the
 -- cores had is closed, that is what a crew did.
-module _ {P F O : Type 0} (gives : F → Given P → F → Type 0) (state : F → FeedState) (gave : O → ℕ → List (Taken P) → Bool → Drained → O → Type 0) (rests : O → CollectorState → Type 0) (matches : P → P → Bool) (desk : Desk P)
+module _ {P F O : Type 0} (gives : F → Given P → F → Type 0) (state : F → FeedState) (gave : O → ℕ → List (TakenReport P) → Bool → Drained → O → Type 0) (rests : O → CollectorState → Type 0) (matches : P → P → Bool) (desk : Desk P)
     (lefts rights : List (EndSeen (Msg P))) (senders : List (EndSeen (Report P))) (chain : FormChain desk lefts rights senders) (from to : F) (begun now : O) (answers : List (Given P))
-    (feed : GoesOverAnswers gives from answers to) (log : List (LogEntry P)) (taken : List (Taken P)) (stood : StandsFor desk (state to) (record { log = log; events = events_in answers; taken = taken }))
+    (feed : GoesOverAnswers gives from answers to) (log : List (LogEntry P)) (taken : List (TakenReport P)) (stood : StandsFor desk (state to) (record { log = log; events = events_in answers; taken = taken }))
     (some : 1 ≤ cores_of desk) (ended_so : Fin) (given : gave begun (cores_of desk) [] false Kept begun → gave begun (cores_of desk) taken desk.over (last_answer ended_so) now)
     (so : ended_so ≡ fin.Done → IsDone desk × rests now desk.collector)
     (links_agree : All (λ link. Agrees link.capacity link.link) (closed_links (desk.ports.left ∷ rights) (lefts ++ desk.ports.right ∷ [])))
     (queues_agree : All (λ queue. AgreesOneWay queue.capacity queue.way) (closed_queues senders desk.reports.items))
     (each : (k : ℕ) → k < cores_of desk → (turns : Turns P) × TurnsOf matches k (cores_of desk) (get_or (map end_journal lefts) k []) (get_or (map end_journal rights) k []) (get_or (map end_journal senders) k []) turns) where
-  abbrev happened : History P
+  abbrev happened : DeskHistory P
   happened = record { log = log; events = events_in answers; taken = taken }
 
   abbrev closed_ran : RanSeen P

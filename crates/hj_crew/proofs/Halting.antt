@@ -7,11 +7,11 @@ use Rattle.hj_msg.specs.declared.drain.Drained.{Drained}
 use Rattle.hj_msg.specs.declared.feed.Given.{Given}
 use Rattle.hj_msg.specs.Feed.{FeedState}
 use Rattle.hj_collect.specs.Collector.{CollectorState}
-use Rattle.hj_raw.specs.Items.{Taken}
+use Rattle.hj_raw.specs.Items.{TakenReport}
 use Rattle.hj_desk.specs.Caller.{GoesRound, answer_of}
 use Rattle.hj_desk.proofs.Going.{goes-stands}
 use Rattle.hj_crew.specs.declared.drive.Halt.{Halt}
-use Rattle.hj_crew.specs.declared.begun.Begun.{Begun}
+use Rattle.hj_crew.specs.declared.begun.BegunRun.{BegunRun}
 use Rattle.hj_crew.specs.declared.team.Team.{Team}
 use Rattle.hj_crew.specs.Begun.{CanStart, HasHalted}
 use Rattle.hj_crew.specs.Halt.{round_of}
@@ -22,7 +22,7 @@ use Rattle.hj_crew.specs.Teams.{TeamStays}
 pub stays-empty : {P J S : Type 0} (old new : List (Team P J S)) → old ≡ [] → AllZip TeamStays old new → new ≡ []
 stays-empty old new none same = nil_from_length new (omega (arith, AllZip-long TeamStays old new same, ap length none))
 
-module _ {P J S F O : Type 0} (gives : F → Given P → F → Type 0) (state : F → FeedState) (gave : O → ℕ → List (Taken P) → Bool → Drained → O → Type 0) (rests : O → CollectorState → Type 0) (begun back : Begun P J S F O) (halt : Halt)
+module _ {P J S F O : Type 0} (gives : F → Given P → F → Type 0) (state : F → FeedState) (gave : O → ℕ → List (TakenReport P) → Bool → Drained → O → Type 0) (rests : O → CollectorState → Type 0) (begun back : BegunRun P J S F O) (halt : Halt)
     (goes : GoesRound gives state gave rests (round_of halt) begun.caller back.caller) (teams : AllZip TeamStays begun.teams.items back.teams.items) where
   -- threads may be started again
   ready : HasRoom (length back.teams.items) back.own → HasRoom (length back.teams.items) back.done → back.own.items ≡ [] → back.done.items ≡ [] → (signals : ℕ) → CanStart state signals begun → CanStart state signals back

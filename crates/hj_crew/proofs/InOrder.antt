@@ -19,9 +19,9 @@ use Rattle.hj_msg.specs.Valid.{later}
 use Rattle.hj_msg.proofs.Emitting.{emits_prefix}
 use Rattle.hj_collect.specs.Collector.{CollectorState, least_mark}
 use Rattle.hj_raw.specs.Items.{lists_of}
-use Rattle.hj_desk.specs.declared.in_order.InOrder.{InOrder}
+use Rattle.hj_desk.specs.declared.in_order.OrderedOutlet.{OrderedOutlet}
 use Rattle.hj_desk.specs.Caller.{last_answer}
-use Rattle.hj_desk.specs.InOrder.{AreAnswered, GivesInOrder}
+use Rattle.hj_desk.specs.OrderedOutlet.{AreAnswered, GivesInOrder}
 use Rattle.hj_desk.specs.Releases.{Releases}
 use Rattle.hj_desk.proofs.Collecting.{prefix-trans}
 use Rattle.hj_desk.proofs.Whole.{none_kept, past_all, whole-of}
@@ -30,10 +30,10 @@ use Rattle.hj_crew.specs.RunsCrew.{IsAllDone, RunsCrew}
 
 module _ {P D : Type 0} where
   -- nothing that it keeps is due
-  abbrev pub rests-in_order : InOrder P D → CollectorState → Type 0
+  abbrev pub rests-in_order : OrderedOutlet P D → CollectorState → Type 0
   rests-in_order outlet collector = All (λ pair. is_within (least_mark collector) (later pair) ≡ false) outlet.kept
 
-  module _ (run : Run P) (is : IsRun run) (lists : List (List (Report P))) (reports : AreAllReportsOf run lists) (stopped over : Bool) (outlet : InOrder P D) (taken : List (Drainage P)) (released : Releases lists over outlet.kept (pairs_in taken)) where
+  module _ (run : Run P) (is : IsRun run) (lists : List (List (Report P))) (reports : AreAllReportsOf run lists) (stopped over : Bool) (outlet : OrderedOutlet P D) (taken : List (Drainage P)) (released : Releases lists over outlet.kept (pairs_in taken)) where
     begins : IsPrefix (pairs_in taken) (kang run.matches run.events)
     begins =
         prefix-trans (pairs_in taken) (emitted lists) (kang run.matches run.events) (released.in_order run is reports.of_run) (emits_prefix run is lists reports.of_run)
@@ -50,7 +50,7 @@ module _ {P D : Type 0} where
     ends-join fin.Refused answered done = (answered, begins)
     ends-join fin.Memory answered done = (answered, begins)
 
-module _ {P F D : Type 0} (gives : F → Given P → F → Type 0) (state : F → FeedState) (takes : D → Pair P → Drained → D → Type 0) (matches : P → P → Bool) (cores in_flight : ℕ) (from to : F) (begun now : InOrder P D) (ran : RanSeen P)
+module _ {P F D : Type 0} (gives : F → Given P → F → Type 0) (state : F → FeedState) (takes : D → Pair P → Drained → D → Type 0) (matches : P → P → Bool) (cores in_flight : ℕ) (from to : F) (begun now : OrderedOutlet P D) (ran : RanSeen P)
     (crew : RunsCrew gives state (GivesInOrder takes) rests-in_order matches cores in_flight from to begun now ran) (unused : GivesInOrder takes begun cores [] false Kept begun) (unfilled : D) (drain : begun.drain ≡ unfilled) where
   given : GivesInOrder takes begun cores crew.taken crew.over (last_answer ran.ended) now
   given = crew.given unused
@@ -68,7 +68,7 @@ module _ {P F D : Type 0} (gives : F → Given P → F → Type 0) (state : F �
         (λ done. (crew.made.complete done, crew.done done));
   }
 
-module _ {P F D E : Type 0} (gives : F → Given P → F → Type 0) (state : F → FeedState) (takes : D → Pair P → Drained → D → Type 0) (matches : P → P → Bool) (cores in_flight : ℕ) (from to : F) (begun now : InOrder P D) (unfilled : D) (drain : begun.drain ≡ unfilled) where
+module _ {P F D E : Type 0} (gives : F → Given P → F → Type 0) (state : F → FeedState) (takes : D → Pair P → Drained → D → Type 0) (matches : P → P → Bool) (cores in_flight : ℕ) (from to : F) (begun now : OrderedOutlet P D) (unfilled : D) (drain : begun.drain ≡ unfilled) where
   -- the same of a run that may have been refused
   pub ran-in_order : (made : Result (RanSeen P) E) → GivesInOrder takes begun cores [] false Kept begun → IfOk made (RunsCrew gives state (GivesInOrder takes) rests-in_order matches cores in_flight from to begun now)
       → IfOk made (RunsOnThreads gives state takes matches cores in_flight from to unfilled now.drain)

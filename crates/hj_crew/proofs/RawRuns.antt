@@ -22,10 +22,10 @@ use Rattle.hj_raw.specs.Ending.{EndsRaw}
 use Rattle.hj_raw.specs.Telling.{AreTakenOf, TellsAll, TellsMatches}
 use Rattle.hj_raw.proofs.Telling.{tells, tells_all}
 use Rattle.hj_desk.specs.Taken.{AreTaken, takes_of}
-use Rattle.hj_raw.specs.Items.{Item, Taken, lists_of, raw_items}
-use Rattle.hj_desk.specs.declared.raw.Raw.{Raw}
+use Rattle.hj_raw.specs.Items.{Item, TakenReport, lists_of, raw_items}
+use Rattle.hj_desk.specs.declared.raw.RawOutlet.{RawOutlet}
 use Rattle.hj_desk.specs.Caller.{last_answer}
-use Rattle.hj_desk.specs.Raw.{GivesRaw}
+use Rattle.hj_desk.specs.RawOutlet.{GivesRaw}
 use Rattle.hj_crew.specs.Ran.{RanSeen, run_of}
 use Rattle.hj_crew.specs.RanRaw.{RunsRaw}
 use Rattle.hj_crew.specs.RunsCrew.{IsAllDone, RunsCrew}
@@ -38,19 +38,19 @@ beyond (l ∷ lists) (suc k) high = beyond lists k (omega (arith, high))
 
 module _ {P : Type 0} where
   -- what was taken was taken of one of the cores
-  known : (journals : List (List (Entry (Report P)))) (reports : List (Taken P)) → AreTaken journals reports → (one : Taken P) → Contains reports one → one.core < length journals
+  known : (journals : List (List (Entry (Report P)))) (reports : List (TakenReport P)) → AreTaken journals reports → (one : TakenReport P) → Contains reports one → one.core < length journals
   known journals reports are one there = elim (cases_lt one.core (length journals)) [
     | inl low ↦ low
     | inr high ↦
         let own : (one.core == one.core) ≡ true = grind (arith, nat_tests) in
         let found : Contains (takes_of one.core reports) (taken one.turn one.report) =
-        Contains-map (λ (r : Taken P). taken r.turn r.report) (filter (λ (r : Taken P). r.core == one.core) reports) one (Contains-filter (λ (r : Taken P). r.core == one.core) reports one there own) in
+        Contains-map (λ (r : TakenReport P). taken r.turn r.report) (filter (λ (r : TakenReport P). r.core == one.core) reports) one (Contains-filter (λ (r : TakenReport P). r.core == one.core) reports one there own) in
         let none : takes_of one.core reports ≡ [] = sym (are.each one.core) ∙ beyond journals one.core high in
         absurd (Contains-nil (taken one.turn one.report) (subst (λ (l : List (Entry (Report P))). Contains l (taken one.turn one.report)) none found))
   ]
 
   -- the reports that a run took are of its cores
-  taken_of : (run : Run P) (queues : List (WaySeen (Report P))) → run.cores ≡ length queues → (reports : List (Taken P)) → AreTaken (map (λ queue. queue.way.receiver) queues) reports → AreAllReportsOf run (lists_of run.cores reports)
+  taken_of : (run : Run P) (queues : List (WaySeen (Report P))) → run.cores ≡ length queues → (reports : List (TakenReport P)) → AreTaken (map (λ queue. queue.way.receiver) queues) reports → AreAllReportsOf run (lists_of run.cores reports)
       → AreTakenOf run reports
   taken_of run queues many reports are all = record {
     known = λ one there. omega (arith, known (map (λ queue. queue.way.receiver) queues) reports are one there, length-map queues (λ (queue : WaySeen (Report P)). queue.way.receiver), many);
@@ -59,10 +59,10 @@ module _ {P : Type 0} where
 
 module _ {P D : Type 0} (takes : D → Item P → Drained → D → Type 0) where
   -- nothing waits
-  abbrev pub rests-raw : Raw P D → CollectorState → Type 0
+  abbrev pub rests-raw : RawOutlet P D → CollectorState → Type 0
   rests-raw outlet collector = outlet.items.items ≡ []
 
-  ends-raw : (begun : Raw P D) (cores : ℕ) (taken : List (Taken P)) (stopped over : Bool) (now : Raw P D) (ended : Fin) (given : GivesRaw takes begun cores taken over (last_answer ended) now)
+  ends-raw : (begun : RawOutlet P D) (cores : ℕ) (taken : List (TakenReport P)) (stopped over : Bool) (now : RawOutlet P D) (ended : Fin) (given : GivesRaw takes begun cores taken over (last_answer ended) now)
       → (ended ≡ fin.Done → IsAllDone rests-raw (lists_of cores taken) stopped over now) → EndsRaw ended stopped given.offers (raw_items cores taken)
   ends-raw begun cores taken stopped over now fin.Done given done =
       let all = done refl in (
@@ -73,7 +73,7 @@ module _ {P D : Type 0} (takes : D → Item P → Drained → D → Type 0) wher
   ends-raw begun cores taken stopped over now fin.Refused given done = (given.answered, given.begins)
   ends-raw begun cores taken stopped over now fin.Memory given done = (given.answered, given.begins)
 
-  module _ {F : Type 0} (gives : F → Given P → F → Type 0) (state : F → FeedState) (matches : P → P → Bool) (cores in_flight : ℕ) (from to : F) (begun now : Raw P D) (ran : RanSeen P)
+  module _ {F : Type 0} (gives : F → Given P → F → Type 0) (state : F → FeedState) (matches : P → P → Bool) (cores in_flight : ℕ) (from to : F) (begun now : RawOutlet P D) (ran : RanSeen P)
       (crew : RunsCrew gives state (GivesRaw takes) rests-raw matches cores in_flight from to begun now ran) (unused : GivesRaw takes begun cores [] false Kept begun) (unfilled : D) (drain : begun.drain ≡ unfilled) where
     given : GivesRaw takes begun cores crew.taken crew.over (last_answer ran.ended) now
     given = crew.given unused
@@ -104,7 +104,7 @@ module _ {P D : Type 0} (takes : D → Item P → Drained → D → Type 0) wher
           (tells_all (run_of matches events ran) crew.made.run crew.taken of_run (crew.made.complete done) all_reports);
     }
 
-  module _ {F E : Type 0} (gives : F → Given P → F → Type 0) (state : F → FeedState) (matches : P → P → Bool) (cores in_flight : ℕ) (from to : F) (begun now : Raw P D) (unfilled : D) (drain : begun.drain ≡ unfilled) where
+  module _ {F E : Type 0} (gives : F → Given P → F → Type 0) (state : F → FeedState) (matches : P → P → Bool) (cores in_flight : ℕ) (from to : F) (begun now : RawOutlet P D) (unfilled : D) (drain : begun.drain ≡ unfilled) where
     -- the same of a run that may have been refused
     pub ran-raw : (made : Result (RanSeen P) E) → GivesRaw takes begun cores [] false Kept begun → IfOk made (RunsCrew gives state (GivesRaw takes) rests-raw matches cores in_flight from to begun now)
         → IfOk made (RunsRaw gives state takes matches cores in_flight from to unfilled now.drain)

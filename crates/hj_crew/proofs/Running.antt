@@ -14,7 +14,7 @@ use Rattle.hj_msg.specs.Feed.{FeedState, IsFresh}
 use Rattle.hj_msg.specs.Turns.{Turns, TakesTurns}
 use Rattle.hj_collect.specs.Collector.{CollectorState}
 use Rattle.hj_link.specs.Seen.{LinkSeen, WaySeen}
-use Rattle.hj_raw.specs.Items.{Taken}
+use Rattle.hj_raw.specs.Items.{TakenReport}
 use Rattle.hj_worker.specs.Seen.{WorkerSeen}
 use Rattle.hj_desk.specs.declared.caller.Caller.{Caller}
 use Rattle.hj_desk.specs.declared.caller.Round.TheVariants.{Over}
@@ -83,7 +83,7 @@ can-start state join size crew feed outlet manned fresh = record {
   none_done = manned.done.empty;
 }
 
-module _ {P J S F O : Type 0} (gives : F → Given P → F → Type 0) (state : F → FeedState) (gave : O → ℕ → List (Taken P) → Bool → Drained → O → Type 0) (rests : O → CollectorState → Type 0) (join : J) (n in_flight : ℕ) (old new : Caller P F O) (ended : Fin)
+module _ {P J S F O : Type 0} (gives : F → Given P → F → Type 0) (state : F → FeedState) (gave : O → ℕ → List (TakenReport P) → Bool → Drained → O → Type 0) (rests : O → CollectorState → Type 0) (join : J) (n in_flight : ℕ) (old new : Caller P F O) (ended : Fin)
     (ends : Ends gives state gave rests ended old new) (teams back : List (Team P J S)) (crew : AreCrew join n in_flight old.desk teams) (same : AllZip TeamStays teams back) where
   pub crew-back : AreCrew join n in_flight new.desk back
   crew-back = stays-crew join n in_flight old.desk new.desk teams back crew ends.goes.links ends.goes.queues ends.goes.flight same

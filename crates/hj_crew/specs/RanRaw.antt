@@ -6,7 +6,7 @@ use Rattle.hj_msg.specs.declared.fin.Fin.TheVariants as fin
 use Rattle.hj_msg.specs.Feed.{FeedState, GoesOverAnswers, events_in}
 use Rattle.hj_raw.specs.Drain.{Offer, TakesItems}
 use Rattle.hj_raw.specs.Ending.{EndsRaw}
-use Rattle.hj_raw.specs.Items.{Item, Taken, lists_of, raw_items}
+use Rattle.hj_raw.specs.Items.{Item, TakenReport, lists_of, raw_items}
 use Rattle.hj_raw.specs.Telling.{TellsAll, TellsMatches}
 use Rattle.hj_desk.specs.Taken.{AreTaken}
 use Rattle.hj_crew.specs.Ran.{MakesRun, RanSeen, reports_of}
@@ -23,7 +23,7 @@ pub record RunsRaw {P F D : Type 0} (gives : F → Given P → F → Type 0) (st
   -- it made a run over the events among these answers
   pub made : MakesRun matches (events_in answers) cores in_flight ran
   -- the reports that were taken in this run, in the order of their turns, and what the drain got of them
-  pub taken : List (Taken P)
+  pub taken : List (TakenReport P)
   pub are : AreTaken (map (λ queue. queue.way.receiver) ran.queues) taken
   pub lists : reports_of ran ≡ lists_of cores taken
   pub ends : EndsRaw ran.ended (state to).stopped offers (raw_items cores taken)

@@ -9,7 +9,7 @@ use Rattle.hj_msg.specs.Feed.{FeedState, GoesOverAnswers, events_in}
 use Rattle.hj_msg.specs.Met.{AreAllReportsOf}
 use Rattle.hj_collect.specs.Collector.{CollectorState, has_ended}
 use Rattle.hj_collect.specs.StandsFor as collect
-use Rattle.hj_raw.specs.Items.{Taken, lists_of}
+use Rattle.hj_raw.specs.Items.{TakenReport, lists_of}
 use Rattle.hj_desk.specs.Caller.{last_answer}
 use Rattle.hj_desk.specs.Taken.{AreTaken}
 use Rattle.hj_crew.specs.Ran.{MakesRun, RanSeen, reports_of, run_of}
@@ -25,14 +25,14 @@ pub record IsAllDone {P O : Type 0} (is_at_rest : O → CollectorState → Type 
 
 -- A crew of so many cores took what a feed gave, with so many events outstanding at most, and its outlet gave what is due of the reports
 -- that were taken.
-pub record RunsCrew {P F O : Type 0} (gives : F → Given P → F → Type 0) (state : F → FeedState) (gave : O → ℕ → List (Taken P) → Bool → Drained → O → Type 0) (rests : O → CollectorState → Type 0) (matches : P → P → Bool)
+pub record RunsCrew {P F O : Type 0} (gives : F → Given P → F → Type 0) (state : F → FeedState) (gave : O → ℕ → List (TakenReport P) → Bool → Drained → O → Type 0) (rests : O → CollectorState → Type 0) (matches : P → P → Bool)
     (cores in_flight : ℕ) (from to : F) (begun now : O) (ran : RanSeen P) : Type 0 where
   pub answers : List (Given P)
   pub feed : GoesOverAnswers gives from answers to
   -- it made a run over the events among these answers
   pub made : MakesRun matches (events_in answers) cores in_flight ran
   -- the reports that were taken, as the journals of their queues tell
-  pub taken : List (Taken P)
+  pub taken : List (TakenReport P)
   pub are : AreTaken (map (λ queue. queue.way.receiver) ran.queues) taken
   pub lists : reports_of ran ≡ lists_of cores taken
   pub reports : AreAllReportsOf (run_of matches (events_in answers) ran) (lists_of cores taken)

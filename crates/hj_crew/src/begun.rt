@@ -3,7 +3,7 @@ ghost use Rattle.std.specs.Prelude.{ℕ, length};
 
 use crate::bell::Bell;
 use crate::drive::{Halt, drive_alone};
-use crate::levels::Shared;
+use crate::levels::RunContext;
 use crate::plan::CrewPlan;
 use crate::team::{Signals, Team};
 use crate::turners::{Choice, Turners};
@@ -18,7 +18,7 @@ use std::time::Clock;
 
 /// What a run has at hand: all of it while no thread is at work.
 #[derive(Drop)]
-pub(crate) struct Begun<P: Drop, J: Join<P>, S: Store<P, J>, F, O> {
+pub(crate) struct BegunRun<P: Drop, J: Join<P>, S: Store<P, J>, F, O> {
     pub(crate) caller: Caller<P, F, O>,
     pub(crate) teams: Vec<Team<P, J, S>>,
     /// Room for the teams that the calling thread turns beside threads, and for those that come back.
@@ -30,7 +30,7 @@ pub(crate) struct Begun<P: Drop, J: Join<P>, S: Store<P, J>, F, O> {
 #[derive(Drop)]
 struct Halted<P: Drop, J: Join<P>, S: Store<P, J>, F, O> {
     halt: Halt,
-    back: Begun<P, J, S, F, O>,
+    back: BegunRun<P, J, S, F, O>,
 }
 
 /// What comes back of a run.
@@ -46,7 +46,7 @@ impl<
     S: Store<P, J> + Send + Drop,
     F: Feed<P> + Drop,
     O: Outlet<P> + Drop,
-> Begun<P, J, S, F, O> {
+> BegunRun<P, J, S, F, O> {
     ghost use Rattle.hj_crew.specs.Begun.{CanStart, HasHalted, HasRun};
 
     /// Lets the calling thread make its rounds until the run has ended, while threads turn the teams, and then now that thread itself
@@ -89,17 +89,17 @@ impl<
         ensures { HasHalted F.gives F.state O.gave O.rests self result.halt result.back }
     {
         match choice.turners() {
-            Turners::Threads => self.run_in_scope(plan, choice.windows(), signals),
-            Turners::Caller => self.run_alone(plan, choice.windows()),
+            Turners::Threads => self.run_in_scope(plan, choice.periods(), signals),
+            Turners::Caller => self.run_alone(plan, choice.periods()),
         }
     }
 
-    /// Makes what the threads of a run use, and lets them run. With `windows` they are called back behind so many busy windows of time,
+    /// Makes what the threads of a run use, and lets them run. With `periods` they are called back behind so many busy periods of time,
     /// if the plan says that they may be.
     fn run_in_scope<G: Gate + Sync, T: Threads + Wait + Clock + Sync>(
         self,
         plan: &CrewPlan<'_, T, G>,
-        windows: Option<u32>,
+        periods: Option<u32>,
         signals: &[Signals],
     ) -> Halted<P, J, S, F, O>
         requires { CanStart F.state (length signals.now) self }
@@ -107,13 +107,13 @@ impl<
     {
         let stop = AtomicBool::new(false);
         let bell = Bell::new();
-        let shared = Shared {
+        let shared = RunContext {
             rt: plan.rt,
             stop: &stop,
             signals,
             bell: &bell,
             kept: usize::from(plan.kept),
-            windows: if plan.takes_back { windows } else { None },
+            periods: if plan.takes_back { periods } else { None },
             gate: plan.gate,
         };
         self.scoped(&shared)
@@ -122,7 +122,7 @@ impl<
     /// Starts the threads of a run, and joins them where the calling thread's rounds halt.
     fn scoped<G: Gate + Sync, T: Threads + Wait + Clock + Sync>(
         self,
-        shared: &Shared<'_, G, T>,
+        shared: &RunContext<'_, G, T>,
     ) -> Halted<P, J, S, F, O>
         requires { CanStart F.state (length shared.now.signals.now) self }
         ensures { HasHalted F.gives F.state O.gave O.rests self result.halt result.back }
@@ -134,15 +134,15 @@ impl<
             move |scope| -> Halted<P, J, S, F, O>
                 requires { CanStart F.state (length shared.now.signals.now) begun }
                 ensures { HasHalted F.gives F.state O.gave O.rests begun result.halt result.back }
-            { begun.all_levels(scope, shared) },
+            { begun.start_all(scope, shared) },
         )
     }
 
     /// Starts the thread of each team, makes the calling thread's rounds, and joins the threads.
-    fn all_levels<'s, E, G: Gate + Sync + 's, T: Threads + Wait + Clock + Sync + 's>(
+    fn start_all<'s, E, G: Gate + Sync + 's, T: Threads + Wait + Clock + Sync + 's>(
         self,
         scope: &'s Scope<'s, E>,
-        shared: &Shared<'s, G, T>,
+        shared: &RunContext<'s, G, T>,
     ) -> Halted<P, J, S, F, O>
     where
         P: 's,
@@ -152,8 +152,8 @@ impl<
         ensures { HasHalted F.gives F.state O.gave O.rests self result.halt result.back }
     {
         let mut begun = self;
-        let halt = begun.levels(scope, shared);
-        let back = Begun {
+        let halt = begun.start_from_last(scope, shared);
+        let back = BegunRun {
             caller: begun.caller,
             teams: begun.done,
             own: begun.own,
@@ -162,11 +162,11 @@ impl<
         Halted { halt, back }
     }
 
-    /// Lets the calling thread turn all teams, until it halts. With `windows` it halts behind so many busy windows of time.
+    /// Lets the calling thread turn all teams, until it halts. With `periods` it halts behind so many busy periods of time.
     fn run_alone<G: Gate, T: Wait + Clock>(
         self,
         plan: &CrewPlan<'_, T, G>,
-        windows: Option<u32>,
+        periods: Option<u32>,
     ) -> Halted<P, J, S, F, O>
         requires { (signals : ℕ) × CanStart F.state signals self }
         ensures { HasHalted F.gives F.state O.gave O.rests self result.halt result.back }
@@ -177,7 +177,7 @@ impl<
             &mut begun.caller,
             begun.teams.as_mut_slice(),
             plan.gate,
-            windows,
+            periods,
         );
         Halted { halt, back: begun }
     }

@@ -7,11 +7,11 @@ ghost use Rattle.hj_crew.specs.Halt.{round_of};
 ghost use Rattle.hj_crew.specs.Teams.{TeamStays};
 
 use crate::bell::Awaits;
-use crate::levels::Shared;
+use crate::levels::RunContext;
 use crate::load::Load;
 use crate::pause::Pause;
 use crate::team::{Progress, Signals, Team};
-use crate::turners::Seen;
+use crate::turners::RunLoad;
 use hj_base::{Gate, Share};
 use hj_desk::{Caller, Outlet, Round};
 use hj_msg::{Feed, Fin, Join, Store};
@@ -25,13 +25,13 @@ pub(crate) enum Halt {
     /// The run has ended.
     Over(Fin),
     /// The run goes on, and this was seen of it.
-    GoesOn(Seen),
+    GoesOn(RunLoad),
 }
 
 /// What stands beside the calling thread while it makes its rounds: threads, or none.
 trait Beside<T> {
     /// Returns what is seen of the run, up to which so many turns were made, where the rounds are to halt before its end.
-    fn look(&self, rt: &T, load: &mut Load, turns: u64) -> Option<Seen>;
+    fn look(&self, rt: &T, load: &mut Load, turns: u64) -> Option<RunLoad>;
 
     /// Is told that a round got on.
     fn got_on(&mut self);
@@ -48,9 +48,9 @@ struct AtWork<'s> {
 }
 
 impl<T: Wait + Clock> Beside<T> for AtWork<'_> {
-    fn look(&self, rt: &T, load: &mut Load, turns: u64) -> Option<Seen> {
+    fn look(&self, rt: &T, load: &mut Load, turns: u64) -> Option<RunLoad> {
         if load.is_told() && self.pause.is_crowded() {
-            return Some(Seen::Crowded);
+            return Some(RunLoad::Crowded);
         }
         load.end_round(rt, turns)
     }
@@ -70,9 +70,9 @@ impl<T: Wait + Clock> Beside<T> for AtWork<'_> {
 struct Nobody;
 
 impl<T: Clock> Beside<T> for Nobody {
-    fn look(&self, rt: &T, load: &mut Load, turns: u64) -> Option<Seen> {
+    fn look(&self, rt: &T, load: &mut Load, turns: u64) -> Option<RunLoad> {
         match load.end_round(rt, turns) {
-            Some(Seen::Busy(pace)) => Some(Seen::Busy(pace)),
+            Some(RunLoad::Busy(pace)) => Some(RunLoad::Busy(pace)),
             // a thread alone waits for the feed too
             _ => None,
         }
@@ -95,7 +95,7 @@ pub(crate) fn drive<
     O: Outlet<P>,
     G: Gate,
     T: Wait + Clock,
->(shared: &Shared<'_, G, T>, caller: &mut Caller<P, F, O>, own: &mut [Team<P, J, S>]) -> Halt
+>(shared: &RunContext<'_, G, T>, caller: &mut Caller<P, F, O>, own: &mut [Team<P, J, S>]) -> Halt
     requires stands { Stands caller.old.desk (F.state caller.old.feed) }
     requires few { length caller.old.desk.reports.items ≤ 64 }
     ensures goes { GoesRound F.gives F.state O.gave O.rests (round_of result) caller.old caller.new }
@@ -105,14 +105,14 @@ pub(crate) fn drive<
         signals: shared.signals,
         pause: Pause::new(shared.bell),
     };
-    let mut load = Load::new(shared.windows);
+    let mut load = Load::new(shared.periods);
     let halt = make_rounds(shared.rt, caller, own, shared.gate, &mut load, &mut threads);
     call_back(shared);
     halt
 }
 
 /// Makes rounds until the run has ended, and tells how. Between them it turns these teams, which are all: no thread turns one. With
-/// `windows` it halts before the run has ended behind so many windows of time in which it was busy, and tells its pace in the last one.
+/// `periods` it halts before the run has ended behind so many periods of time in which it was busy, and tells its pace in the last one.
 pub(crate) fn drive_alone<
     P: Share + Drop,
     J: Join<P> + Drop,
@@ -126,14 +126,14 @@ pub(crate) fn drive_alone<
     caller: &mut Caller<P, F, O>,
     teams: &mut [Team<P, J, S>],
     gate: &G,
-    windows: Option<u32>,
+    periods: Option<u32>,
 ) -> Halt
     requires stands { Stands caller.old.desk (F.state caller.old.feed) }
     requires few { length caller.old.desk.reports.items ≤ 64 }
     ensures goes { GoesRound F.gives F.state O.gave O.rests (round_of result) caller.old caller.new }
     ensures teams { AllZip TeamStays teams.old teams.new }
 {
-    let mut load = Load::new(windows);
+    let mut load = Load::new(periods);
     let mut nobody = Nobody;
     make_rounds(rt, caller, teams, gate, &mut load, &mut nobody)
 }
@@ -176,7 +176,7 @@ fn make_rounds<
 }
 
 /// Tells every thread to hand back its team.
-fn call_back<G, T>(shared: &Shared<'_, G, T>) {
+fn call_back<G, T>(shared: &RunContext<'_, G, T>) {
     shared.stop.store(true, Ordering::SeqCst);
     wake_all(shared.signals);
 }

@@ -3,10 +3,10 @@ ghost use Rattle.std.specs.Prelude.{◌≡◌, ◌<◌, ◌∷◌, ◌++◌, [],
 ghost use Rattle.std.specs.Prelude.{IfErr, IfOk, IfNone, MatchOption};
 ghost use Rattle.hj_crew.specs.Teams.{AppendsTeams, TeamStays};
 
-use crate::begun::Begun;
+use crate::begun::BegunRun;
 use crate::bell::{Bell, Neighbours};
 use crate::drive::{Halt, drive};
-use crate::team::{Signals, Team, TeamSite};
+use crate::team::{Signals, Team, TeamContext};
 use hj_base::{Gate, Share};
 use hj_desk::Outlet;
 use hj_msg::{Feed, Join, Store};
@@ -27,11 +27,11 @@ impl<P: Drop, J: Join<P>, S: Store<P, J>> Promise<Team<P, J, S>> for SameTeam<Te
 }
 
 /// A thread that turns a team.
-type Child<P, J, S> = PromisedHandle<Team<P, J, S>, SameTeam<Team<P, J, S>>>;
+type TeamThread<P, J, S> = PromisedHandle<Team<P, J, S>, SameTeam<Team<P, J, S>>>;
 
 /// What all threads of a run use.
 #[derive(Drop)]
-pub(crate) struct Shared<'s, G, T> {
+pub(crate) struct RunContext<'s, G, T> {
     pub(crate) rt: &'s T,
     /// Whether the threads are to hand back their teams.
     pub(crate) stop: &'s AtomicBool,
@@ -41,9 +41,9 @@ pub(crate) struct Shared<'s, G, T> {
     pub(crate) bell: &'s Bell,
     /// How many teams, the first ones, the calling thread turns itself.
     pub(crate) kept: usize,
-    /// In how many busy windows the calling thread takes the teams back and its pace is seen, where it may take them back before the run
+    /// In how many busy periods the calling thread takes the teams back and its pace is seen, where it may take them back before the run
     /// has ended.
-    pub(crate) windows: Option<u32>,
+    pub(crate) periods: Option<u32>,
     pub(crate) gate: &'s G,
 }
 
@@ -53,17 +53,18 @@ impl<
     S: Store<P, J> + Send + Drop,
     F: Feed<P>,
     O: Outlet<P>,
-> Begun<P, J, S, F, O> {
+> BegunRun<P, J, S, F, O> {
     ghost use Rattle.hj_crew.specs.Begun.{AreGiven, CanGive};
 
     /// Starts a thread for the last of the teams, does so for the others, and lets the calling thread run once no team
     /// is left. Then the team comes back, behind those that are `done`. Where no thread can be made, or the calling thread
     /// is to turn the team, that goes among its `own` until then. Returns where the calling thread's rounds halted.
-    pub(crate) fn levels<'s, E, G: Gate + Sync + 's, T: Threads + Wait + Clock + Sync + 's>(
-        &mut self,
-        scope: &'s Scope<'s, E>,
-        shared: &Shared<'s, G, T>,
-    ) -> Halt
+    pub(crate) fn start_from_last<
+        's,
+        E,
+        G: Gate + Sync + 's,
+        T: Threads + Wait + Clock + Sync + 's,
+    >(&mut self, scope: &'s Scope<'s, E>, shared: &RunContext<'s, G, T>) -> Halt
     where
         P: 's,
         J: 's,
@@ -76,7 +77,7 @@ impl<
         };
         let started = shared.start(scope, self.teams.len(), team);
         let child = keep_refused(started, &mut self.own);
-        let halt = self.levels(scope, shared);
+        let halt = self.start_from_last(scope, shared);
         let back = take_back(shared.rt, child, &mut self.own);
         self.done.push_reserved(back);
         halt
@@ -87,7 +88,7 @@ impl<
 /// `own`.
 fn take_back<P: Drop, J: Join<P> + Drop, S: Store<P, J> + Drop, T: Threads>(
     rt: &T,
-    child: Option<Child<P, J, S>>,
+    child: Option<TeamThread<P, J, S>>,
     own: &mut Vec<Team<P, J, S>>,
 ) -> Team<P, J, S>
     requires { IfNone child (0 < length own.old.items) }
@@ -108,9 +109,9 @@ fn take_back<P: Drop, J: Join<P> + Drop, S: Store<P, J> + Drop, T: Threads>(
 
 /// Puts a team that no thread turns behind the calling thread's `own`.
 fn keep_refused<P: Drop, J: Join<P> + Drop, S: Store<P, J> + Drop>(
-    started: Result<Child<P, J, S>, Team<P, J, S>>,
+    started: Result<TeamThread<P, J, S>, Team<P, J, S>>,
     own: &mut Vec<Team<P, J, S>>,
-) -> Option<Child<P, J, S>>
+) -> Option<TeamThread<P, J, S>>
     requires { vec_len own.old < vec_capacity own.old }
     ensures given { (team : Team P J S) → IfOk started (λ child. child.promise.0.value ≡ team) → IfErr started (TeamStays team)
         → MatchOption result (AppendsTeams (team ∷ []) own.old.items own.new.items)
@@ -126,7 +127,7 @@ fn keep_refused<P: Drop, J: Join<P> + Drop, S: Store<P, J> + Drop>(
     }
 }
 
-impl<'s, G: Gate + Sync + 's, T: Threads + Wait + Clock + Sync + 's> Shared<'s, G, T> {
+impl<'s, G: Gate + Sync + 's, T: Threads + Wait + Clock + Sync + 's> RunContext<'s, G, T> {
     /// Starts the thread of a team, which gets the signals at a place. Where none can be made, or the calling thread is to turn the
     /// team, that comes back at once.
     fn start<
@@ -139,7 +140,7 @@ impl<'s, G: Gate + Sync + 's, T: Threads + Wait + Clock + Sync + 's> Shared<'s, 
         scope: &'s Scope<'s, E>,
         place: usize,
         team: Team<P, J, S>,
-    ) -> Result<Child<P, J, S>, Team<P, J, S>>
+    ) -> Result<TeamThread<P, J, S>, Team<P, J, S>>
         requires { place < length self.now.signals.now }
         ensures started { IfOk result (λ child. child.promise.0.value ≡ team) }
         ensures refused { IfErr result (TeamStays team) }
@@ -150,14 +151,14 @@ impl<'s, G: Gate + Sync + 's, T: Threads + Wait + Clock + Sync + 's> Shared<'s, 
         if is_kept {
             return Err(team);
         }
-        spawn(scope, self.site_at(place), team)
+        spawn(scope, self.context_at(place), team)
     }
 
     /// Returns what the thread of the team at a place uses.
-    fn site_at(&self, place: usize) -> TeamSite<'s, G, T>
+    fn context_at(&self, place: usize) -> TeamContext<'s, G, T>
         requires { place < length self.now.signals.now }
     {
-        TeamSite {
+        TeamContext {
             rt: self.rt,
             stop: self.stop,
             signals: &self.signals[place],
@@ -198,17 +199,17 @@ fn spawn<
     T: Wait + Clock + Sync + 's,
 >(
     scope: &'s Scope<'s, E>,
-    site: TeamSite<'s, G, T>,
+    context: TeamContext<'s, G, T>,
     team: Team<P, J, S>,
-) -> Result<Child<P, J, S>, Team<P, J, S>>
+) -> Result<TeamThread<P, J, S>, Team<P, J, S>>
     ensures started { IfOk result (λ child. child.promise.0.value ≡ team) }
     ensures refused { IfErr result (TeamStays team) }
 {
-    let signals = site.signals;
+    let signals = context.signals;
     let promise = SameTeam(Snapshot::of(&team));
     let turning = move || -> Team<P, J, S>
         ensures { TeamStays team result }
-    { site.work(team) };
+    { context.work(team) };
     match scope.spawn_with(promise, turning) {
         Ok(child) => Ok(child),
         Err(refused) => {

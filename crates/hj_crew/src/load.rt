@@ -1,13 +1,13 @@
 //! How the calling thread gets on, and how much of its time it has something to do.
-use crate::turners::Seen;
+use crate::turners::RunLoad;
 use std::time::{Clock, Duration, Instant};
 
-/// After how many rounds it looks at the clock, and how many microseconds a window has at least.
+/// After how many rounds it looks at the clock, and how many microseconds a period has at least.
 const ROUNDS: u32 = 16;
 
 const TIME: u64 = 10_000;
 
-/// How many turns are made at the chain's ends at least in a busy window. Where threads are just started, or are held up, few are.
+/// How many turns are made at the chain's ends at least in a busy period. Where threads are just started, or are held up, few are.
 const TURNS: u64 = 256;
 
 /// How many turns were made at the chain's ends in how much time.
@@ -29,29 +29,29 @@ impl Pace {
     }
 }
 
-/// Measures how the calling thread gets on, and for how long the feed is waited for, in one window of time after another.
+/// Measures how the calling thread gets on, and for how long the feed is waited for, in one period of time after another.
 #[derive(Drop)]
 pub(crate) struct Load {
-    /// When the window began, and how many turns had been made then.
+    /// When the period began, and how many turns had been made then.
     since: Option<Instant>,
     turns: u64,
     /// How many rounds were made since the clock was looked at.
     rounds: u32,
-    /// For how long of the window the feed was waited for.
+    /// For how long of the period the feed was waited for.
     waited: Duration,
-    /// Behind how many busy windows the pace is told, if it is.
-    windows: Option<u32>,
+    /// Behind how many busy periods the pace is told, if it is.
+    periods: Option<u32>,
 }
 
-/// A window of time that is over.
+/// A period of time that is over.
 #[derive(Clone, Copy)]
-struct Window {
+struct Period {
     turns: u64,
     took: Duration,
     waited: Duration,
 }
 
-impl Window {
+impl Period {
     /// Returns whether there was something to do for more than half of the time, and much was done.
     fn is_busy(self) -> bool {
         self.turns >= TURNS && self.waited.saturating_mul(2) < self.took
@@ -72,14 +72,14 @@ impl Window {
 }
 
 impl Load {
-    /// Makes one that tells what is seen, and behind so many busy windows the pace; with None it tells nothing.
-    pub(crate) fn new(windows: Option<u32>) -> Self {
+    /// Makes one that tells what is seen, and behind so many busy periods the pace; with None it tells nothing.
+    pub(crate) fn new(periods: Option<u32>) -> Self {
         Load {
             since: None,
             turns: 0,
             rounds: 0,
             waited: Duration::from_micros(0),
-            windows,
+            periods,
         }
     }
 
@@ -92,50 +92,50 @@ impl Load {
 
     /// Returns whether what is seen is told.
     pub(crate) fn is_told(&self) -> bool {
-        self.windows.is_some()
+        self.periods.is_some()
     }
 
-    /// Counts a round, up to which so many turns were made, and returns what is seen of the window that is over with it, where that was
+    /// Counts a round, up to which so many turns were made, and returns what is seen of the period that is over with it, where that was
     /// idle, or the last busy one.
-    pub(crate) fn end_round<R: Clock>(&mut self, rt: &R, turns: u64) -> Option<Seen> {
-        let windows = self.windows?;
-        let window = self.end_window(rt, turns)?;
-        if window.is_idle() {
-            return Some(Seen::Idle);
+    pub(crate) fn end_round<R: Clock>(&mut self, rt: &R, turns: u64) -> Option<RunLoad> {
+        let periods = self.periods?;
+        let period = self.end_period(rt, turns)?;
+        if period.is_idle() {
+            return Some(RunLoad::Idle);
         }
-        if !window.is_busy() {
+        if !period.is_busy() {
             return None;
         }
-        if windows > 1 {
-            self.windows = Some(windows - 1);
+        if periods > 1 {
+            self.periods = Some(periods - 1);
             return None;
         }
-        Some(Seen::Busy(window.pace()))
+        Some(RunLoad::Busy(period.pace()))
     }
 
-    /// Counts a round, and returns the window that is over with it, if one is.
-    fn end_window<R: Clock>(&mut self, rt: &R, turns: u64) -> Option<Window> {
+    /// Counts a round, and returns the period that is over with it, if one is.
+    fn end_period<R: Clock>(&mut self, rt: &R, turns: u64) -> Option<Period> {
         self.rounds = self.rounds.saturating_add(1);
         if self.rounds < ROUNDS {
             return None;
         }
         self.rounds = 0;
-        let window = self.window(rt, turns);
-        if window.is_some() || self.since.is_none() {
+        let period = self.period(rt, turns);
+        if period.is_some() || self.since.is_none() {
             self.since = Instant::now(rt).ok();
             self.turns = turns;
             self.waited = Duration::from_micros(0);
         }
-        window
+        period
     }
 
-    /// Returns the window up to now, where it was long enough.
-    fn window<R: Clock>(&self, rt: &R, turns: u64) -> Option<Window> {
+    /// Returns the period up to now, where it was long enough.
+    fn period<R: Clock>(&self, rt: &R, turns: u64) -> Option<Period> {
         let took = self.since?.elapsed(rt).ok()?;
         if took < Duration::from_micros(TIME) {
             return None;
         }
-        Some(Window {
+        Some(Period {
             turns: turns.saturating_sub(self.turns),
             took,
             waited: self.waited,

@@ -9,14 +9,14 @@ ghost use Rattle.hj_crew.specs.Room.{IsRoomFor};
 ghost use Rattle.hj_crew.specs.RunsCrew.{RunsCrew};
 ghost use Rattle.hj_crew.specs.Stores.{AreReadyOn};
 
-use crate::begun::{Begun, Returned};
+use crate::begun::{BegunRun, Returned};
 use crate::closing::close_crew;
 use crate::making::Crew;
 use crate::plan::{CrewPlan, CrewSize, Stores};
 use crate::ran::Ran;
 use crate::room::Room;
 use hj_base::{Gate, Memory, Share};
-use hj_desk::{Caller, InOrder, Outlet, Raw};
+use hj_desk::{Caller, OrderedOutlet, Outlet, RawOutlet};
 use hj_msg::{Drain, Feed, Join, Store};
 use hj_raw::RawDrain;
 use std::alloc::Global;
@@ -75,7 +75,7 @@ impl<T: Threads + Wait + Clock + Sync, G: Gate + Sync> CrewPlan<'_, T, G> {
             self.now.size.chain.cores self.now.size.chain.flight input.entry.feed result.1 drain result.2) }
         ensures memory { OnErr result.0 ((result.1 ≡ input.entry.feed) × (result.2 ≡ drain)) }
     {
-        let outlet = InOrder::new(alloc, drain);
+        let outlet = OrderedOutlet::new(alloc, drain);
         let (ran, feed, outlet) = self.run_between(alloc, input, outlet);
         (ran, feed, outlet.drain)
     }
@@ -115,7 +115,7 @@ impl<T: Threads + Wait + Clock + Sync, G: Gate + Sync> CrewPlan<'_, T, G> {
             self.now.size.chain.cores self.now.size.chain.flight input.entry.feed result.1 drain result.2) }
         ensures memory { OnErr result.0 ((result.1 ≡ input.entry.feed) × (result.2 ≡ drain)) }
     {
-        let outlet = Raw::new(alloc, drain);
+        let outlet = RawOutlet::new(alloc, drain);
         let (ran, feed, outlet) = self.run_between(alloc, input, outlet);
         (ran, feed, outlet.drain)
     }
@@ -175,7 +175,7 @@ impl<T: Threads + Wait + Clock + Sync, G: Gate + Sync> CrewPlan<'_, T, G> {
         ensures { (join : J) → IsManned join self.now.size crew → RunsCrew F.gives F.state O.gave O.rests
             (J.predicate join) self.now.size.chain.cores self.now.size.chain.flight feed result.1 outlet result.2 result.0 }
     {
-        let begun = Begun {
+        let begun = BegunRun {
             caller: Caller {
                 desk: crew.desk,
                 feed,

@@ -117,7 +117,7 @@ impl Signals {
 
 /// What the thread of a team uses.
 #[derive(Drop)]
-pub(crate) struct TeamSite<'s, G, T> {
+pub(crate) struct TeamContext<'s, G, T> {
     pub(crate) rt: &'s T,
     /// Whether the threads are to hand back their teams.
     pub(crate) stop: &'s AtomicBool,
@@ -126,7 +126,7 @@ pub(crate) struct TeamSite<'s, G, T> {
     pub(crate) gate: &'s G,
 }
 
-impl<G: Gate, T: Wait + Clock> TeamSite<'_, G, T> {
+impl<G: Gate, T: Wait + Clock> TeamContext<'_, G, T> {
     /// Turns a team until it is over, or is to stop or to leave. It is what a started thread does. After a round that got on it rings
     /// its neighbours, which may wait for what was put. So nothing that was put waits for a ring when it sleeps or ends.
     pub(crate) fn work<P: Share + Drop, J: Join<P> + Drop, S: Store<P, J> + Drop>(

@@ -1,10 +1,10 @@
 //! Who turns the teams of a run.
 use crate::load::Pace;
 
-/// For how many busy windows those that got on faster go on before the others try again, at least and at most.
-const FEWEST_WINDOWS: u32 = 32;
+/// For how many busy periods those that got on faster go on before the others try again, at least and at most.
+const FEWEST_PERIODS: u32 = 32;
 
-const MOST_WINDOWS: u32 = 256;
+const MOST_PERIODS: u32 = 256;
 
 /// Who turns the teams of a run.
 #[derive(Clone, Copy)]
@@ -25,7 +25,7 @@ impl Turners {
 
 /// What was seen of a run where the calling thread's rounds halted before its end.
 #[derive(Clone, Copy)]
-pub(crate) enum Seen {
+pub(crate) enum RunLoad {
     /// Other programs want the processors.
     Crowded,
     /// The feed was waited for most of the time.
@@ -39,25 +39,25 @@ pub(crate) enum Seen {
 pub(crate) enum Choice {
     /// These turn them up to the end.
     Last(Turners),
-    /// These turn them for so many busy windows of time. Then the others try.
+    /// These turn them for so many busy periods of time. Then the others try.
     Settled {
         turners: Turners,
-        windows: u32,
+        periods: u32,
     },
-    /// These try for a busy window, after the others turned them for so many, in the last one at this pace.
+    /// These try for a busy period, after the others turned them for so many, in the last one at this pace.
     Trying {
         turners: Turners,
         others: Pace,
-        windows: u32,
+        periods: u32,
     },
 }
 
 impl Choice {
-    /// Makes the choice at the begin of a run: threads, for one window.
+    /// Makes the choice at the begin of a run: threads, for one period.
     pub(crate) fn new() -> Self {
         Choice::Settled {
             turners: Turners::Threads,
-            windows: 1,
+            periods: 1,
         }
     }
 
@@ -69,50 +69,50 @@ impl Choice {
         }
     }
 
-    /// Returns behind how many busy windows it is chosen anew; None where it isn't.
-    pub(crate) fn windows(self) -> Option<u32> {
+    /// Returns behind how many busy periods it is chosen anew; None where it isn't.
+    pub(crate) fn periods(self) -> Option<u32> {
         match self {
             Choice::Last(_) => None,
-            Choice::Settled { windows, .. } => Some(windows),
+            Choice::Settled { periods, .. } => Some(periods),
             Choice::Trying { .. } => Some(1),
         }
     }
 
     /// Chooses anew by what was seen.
-    pub(crate) fn after(self, seen: Seen) -> Self {
+    pub(crate) fn after(self, seen: RunLoad) -> Self {
         match seen {
-            Seen::Crowded => Choice::Last(Turners::Caller),
-            Seen::Idle => Choice::Settled {
+            RunLoad::Crowded => Choice::Last(Turners::Caller),
+            RunLoad::Idle => Choice::Settled {
                 turners: Turners::Caller,
-                windows: 1,
+                periods: 1,
             },
-            Seen::Busy(pace) => self.after_busy(pace),
+            RunLoad::Busy(pace) => self.after_busy(pace),
         }
     }
 
-    /// Chooses anew behind a busy window of this pace.
+    /// Chooses anew behind a busy period of this pace.
     fn after_busy(self, pace: Pace) -> Self {
         match self {
             Choice::Last(_) => self,
-            Choice::Settled { turners, windows } => Choice::Trying {
+            Choice::Settled { turners, periods } => Choice::Trying {
                 turners: turners.others(),
                 others: pace,
-                windows,
+                periods,
             },
             Choice::Trying {
                 turners,
                 others,
-                windows,
+                periods,
             } => Choice::Settled {
                 turners: if pace.is_above(others) {
                     turners
                 } else {
                     turners.others()
                 },
-                windows: windows
+                periods: periods
                     .saturating_mul(2)
-                    .max(FEWEST_WINDOWS)
-                    .min(MOST_WINDOWS),
+                    .max(FEWEST_PERIODS)
+                    .min(MOST_PERIODS),
             },
         }
     }

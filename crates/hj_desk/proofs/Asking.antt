@@ -8,7 +8,7 @@ use Rattle.hj_msg.specs.Event.{IsWellFormed}
 use Rattle.hj_msg.specs.Feed.{FeedState, Answers, event_in, numbering_of}
 use Rattle.hj_msg.proofs.Feeding.{well-push, numbering-push}
 use Rattle.hj_desk.specs.declared.desk.Desk.{Desk}
-use Rattle.hj_desk.specs.Desk.{History, IsFed, StandsFor, turns_of}
+use Rattle.hj_desk.specs.Desk.{DeskHistory, IsFed, StandsFor, turns_of}
 use Rattle.hj_desk.specs.Steps.{with_events}
 
 module _ {P : Type 0} where
@@ -28,7 +28,7 @@ module _ {P : Type 0} where
     closed = λ put. refl;
   }
 
-  pub asks : (desk : Desk P) (given : Given P) (old new : FeedState) → desk.next ≡ None → Answers given old new → (history : History P) → StandsFor desk old history
+  pub asks : (desk : Desk P) (given : Given P) (old new : FeedState) → desk.next ≡ None → Answers given old new → (history : DeskHistory P) → StandsFor desk old history
       → StandsFor (record desk { next = Some given }) new (with_events (event_in (Some given)) history)
   asks desk given old new unknown gives history stood = record {
     drives = stood.drives;

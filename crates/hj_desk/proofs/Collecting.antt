@@ -28,7 +28,7 @@ use Rattle.hj_collect.specs.StandsFor.{with_report}
 use Rattle.hj_collect.proofs.Following.{follows}
 use Rattle.hj_order.proofs.Emissions.{met-permutation}
 use Rattle.hj_link.specs.Seen.{EndSeen}
-use Rattle.hj_raw.specs.Items.{Taken, lists_of, with_taken}
+use Rattle.hj_raw.specs.Items.{TakenReport, lists_of, with_taken}
 use Rattle.hj_desk.specs.declared.desk.Desk.{Desk}
 use Rattle.hj_desk.specs.Desk.{IsBefore, Gathered, collected, journals_of}
 use Rattle.hj_desk.specs.Releases.{Releases}
@@ -99,11 +99,11 @@ module _ {P : Type 0} (receivers : List (EndSeen (Report P))) (core : ℕ) (befo
       set-same xs k = set-get_or xs k []
 
   -- the journals too
-  module _ (number : ℕ) (report : Report P) (grown : after.journal ≡ before.journal ++ taken number report ∷ []) (reports : List (Taken P)) (are : AreTaken (journals_of receivers) reports) where
-    abbrev one : Taken P
+  module _ (number : ℕ) (report : Report P) (grown : after.journal ≡ before.journal ++ taken number report ∷ []) (reports : List (TakenReport P)) (are : AreTaken (journals_of receivers) reports) where
+    abbrev one : TakenReport P
     one = record { turn = number; core = core; report = report }
 
-    abbrev entry : Taken P → Entry (Report P)
+    abbrev entry : TakenReport P → Entry (Report P)
     entry r = taken r.turn r.report
 
     journals : journals_of (set receivers core after) ≡ set (journals_of receivers) core (before.journal ++ taken number report ∷ [])
@@ -114,8 +114,8 @@ module _ {P : Type 0} (receivers : List (EndSeen (Report P))) (core : ℕ) (befo
 
     takes-more : (k : ℕ) → takes_of k (reports ++ one ∷ []) ≡ takes_of k reports ++ takes_of k (one ∷ [])
     takes-more k =
-        ap (map entry) (filter-append (λ (r : Taken P). r.core == k) reports (one ∷ []))
-        ∙ map-append entry (filter (λ (r : Taken P). r.core == k) reports) (filter (λ (r : Taken P). r.core == k) (one ∷ []))
+        ap (map entry) (filter-append (λ (r : TakenReport P). r.core == k) reports (one ∷ []))
+        ∙ map-append entry (filter (λ (r : TakenReport P). r.core == k) reports) (filter (λ (r : TakenReport P). r.core == k) (one ∷ []))
 
     behind : (k : ℕ) (test : Bool) → (core == k) ≡ test → takes_of k reports ++ map entry (cond test (one ∷ []) []) ≡ takes_of k (reports ++ one ∷ [])
     behind k test is = ap (λ b. takes_of k reports ++ map entry (cond b (one ∷ []) [])) (sym is) ∙ sym (takes-more k)
@@ -135,11 +135,11 @@ module _ {P : Type 0} (receivers : List (EndSeen (Report P))) (core : ℕ) (befo
 
     are-more : All (λ n. n < number) (turns_in reports) → AreTaken (journals_of (set receivers core after)) (reports ++ one ∷ [])
     are-more below = record {
-      rising = subst IsStrictlyIncreasing (sym (map-append (λ (r : Taken P). r.turn) reports (one ∷ []))) (increasing-push number (turns_in reports) are.rising below);
+      rising = subst IsStrictlyIncreasing (sym (map-append (λ (r : TakenReport P). r.turn) reports (one ∷ []))) (increasing-push number (turns_in reports) are.rising below);
       each = each-more;
     }
 
-  module _ (number next : ℕ) (is : next ≡ number + 1) (collector : CollectorState) (reports : List (Taken P)) (old : Gathered receivers number collector reports) where
+  module _ (number next : ℕ) (is : next ≡ number + 1) (collector : CollectorState) (reports : List (TakenReport P)) (old : Gathered receivers number collector reports) where
     collects-one : (at : CoreNo) (report : Report P) → at.0 ≡ core → after.journal ≡ before.journal ++ taken number report ∷ []
         → Gathered (set receivers core after) next (after_report at report collector) (reports ++ record { turn = number; core = core; report = report } ∷ [])
     collects-one at report here grown =
@@ -147,7 +147,7 @@ module _ {P : Type 0} (receivers : List (EndSeen (Report P))) (core : ℕ) (befo
         let many : length lists ≡ length receivers = length-map receivers taken_in in
         let are : collected (set receivers core after) ≡ with_report core report lists = collected-taken number report grown in
         let one : IsBefore number before.journal = subst (λ (r : EndSeen (Report P)). IsBefore number r.journal) was (old.in_turn core before low) in
-        let last : Taken P = record { turn = number; core = core; report = report } in
+        let last : TakenReport P = record { turn = number; core = core; report = report } in
         record {
           in_turn =
               All-set (λ (r : EndSeen (Report P)). IsBefore next r.journal) receivers core after (subst (IsBefore next) (sym grown) (before-taken number next is before.journal one report))
@@ -156,7 +156,7 @@ module _ {P : Type 0} (receivers : List (EndSeen (Report P))) (core : ℕ) (befo
               subst (collect.StandsFor (after_report at report collector)) (sym (are ∙ ap (λ k. with_report k report lists) (sym here)))
               (follows at report collector lists (omega (arith, low, here, many, ap length old.follows.left, length-map lists (mark_of Left))) old.follows);
           are = are-more number report grown reports old.are old.before;
-          before = subst (All (λ n. n < next)) (sym (map-append (λ (r : Taken P). r.turn) reports (last ∷ []))) (below-push number next is (turns_in reports) old.before);
+          before = subst (All (λ n. n < next)) (sym (map-append (λ (r : TakenReport P). r.turn) reports (last ∷ []))) (below-push number next is (turns_in reports) old.before);
           lists =
               are ∙ ap (with_report core report) old.lists ∙ sym (fold-append with_taken (replicate (length receivers) []) reports (last ∷ []))
               ∙ ap (λ n. lists_of n (reports ++ last ∷ [])) (sym (length-set receivers core after));

@@ -33,12 +33,12 @@ use Rattle.hj_driver.proofs.MayClose.{may_close}
 use Rattle.hj_driver.proofs.Standing.{stands-closing}
 use Rattle.hj_collect.specs.Collector.{CollectorState}
 use Rattle.hj_link.specs.Seen.{EndSeen}
-use Rattle.hj_raw.specs.Items.{Taken}
+use Rattle.hj_raw.specs.Items.{TakenReport}
 use Rattle.hj_desk.specs.declared.ports.Ports.{Ports}
 use Rattle.hj_desk.specs.declared.desk.Desk.{Desk}
-use Rattle.hj_desk.specs.declared.step.Step.TheVariants.{Did}
+use Rattle.hj_desk.specs.declared.step.DeskStep.TheVariants.{Did}
 use Rattle.hj_desk.specs.Ports.{KeepsLinks, Notes, IsQuiet}
-use Rattle.hj_desk.specs.Desk.{History, IsBefore, Drives, IsFed, Gathered, StandsFor, numbers_of, turns_of}
+use Rattle.hj_desk.specs.Desk.{DeskHistory, IsBefore, Drives, IsFed, Gathered, StandsFor, numbers_of, turns_of}
 use Rattle.hj_desk.specs.Steps.{Admits, LooksAtPorts, Receives, with_turn}
 use Rattle.hj_desk.specs.Taken.{turns_in}
 use Rattle.hj_desk.proofs.Numbers.{below-more, below-push, before-more, increasing-push}
@@ -115,7 +115,7 @@ module _ {P : Type 0} where
   }
 
   -- the cores' reports
-  pub gathered-later : (receivers : List (EndSeen (Report P))) (number next : ℕ) (collector : CollectorState) (reports : List (Taken P)) → next ≡ number + 1 → Gathered receivers number collector reports
+  pub gathered-later : (receivers : List (EndSeen (Report P))) (number next : ℕ) (collector : CollectorState) (reports : List (TakenReport P)) → next ≡ number + 1 → Gathered receivers number collector reports
       → Gathered receivers next collector reports
   gathered-later receivers number next collector reports is old = record {
     in_turn =
@@ -153,7 +153,7 @@ module _ {P : Type 0} where
     stands-turn : (turn : DriverTurn P) (known : Option (Given P)) → Notes old.turns turn old.ports ports
         → ((feed : FeedState) (turns : List (DriverTurn P)) (events : List (happening.Event P)) → IsFed old.next feed turns events → driver.StandsFor old.driver turns → driver.StandsFor state (turns ++ turn ∷ []))
         → ((feed : FeedState) (turns : List (DriverTurn P)) (events : List (happening.Event P)) → IsFed old.next feed turns events → IsFed known feed (turns ++ turn ∷ []) events)
-        → (feed : FeedState) (history : History P) → StandsFor old feed history → StandsFor (record old { driver = state; ports = ports; turns = next; next = known }) feed (with_turn old.turns turn history)
+        → (feed : FeedState) (history : DeskHistory P) → StandsFor old feed history → StandsFor (record old { driver = state; ports = ports; turns = next; next = known }) feed (with_turn old.turns turn history)
     stands-turn turn known notes took fed feed history stood = record {
       drives = drives-turn old.driver state old.ports ports old.turns next history.log turn stood.drives notes is (took feed (turns_of history.log) history.events stood.fed stood.drives.stands);
       fed = subst (λ (turns : List (DriverTurn P)). IsFed known feed turns history.events) (sym (turns-push history.log old.turns turn)) (fed feed (turns_of history.log) history.events stood.fed);

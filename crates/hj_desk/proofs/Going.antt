@@ -17,14 +17,14 @@ use Rattle.hj_msg.specs.Run.{LogEntry}
 use Rattle.hj_collect.specs.Collector.{CollectorState}
 use Rattle.hj_collect.specs.StandsFor as collect
 use Rattle.hj_link.specs.Seen.{EndSeen}
-use Rattle.hj_raw.specs.Items.{Taken, lists_of}
+use Rattle.hj_raw.specs.Items.{TakenReport, lists_of}
 use Rattle.hj_desk.specs.declared.caller.Caller.{Caller}
 use Rattle.hj_desk.specs.declared.desk.Desk.{Desk}
 use Rattle.hj_desk.specs.declared.ports.Ports.{Ports}
-use Rattle.hj_desk.specs.declared.step.Step.{Step}
-use Rattle.hj_desk.specs.declared.step.Step.TheVariants.{Did, Idle, Spent, Memory}
+use Rattle.hj_desk.specs.declared.step.DeskStep.{DeskStep}
+use Rattle.hj_desk.specs.declared.step.DeskStep.TheVariants.{Did, Idle, Spent, Memory}
 use Rattle.hj_desk.specs.Caller.{Goes, GoesOnAsking, KeepsQueues, before}
-use Rattle.hj_desk.specs.Desk.{History, StandsFor, Stands}
+use Rattle.hj_desk.specs.Desk.{DeskHistory, StandsFor, Stands}
 use Rattle.hj_desk.specs.Ports.{KeepsLinks}
 use Rattle.hj_desk.specs.Outlet.{IsNoted}
 use Rattle.hj_desk.specs.Runs.{cores_of}
@@ -61,31 +61,31 @@ goes-both gives (x ∷ xs) ys old mid new first rest = (first.0, first.1, goes-b
 -- ---- histories
 
 module _ {P : Type 0} where
-  abbrev only_turns : List (LogEntry P) → History P
+  abbrev only_turns : List (LogEntry P) → DeskHistory P
   only_turns log = record { log = log; events = []; taken = [] }
 
-  with-turns : (history : History P) (log : List (LogEntry P)) → before history (only_turns log) ≡ record history { log = history.log ++ log }
+  with-turns : (history : DeskHistory P) (log : List (LogEntry P)) → before history (only_turns log) ≡ record history { log = history.log ++ log }
   with-turns history log =
-      ap₂ (λ (es : List (Happening P)) (rs : List (Taken P)). record { log = history.log ++ log; events = es; taken = rs }) (append-nil history.events) (append-nil history.taken)
+      ap₂ (λ (es : List (Happening P)) (rs : List (TakenReport P)). record { log = history.log ++ log; events = es; taken = rs }) (append-nil history.events) (append-nil history.taken)
 
-  with-nothing : (history : History P) → before history (only_turns []) ≡ history
+  with-nothing : (history : DeskHistory P) → before history (only_turns []) ≡ history
   with-nothing history = with-turns history [] ∙ ap (λ (log : List (LogEntry P)). record history { log = log }) (append-nil history.log)
 
-  before-both : (history one two : History P) → before (before history one) two ≡ before history (before one two)
+  before-both : (history one two : DeskHistory P) → before (before history one) two ≡ before history (before one two)
   before-both history one two =
-      ap₂ (λ (log : List (LogEntry P)) (rest : List (Happening P) × List (Taken P)). record { log = log; events = rest.0; taken = rest.1 }) (append_assoc history.log one.log two.log)
-      (ap₂ (λ (es : List (Happening P)) (rs : List (Taken P)). (es, rs)) (append_assoc history.events one.events two.events) (append_assoc history.taken one.taken two.taken))
+      ap₂ (λ (log : List (LogEntry P)) (rest : List (Happening P) × List (TakenReport P)). record { log = log; events = rest.0; taken = rest.1 }) (append_assoc history.log one.log two.log)
+      (ap₂ (λ (es : List (Happening P)) (rs : List (TakenReport P)). (es, rs)) (append_assoc history.events one.events two.events) (append_assoc history.taken one.taken two.taken))
 
-  abbrev news : List (LogEntry P) → List (Given P) → List (Taken P) → History P
+  abbrev news : List (LogEntry P) → List (Given P) → List (TakenReport P) → DeskHistory P
   news log answers taken = record { log = log; events = events_in answers; taken = taken }
 
-  news-both : (log log' : List (LogEntry P)) (answers answers' : List (Given P)) (taken taken' : List (Taken P)) → before (news log answers taken) (news log' answers' taken') ≡ news (log ++ log') (answers ++ answers') (taken ++ taken')
+  news-both : (log log' : List (LogEntry P)) (answers answers' : List (Given P)) (taken taken' : List (TakenReport P)) → before (news log answers taken) (news log' answers' taken') ≡ news (log ++ log') (answers ++ answers') (taken ++ taken')
   news-both log log' answers answers' taken taken' =
       ap (λ (es : List (Happening P)). record { log = log ++ log'; events = es; taken = taken ++ taken' }) (sym (flat_map-append (λ (answer : Given P). event_in (Some answer)) answers answers'))
 
 -- ---- a calling thread
 
-module _ {P F O : Type 0} (gives : F → Given P → F → Type 0) (state : F → FeedState) (gave : O → ℕ → List (Taken P) → Bool → Drained → O → Type 0) where
+module _ {P F O : Type 0} (gives : F → Given P → F → Type 0) (state : F → FeedState) (gave : O → ℕ → List (TakenReport P) → Bool → Drained → O → Type 0) where
   -- nothing was done
   pub goes-nothing : (caller : Caller P F O) → Goes gives state gave caller [] Kept caller
   goes-nothing caller = record {
@@ -95,8 +95,8 @@ module _ {P F O : Type 0} (gives : F → Given P → F → Type 0) (state : F �
     flight = refl;
     log = [];
     taken = [];
-    stands = λ history stood. subst (λ (h : History P). StandsFor caller.desk (state caller.feed) h) (sym (with-nothing history)) stood;
-    outlet = λ begun history stood given. subst (λ (rs : List (Taken P)). gave begun (cores_of caller.desk) rs caller.desk.over Kept caller.outlet) (sym (append-nil history.taken)) given;
+    stands = λ history stood. subst (λ (h : DeskHistory P). StandsFor caller.desk (state caller.feed) h) (sym (with-nothing history)) stood;
+    outlet = λ begun history stood given. subst (λ (rs : List (TakenReport P)). gave begun (cores_of caller.desk) rs caller.desk.over Kept caller.outlet) (sym (append-nil history.taken)) given;
   }
 
   -- one thing behind another
@@ -110,11 +110,11 @@ module _ {P F O : Type 0} (gives : F → Given P → F → Type 0) (state : F �
     log = first.log ++ second.log;
     taken = first.taken ++ second.taken;
     stands = λ history stood.
-        subst (λ (h : History P). StandsFor three.desk (state three.feed) h)
+        subst (λ (h : DeskHistory P). StandsFor three.desk (state three.feed) h)
         (before-both history (news first.log answers first.taken) (news second.log answers' second.taken) ∙ ap (before history) (news-both first.log second.log answers answers' first.taken second.taken))
         (second.stands (before history (news first.log answers first.taken)) (first.stands history stood));
     outlet = λ begun history stood given.
-        subst (λ (rs : List (Taken P)). gave begun (cores_of three.desk) rs three.desk.over answer three.outlet) (append_assoc history.taken first.taken second.taken)
+        subst (λ (rs : List (TakenReport P)). gave begun (cores_of three.desk) rs three.desk.over answer three.outlet) (append_assoc history.taken first.taken second.taken)
         (second.outlet begun (before history (news first.log answers first.taken)) (first.stands history stood) (first.outlet begun history stood given));
   }
 
@@ -134,7 +134,7 @@ module _ {P F O : Type 0} (gives : F → Given P → F → Type 0) (state : F �
 
     -- some turns of the driver, and no more
     turned : (log : List (LogEntry P)) → KeepsLinks old.desk.ports desk.ports → desk.reports.items ≡ old.desk.reports.items → desk.driver.flight ≡ old.desk.driver.flight → desk.over ≡ old.desk.over
-        → ((feed : FeedState) (history : History P) → StandsFor old.desk feed history → StandsFor desk feed (record history { log = history.log ++ log })) → Goes gives state gave old [] Kept later
+        → ((feed : FeedState) (history : DeskHistory P) → StandsFor old.desk feed history → StandsFor desk feed (record history { log = history.log ++ log })) → Goes gives state gave old [] Kept later
     turned log links queues flight over stands = record {
       feed = refl;
       links = links;
@@ -142,9 +142,9 @@ module _ {P F O : Type 0} (gives : F → Given P → F → Type 0) (state : F �
       flight = flight;
       log = log;
       taken = [];
-      stands = λ history stood. subst (λ (h : History P). StandsFor desk (state old.feed) h) (sym (with-turns history log)) (stands (state old.feed) history stood);
+      stands = λ history stood. subst (λ (h : DeskHistory P). StandsFor desk (state old.feed) h) (sym (with-turns history log)) (stands (state old.feed) history stood);
       outlet = λ begun history stood given.
-          subst (λ (rs : List (Taken P)). gave begun (cores_of desk) rs desk.over Kept old.outlet) (sym (append-nil history.taken))
+          subst (λ (rs : List (TakenReport P)). gave begun (cores_of desk) rs desk.over Kept old.outlet) (sym (append-nil history.taken))
           (subst (λ (b : Bool). gave begun (cores_of desk) history.taken b Kept old.outlet) (sym over)
           (subst (λ (n : ℕ). gave begun n history.taken old.desk.over Kept old.outlet) (ap length (sym queues)) given));
     }
@@ -176,13 +176,13 @@ module _ {P F O : Type 0} (gives : F → Given P → F → Type 0) (state : F �
         (λ feed history stood. subst (λ (d : Desk P). StandsFor d feed history) (sym is) stood)
 
     -- each step of a desk
-    pub goes-received : (port : Side) (step : Step) → Receives port step old.desk desk → Goes gives state gave old [] Kept later
+    pub goes-received : (port : Side) (step : DeskStep) → Receives port step old.desk desk → Goes gives state gave old [] Kept later
     goes-received port Did done = by-turn (receipt port done.0) done.1 (ap (λ (d : Desk P). d.reports.items) done.2) (ap (λ (d : Desk P). d.over) done.2)
     goes-received port Idle done = by-look done.0
     goes-received port Spent done = by-nothing done.1
     goes-received port Memory done = absurd done
 
-    pub goes-admitted : (step : Step) → Admits step old.desk desk → Goes gives state gave old [] Kept later
+    pub goes-admitted : (step : DeskStep) → Admits step old.desk desk → Goes gives state gave old [] Kept later
     goes-admitted Did done = by-turn (turn_of done.0) done.2 (ap (λ (d : Desk P). d.reports.items) done.3) (ap (λ (d : Desk P). d.over) done.3)
     goes-admitted Idle done = by-look done.0
     goes-admitted Spent done = by-nothing done.1
@@ -197,7 +197,7 @@ module _ {P F O : Type 0} (gives : F → Given P → F → Type 0) (state : F �
     many was is changes = ap length changes.is ∙ length-set old.desk.reports.items core.0 is
 
     by-report : (report : Report P) (over : Bool) (takes_it : TakesReport core report old.desk desk) → desk.over ≡ over
-        → ((begun : O) (taken : List (Taken P)) → IsNoted desk.collector (cores_of old.desk) taken (next_taken core report old.desk) → gave begun (cores_of old.desk) taken old.desk.over Kept old.outlet
+        → ((begun : O) (taken : List (TakenReport P)) → IsNoted desk.collector (cores_of old.desk) taken (next_taken core report old.desk) → gave begun (cores_of old.desk) taken old.desk.over Kept old.outlet
         → gave begun (cores_of old.desk) (taken ++ next_taken core report old.desk ∷ []) over Kept outlet)
         → Goes gives state gave old [] Kept behind
     by-report report over takes_it is keeps = record {
@@ -207,7 +207,7 @@ module _ {P F O : Type 0} (gives : F → Given P → F → Type 0) (state : F �
       flight = ap (λ (d : Desk P). d.driver.flight) takes_it.others;
       log = [];
       taken = next_taken core report old.desk ∷ [];
-      stands = λ history stood. subst (λ (h : History P). StandsFor desk (state old.feed) h) (sym (with-one history)) (takes_it.stands (state old.feed) history stood);
+      stands = λ history stood. subst (λ (h : DeskHistory P). StandsFor desk (state old.feed) h) (sym (with-one history)) (takes_it.stands (state old.feed) history stood);
       outlet = λ begun history stood given.
           let now = takes_it.stands (state old.feed) history stood in
           let lists = now.gathered.lists ∙ ap (λ (n : ℕ). lists_of n (history.taken ++ next_taken core report old.desk ∷ [])) cores in
@@ -222,7 +222,7 @@ module _ {P F O : Type 0} (gives : F → Given P → F → Type 0) (state : F �
         cores : cores_of desk ≡ cores_of old.desk
         cores = many takes_it.before takes_it.after takes_it.receiver
 
-        with-one : (history : History P) → before history (news [] [] (next_taken core report old.desk ∷ [])) ≡ record history { taken = history.taken ++ next_taken core report old.desk ∷ [] }
+        with-one : (history : DeskHistory P) → before history (news [] [] (next_taken core report old.desk ∷ [])) ≡ record history { taken = history.taken ++ next_taken core report old.desk ∷ [] }
         with-one history =
             ap₂ (λ (log : List (LogEntry P)) (es : List (Happening P)). record { log = log; events = es; taken = history.taken ++ next_taken core report old.desk ∷ [] }) (append-nil history.log) (append-nil history.events)
 
@@ -234,15 +234,16 @@ module _ {P F O : Type 0} (gives : F → Given P → F → Type 0) (state : F �
       flight = ap (λ (d : Desk P). d.driver.flight) finds.others;
       log = [];
       taken = [];
-      stands = λ history stood. subst (λ (h : History P). StandsFor desk (state old.feed) h) (sym (with-nothing history)) (finds.stands (state old.feed) history stood);
+      stands = λ history stood. subst (λ (h : DeskHistory P). StandsFor desk (state old.feed) h) (sym (with-nothing history)) (finds.stands (state old.feed) history stood);
       outlet = λ begun history stood given.
-          subst (λ (rs : List (Taken P)). gave begun (cores_of desk) rs desk.over Kept outlet) (sym (append-nil history.taken))
+          subst (λ (rs : List (TakenReport P)). gave begun (cores_of desk) rs desk.over Kept outlet) (sym (append-nil history.taken))
           (subst (λ (b : Bool). gave begun (cores_of desk) history.taken b Kept outlet) (ap (λ (d : Desk P). d.over) (sym finds.others))
           (subst (λ (n : ℕ). gave begun n history.taken old.desk.over Kept outlet) (sym (many finds.before finds.after finds.receiver))
           (subst (λ (o : O). gave begun (cores_of old.desk) history.taken old.desk.over Kept o) (sym is) given)));
     }
 
-    pub goes-collected : (step : Step) → Collects gave core step old.desk old.outlet desk outlet → Goes gives state gave old [] Kept behind
+    pub goes-collected : (step : DeskStep) → Collects gave core step old.desk old.outlet desk outlet
+        → Goes gives state gave old [] Kept behind
     goes-collected Did done =
         by-report done.0 old.desk.over done.1 done.2 (λ begun taken noted given. done.3 begun (cores_of old.desk) taken (next_taken core done.0 old.desk) old.desk.over refl noted given)
     goes-collected Idle done = by-no_report done.0 done.1
@@ -252,7 +253,7 @@ module _ {P F O : Type 0} (gives : F → Given P → F → Type 0) (state : F �
 
   -- the feed is asked
   pub goes-asked : (old : Caller P F O) (given : Given P) (desk : Desk P) (feed : F) → desk ≡ record old.desk { next = Some given } → gives old.feed given feed
-      → ((history : History P) → StandsFor old.desk (state old.feed) history → StandsFor desk (state feed) (with_events (event_in desk.next) history))
+      → ((history : DeskHistory P) → StandsFor old.desk (state old.feed) history → StandsFor desk (state feed) (with_events (event_in desk.next) history))
       → Goes gives state gave old (given ∷ []) Kept (record old { desk = desk; feed = feed })
   goes-asked old given desk feed is given_it stands = record {
     feed = (feed, given_it, refl);
@@ -261,16 +262,16 @@ module _ {P F O : Type 0} (gives : F → Given P → F → Type 0) (state : F �
     flight = ap (λ (d : Desk P). d.driver.flight) is;
     log = [];
     taken = [];
-    stands = λ history stood. subst (λ (h : History P). StandsFor desk (state feed) h) (sym (asked_behind history)) (stands history stood);
+    stands = λ history stood. subst (λ (h : DeskHistory P). StandsFor desk (state feed) h) (sym (asked_behind history)) (stands history stood);
     outlet = λ begun history stood kept.
         subst (λ (d : Desk P). gave begun (cores_of d) (history.taken ++ []) d.over Kept old.outlet) (sym is)
-        (subst (λ (rs : List (Taken P)). gave begun (cores_of old.desk) rs old.desk.over Kept old.outlet) (sym (append-nil history.taken)) kept);
+        (subst (λ (rs : List (TakenReport P)). gave begun (cores_of old.desk) rs old.desk.over Kept old.outlet) (sym (append-nil history.taken)) kept);
   }
     where
-      asked_behind : (history : History P) → before history (news [] (given ∷ []) []) ≡ with_events (event_in desk.next) history
+      asked_behind : (history : DeskHistory P) → before history (news [] (given ∷ []) []) ≡ with_events (event_in desk.next) history
       asked_behind history =
-          ap₂ (λ (log : List (LogEntry P)) (rest : List (Happening P) × List (Taken P)). record { log = log; events = rest.0; taken = rest.1 }) (append-nil history.log)
-          (ap₂ (λ (es : List (Happening P)) (rs : List (Taken P)). (history.events ++ es, rs)) (append-nil (event_in (Some given)) ∙ ap (λ (d : Desk P). event_in d.next) (sym is)) (append-nil history.taken))
+          ap₂ (λ (log : List (LogEntry P)) (rest : List (Happening P) × List (TakenReport P)). record { log = log; events = rest.0; taken = rest.1 }) (append-nil history.log)
+          (ap₂ (λ (es : List (Happening P)) (rs : List (TakenReport P)). (history.events ++ es, rs)) (append-nil (event_in (Some given)) ∙ ap (λ (d : Desk P). event_in d.next) (sym is)) (append-nil history.taken))
 
   -- what is due is given
   pub goes-given : (rests : O → CollectorState → Type 0) (old : Caller P F O) (new : O) (answer : Drained) → Gives gave rests answer old.desk old.outlet new → Goes gives state gave old [] answer (record old { outlet = new })
@@ -281,8 +282,8 @@ module _ {P F O : Type 0} (gives : F → Given P → F → Type 0) (state : F �
     flight = refl;
     log = [];
     taken = [];
-    stands = λ history stood. subst (λ (h : History P). StandsFor old.desk (state old.feed) h) (sym (with-nothing history)) stood;
+    stands = λ history stood. subst (λ (h : DeskHistory P). StandsFor old.desk (state old.feed) h) (sym (with-nothing history)) stood;
     outlet = λ begun history stood kept.
-        subst (λ (rs : List (Taken P)). gave begun (cores_of old.desk) rs old.desk.over answer new) (sym (append-nil history.taken))
+        subst (λ (rs : List (TakenReport P)). gave begun (cores_of old.desk) rs old.desk.over answer new) (sym (append-nil history.taken))
         (gives_it.gives begun (cores_of old.desk) history.taken (subst (collect.StandsFor old.desk.collector) stood.gathered.lists stood.gathered.follows) kept);
   }

@@ -20,23 +20,23 @@ use Rattle.hj_collect.specs.Collector.{CollectorState, least_mark}
 use Rattle.hj_collect.proofs.Following.{least_follows}
 use Rattle.hj_order.specs.Giving.{AreTakenOut, Gives}
 use Rattle.hj_order.proofs.Giving.{answered-both, takes-both}
-use Rattle.hj_raw.specs.Items.{Taken, lists_of, with_taken}
-use Rattle.hj_desk.specs.declared.in_order.InOrder.{InOrder}
-use Rattle.hj_desk.specs.InOrder.{GivesInOrder}
+use Rattle.hj_raw.specs.Items.{TakenReport, lists_of, with_taken}
+use Rattle.hj_desk.specs.declared.in_order.OrderedOutlet.{OrderedOutlet}
+use Rattle.hj_desk.specs.OrderedOutlet.{GivesInOrder}
 use Rattle.hj_desk.specs.Outlet.{GivesDue, KeepsReport, LosesReport}
 use Rattle.hj_desk.specs.Releases.{Releases}
 use Rattle.hj_desk.proofs.Collecting.{releases-more}
 use Rattle.hj_desk.proofs.Releasing.{taken-more}
 
 module _ {P : Type 0} where
-  length-taken : (lists : List (List (Report P))) (taken : List (Taken P)) → length (fold with_taken lists taken) ≡ length lists
+  length-taken : (lists : List (List (Report P))) (taken : List (TakenReport P)) → length (fold with_taken lists taken) ≡ length lists
   length-taken lists [] = refl
   length-taken lists (first ∷ later) = length-taken (with_taken lists first) later ∙ length-set lists first.core (get_or lists first.core [] ++ first.report ∷ [])
 
-  pub length-lists : (cores : ℕ) (taken : List (Taken P)) → length (lists_of cores taken) ≡ cores
+  pub length-lists : (cores : ℕ) (taken : List (TakenReport P)) → length (lists_of cores taken) ≡ cores
   length-lists cores taken = length-taken (replicate cores []) taken ∙ length-replicate cores []
 
-  pub lists-more : (cores : ℕ) (taken : List (Taken P)) (next : Taken P) → lists_of cores (taken ++ next ∷ []) ≡ with_taken (lists_of cores taken) next
+  pub lists-more : (cores : ℕ) (taken : List (TakenReport P)) (next : TakenReport P) → lists_of cores (taken ++ next ∷ []) ≡ with_taken (lists_of cores taken) next
   lists-more cores taken next = fold-append with_taken (replicate cores []) taken (next ∷ [])
 
   none_met : (cores : ℕ) → met {P = P} (replicate cores []) ≡ []
@@ -51,11 +51,11 @@ module _ {P : Type 0} where
   }
 
 module _ {P D : Type 0} (takes : D → Pair P → Drained → D → Type 0) (collector : CollectorState) where
-  module _ (report : Report P) (old : InOrder P D) (kept : List (Pair P)) where
-    abbrev now : InOrder P D
+  module _ (report : Report P) (old : OrderedOutlet P D) (kept : List (Pair P)) where
+    abbrev now : OrderedOutlet P D
     now = record old { kept = kept }
 
-    with-report : (over over' : Bool) (begun : InOrder P D) (cores : ℕ) (taken : List (Taken P)) (next : Taken P) → next.report ≡ report → next.core < cores → (over' ≡ false → (over ≡ false) × IsPermutation (old.kept ++ pairs_of report) kept)
+    with-report : (over over' : Bool) (begun : OrderedOutlet P D) (cores : ℕ) (taken : List (TakenReport P)) (next : TakenReport P) → next.report ≡ report → next.core < cores → (over' ≡ false → (over ≡ false) × IsPermutation (old.kept ++ pairs_of report) kept)
         → GivesInOrder takes begun cores taken over Kept old → GivesInOrder takes begun cores (taken ++ next ∷ []) over' Kept now
     with-report over over' begun cores taken next is low added given = record {
       pairs = given.pairs;
@@ -75,7 +75,7 @@ module _ {P D : Type 0} (takes : D → Pair P → Drained → D → Type 0) (col
 
   -- ---- all that are due are given
 
-  pub gives-due : (old : InOrder P D) (answer : Drained) (left : List (Pair P)) (filled : D) → Gives takes (least_mark collector) old.kept old.drain answer left filled
+  pub gives-due : (old : OrderedOutlet P D) (answer : Drained) (left : List (Pair P)) (filled : D) → Gives takes (least_mark collector) old.kept old.drain answer left filled
       → GivesDue (GivesInOrder takes) collector answer old (record { kept = left; drain = filled })
   gives-due old answer left filled gives begun cores taken follows given =
       let lists = lists_of cores taken in
@@ -99,7 +99,7 @@ then-err (Ok value) A B follows a = tt
 then-err (Err refusal) A B follows a = follows a
 
 -- no report was taken
-pub in_order-unused : {P D : Type 0} (takes : D → Pair P → Drained → D → Type 0) (outlet : InOrder P D) → outlet.kept ≡ [] → (cores : ℕ) → GivesInOrder takes outlet cores [] false Kept outlet
+pub in_order-unused : {P D : Type 0} (takes : D → Pair P → Drained → D → Type 0) (outlet : OrderedOutlet P D) → outlet.kept ≡ [] → (cores : ℕ) → GivesInOrder takes outlet cores [] false Kept outlet
 in_order-unused {P} takes outlet none cores = record {
   pairs = [];
   drain = refl;

@@ -14,13 +14,13 @@ use Rattle.hj_collect.specs.Collector.{CollectorState, least_mark}
 use Rattle.hj_collect.proofs.Following.{least_follows}
 use Rattle.hj_order.proofs.Giving.{all-kept, last-refused}
 use Rattle.hj_raw.specs.Drain.{AreKept, Offer, TakesItems, items_in}
-use Rattle.hj_raw.specs.Items.{Item, Taken, items_of_report, joined, lists_of, mark_behind, raw_items, with_taken}
-use Rattle.hj_raw.specs.Waiting.{Waiting, with_report}
+use Rattle.hj_raw.specs.Items.{Item, TakenReport, items_of_report, joined, lists_of, mark_behind, raw_items, with_taken}
+use Rattle.hj_raw.specs.WaitingItems.{WaitingItems, with_report}
 use Rattle.hj_raw.proofs.Behind.{one_behind}
 use Rattle.hj_raw.proofs.Telling.{none-told}
-use Rattle.hj_desk.specs.declared.raw.Raw.{Raw}
+use Rattle.hj_desk.specs.declared.raw.RawOutlet.{RawOutlet}
 use Rattle.hj_desk.specs.Outlet.{GivesDue, KeepsReport, LosesReport}
-use Rattle.hj_desk.specs.Raw.{AreAnswered, GivesRaw}
+use Rattle.hj_desk.specs.RawOutlet.{AreAnswered, GivesRaw}
 use Rattle.hj_desk.proofs.Ordering.{lists-more}
 
 module _ {P D : Type 0} (takes : D → Item P → Drained → D → Type 0) where
@@ -29,7 +29,7 @@ module _ {P D : Type 0} (takes : D → Item P → Drained → D → Type 0) wher
   takes-both (x ∷ xs) ys old mid new first rest = (first.0, first.1, takes-both xs ys first.0 mid new first.2 rest)
 
   -- no report was taken
-  pub raw-unused : (outlet : Raw P D) → outlet.items.items ≡ [] → outlet.items.mark ≡ None → (cores : ℕ) → 1 ≤ cores → GivesRaw takes outlet cores [] false Kept outlet
+  pub raw-unused : (outlet : RawOutlet P D) → outlet.items.items ≡ [] → outlet.items.mark ≡ None → (cores : ℕ) → 1 ≤ cores → GivesRaw takes outlet cores [] false Kept outlet
   raw-unused outlet none unmarked cores some = record {
     offers = [];
     drain = refl;
@@ -40,11 +40,11 @@ module _ {P D : Type 0} (takes : D → Item P → Drained → D → Type 0) wher
   }
 
   module _ (collector : CollectorState) where
-    module _ (report : Report P) (old : Raw P D) (waiting : Waiting P) where
-      abbrev now : Raw P D
+    module _ (report : Report P) (old : RawOutlet P D) (waiting : WaitingItems P) where
+      abbrev now : RawOutlet P D
       now = record old { items = waiting }
 
-      prefix-more : (cores : ℕ) (taken : List (Taken P)) (next : Taken P) (items : List (Item P)) → IsPrefix items (raw_items cores taken) → IsPrefix items (raw_items cores (taken ++ next ∷ []))
+      prefix-more : (cores : ℕ) (taken : List (TakenReport P)) (next : TakenReport P) (items : List (Item P)) → IsPrefix items (raw_items cores taken) → IsPrefix items (raw_items cores (taken ++ next ∷ []))
       prefix-more cores taken next items begins = record {
         rest = begins.rest ++ items_of_report (lists_of cores taken) next;
         is = one_behind cores taken next ∙ ap (λ l. l ++ items_of_report (lists_of cores taken) next) begins.is ∙ append_assoc items begins.rest (items_of_report (lists_of cores taken) next);
@@ -73,11 +73,11 @@ module _ {P D : Type 0} (takes : D → Item P → Drained → D → Type 0) wher
                 let own = map joined (pairs_of report) in
                 let behind = mark_behind old.items.mark (least_mark collector) in
                 let same : behind ≡ mark_behind (punctuation lists) (punctuation (with_taken lists next)) = ap₂ (λ (a b : Option Mark). mark_behind a b) (given.mark lasts) told in
-                ap (λ (w : Waiting P). items_in given.offers ++ w.items) grown ∙ ap (λ l. items_in given.offers ++ l) (append_assoc old.items.items own behind)
+                ap (λ (w : WaitingItems P). items_in given.offers ++ w.items) grown ∙ ap (λ l. items_in given.offers ++ l) (append_assoc old.items.items own behind)
                 ∙ sym (append_assoc (items_in given.offers) old.items.items (own ++ behind)) ∙ ap (λ l. l ++ (own ++ behind)) (given.waits lasts)
                 ∙ ap (λ (l : List (Item P)). raw_items cores taken ++ l) (ap₂ (λ (r : Report P) (m : List (Item P)). map joined (pairs_of r) ++ m) (sym is) same)
                 ∙ sym (one_behind cores taken next);
-            mark = λ lasts. ap (λ (w : Waiting P). w.mark) grown ∙ told ∙ ap punctuation (sym (lists-more cores taken next));
+            mark = λ lasts. ap (λ (w : WaitingItems P). w.mark) grown ∙ told ∙ ap punctuation (sym (lists-more cores taken next));
           }
 
     -- ---- items that are given, one after another
@@ -89,10 +89,10 @@ module _ {P D : Type 0} (takes : D → Item P → Drained → D → Type 0) wher
     answered-more Kept offers item each = all-kept answer_in offers (record { item = item; answer = Kept } ∷ []) each refl
     answered-more Refused offers item each = last-refused answer_in offers (record { item = item; answer = Refused } ∷ []) each (0, refl)
 
-    pub raw-nothing : (old : Raw P D) → GivesDue (GivesRaw takes) collector Kept old old
+    pub raw-nothing : (old : RawOutlet P D) → GivesDue (GivesRaw takes) collector Kept old old
     raw-nothing old begun cores taken follows given = given
 
-    pub raw-gives : (old now : Raw P D) → GivesDue (GivesRaw takes) collector Kept old now → (left : Waiting P) (filled : D) (item : Item P) → now.items.items ≡ item ∷ left.items → left.mark ≡ now.items.mark → (answer : Drained) → takes now.drain item answer filled
+    pub raw-gives : (old now : RawOutlet P D) → GivesDue (GivesRaw takes) collector Kept old now → (left : WaitingItems P) (filled : D) (item : Item P) → now.items.items ≡ item ∷ left.items → left.mark ≡ now.items.mark → (answer : Drained) → takes now.drain item answer filled
         → GivesDue (GivesRaw takes) collector answer old (record { items = left; drain = filled })
     raw-gives old now before left filled item first marked answer took begun cores taken follows given =
         let so_far = before begun cores taken follows given in

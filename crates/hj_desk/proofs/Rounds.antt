@@ -11,7 +11,7 @@ use Rattle.hj_msg.specs.Feed.{FeedState, is_stop}
 use Rattle.hj_driver.specs.Driver.{is_finished}
 use Rattle.hj_driver.specs.StandsFor.{closes_of, is_closing}
 use Rattle.hj_collect.specs.Collector.{CollectorState, has_ended}
-use Rattle.hj_raw.specs.Items.{Taken}
+use Rattle.hj_raw.specs.Items.{TakenReport}
 use Rattle.hj_desk.specs.declared.caller.Caller.{Caller}
 use Rattle.hj_desk.specs.declared.caller.Round.{Round}
 use Rattle.hj_desk.specs.declared.caller.Round.TheVariants.{GotOn, Waits, Over}
@@ -57,7 +57,7 @@ module _ {P : Type 0} where
   was-answered desk Refused is = absurd (never-refused (desk.over || is_some desk.collector.stopped) (is_finished desk.driver.closes && has_ended desk.collector) is)
   was-answered desk Memory is = refl
 
-module _ {P F O : Type 0} (gives : F → Given P → F → Type 0) (state : F → FeedState) (gave : O → ℕ → List (Taken P) → Bool → Drained → O → Type 0) (rests : O → CollectorState → Type 0) where
+module _ {P F O : Type 0} (gives : F → Given P → F → Type 0) (state : F → FeedState) (gave : O → ℕ → List (TakenReport P) → Bool → Drained → O → Type 0) (rests : O → CollectorState → Type 0) where
   rested : (desk : Desk P) (outlet : O) → desk.over ≡ false → (desk.over ≡ true) ⊎ rests outlet desk.collector → rests outlet desk.collector
   rested desk outlet going (inl over) = absurd (true≢false (sym over ∙ going))
   rested desk outlet going (inr none) = none

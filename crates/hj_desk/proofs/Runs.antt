@@ -27,7 +27,7 @@ use Rattle.hj_msg.proofs.Members.{Contains-head, any_of}
 use Rattle.hj_driver.specs.StandsFor.{is_closing}
 use Rattle.hj_link.specs.Seen.{EndSeen}
 use Rattle.hj_desk.specs.declared.desk.Desk.{Desk}
-use Rattle.hj_desk.specs.Desk.{History, IsBefore, IsFed, StandsFor, collected, numbers_of, turns_of}
+use Rattle.hj_desk.specs.Desk.{DeskHistory, IsBefore, IsFed, StandsFor, collected, numbers_of, turns_of}
 use Rattle.hj_desk.specs.Releases.{Releases}
 use Rattle.hj_desk.specs.Runs.{Workers, DoTheirPart, cores_of, left_end, right_end, run_of, taken_of}
 use Rattle.hj_desk.proofs.Collecting.{prefix-trans}
@@ -86,7 +86,7 @@ module _ {P : Type 0} (receivers : List (EndSeen (Report P))) (k : ℕ) where
 
 -- ---- the run
 
-module _ {P : Type 0} (workers : Workers P) (desk : Desk P) (feed : FeedState) (history : History P) (stood : StandsFor desk feed history) (parts : DoTheirPart workers desk history.events) where
+module _ {P : Type 0} (workers : Workers P) (desk : Desk P) (feed : FeedState) (history : DeskHistory P) (stood : StandsFor desk feed history) (parts : DoTheirPart workers desk history.events) where
   abbrev run : Run P
   run = run_of workers desk history.events
 

@@ -24,7 +24,7 @@ use Rattle.hj_driver.specs.StandsFor.{closes_of, is_CloseL, is_CloseR}
 use Rattle.hj_collect.specs.Marks.{is_same}
 use Rattle.hj_collect.proofs.Following.{ended_follows}
 use Rattle.hj_desk.specs.declared.desk.Desk.{Desk}
-use Rattle.hj_desk.specs.Desk.{History, StandsFor, collected, turns_of}
+use Rattle.hj_desk.specs.Desk.{DeskHistory, StandsFor, collected, turns_of}
 use Rattle.hj_desk.specs.Runs.{Workers, AreUncut, DoTheirPart, IsDone, cores_of, run_of, taken_of}
 use Rattle.hj_desk.specs.Releases.{Releases}
 use Rattle.hj_desk.proofs.Runs.{all_put, all_reports, collected-at, is_run}
@@ -109,7 +109,7 @@ module _ {P : Type 0} where
       sym (append-nil given) ∙ ap (λ l. given ++ l) (sym rest) ∙ sym prefix.is ∙ out
 
   -- where a desk is done, the end of each core was taken
-  module _ (desk : Desk P) (feed : FeedState) (history : History P) (stood : StandsFor desk feed history) (done : IsDone desk) where
+  module _ (desk : Desk P) (feed : FeedState) (history : DeskHistory P) (stood : StandsFor desk feed history) (done : IsDone desk) where
     pub ended : (k : ℕ) → k < cores_of desk → Contains (takes (taken_of desk k)) Ended
     ended k low =
         let lists = collected desk.reports.items in
@@ -117,7 +117,7 @@ module _ {P : Type 0} where
         subst (λ (reports : List (Report P)). Contains reports Ended) (collected-at desk.reports.items k)
         (told_end (get_or lists k []) (all_at (λ reports. list_any is_end reports) lists k [] each (omega (arith, low, length-map desk.reports.items (λ r. takes r.journal)))))
 
-  module _ (workers : Workers P) (desk : Desk P) (feed : FeedState) (history : History P) (stood : StandsFor desk feed history) (parts : DoTheirPart workers desk history.events) (uncut : AreUncut parts) (done : IsDone desk) where
+  module _ (workers : Workers P) (desk : Desk P) (feed : FeedState) (history : DeskHistory P) (stood : StandsFor desk feed history) (parts : DoTheirPart workers desk history.events) (uncut : AreUncut parts) (done : IsDone desk) where
     abbrev lists : List (List (Report P))
     lists = collected desk.reports.items
 

@@ -10,11 +10,11 @@ use Rattle.hj_msg.specs.Feed.{FeedState, GoesOverAnswers, events_in}
 use Rattle.hj_msg.specs.Run.{LogEntry}
 use Rattle.hj_collect.specs.Collector.{CollectorState}
 use Rattle.hj_link.specs.Seen.{EndSeen}
-use Rattle.hj_raw.specs.Items.{Taken}
+use Rattle.hj_raw.specs.Items.{TakenReport}
 use Rattle.hj_desk.specs.declared.caller.Caller.{Caller}
 use Rattle.hj_desk.specs.declared.caller.Round.{Round}
 use Rattle.hj_desk.specs.declared.caller.Round.TheVariants.{GotOn, Waits, Over}
-use Rattle.hj_desk.specs.Desk.{History, StandsFor}
+use Rattle.hj_desk.specs.Desk.{DeskHistory, StandsFor}
 use Rattle.hj_desk.specs.Ports.{KeepsLinks}
 use Rattle.hj_desk.specs.Runs.{IsDone, cores_of}
 
@@ -25,7 +25,7 @@ module _ {P : Type 0} where
     pub capacities : map (λ receiver. receiver.capacity) new ≡ map (λ receiver. receiver.capacity) old
 
   -- what happened before, and then this
-  abbrev pub before : History P → History P → History P
+  abbrev pub before : DeskHistory P → DeskHistory P → DeskHistory P
   before old new = record { log = old.log ++ new.log; events = old.events ++ new.events; taken = old.taken ++ new.taken }
 
 -- how the last thing that was given was answered, by how a run has ended
@@ -40,7 +40,7 @@ answer_of GotOn = drained.Kept
 answer_of Waits = drained.Kept
 answer_of (Over end) = last_answer end
 
-module _ {P F O : Type 0} (gives : F → Given P → F → Type 0) (state : F → FeedState) (gave : O → ℕ → List (Taken P) → Bool → Drained → O → Type 0) where
+module _ {P F O : Type 0} (gives : F → Given P → F → Type 0) (state : F → FeedState) (gave : O → ℕ → List (TakenReport P) → Bool → Drained → O → Type 0) where
   -- The feed gave these answers, and what the outlet gave was kept, but that the last thing had this answer. The ends are of the links
   -- that they were of. Whatever the calling thread stood for, it stands for that with turns of the driver, the events that were given, and
   -- reports that were taken behind; and the outlet gave what is due of these too.
@@ -50,10 +50,10 @@ module _ {P F O : Type 0} (gives : F → Given P → F → Type 0) (state : F �
     pub queues : KeepsQueues old.desk.reports.items new.desk.reports.items
     pub flight : new.desk.driver.flight ≡ old.desk.driver.flight
     pub log : List (LogEntry P)
-    pub taken : List (Taken P)
-    pub stands : (history : History P) → StandsFor old.desk (state old.feed) history
+    pub taken : List (TakenReport P)
+    pub stands : (history : DeskHistory P) → StandsFor old.desk (state old.feed) history
         → StandsFor new.desk (state new.feed) (before history (record { log = log; events = events_in answers; taken = taken }))
-    pub outlet : (begun : O) (history : History P) → StandsFor old.desk (state old.feed) history → gave begun (cores_of old.desk) history.taken old.desk.over drained.Kept old.outlet
+    pub outlet : (begun : O) (history : DeskHistory P) → StandsFor old.desk (state old.feed) history → gave begun (cores_of old.desk) history.taken old.desk.over drained.Kept old.outlet
         → gave begun (cores_of new.desk) (history.taken ++ taken) new.desk.over answer new.outlet
 
   -- Nothing was refused.

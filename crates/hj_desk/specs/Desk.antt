@@ -19,19 +19,19 @@ use Rattle.hj_driver.specs.StandsFor as driver
 use Rattle.hj_driver.specs.StandsFor.{is_closing}
 use Rattle.hj_collect.specs.Collector.{CollectorState}
 use Rattle.hj_collect.specs.StandsFor as collect
-use Rattle.hj_raw.specs.Items.{Taken, lists_of}
+use Rattle.hj_raw.specs.Items.{TakenReport, lists_of}
 use Rattle.hj_desk.specs.declared.ports.Ports.{Ports}
 use Rattle.hj_desk.specs.declared.desk.Desk.{Desk}
 use Rattle.hj_desk.specs.Taken.{AreTaken, turns_in}
 
 -- what happened so far
-pub record History (P : Type 0) : Type 0 where
+pub record DeskHistory (P : Type 0) : Type 0 where
   -- the driver's turns, each under its number
   pub log : List (LogEntry P)
   -- the events that the feed gave
   pub events : List (event.Event P)
   -- the reports that were taken, each under the number of its turn
-  pub taken : List (Taken P)
+  pub taken : List (TakenReport P)
 
 -- The turns of a journal never fall, and each is below this one.
 pub record IsBefore {M : Type 0} (turn : ℕ) (journal : List (Entry M)) : Type 0 where
@@ -39,7 +39,7 @@ pub record IsBefore {M : Type 0} (turn : ℕ) (journal : List (Entry M)) : Type 
   pub before : All (λ number. number < turn) (map (λ entry. entry.turn) journal)
 
 module _ {P : Type 0} where
-  abbrev pub nothing_happened : History P
+  abbrev pub nothing_happened : DeskHistory P
   nothing_happened = record { log = []; events = []; taken = [] }
 
   abbrev pub numbers_of : List (LogEntry P) → List ℕ
@@ -75,7 +75,7 @@ module _ {P : Type 0} where
   journals_of receivers = map (λ receiver. receiver.journal) receivers
 
   -- The collector took what was taken of the cores' reports, in turn and below the next turn.
-  pub record Gathered (receivers : List (EndSeen (Report P))) (next_turn : ℕ) (collector : CollectorState) (reports : List (Taken P)) : Type 0 where
+  pub record Gathered (receivers : List (EndSeen (Report P))) (next_turn : ℕ) (collector : CollectorState) (reports : List (TakenReport P)) : Type 0 where
     pub in_turn : All (λ receiver. IsBefore next_turn receiver.journal) receivers
     pub follows : collect.StandsFor collector (collected receivers)
     pub are : AreTaken (journals_of receivers) reports
@@ -84,11 +84,11 @@ module _ {P : Type 0} where
     pub lists : collected receivers ≡ lists_of (length receivers) reports
 
   -- A desk and the feed stand for what happened.
-  pub record StandsFor (desk : Desk P) (feed : FeedState) (history : History P) : Type 0 where
+  pub record StandsFor (desk : Desk P) (feed : FeedState) (history : DeskHistory P) : Type 0 where
     pub drives : Drives desk.driver desk.ports desk.turns history.log
     pub fed : IsFed desk.next feed (turns_of history.log) history.events
     pub gathered : Gathered desk.reports.items desk.turns desk.collector history.taken
 
   -- for some history
   abbrev pub Stands : Desk P → FeedState → Type 0
-  Stands desk feed = (history : History P) × StandsFor desk feed history
+  Stands desk feed = (history : DeskHistory P) × StandsFor desk feed history

@@ -1,9 +1,9 @@
 pub mod Caller
 pub mod Desk
-pub mod InOrder
+pub mod OrderedOutlet
 pub mod Outlet
 pub mod Ports
-pub mod Raw
+pub mod RawOutlet
 pub mod Releases
 pub mod Runs
 pub mod Steps

@@ -22,28 +22,28 @@ use Rattle.hj_driver.specs.Driver.{cause_of, closing_of, is_finished}
 use Rattle.hj_collect.specs.Collector.{CollectorState, after_report, has_ended}
 use Rattle.hj_collect.specs.StandsFor as collect
 use Rattle.hj_link.specs.Seen.{EndSeen}
-use Rattle.hj_raw.specs.Items.{Taken, lists_of}
+use Rattle.hj_raw.specs.Items.{TakenReport, lists_of}
 use Rattle.hj_desk.specs.declared.desk.Desk.{Desk}
-use Rattle.hj_desk.specs.declared.step.Step.{Step}
-use Rattle.hj_desk.specs.declared.step.Step.TheVariants.{Did, Idle, Spent, Memory}
+use Rattle.hj_desk.specs.declared.step.DeskStep.{DeskStep}
+use Rattle.hj_desk.specs.declared.step.DeskStep.TheVariants.{Did, Idle, Spent, Memory}
 use Rattle.hj_desk.specs.Ports.{KeepsLinks, Notes, IsQuiet, FoundEmpty, FoundFull}
-use Rattle.hj_desk.specs.Desk.{History, StandsFor}
+use Rattle.hj_desk.specs.Desk.{DeskHistory, StandsFor}
 use Rattle.hj_desk.specs.Outlet.{KeepsReport, LosesReport}
 
 module _ {P : Type 0} where
   -- the history with a turn of the driver behind the others, with more events, or with one more report
-  abbrev pub with_turn : ℕ → DriverTurn P → History P → History P
+  abbrev pub with_turn : ℕ → DriverTurn P → DeskHistory P → DeskHistory P
   with_turn number turn history = record history { log = history.log ++ record { number = number; turn = turn } ∷ [] }
 
-  abbrev pub with_events : List (event.Event P) → History P → History P
+  abbrev pub with_events : List (event.Event P) → DeskHistory P → DeskHistory P
   with_events events history = record history { events = history.events ++ events }
 
-  abbrev pub with_report : Taken P → History P → History P
+  abbrev pub with_report : TakenReport P → DeskHistory P → DeskHistory P
   with_report report history = record history { taken = history.taken ++ report ∷ [] }
 
   -- Whatever a desk stood for, it stands for the same.
   abbrev pub StandsAsBefore : Desk P → Desk P → Type 0
-  StandsAsBefore old new = (feed : FeedState) (history : History P) → StandsFor old feed history → StandsFor new feed history
+  StandsAsBefore old new = (feed : FeedState) (history : DeskHistory P) → StandsFor old feed history → StandsFor new feed history
 
   -- No turn number is left.
   abbrev pub IsSpent : Desk P → Type 0
@@ -55,7 +55,7 @@ module _ {P : Type 0} where
     pub notes : Notes old.turns turn old.ports new.ports
     pub number : new.turns ≡ old.turns + 1
     pub flight : new.driver.flight ≡ old.driver.flight
-    pub stands : (feed : FeedState) (history : History P) → StandsFor old feed history → StandsFor new feed (with_turn old.turns turn history)
+    pub stands : (feed : FeedState) (history : DeskHistory P) → StandsFor old feed history → StandsFor new feed (with_turn old.turns turn history)
 
   -- Nothing changed but what the ends of the chain know of their links.
   pub record LooksAtPorts (old new : Desk P) : Type 0 where
@@ -65,7 +65,7 @@ module _ {P : Type 0} where
     pub stands : StandsAsBefore old new
 
   -- The driver takes the first message at a port: it was taken; a step found none there; or no turn is left.
-  abbrev pub Receives : Side → Step → Desk P → Desk P → Type 0
+  abbrev pub Receives : Side → DeskStep → Desk P → Desk P → Type 0
   Receives port Did old new = (message : Msg P) × Turns (receipt port message) old new × (new ≡ record old { driver = new.driver; ports = new.ports; turns = new.turns })
   Receives port Idle old new = LooksAtPorts old new × FoundEmpty port old.ports new.ports
   Receives port Spent old new = IsSpent old × (new ≡ old)
@@ -88,7 +88,7 @@ module _ {P : Type 0} where
   WaitsFor (Some Stop) old new = (closing_of old.driver ≢ answer.Send) ⊎ (FoundFull Left old.ports new.ports ⊎ FoundFull Right old.ports new.ports)
 
   -- The driver puts what is known next, an event or both closes.
-  abbrev pub Admits : Step → Desk P → Desk P → Type 0
+  abbrev pub Admits : DeskStep → Desk P → Desk P → Type 0
   Admits Did old new =
       (given : Given P) × (old.next ≡ Some given) × Turns (turn_of given) old new × (new ≡ record old { driver = new.driver; ports = new.ports; turns = new.turns; next = next_after given })
   Admits Idle old new = LooksAtPorts old new × WaitsFor old.next old new
@@ -103,7 +103,7 @@ module _ {P : Type 0} where
     pub capacity : after.capacity ≡ before.capacity
 
   -- a report of a core, under the next number
-  abbrev pub next_taken : CoreNo → Report P → Desk P → Taken P
+  abbrev pub next_taken : CoreNo → Report P → Desk P → TakenReport P
   next_taken core report desk = record { turn = desk.turns; core = core.0; report = report }
 
   -- A report of a core was taken under the next number, and the collector took note of it. Whatever the desk stood for, it stands for
@@ -116,7 +116,7 @@ module _ {P : Type 0} where
     pub number : new.turns ≡ old.turns + 1
     pub collector : new.collector ≡ after_report core report old.collector
     pub others : new ≡ record old { reports = new.reports; turns = new.turns; collector = new.collector; over = new.over }
-    pub stands : (feed : FeedState) (history : History P) → StandsFor old feed history → StandsFor new feed (with_report (next_taken core report old) history)
+    pub stands : (feed : FeedState) (history : DeskHistory P) → StandsFor old feed history → StandsFor new feed (with_report (next_taken core report old) history)
 
   -- A step found no report of a core.
   pub record FindsNoReport (core : CoreNo) (old new : Desk P) : Type 0 where
@@ -142,9 +142,9 @@ module _ {P : Type 0} where
   reports_of other cores = 0
 
   -- What a desk and its outlet do of reports.
-  module _ {O : Type 0} (gave : O → ℕ → List (Taken P) → Bool → Drained → O → Type 0) where
+  module _ {O : Type 0} (gave : O → ℕ → List (TakenReport P) → Bool → Drained → O → Type 0) where
     -- The next report of a core is taken: the outlet keeps what it makes of it; or memory ran out for that.
-    abbrev pub Collects : CoreNo → Step → Desk P → O → Desk P → O → Type 0
+    abbrev pub Collects : CoreNo → DeskStep → Desk P → O → Desk P → O → Type 0
     Collects core Did old unkept new kept = (report : Report P) × TakesReport core report old new × (new.over ≡ old.over) × KeepsReport gave new.collector report unkept kept
     Collects core Idle old unkept new kept = FindsNoReport core old new × (kept ≡ unkept)
     Collects core Spent old unkept new kept = IsSpent old × (new ≡ old) × (kept ≡ unkept)
@@ -152,5 +152,5 @@ module _ {P : Type 0} where
 
     -- The outlet gave what is due, up to the first thing that was refused; where memory ran out it gave nothing.
     pub record Gives (rests : O → CollectorState → Type 0) (answer : Drained) (desk : Desk P) (old new : O) : Type 0 where
-      pub gives : (begun : O) (cores : ℕ) (taken : List (Taken P)) → collect.StandsFor desk.collector (lists_of cores taken) → gave begun cores taken desk.over Kept old → gave begun cores taken desk.over answer new
+      pub gives : (begun : O) (cores : ℕ) (taken : List (TakenReport P)) → collect.StandsFor desk.collector (lists_of cores taken) → gave begun cores taken desk.over Kept old → gave begun cores taken desk.over answer new
       pub rested : answer ≡ Kept → (desk.over ≡ true) ⊎ rests new desk.collector

@@ -4,7 +4,7 @@ ghost use Rattle.hj_msg.specs.declared.feed.Given.{Given as Answer};
 
 use crate::desk::Desk;
 use crate::outlet::Outlet;
-use crate::step::Step;
+use crate::step::DeskStep;
 use hj_base::{CoreNo, Share, Side};
 use hj_msg::{Drained, Feed, Fin};
 
@@ -69,7 +69,7 @@ impl<P: Share + Drop, F: Feed<P>, O: Outlet<P>> Caller<P, F, O> {
         ensures { Goes F.gives F.state O.gave self.old [] Kept self.new }
     {
         for taken in 0..BATCH {
-            if self.desk.receive(port) != Step::Did {
+            if self.desk.receive(port) != DeskStep::Did {
                 return taken > 0;
             }
         }
@@ -98,7 +98,7 @@ impl<P: Share + Drop, F: Feed<P>, O: Outlet<P>> Caller<P, F, O> {
         ensures { Goes F.gives F.state O.gave self.old [] Kept self.new }
     {
         for taken in 0..BATCH {
-            if self.desk.collect(core, &mut self.outlet) != Step::Did {
+            if self.desk.collect(core, &mut self.outlet) != DeskStep::Did {
                 return taken > 0;
             }
             self.awaited = self.awaited.saturating_sub(1);
@@ -129,7 +129,7 @@ impl<P: Share + Drop, F: Feed<P>, O: Outlet<P>> Caller<P, F, O> {
             return false;
         }
         let reports = self.desk.reports_of_next();
-        if self.desk.admit() != Step::Did {
+        if self.desk.admit() != DeskStep::Did {
             return false;
         }
         self.awaited = self.awaited.saturating_add(reports);

@@ -6,7 +6,7 @@ ghost use Rattle.hj_collect.specs.Collector.{has_ended};
 
 use crate::outlet::Outlet;
 use crate::ports::Ports;
-use crate::step::Step;
+use crate::step::DeskStep;
 use hj_base::{CoreNo, Memory, Share, Side};
 use hj_collect::Collector;
 use hj_driver::{Admitted, Closing, Driver};
@@ -37,7 +37,7 @@ impl<P: Share + Drop> Desk<P> {
     ghost use Rattle.hj_msg.specs.declared.feed.Given.{Given as Answer};
     ghost use Rattle.hj_msg.specs.Feed.{FeedState, event_in, first_numbering};
     ghost use Rattle.hj_desk.specs.Ports.{end_at};
-    ghost use Rattle.hj_desk.specs.Desk.{History, StandsFor, Stands, nothing_happened};
+    ghost use Rattle.hj_desk.specs.Desk.{DeskHistory, StandsFor, Stands, nothing_happened};
     ghost use Rattle.hj_desk.specs.Steps.{IsSpent, Receives, Admits, Collects, Gives, end_of, reports_of, with_events};
 
     /// Makes the part of a run in which nothing happened yet, over the two ends of the chain and the receivers of the
@@ -90,75 +90,75 @@ impl<P: Share + Drop> Desk<P> {
 
     /// Takes the first message that comes out at a port, and lets the driver take note of it.
     #[inline(always)]
-    pub fn receive(&mut self, port: Side) -> Step
+    pub fn receive(&mut self, port: Side) -> DeskStep
         ensures { Receives port result self.old self.new }
     {
         if self.is_spent() {
-            return Step::Spent;
+            return DeskStep::Spent;
         }
         let Some(message) = self.ports.take(port, self.turns) else {
-            return Step::Idle;
+            return DeskStep::Idle;
         };
         self.turns += 1;
         self.driver.took(port, &message);
-        Step::Did
+        DeskStep::Did
     }
 
     /// Asks the feed for the next event.
     pub fn ask<F: Feed<P>>(&mut self, feed: &mut F)
         requires { self.old.next ≡ None }
         ensures gives { (given : Answer P) × (self.new ≡ record self.old { next = Some given }) × F.gives feed.old given feed.new }
-        ensures stands { (history : History P) → StandsFor self.old (F.state feed.old) history → StandsFor self.new (F.state feed.new) (with_events (event_in self.new.next) history) }
+        ensures stands { (history : DeskHistory P) → StandsFor self.old (F.state feed.old) history → StandsFor self.new (F.state feed.new) (with_events (event_in self.new.next) history) }
     {
         self.next = Some(feed.next());
     }
 
     /// Puts the next event, or both closes if no event is to come: if the driver may, and the links have room.
     #[inline(always)]
-    pub fn admit(&mut self) -> Step
+    pub fn admit(&mut self) -> DeskStep
         requires { (feed : FeedState) × Stands self.old feed }
         ensures { Admits result self.old self.new }
     {
         if self.is_spent() {
-            return Step::Spent;
+            return DeskStep::Spent;
         }
         match &self.next {
-            None => Step::Idle,
+            None => DeskStep::Idle,
             Some(Given::Stop) => self.close(),
             Some(Given::Event(event)) => {
                 if self.driver.waits(event).is_some() {
-                    return Step::Idle;
+                    return DeskStep::Idle;
                 }
                 let port = port_of(event);
                 if !self.ports.has_room(port) {
-                    return Step::Idle;
+                    return DeskStep::Idle;
                 }
                 self.put_event();
-                Step::Did
+                DeskStep::Did
             }
         }
     }
 
     /// Takes the next report of a core, and lets an outlet keep what it makes of it. If memory runs out for that, it is lost.
     #[inline(always)]
-    pub fn collect<O: Outlet<P>>(&mut self, core: CoreNo, outlet: &mut O) -> Step
+    pub fn collect<O: Outlet<P>>(&mut self, core: CoreNo, outlet: &mut O) -> DeskStep
         requires stands { (feed : FeedState) × Stands self.old feed }
         requires in_range { core.0 < length self.old.reports.items }
         ensures { Collects O.gave core result self.old outlet.old self.new outlet.new }
     {
         if self.is_spent() {
-            return Step::Spent;
+            return DeskStep::Spent;
         }
         let Some(report) = self.reports[usize::from(core.0)].take(self.turns) else {
-            return Step::Idle;
+            return DeskStep::Idle;
         };
         self.turns += 1;
-        self.collector.note(core, &report);
+        self.collector.update_marks(core, &report);
         if outlet.keep(&self.collector, &report).is_err() {
             self.over = true;
-            return Step::Memory;
+            return DeskStep::Memory;
         }
-        Step::Did
+        DeskStep::Did
     }
 
     /// Lets an outlet give what is due, up to the first thing that is refused. Where memory ran out for a report nothing is given.
@@ -222,7 +222,7 @@ impl<P: Share + Drop> Desk<P> {
         requires number { ¬ (IsSpent self.old) }
         requires stands { (feed : FeedState) × Stands self.old feed }
         requires event { (event : SomeEvent P) × (self.old.next ≡ Some (Given.Event event)) × (cause_of event self.old.driver ≡ None) × (0 < (end_at (port_of event) self.old.ports).room) }
-        ensures { Admits Step.Did self.old self.new }
+        ensures { Admits DeskStep.Did self.old self.new }
     {
         let Some(Given::Event(event)) = self.next.take() else {
             unreachable!()
@@ -235,24 +235,24 @@ impl<P: Share + Drop> Desk<P> {
     }
 
     /// Puts both closes, if no event is outstanding and both links have room.
-    fn close(&mut self) -> Step
+    fn close(&mut self) -> DeskStep
         requires number { ¬ (IsSpent self.old) }
         requires last { self.old.next ≡ Some Given.Stop }
         ensures { Admits result self.old self.new }
     {
         if self.driver.closing() != Closing::Send {
-            return Step::Idle;
+            return DeskStep::Idle;
         }
         if !self.ports.has_room(Side::Left) {
-            return Step::Idle;
+            return DeskStep::Idle;
         }
         if !self.ports.has_room(Side::Right) {
-            return Step::Idle;
+            return DeskStep::Idle;
         }
         self.driver.close();
         self.ports.put_closes(self.turns);
         self.turns += 1;
-        Step::Did
+        DeskStep::Did
     }
 }
 

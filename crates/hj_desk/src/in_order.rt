@@ -14,30 +14,30 @@ use std::alloc::Global;
 
 /// Gives the pairs of the reports to a drain, in the order of the sequential join: each once no pair before it can come any more.
 #[derive(Drop)]
-pub struct InOrder<P, D> {
+pub struct OrderedOutlet<P, D> {
     /// The pairs that were met and weren't given yet.
     kept: Ordered<P>,
     /// Where the pairs go.
     pub drain: D,
 }
 
-impl<P, D: Drain<P>> InOrder<P, D> {
-    ghost use Rattle.hj_desk.specs.InOrder.{GivesInOrder};
+impl<P, D: Drain<P>> OrderedOutlet<P, D> {
+    ghost use Rattle.hj_desk.specs.OrderedOutlet.{GivesInOrder};
 
     /// Makes one that was given no report.
     pub fn new(alloc: Global, drain: D) -> Self
         ensures drain { result.drain ≡ drain }
         ensures unused { (cores : ℕ) → GivesInOrder D.takes result cores [] false Kept result }
     {
-        InOrder {
+        OrderedOutlet {
             kept: Ordered::new(alloc),
             drain,
         }
     }
 }
 
-impl<P: Share + Drop, D: Drain<P>> Outlet<P> for InOrder<P, D> {
-    ghost use Rattle.hj_desk.specs.InOrder.{GivesInOrder};
+impl<P: Share + Drop, D: Drain<P>> Outlet<P> for OrderedOutlet<P, D> {
+    ghost use Rattle.hj_desk.specs.OrderedOutlet.{GivesInOrder};
 
     ghost gave = { GivesInOrder D.takes };
 

@@ -13,9 +13,9 @@ mod step;
 
 pub use caller::{Caller, Round};
 pub use desk::Desk;
-pub use in_order::InOrder;
+pub use in_order::OrderedOutlet;
 pub use laws::desks_give_the_join;
 pub use outlet::Outlet;
 pub use ports::Ports;
-pub use raw::Raw;
-pub use step::Step;
+pub use raw::RawOutlet;
+pub use step::DeskStep;

@@ -1,7 +1,7 @@
 //! What becomes of the reports that the calling thread takes.
 ghost use Rattle.std.specs.Prelude.{◌≡◌, ℕ, List, Bool, OnErr, OnOk};
 ghost use Rattle.hj_collect.specs.Collector.{CollectorState};
-ghost use Rattle.hj_raw.specs.Items.{Taken};
+ghost use Rattle.hj_raw.specs.Items.{TakenReport};
 
 use hj_base::Memory;
 use hj_collect::Collector;
@@ -15,7 +15,7 @@ pub trait Outlet<P> {
 
     /// An outlet may become another one over the reports that were taken of so many cores. The last thing that it gave had an
     /// answer; and maybe memory ran out for what is made of a report.
-    ghost gave: { Self → ℕ → List (Taken P) → Bool → Drained → Self → Type 0 };
+    ghost gave: { Self → ℕ → List (TakenReport P) → Bool → Drained → Self → Type 0 };
 
     /// Nothing that it keeps is due, by what the collector knows.
     ghost rests: { Self → CollectorState → Type 0 };

@@ -1,7 +1,7 @@
 //! The raw items of the reports.
 ghost use Rattle.std.specs.Prelude.{◌≡◌, ℕ, ◌≤◌, [], false};
 ghost use Rattle.hj_msg.specs.declared.drain.Drained.TheVariants.{Kept};
-ghost use Rattle.hj_raw.specs.Waiting.{item_of};
+ghost use Rattle.hj_raw.specs.WaitingItems.{item_of};
 
 use crate::outlet::Outlet;
 use hj_base::{Memory, Share};
@@ -12,22 +12,22 @@ use std::alloc::Global;
 
 /// Gives the raw items of the reports to a drain: the pairs as they were met, and the marks between them.
 #[derive(Drop)]
-pub struct Raw<P, D> {
+pub struct RawOutlet<P, D> {
     /// The items that weren't given yet.
     items: RawItems<P>,
     /// Where the items go.
     pub drain: D,
 }
 
-impl<P, D: RawDrain<P>> Raw<P, D> {
-    ghost use Rattle.hj_desk.specs.Raw.{GivesRaw};
+impl<P, D: RawDrain<P>> RawOutlet<P, D> {
+    ghost use Rattle.hj_desk.specs.RawOutlet.{GivesRaw};
 
     /// Makes one that was given no report.
     pub fn new(alloc: Global, drain: D) -> Self
         ensures drain { result.drain ≡ drain }
         ensures unused { (cores : ℕ) → 1 ≤ cores → GivesRaw D.takes result cores [] false Kept result }
     {
-        Raw {
+        RawOutlet {
             items: RawItems::new(alloc),
             drain,
         }
@@ -45,9 +45,9 @@ impl<P, D: RawDrain<P>> Raw<P, D> {
     }
 }
 
-impl<P: Share + Drop, D: RawDrain<P>> Outlet<P> for Raw<P, D> {
+impl<P: Share + Drop, D: RawDrain<P>> Outlet<P> for RawOutlet<P, D> {
     ghost use Rattle.std.specs.Prelude.{◌≡◌, []};
-    ghost use Rattle.hj_desk.specs.Raw.{GivesRaw};
+    ghost use Rattle.hj_desk.specs.RawOutlet.{GivesRaw};
 
     ghost gave = { GivesRaw D.takes };
 

@@ -1,6 +1,6 @@
 /// What a step did.
 #[derive(Clone, Copy, Debug, PartialEq, Eq)]
-pub enum Step {
+pub enum DeskStep {
     /// It put or took.
     Did,
     /// There was nothing to take, or nothing that may be put now.

@@ -11,7 +11,7 @@ use Rattle.std.proofs.lemmas.Bool.{cases_lt}
 use Rattle.std.proofs.lemmas.List.{set_split, get_or_default}
 use Rattle.std.proofs.lemmas.Bool.Decides.{nat_tests}
 use Rattle.hj_base.specs.declared.numbers.EventNo.{EventNo}
-use Rattle.hj_driver.specs.declared.lane.Arrival.{Arrival}
+use Rattle.hj_driver.specs.declared.lane.OutstandingArrival.{OutstandingArrival}
 use Rattle.hj_driver.specs.declared.lane.Departure.{Departure}
 use Rattle.hj_driver.specs.declared.lane.Departure.TheVariants.{Row, End}
 use Rattle.std.proofs.lemmas.List.Folds.{list_any_none}
@@ -20,27 +20,28 @@ use Rattle.hj_msg.proofs.Members.{Contains-from_filter}
 use Rattle.hj_driver.specs.Leaving.{LeavingState}
 use Rattle.hj_driver.specs.Lane.{LaneState, IsRising, AreDistinct, IsAt, IsAbsent, after_departure, is_other, with_departure, is_taken, waits_for}
 
-abbrev any_arrival : Arrival
+abbrev any_arrival : OutstandingArrival
 any_arrival = record { no = record { 0 = 0 }; taken = None }
 
-abbrev number_at : List Arrival → ℕ → ℕ
+abbrev number_at : List OutstandingArrival → ℕ → ℕ
 number_at l i = (get_or l i any_arrival).no.0
 
 -- the numbers rise from each place to any later one
-pub rising_at : (l : List Arrival) → IsRising l → (i j : ℕ) (d : Arrival) → i < j → j < length l → (get_or l i d).no.0 < (get_or l j d).no.0
+pub rising_at : (l : List OutstandingArrival) → IsRising l → (i j : ℕ) (d : OutstandingArrival) → i < j → j < length l
+    → (get_or l i d).no.0 < (get_or l j d).no.0
 rising_at [] rising i j d lt within = absurd (omega arith)
 rising_at (x ∷ xs) rising i zero d lt within = absurd (omega arith)
 rising_at (x ∷ xs) rising zero (suc j) d lt within = rising.0 j d (omega arith)
 rising_at (x ∷ xs) rising (suc i) (suc j) d lt within = rising_at xs rising.1 i j d (omega arith) (omega arith)
 
-module _ (l : List Arrival) (rising : IsRising l) (number : ℕ) where
-  comparisons_rise : IsNonDecreasingBy (λ (a : Arrival). ordering_index (nat_cmp a.no.0 number)) l
-  comparisons_rise = IsNonDecreasingBy-from_default (λ (a : Arrival). ordering_index (nat_cmp a.no.0 number)) l any_arrival (λ i j le within.
+module _ (l : List OutstandingArrival) (rising : IsRising l) (number : ℕ) where
+  comparisons_rise : IsNonDecreasingBy (λ (a : OutstandingArrival). ordering_index (nat_cmp a.no.0 number)) l
+  comparisons_rise = IsNonDecreasingBy-from_default (λ (a : OutstandingArrival). ordering_index (nat_cmp a.no.0 number)) l any_arrival (λ i j le within.
       let rise : number_at l i ≤ number_at l j = grind (arith, rising_at l rising i j any_arrival, λ (same : i ≡ j). ap (number_at l) same) in
       grind (arith, nat_tests))
 
   -- a binary search by number ends at the arrival of that number, or there is none
-  pub searched : (r : Result ℕ ℕ) (size : ℕ) → size ≡ length l → IsSearchInRange r size → IsBinarySearchResult (λ (a : Arrival). nat_cmp a.no.0 number) l r
+  pub searched : (r : Result ℕ ℕ) (size : ℕ) → size ≡ length l → IsSearchInRange r size → IsBinarySearchResult (λ (a : OutstandingArrival). nat_cmp a.no.0 number) l r
       → record { found : IfOk r (IsAt l number); absent : IfErr r (λ _. IsAbsent l number) }
   searched (Ok at) size is within equal = record { found = record { in_range = omega (arith, within); has_number = λ d. ranked _ number _ (sym (equal d)) }; absent = tt }
   searched (Err at) size is within parted = record {
@@ -71,8 +72,9 @@ filter_map-at {X} f (x ∷ xs) (suc at) d within others =
     ∙ ap (λ ys. x ∷ ys) (filter_map-at f xs at d (omega arith) (λ k lt differs. others (suc k) (omega arith) (λ same. differs (omega arith))))
 
 -- what a search found leaves, or changes
-module _ (l : List Arrival) (rising : IsRising l) (number at : ℕ) (is : IsAt l number at) (departure : Departure) where
-  others_stay : (d : Arrival) (k : ℕ) → k < length l → (k ≡ at → ⊥) → after_departure number departure (get_or l k d) ≡ Some (get_or l k d)
+module _ (l : List OutstandingArrival) (rising : IsRising l) (number at : ℕ) (is : IsAt l number at) (departure : Departure) where
+  others_stay : (d : OutstandingArrival) (k : ℕ) → k < length l → (k ≡ at → ⊥)
+      → after_departure number departure (get_or l k d) ≡ Some (get_or l k d)
   others_stay d k lt differs =
       let here : (get_or l at d).no.0 ≡ number = is.has_number d in
       let other : (number ≡ (get_or l k d).no.0) → ⊥ = λ same. elim (cases_lt k at) [
@@ -81,45 +83,45 @@ module _ (l : List Arrival) (rising : IsRising l) (number at : ℕ) (is : IsAt l
       ] in
       rw (ne_eqb number (get_or l k d).no.0 other) refl
 
-  this_one : (d : Arrival) → after_departure number departure (get_or l at d) ≡ with_departure departure (get_or l at d) (get_or l at d).taken
+  this_one : (d : OutstandingArrival) → after_departure number departure (get_or l at d) ≡ with_departure departure (get_or l at d) (get_or l at d).taken
   this_one d = rw (eq-eqb number (get_or l at d).no.0 (sym (is.has_number d))) refl
 
-  whole : (d : Arrival) → filter_map (after_departure number departure) l ≡ take at l ++ cons_option (with_departure departure (get_or l at d) (get_or l at d).taken) (drop (suc at) l)
+  whole : (d : OutstandingArrival) → filter_map (after_departure number departure) l ≡ take at l ++ cons_option (with_departure departure (get_or l at d) (get_or l at d).taken) (drop (suc at) l)
   whole d = filter_map-at (after_departure number departure) l at d is.in_range (others_stay d) ∙ ap (λ o. take at l ++ cons_option o (drop (suc at) l)) (this_one d)
 
   -- the arrival stays, with what was taken; x is a read of it
-  pub marked : (x y : Arrival) → x ≡ get_or l at x → with_departure departure x x.taken ≡ Some y → set l at y ≡ filter_map (after_departure number departure) l
+  pub marked : (x y : OutstandingArrival) → x ≡ get_or l at x → with_departure departure x x.taken ≡ Some y → set l at y ≡ filter_map (after_departure number departure) l
   marked x y read stays =
-      set_split l at y is.in_range ∙ sym (whole x ∙ ap (λ (a : Arrival). take at l ++ cons_option (with_departure departure a a.taken) (drop (suc at) l)) (sym read) ∙ ap (λ o. take at l ++ cons_option o (drop (suc at) l)) stays)
+      set_split l at y is.in_range ∙ sym (whole x ∙ ap (λ (a : OutstandingArrival). take at l ++ cons_option (with_departure departure a a.taken) (drop (suc at) l)) (sym read) ∙ ap (λ o. take at l ++ cons_option o (drop (suc at) l)) stays)
 
   -- the arrival leaves
-  pub removed : (x : Arrival) → x ≡ get_or l at x → with_departure departure x x.taken ≡ None → remove l at ≡ filter_map (after_departure number departure) l
+  pub removed : (x : OutstandingArrival) → x ≡ get_or l at x → with_departure departure x x.taken ≡ None → remove l at ≡ filter_map (after_departure number departure) l
   removed x read leaves =
-      sym (whole x ∙ ap (λ (a : Arrival). take at l ++ cons_option (with_departure departure a a.taken) (drop (suc at) l)) (sym read) ∙ ap (λ o. take at l ++ cons_option o (drop (suc at) l)) leaves)
+      sym (whole x ∙ ap (λ (a : OutstandingArrival). take at l ++ cons_option (with_departure departure a a.taken) (drop (suc at) l)) (sym read) ∙ ap (λ o. take at l ++ cons_option o (drop (suc at) l)) leaves)
 
 -- where none has the number, all stay
-pub none_changes : (l : List Arrival) (number : ℕ) (departure : Departure) → IsAbsent l number → l ≡ filter_map (after_departure number departure) l
+pub none_changes : (l : List OutstandingArrival) (number : ℕ) (departure : Departure) → IsAbsent l number → l ≡ filter_map (after_departure number departure) l
 none_changes l number departure absent = sym (filter_map-same (after_departure number departure) l (λ k d lt. rw (ne_eqb number (get_or l k d).no.0 (λ same. absent k d lt (sym same))) refl))
 
 -- the numbers rise where one changes or leaves
-abbrev changed : Bool → Departure → Arrival → Option Departure → Option Arrival
+abbrev changed : Bool → Departure → OutstandingArrival → Option Departure → Option OutstandingArrival
 changed same departure x taken = cond same (with_departure departure x taken) (Some x)
 
-keeps_number : (P : ℕ → Type 0) (same : Bool) (departure : Departure) (x : Arrival) (taken : Option Departure) (rest : List Arrival) → P x.no.0 → All (λ (a : Arrival). P a.no.0) rest
-    → All (λ (a : Arrival). P a.no.0) (cons_option (changed same departure x taken) rest)
-keeps_number P false departure x taken rest here all = All-cons (λ (a : Arrival). P a.no.0) x rest here all
-keeps_number P true departure x None rest here all = All-cons (λ (a : Arrival). P a.no.0) (record { no = x.no; taken = Some departure }) rest here all
-keeps_number P true Row x (Some Row) rest here all = All-cons (λ (a : Arrival). P a.no.0) x rest here all
+keeps_number : (P : ℕ → Type 0) (same : Bool) (departure : Departure) (x : OutstandingArrival) (taken : Option Departure) (rest : List OutstandingArrival) → P x.no.0 → All (λ (a : OutstandingArrival). P a.no.0) rest
+    → All (λ (a : OutstandingArrival). P a.no.0) (cons_option (changed same departure x taken) rest)
+keeps_number P false departure x taken rest here all = All-cons (λ (a : OutstandingArrival). P a.no.0) x rest here all
+keeps_number P true departure x None rest here all = All-cons (λ (a : OutstandingArrival). P a.no.0) (record { no = x.no; taken = Some departure }) rest here all
+keeps_number P true Row x (Some Row) rest here all = All-cons (λ (a : OutstandingArrival). P a.no.0) x rest here all
 keeps_number P true Row x (Some End) rest here all = all
 keeps_number P true End x (Some Row) rest here all = all
-keeps_number P true End x (Some End) rest here all = All-cons (λ (a : Arrival). P a.no.0) x rest here all
+keeps_number P true End x (Some End) rest here all = All-cons (λ (a : OutstandingArrival). P a.no.0) x rest here all
 
-above_after : (number : ℕ) (departure : Departure) (low : ℕ) (l : List Arrival) → All (λ (a : Arrival). low < a.no.0) l → All (λ (a : Arrival). low < a.no.0) (filter_map (after_departure number departure) l)
-above_after number departure low [] all = All-nil (λ (a : Arrival). low < a.no.0)
+above_after : (number : ℕ) (departure : Departure) (low : ℕ) (l : List OutstandingArrival) → All (λ (a : OutstandingArrival). low < a.no.0) l → All (λ (a : OutstandingArrival). low < a.no.0) (filter_map (after_departure number departure) l)
+above_after number departure low [] all = All-nil (λ (a : OutstandingArrival). low < a.no.0)
 above_after number departure low (x ∷ xs) all =
-    keeps_number (λ n. low < n) (number == x.no.0) departure x x.taken _ (All-head (λ (a : Arrival). low < a.no.0) x xs all) (above_after number departure low xs (All-tail (λ (a : Arrival). low < a.no.0) x xs all))
+    keeps_number (λ n. low < n) (number == x.no.0) departure x x.taken _ (All-head (λ (a : OutstandingArrival). low < a.no.0) x xs all) (above_after number departure low xs (All-tail (λ (a : OutstandingArrival). low < a.no.0) x xs all))
 
-rising_first : (same : Bool) (departure : Departure) (x : Arrival) (taken : Option Departure) (rest : List Arrival) → All (λ (a : Arrival). x.no.0 < a.no.0) rest → IsRising rest → IsRising (cons_option (changed same departure x taken) rest)
+rising_first : (same : Bool) (departure : Departure) (x : OutstandingArrival) (taken : Option Departure) (rest : List OutstandingArrival) → All (λ (a : OutstandingArrival). x.no.0 < a.no.0) rest → IsRising rest → IsRising (cons_option (changed same departure x taken) rest)
 rising_first false departure x taken rest above rising = (above, rising)
 rising_first true departure x None rest above rising = (above, rising)
 rising_first true Row x (Some Row) rest above rising = (above, rising)
@@ -127,19 +129,20 @@ rising_first true Row x (Some End) rest above rising = rising
 rising_first true End x (Some Row) rest above rising = rising
 rising_first true End x (Some End) rest above rising = (above, rising)
 
-pub rising_after : (number : ℕ) (departure : Departure) (l : List Arrival) → IsRising l → IsRising (filter_map (after_departure number departure) l)
+pub rising_after : (number : ℕ) (departure : Departure) (l : List OutstandingArrival) → IsRising l → IsRising (filter_map (after_departure number departure) l)
 rising_after number departure [] rising = tt
 rising_after number departure (x ∷ xs) rising =
     rising_first (number == x.no.0) departure x x.taken _ (above_after number departure x.no.0 xs rising.0) (rising_after number departure xs rising.1)
 
 -- the numbers rise with a greater one behind
-pub rising_push : (l : List Arrival) (a : Arrival) → IsRising l → All (λ (other : Arrival). other.no.0 < a.no.0) l → IsRising (l ++ a ∷ [])
+pub rising_push : (l : List OutstandingArrival) (a : OutstandingArrival) → IsRising l
+    → All (λ (other : OutstandingArrival). other.no.0 < a.no.0) l → IsRising (l ++ a ∷ [])
 rising_push [] a rising below = (All-nil _, tt)
 rising_push (x ∷ xs) a rising below =
-    (All-push (λ (other : Arrival). x.no.0 < other.no.0) xs a rising.0 (All-head (λ (other : Arrival). other.no.0 < a.no.0) x xs below), rising_push xs a rising.1 (All-tail (λ (other : Arrival). other.no.0 < a.no.0) x xs below))
+    (All-push (λ (other : OutstandingArrival). x.no.0 < other.no.0) xs a rising.0 (All-head (λ (other : OutstandingArrival). other.no.0 < a.no.0) x xs below), rising_push xs a rising.1 (All-tail (λ (other : OutstandingArrival). other.no.0 < a.no.0) x xs below))
 
 -- what is found of an arrival whose message is awaited
-pub waits-at : (l : List Arrival) → IsRising l → (number at : ℕ) → IsAt l number at → (departure : Departure) (d : Arrival) → list_any (waits_for number departure) l ≡ not (is_taken departure (get_or l at d).taken)
+pub waits-at : (l : List OutstandingArrival) → IsRising l → (number at : ℕ) → IsAt l number at → (departure : Departure) (d : OutstandingArrival) → list_any (waits_for number departure) l ≡ not (is_taken departure (get_or l at d).taken)
 waits-at [] rising number at is departure d = absurd (omega (arith, is.in_range))
 waits-at (x ∷ xs) rising number zero is departure d =
     let here : x.no.0 ≡ number = is.has_number d in
@@ -153,18 +156,18 @@ waits-at (x ∷ xs) rising number (suc at) is departure d =
     ap (λ b. (b && not (is_taken departure x.taken)) || list_any (waits_for number departure) xs) (ne_eqb number x.no.0 (λ same. omega arith))
     ∙ waits-at xs rising.1 number at (record { in_range = within; has_number = is.has_number }) departure d
 
-pub waits-absent : (l : List Arrival) (number : ℕ) (departure : Departure) → IsAbsent l number → list_any (waits_for number departure) l ≡ false
+pub waits-absent : (l : List OutstandingArrival) (number : ℕ) (departure : Departure) → IsAbsent l number → list_any (waits_for number departure) l ≡ false
 waits-absent l number departure absent = list_any_none (waits_for number departure) l (λ k d lt. rw (ne_eqb number (get_or l k d).no.0 (λ same. absent k d lt (sym same))) refl)
 
-abbrev lane : List Arrival → List EventNo → ℕ → LaneState
+abbrev lane : List OutstandingArrival → List EventNo → ℕ → LaneState
 lane arrivals expiries room = record { arrivals = arrivals; expiries = expiries; room = room }
 
 -- a lane with other arrivals, or with other expiries
-pub lane_with : (s : LaneState) (before after : List Arrival) (expiries : List EventNo) (room : ℕ) (f : List Arrival → List Arrival) → lane before expiries room ≡ s → after ≡ f before
+pub lane_with : (s : LaneState) (before after : List OutstandingArrival) (expiries : List EventNo) (room : ℕ) (f : List OutstandingArrival → List OutstandingArrival) → lane before expiries room ≡ s → after ≡ f before
     → lane after expiries room ≡ lane (f s.arrivals) s.expiries s.room
 lane_with s before after expiries room f is e = ap (λ l. lane l expiries room) e ∙ ap (λ (t : LaneState). lane (f t.arrivals) t.expiries t.room) is
 
-pub lane_with_expiries : (s : LaneState) (arrivals : List Arrival) (before after : List EventNo) (room : ℕ) (f : List EventNo → List EventNo) → lane arrivals before room ≡ s → after ≡ f before
+pub lane_with_expiries : (s : LaneState) (arrivals : List OutstandingArrival) (before after : List EventNo) (room : ℕ) (f : List EventNo → List EventNo) → lane arrivals before room ≡ s → after ≡ f before
     → lane arrivals after room ≡ lane s.arrivals (f s.expiries) s.room
 lane_with_expiries s arrivals before after room f is e = ap (λ l. lane arrivals l room) e ∙ ap (λ (t : LaneState). lane t.arrivals (f t.expiries) t.room) is
 

@@ -20,21 +20,21 @@ use Rattle.hj_driver.specs.declared.answers.Why.{Why}
 use Rattle.hj_driver.specs.declared.answers.Why.TheVariants.{Flight, NotMarked, Closed}
 use Rattle.hj_driver.specs.declared.answers.Admitted.TheVariants.{Send}
 use Rattle.hj_driver.specs.declared.lane.Departure.TheVariants.{Row, End}
-use Rattle.hj_driver.specs.declared.lane.Arrival.{Arrival}
+use Rattle.hj_driver.specs.declared.lane.OutstandingArrival.{OutstandingArrival}
 use Rattle.hj_driver.specs.Lane.{waits_for}
-use Rattle.hj_driver.specs.Driver.{DriverState, answer_to, cause_of, row_cause, IsNew, is_sent, count_of}
+use Rattle.hj_driver.specs.Driver.{DriverState, answer_to, cause_of, row_cause, IsNewEvent, is_sent, count_of}
 use Rattle.hj_driver.specs.StandsFor.{StandsFor, arrival_with, arrival_after, arrivals_of, expiries_of, quiets_of, quiet_after, is_closing, not_out, cause_after}
 use Rattle.hj_driver.proofs.Logs.{is_sent-closes_of}
 use Rattle.hj_driver.proofs.Standing.{stands-count}
 
 -- the outstanding arrivals have the numbers of their events
-with_number : (P : ℕ → Type 0) (at : EventNo) (r e : Bool) (rest : List Arrival) → P at.0 → All (λ (a : Arrival). P a.no.0) rest → All (λ (a : Arrival). P a.no.0) (cons_option (arrival_with at r e) rest)
+with_number : (P : ℕ → Type 0) (at : EventNo) (r e : Bool) (rest : List OutstandingArrival) → P at.0 → All (λ (a : OutstandingArrival). P a.no.0) rest → All (λ (a : OutstandingArrival). P a.no.0) (cons_option (arrival_with at r e) rest)
 with_number P at true true rest here all = all
-with_number P at true false rest here all = All-cons (λ (a : Arrival). P a.no.0) (record { no = at; taken = Some Row }) rest here all
-with_number P at false true rest here all = All-cons (λ (a : Arrival). P a.no.0) (record { no = at; taken = Some End }) rest here all
-with_number P at false false rest here all = All-cons (λ (a : Arrival). P a.no.0) (record { no = at; taken = None }) rest here all
+with_number P at true false rest here all = All-cons (λ (a : OutstandingArrival). P a.no.0) (record { no = at; taken = Some Row }) rest here all
+with_number P at false true rest here all = All-cons (λ (a : OutstandingArrival). P a.no.0) (record { no = at; taken = Some End }) rest here all
+with_number P at false false rest here all = All-cons (λ (a : OutstandingArrival). P a.no.0) (record { no = at; taken = None }) rest here all
 
-with_event : {Q : Type 0} (P : ℕ → Type 0) (side : Side) (event : Event Q) (log : List (DriverTurn Q)) (rest : List Arrival) → P (number event) → All (λ (a : Arrival). P a.no.0) rest → All (λ (a : Arrival). P a.no.0) (cons_option (arrival_after side event log) rest)
+with_event : {Q : Type 0} (P : ℕ → Type 0) (side : Side) (event : Event Q) (log : List (DriverTurn Q)) (rest : List OutstandingArrival) → P (number event) → All (λ (a : OutstandingArrival). P a.no.0) rest → All (λ (a : OutstandingArrival). P a.no.0) (cons_option (arrival_after side event log) rest)
 with_event P Left (Arrive at Left row) log rest here all = with_number P at (took Right (is_R at.0) log) (took Left (is_EndR at.0) log) rest here all
 with_event P Right (Arrive at Right row) log rest here all = with_number P at (took Left (is_S at.0) log) (took Right (is_EndS at.0) log) rest here all
 with_event P Left (Arrive at Right row) log rest here all = all
@@ -49,13 +49,13 @@ with_event P Right (Quiet at Left) log rest here all = all
 with_event P Right (Quiet at Right) log rest here all = all
 
 -- numbers are at least the first one, and below the first one behind them
-pub numbers_between : {P : Type 0} (side : Side) (low high : ℕ) (log : List (DriverTurn P)) → NumbersFrom low (admitted log) → low + length (admitted log) ≡ high → All (λ (a : Arrival). (low ≤ a.no.0) × (a.no.0 < high)) (arrivals_of side log)
-numbers_between side low high [] numbers is = All-nil (λ (a : Arrival). (low ≤ a.no.0) × (a.no.0 < high))
+pub numbers_between : {P : Type 0} (side : Side) (low high : ℕ) (log : List (DriverTurn P)) → NumbersFrom low (admitted log) → low + length (admitted log) ≡ high → All (λ (a : OutstandingArrival). (low ≤ a.no.0) × (a.no.0 < high)) (arrivals_of side log)
+numbers_between side low high [] numbers is = All-nil (λ (a : OutstandingArrival). (low ≤ a.no.0) × (a.no.0 < high))
 numbers_between side low high (receipt port message ∷ later) numbers is = numbers_between side low high later numbers is
 numbers_between side low high (closing ∷ later) numbers is = numbers_between side low high later numbers is
 numbers_between side low high (admission event ∷ later) numbers is =
     with_event (λ n. (low ≤ n) × (n < high)) side event later (arrivals_of side later) (omega (arith, numbers.0), omega (arith, numbers.0, is))
-    (All-weaker (λ (a : Arrival). (low + 1 ≤ a.no.0) × (a.no.0 < high)) (λ (a : Arrival). (low ≤ a.no.0) × (a.no.0 < high)) (λ a w. (omega (arith, w.0), w.1)) (arrivals_of side later) (numbers_between side (low + 1) high later numbers.1 (omega (arith, is))))
+    (All-weaker (λ (a : OutstandingArrival). (low + 1 ≤ a.no.0) × (a.no.0 < high)) (λ (a : OutstandingArrival). (low ≤ a.no.0) × (a.no.0 < high)) (λ a w. (omega (arith, w.0), w.1)) (arrivals_of side later) (numbers_between side (low + 1) high later numbers.1 (omega (arith, is))))
 
 -- a number below all has neither come out nor is it waited for
 unwaited_below : {P : Type 0} (side : Side) (n low : ℕ) (log : List (DriverTurn P)) → NumbersFrom low (admitted log) → n < low → list_any (waits_for n Row) (arrivals_of side log) ≡ false
@@ -84,19 +84,19 @@ in_below side n low (admission event ∷ later) numbers below =
     ap (λ b. (b && row_taken event later) || came_out side n later) (not_arrival side n event (λ same. omega (arith, numbers.0))) ∙ in_below side n (low + 1) later numbers.1 (omega arith)
 
 -- at the arrival itself
-here_waits : (n : ℕ) (at : EventNo) (r e : Bool) (rest : List Arrival) → at.0 ≡ n → list_any (waits_for n Row) rest ≡ false → list_any (waits_for n Row) (cons_option (arrival_with at r e) rest) ≡ not r
+here_waits : (n : ℕ) (at : EventNo) (r e : Bool) (rest : List OutstandingArrival) → at.0 ≡ n → list_any (waits_for n Row) rest ≡ false → list_any (waits_for n Row) (cons_option (arrival_with at r e) rest) ≡ not r
 here_waits n at true true rest same none = none
 here_waits n at true false rest same none = rw (eq-eqb n at.0 (sym same)) none
 here_waits n at false true rest same none = rw (eq-eqb n at.0 (sym same)) refl
 here_waits n at false false rest same none = rw (eq-eqb n at.0 (sym same)) refl
 
-elsewhere_waits : (n : ℕ) (at : EventNo) (r e : Bool) (rest : List Arrival) → (at.0 ≡ n → ⊥) → list_any (waits_for n Row) (cons_option (arrival_with at r e) rest) ≡ list_any (waits_for n Row) rest
+elsewhere_waits : (n : ℕ) (at : EventNo) (r e : Bool) (rest : List OutstandingArrival) → (at.0 ≡ n → ⊥) → list_any (waits_for n Row) (cons_option (arrival_with at r e) rest) ≡ list_any (waits_for n Row) rest
 elsewhere_waits n at true true rest other = refl
 elsewhere_waits n at true false rest other = rw (ne_eqb n at.0 (λ same. other (sym same))) refl
 elsewhere_waits n at false true rest other = rw (ne_eqb n at.0 (λ same. other (sym same))) refl
 elsewhere_waits n at false false rest other = rw (ne_eqb n at.0 (λ same. other (sym same))) refl
 
-at_arrival : (n : ℕ) (at : EventNo) (r e out : Bool) (rest : List Arrival) → (at.0 ≡ n → (list_any (waits_for n Row) rest ≡ false) × (out ≡ false)) → ((at.0 ≡ n → ⊥) → list_any (waits_for n Row) rest ≡ not out)
+at_arrival : (n : ℕ) (at : EventNo) (r e out : Bool) (rest : List OutstandingArrival) → (at.0 ≡ n → (list_any (waits_for n Row) rest ≡ false) × (out ≡ false)) → ((at.0 ≡ n → ⊥) → list_any (waits_for n Row) rest ≡ not out)
     → list_any (waits_for n Row) (cons_option (arrival_with at r e) rest) ≡ not (((at.0 == n) && r) || out)
 at_arrival n at r e out rest here elsewhere = elim (eqb_tells at.0 n) [
   | inl w ↦ let both = here w.1 in here_waits n at r e rest w.1 both.0 ∙ ap not (sym (or-false r)) ∙ ap (λ b. not (r || b)) (sym both.1) ∙ ap (λ b. not ((b && r) || out)) (sym w.0)
@@ -229,9 +229,9 @@ expired Right (admission (Arrive at Right row) ∷ later) of has = expired-later
 expired Right (admission (Quiet at Left) ∷ later) of has = expired-later (Quiet at Left) (admitted later) of.0 (expired Right later of has)
 expired Right (admission (Quiet at Right) ∷ later) of has = expired-later (Quiet at Right) (admitted later) of.0 (expired Right later of has)
 
-above_all : {P : Type 0} (side : Side) (log : List (DriverTurn P)) (event : Event P) → NumbersFrom 0 (admitted log) → NumbersFrom 0 (admitted log ++ event ∷ []) → All (λ (a : Arrival). a.no.0 < number event) (arrivals_of side log)
+above_all : {P : Type 0} (side : Side) (log : List (DriverTurn P)) (event : Event P) → NumbersFrom 0 (admitted log) → NumbersFrom 0 (admitted log ++ event ∷ []) → All (λ (a : OutstandingArrival). a.no.0 < number event) (arrivals_of side log)
 above_all side log event before numbers =
-    All-weaker (λ (a : Arrival). (0 ≤ a.no.0) × (a.no.0 < length (admitted log))) (λ (a : Arrival). a.no.0 < number event) (λ a w. omega (arith, w.1, last_number 0 (admitted log) event numbers))
+    All-weaker (λ (a : OutstandingArrival). (0 ≤ a.no.0) × (a.no.0 < length (admitted log))) (λ (a : OutstandingArrival). a.no.0 < number event) (λ a w. omega (arith, w.1, last_number 0 (admitted log) event numbers))
     (arrivals_of side log) (numbers_between side 0 (length (admitted log)) log before (omega arith))
 
 -- the outstanding quiet events have numbers below the next one
@@ -261,9 +261,9 @@ quiet_below side low (admission event ∷ later) at numbers has = elim (quiet_is
 new_quiet : {P : Type 0} (side : Side) (event : Event P) (at : EventNo) (log : List (DriverTurn P)) → number event ≡ at.0 → IsWellFormed (admitted log) → IsWellFormed (admitted log ++ event ∷ []) → Contains (quiets_of side log) at → ⊥
 new_quiet side event at log is before well has = omega (arith, quiet_below side 0 log at before.numbered has, last_number 0 (admitted log) event well.numbered, is)
 
-pub is_new : {P : Type 0} (event : Event P) (d : DriverState) (log : List (DriverTurn P)) → StandsFor d log → IsWellFormed (admitted log ++ event ∷ []) → IsNew event d
-is_new {P} (Arrive at Left row) d log stands well = subst (All (λ (a : Arrival). a.no.0 < at.0)) (sym stands.left_arrivals) (above_all Left log (Arrive at Left row) stands.well_formed.numbered well.numbered)
-is_new {P} (Arrive at Right row) d log stands well = subst (All (λ (a : Arrival). a.no.0 < at.0)) (sym stands.right_arrivals) (above_all Right log (Arrive at Right row) stands.well_formed.numbered well.numbered)
+pub is_new : {P : Type 0} (event : Event P) (d : DriverState) (log : List (DriverTurn P)) → StandsFor d log → IsWellFormed (admitted log ++ event ∷ []) → IsNewEvent event d
+is_new {P} (Arrive at Left row) d log stands well = subst (All (λ (a : OutstandingArrival). a.no.0 < at.0)) (sym stands.left_arrivals) (above_all Left log (Arrive at Left row) stands.well_formed.numbered well.numbered)
+is_new {P} (Arrive at Right row) d log stands well = subst (All (λ (a : OutstandingArrival). a.no.0 < at.0)) (sym stands.right_arrivals) (above_all Right log (Arrive at Right row) stands.well_formed.numbered well.numbered)
 is_new {P} (Expire at Left of) d log stands well = λ has.
     let event : Event P = Expire at Left of in
     let old = expired Left log of (subst (λ (l : List EventNo). Contains l of) stands.left_expiries has) in

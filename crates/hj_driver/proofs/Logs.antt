@@ -16,7 +16,7 @@ use Rattle.hj_msg.specs.Messages.{is_R, is_S, is_EndR, is_EndS, is_ExpR, is_ExpS
 use Rattle.hj_msg.specs.Driver.{DriverTurn, admission, receipt, closing, admitted, is_take, took, outstanding}
 use Rattle.hj_driver.specs.declared.closes.Closes.TheVariants.{Unsent, Sent}
 use Rattle.hj_driver.specs.declared.lane.Departure.TheVariants.{Row, End}
-use Rattle.hj_driver.specs.declared.lane.Arrival.{Arrival}
+use Rattle.hj_driver.specs.declared.lane.OutstandingArrival.{OutstandingArrival}
 use Rattle.hj_driver.specs.Lane.{after_departure, is_other, with_departure}
 use Rattle.hj_driver.specs.Driver.{after_message, stays, quiet_stays, after_close, is_sent}
 use Rattle.hj_driver.specs.StandsFor.{arrival_with, arrival_after, expiry_after, outstanding_by, quiet_after, arrivals_of, expiries_of, quiets_of, closes_of, is_CloseL, is_CloseR, is_closing}
@@ -47,7 +47,7 @@ admitted-push (receipt port message ∷ later) turn = admitted-push later turn
 admitted-push (closing ∷ later) turn = admitted-push later turn
 
 -- an arrival of which one more message was taken, or none
-row_more-if : (at : EventNo) (r e b : Bool) → arrival_with at (r || b) (e || false) ≡ option_and_then (λ (a : Arrival). cond b (with_departure Row a a.taken) (Some a)) (arrival_with at r e)
+row_more-if : (at : EventNo) (r e b : Bool) → arrival_with at (r || b) (e || false) ≡ option_and_then (λ (a : OutstandingArrival). cond b (with_departure Row a a.taken) (Some a)) (arrival_with at r e)
 row_more-if at true true true = refl
 row_more-if at true true false = refl
 row_more-if at true false true = refl
@@ -63,7 +63,7 @@ row_more at its true false = row_more-if at true false (its.0 == at.0)
 row_more at its false true = row_more-if at false true (its.0 == at.0)
 row_more at its false false = row_more-if at false false (its.0 == at.0)
 
-end_more-if : (at : EventNo) (r e b : Bool) → arrival_with at (r || false) (e || b) ≡ option_and_then (λ (a : Arrival). cond b (with_departure End a a.taken) (Some a)) (arrival_with at r e)
+end_more-if : (at : EventNo) (r e b : Bool) → arrival_with at (r || false) (e || b) ≡ option_and_then (λ (a : OutstandingArrival). cond b (with_departure End a a.taken) (Some a)) (arrival_with at r e)
 end_more-if at true true true = refl
 end_more-if at true true false = refl
 end_more-if at true false true = refl
@@ -79,7 +79,7 @@ end_more at its true false = end_more-if at true false (its.0 == at.0)
 end_more at its false true = end_more-if at false true (its.0 == at.0)
 end_more at its false false = end_more-if at false false (its.0 == at.0)
 
-no_more : (at : EventNo) (r e : Bool) → arrival_with at (r || false) (e || false) ≡ option_and_then (λ (a : Arrival). Some a) (arrival_with at r e)
+no_more : (at : EventNo) (r e : Bool) → arrival_with at (r || false) (e || false) ≡ option_and_then (λ (a : OutstandingArrival). Some a) (arrival_with at r e)
 no_more at true true = refl
 no_more at true false = refl
 no_more at false true = refl
@@ -290,7 +290,7 @@ is_sent-closes_of (closing ∷ later) = refl
 abbrev count_in : {P : Type 0} → List (DriverTurn P) → ℕ
 count_in log = ((length (arrivals_of Left log) + length (expiries_of Left log)) + (length (arrivals_of Right log) + length (expiries_of Right log))) + (length (quiets_of Left log) + length (quiets_of Right log))
 
-arrival_counts : {P : Type 0} (event : Event P) (at : EventNo) (r e : Bool) (out : List (Event P)) (here : List Arrival) (others : ℕ) → length out ≡ length here + others
+arrival_counts : {P : Type 0} (event : Event P) (at : EventNo) (r e : Bool) (out : List (Event P)) (here : List OutstandingArrival) (others : ℕ) → length out ≡ length here + others
     → length (cond (r && e) out (event ∷ out)) ≡ length (cons_option (arrival_with at r e) here) + others
 arrival_counts event at true true out here others is = is
 arrival_counts event at true false out here others is = omega arith

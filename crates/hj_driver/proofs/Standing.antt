@@ -12,7 +12,7 @@ use Rattle.hj_msg.specs.declared.event.Event.TheVariants.{Arrive, Expire, Quiet}
 use Rattle.hj_msg.specs.declared.message.Msg.{Msg}
 use Rattle.hj_msg.specs.Event.{IsWellFormed}
 use Rattle.hj_msg.specs.Driver.{DriverTurn, admission, receipt, closing, admitted, outstanding, HasComeOut, IsLawful}
-use Rattle.hj_driver.specs.declared.lane.Arrival.{Arrival}
+use Rattle.hj_driver.specs.declared.lane.OutstandingArrival.{OutstandingArrival}
 use Rattle.hj_driver.specs.Driver.{DriverState, after_take, after_put, after_message, stays, quiet_stays, after_close, closed, new_driver, is_sent, count_of}
 use Rattle.hj_driver.specs.StandsFor.{StandsFor, arrival_after, expiry_after, is_closing, quiet_after}
 use Rattle.hj_driver.proofs.Logs.{admitted-push, arrivals_of-receipt, expiries_of-receipt, quiets_of-receipt, closes_of-receipt, arrivals_of-admission, expiries_of-admission, quiets_of-admission, closes_of-admission, arrivals_of-closing, expiries_of-closing, quiets_of-closing, closes_of-closing, length-outstanding, is_sent-closes_of}
@@ -167,9 +167,9 @@ stands-put : {P : Type 0} (driver : DriverState) (log : List (DriverTurn P)) (pu
 stands-put driver log put stands well lawful = record {
   well_formed = well;
   lawful = subst (λ (flight : ℕ). IsLawful flight (admitted (log ++ admission put ∷ [])) (log ++ admission put ∷ [])) (sym (flight-put put driver)) lawful;
-  left_arrivals = left_arrivals-put put driver ∙ ap (λ (l : List Arrival). l ++ cons_option (arrival_after Left put []) []) stands.left_arrivals ∙ sym (arrivals_of-admission Left log put);
+  left_arrivals = left_arrivals-put put driver ∙ ap (λ (l : List OutstandingArrival). l ++ cons_option (arrival_after Left put []) []) stands.left_arrivals ∙ sym (arrivals_of-admission Left log put);
   left_expiries = left_expiries-put put driver ∙ ap (λ (l : List EventNo). l ++ cons_option (expiry_after Left put []) []) stands.left_expiries ∙ sym (expiries_of-admission Left log put);
-  right_arrivals = right_arrivals-put put driver ∙ ap (λ (l : List Arrival). l ++ cons_option (arrival_after Right put []) []) stands.right_arrivals ∙ sym (arrivals_of-admission Right log put);
+  right_arrivals = right_arrivals-put put driver ∙ ap (λ (l : List OutstandingArrival). l ++ cons_option (arrival_after Right put []) []) stands.right_arrivals ∙ sym (arrivals_of-admission Right log put);
   right_expiries = right_expiries-put put driver ∙ ap (λ (l : List EventNo). l ++ cons_option (expiry_after Right put []) []) stands.right_expiries ∙ sym (expiries_of-admission Right log put);
   left_quiets = left_quiets-put put driver ∙ ap (λ (l : List EventNo). l ++ cons_option (quiet_after Left put []) []) stands.left_quiets ∙ sym (quiets_of-admission Left log put);
   right_quiets = right_quiets-put put driver ∙ ap (λ (l : List EventNo). l ++ cons_option (quiet_after Right put []) []) stands.right_quiets ∙ sym (quiets_of-admission Right log put);

@@ -11,12 +11,13 @@ use Rattle.hj_driver.specs.declared.closes.Closes.{Closes}
 use Rattle.hj_driver.specs.declared.closes.Closes.TheVariants.{Unsent, Sent}
 use Rattle.hj_driver.specs.declared.lane.Departure.{Departure}
 use Rattle.hj_driver.specs.declared.lane.Departure.TheVariants.{Row, End}
-use Rattle.hj_driver.specs.declared.lane.Arrival.{Arrival}
+use Rattle.hj_driver.specs.declared.lane.OutstandingArrival.{OutstandingArrival}
 use Rattle.hj_driver.specs.Leaving.{LeavingState}
 use Rattle.hj_driver.specs.Lane.{LaneState, after_departure, is_other, with_departure, is_taken, waits_for}
 use Rattle.hj_driver.specs.Driver.{DriverState, after_take, after_close_taken, awaits, awaits_close, is_awaited}
 
-abbrev pub state : ℕ → List Arrival → List EventNo → List Arrival → List EventNo → List EventNo → List EventNo → Closes → DriverState
+abbrev pub state : ℕ → List OutstandingArrival → List EventNo → List OutstandingArrival → List EventNo → List EventNo → List EventNo
+    → Closes → DriverState
 state flight la le ra re lq rq closes = record { flight = flight; left_arrivals = la; left_expiries = le; right_arrivals = ra; right_expiries = re; left_quiets = lq; right_quiets = rq; closes = closes }
 
 filter_map-some : {X : Type 0} (l : List X) → filter_map (λ x. Some x) l ≡ l
@@ -39,7 +40,7 @@ kept false x l n low = omega arith
 abbrev pub seen : LaneState → LaneState → LeavingState → LeavingState → ℕ → Closes → DriverState
 seen left right lq rq flight closes = record { flight = flight; left_arrivals = left.arrivals; left_expiries = left.expiries; right_arrivals = right.arrivals; right_expiries = right.expiries; left_quiets = lq.numbers; right_quiets = rq.numbers; closes = closes }
 
-abbrev pub with_arrivals : (List Arrival → List Arrival) → LaneState → LaneState
+abbrev pub with_arrivals : (List OutstandingArrival → List OutstandingArrival) → LaneState → LaneState
 with_arrivals f lane = record lane { arrivals = f lane.arrivals }
 
 abbrev pub with_expiries : (List EventNo → List EventNo) → LaneState → LaneState
@@ -153,7 +154,7 @@ pub record HasNoMore (before after : LaneState) : Type 0 where
   pub fewer : length after.arrivals + length after.expiries ≤ length before.arrivals + length before.expiries
   pub room : after.room ≡ before.room
 
-pub fewer_arrivals : (f : Arrival → Option Arrival) (before after : LaneState) → after ≡ with_arrivals (filter_map f) before → HasNoMore before after
+pub fewer_arrivals : (f : OutstandingArrival → Option OutstandingArrival) (before after : LaneState) → after ≡ with_arrivals (filter_map f) before → HasNoMore before after
 fewer_arrivals f before after e = record {
   fewer = omega (arith, ap (λ (l : LaneState). length l.arrivals) e, ap (λ (l : LaneState). length l.expiries) e, length-filter_map f before.arrivals);
   room = ap (λ (l : LaneState). l.room) e;
@@ -180,7 +181,7 @@ neither : (a b : Bool) → a || b ≡ false → (a ≡ false) × (b ≡ false)
 neither true b none = absurd (false≢true (sym none))
 neither false b none = (refl, none)
 
-not_waited-if : (same : Bool) (departure : Departure) (a : Arrival) (taken : Option Departure) → same && not (is_taken departure taken) ≡ false → cond same (with_departure departure a taken) (Some a) ≡ Some a
+not_waited-if : (same : Bool) (departure : Departure) (a : OutstandingArrival) (taken : Option Departure) → same && not (is_taken departure taken) ≡ false → cond same (with_departure departure a taken) (Some a) ≡ Some a
 not_waited-if false departure a taken unwaited = refl
 not_waited-if true departure a None unwaited = absurd (false≢true (sym unwaited))
 not_waited-if true Row a (Some Row) unwaited = refl
@@ -188,14 +189,14 @@ not_waited-if true Row a (Some End) unwaited = absurd (false≢true (sym unwaite
 not_waited-if true End a (Some Row) unwaited = absurd (false≢true (sym unwaited))
 not_waited-if true End a (Some End) unwaited = refl
 
-not_waited : (number : ℕ) (departure : Departure) (a : Arrival) → waits_for number departure a ≡ false → after_departure number departure a ≡ Some a
+not_waited : (number : ℕ) (departure : Departure) (a : OutstandingArrival) → waits_for number departure a ≡ false → after_departure number departure a ≡ Some a
 not_waited number departure a unwaited = not_waited-if (number == a.no.0) departure a a.taken unwaited
 
-unwaited_arrivals : (number : ℕ) (departure : Departure) (l : List Arrival) → list_any (waits_for number departure) l ≡ false → filter_map (after_departure number departure) l ≡ l
+unwaited_arrivals : (number : ℕ) (departure : Departure) (l : List OutstandingArrival) → list_any (waits_for number departure) l ≡ false → filter_map (after_departure number departure) l ≡ l
 unwaited_arrivals number departure [] none = refl
 unwaited_arrivals number departure (a ∷ l) none =
     let w = neither (waits_for number departure a) (list_any (waits_for number departure) l) none in
-    ap (λ o. cons_option o (filter_map (after_departure number departure) l)) (not_waited number departure a w.0) ∙ ap (λ (ys : List Arrival). a ∷ ys) (unwaited_arrivals number departure l w.1)
+    ap (λ o. cons_option o (filter_map (after_departure number departure) l)) (not_waited number departure a w.0) ∙ ap (λ (ys : List OutstandingArrival). a ∷ ys) (unwaited_arrivals number departure l w.1)
 
 unwaited_numbers : (number : ℕ) (l : List EventNo) → is_awaited number l ≡ false → filter (is_other number) l ≡ l
 unwaited_numbers number [] none = refl

@@ -19,16 +19,16 @@ use Rattle.hj_driver.specs.declared.answers.Closing.TheVariants as closing
 use Rattle.hj_driver.specs.declared.closes.Closes.{Closes}
 use Rattle.hj_driver.specs.declared.closes.Closes.TheVariants.{Unsent, Sent}
 use Rattle.hj_driver.specs.declared.lane.Departure.TheVariants.{Row, End}
-use Rattle.hj_driver.specs.declared.lane.Arrival.{Arrival}
+use Rattle.hj_driver.specs.declared.lane.OutstandingArrival.{OutstandingArrival}
 use Rattle.hj_driver.specs.Lane.{after_departure, is_other, waits_for}
 
 -- The outstanding arrivals, expiries and quiet events of each side, the closes, and how many events may be outstanding. An expiry is kept by
 -- the number of its row.
 pub record DriverState : Type 0 where
   pub flight : ℕ
-  pub left_arrivals : List Arrival
+  pub left_arrivals : List OutstandingArrival
   pub left_expiries : List EventNo
-  pub right_arrivals : List Arrival
+  pub right_arrivals : List OutstandingArrival
   pub right_expiries : List EventNo
   pub left_quiets : List EventNo
   pub right_quiets : List EventNo
@@ -66,7 +66,7 @@ closed driver = record driver { closes = Sent false false }
 
 -- What becomes of an outstanding arrival of a side, and whether an outstanding expiry of it stays, where this message is taken
 -- at this port.
-abbrev pub after_message : {P : Type 0} → Side → Side → Msg P → Arrival → Option Arrival
+abbrev pub after_message : {P : Type 0} → Side → Side → Msg P → OutstandingArrival → Option OutstandingArrival
 after_message Left Right (R at row) arrival = after_departure at.0 Row arrival
 after_message Left Left (EndR at) arrival = after_departure at.0 End arrival
 after_message Right Left (S at row) arrival = after_departure at.0 Row arrival
@@ -103,7 +103,7 @@ after_take port message driver = record {
 }
 
 -- an arrival is put, or the expiry of a row
-abbrev pub arrival_of : EventNo → Arrival
+abbrev pub arrival_of : EventNo → OutstandingArrival
 arrival_of number = record { no = number; taken = None }
 
 abbrev pub after_put : {P : Type 0} → Event P → DriverState → DriverState
@@ -115,13 +115,13 @@ after_put (Quiet at Left) driver = record driver { left_quiets = driver.left_qui
 after_put (Quiet at Right) driver = record driver { right_quiets = driver.right_quiets ++ at ∷ [] }
 
 -- A new arrival's number is above those of its side, and a row's expiry isn't outstanding already.
-abbrev pub IsNew : {P : Type 0} → Event P → DriverState → Type 0
-IsNew (Arrive at Left row) driver = All (λ arrival. arrival.no.0 < at.0) driver.left_arrivals
-IsNew (Arrive at Right row) driver = All (λ arrival. arrival.no.0 < at.0) driver.right_arrivals
-IsNew (Expire at Left of) driver = ¬ (Contains driver.left_expiries of)
-IsNew (Expire at Right of) driver = ¬ (Contains driver.right_expiries of)
-IsNew (Quiet at Left) driver = ¬ (Contains driver.left_quiets at)
-IsNew (Quiet at Right) driver = ¬ (Contains driver.right_quiets at)
+abbrev pub IsNewEvent : {P : Type 0} → Event P → DriverState → Type 0
+IsNewEvent (Arrive at Left row) driver = All (λ arrival. arrival.no.0 < at.0) driver.left_arrivals
+IsNewEvent (Arrive at Right row) driver = All (λ arrival. arrival.no.0 < at.0) driver.right_arrivals
+IsNewEvent (Expire at Left of) driver = ¬ (Contains driver.left_expiries of)
+IsNewEvent (Expire at Right of) driver = ¬ (Contains driver.right_expiries of)
+IsNewEvent (Quiet at Left) driver = ¬ (Contains driver.left_quiets at)
+IsNewEvent (Quiet at Right) driver = ¬ (Contains driver.right_quiets at)
 
 -- why a driver lets an event wait, if it does
 abbrev pub row_cause : {P : Type 0} → Event P → DriverState → Option Why

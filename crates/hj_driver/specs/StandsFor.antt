@@ -19,18 +19,18 @@ use Rattle.hj_driver.specs.declared.answers.Closing.TheVariants.{Send, Wait, Alr
 use Rattle.hj_driver.specs.declared.closes.Closes.{Closes}
 use Rattle.hj_driver.specs.declared.closes.Closes.TheVariants.{Unsent, Sent}
 use Rattle.hj_driver.specs.declared.lane.Departure.TheVariants.{Row, End}
-use Rattle.hj_driver.specs.declared.lane.Arrival.{Arrival}
+use Rattle.hj_driver.specs.declared.lane.OutstandingArrival.{OutstandingArrival}
 use Rattle.hj_driver.specs.Driver.{DriverState}
 
 -- an arrival of which the row was taken, or the end mark, or neither; with both it has left
-abbrev pub arrival_with : EventNo → (row_taken end_taken : Bool) → Option Arrival
+abbrev pub arrival_with : EventNo → (row_taken end_taken : Bool) → Option OutstandingArrival
 arrival_with at false false = Some (record { no = at; taken = None })
 arrival_with at true false = Some (record { no = at; taken = Some Row })
 arrival_with at false true = Some (record { no = at; taken = Some End })
 arrival_with at true true = None
 
 -- the arrival of a side that an event is, if it is outstanding after this log
-abbrev pub arrival_after : {P : Type 0} → Side → Event P → List (DriverTurn P) → Option Arrival
+abbrev pub arrival_after : {P : Type 0} → Side → Event P → List (DriverTurn P) → Option OutstandingArrival
 arrival_after Left (Arrive at Left row) log = arrival_with at (took Right (is_R at.0) log) (took Left (is_EndR at.0) log)
 arrival_after Right (Arrive at Right row) log = arrival_with at (took Left (is_S at.0) log) (took Right (is_EndS at.0) log)
 arrival_after side event log = None
@@ -55,7 +55,7 @@ outstanding_by after (receipt port message ∷ later) = outstanding_by after lat
 outstanding_by after (closing ∷ later) = outstanding_by after later
 
 -- The outstanding arrivals, expiries and quiet events of a side, each with what was taken of it since it was put.
-abbrev pub arrivals_of : {P : Type 0} → Side → List (DriverTurn P) → List Arrival
+abbrev pub arrivals_of : {P : Type 0} → Side → List (DriverTurn P) → List OutstandingArrival
 arrivals_of side log = outstanding_by (arrival_after side) log
 
 abbrev pub expiries_of : {P : Type 0} → Side → List (DriverTurn P) → List EventNo

@@ -2,7 +2,7 @@ ghost use Rattle.std.specs.Prelude.{◌≡◌, ◌<◌, ◌≤◌, List, None, [
 ghost use Rattle.std.specs.Bool.{OnTrue, OnFalse};
 ghost use Rattle.hj_msg.specs.Driver.{DriverTurn, admission, receipt, admitted, message_of, port_of};
 ghost use Rattle.hj_msg.specs.Event.{IsWellFormed};
-ghost use Rattle.hj_driver.specs.Driver.{IsNew, after_put, after_take, answer_to, awaits, cause_of, closed, closing_of, count_of, is_finished, is_send, new_driver};
+ghost use Rattle.hj_driver.specs.Driver.{IsNewEvent, after_put, after_take, answer_to, awaits, cause_of, closed, closing_of, count_of, is_finished, is_send, new_driver};
 ghost use Rattle.hj_driver.specs.StandsFor.{StandsFor, cause_after};
 
 use crate::closes::Closes;
@@ -203,7 +203,7 @@ impl Driver {
     #[inline(always)]
     fn put<P>(&mut self, event: Event<P>) -> (Side, Msg<P>)
         requires room { count_of self.old < self.old.flight }
-        requires new { IsNew event self.old }
+        requires new { IsNewEvent event self.old }
         ensures port { result.0 ≡ port_of event }
         ensures message { result.1 ≡ message_of event }
         ensures state { self.new ≡ after_put event self.old }

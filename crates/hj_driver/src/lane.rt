@@ -19,12 +19,12 @@ pub enum Departure {
 
 /// An outstanding arrival, with the message of it that was taken, if any.
 #[derive(Clone, Copy, Debug, PartialEq, Eq)]
-pub struct Arrival {
+pub struct OutstandingArrival {
     pub no: EventNo,
     pub taken: Option<Departure>,
 }
 
-impl Arrival {
+impl OutstandingArrival {
     /// Returns whether its row is still to be taken.
     #[inline(always)]
     fn is_before_its_row(self) -> bool
@@ -36,11 +36,11 @@ impl Arrival {
     /// Returns the arrival after one of its messages; None exactly if the other one was taken before, so that it has
     /// left.
     #[inline(always)]
-    fn after(self, departure: Departure) -> Option<Arrival>
+    fn after(self, departure: Departure) -> Option<OutstandingArrival>
         ensures { result ≡ with_departure departure self self.taken }
     {
         match (self.taken, departure) {
-            (None, _) => Some(Arrival {
+            (None, _) => Some(OutstandingArrival {
                 no: self.no,
                 taken: Some(departure),
             }),
@@ -56,7 +56,7 @@ impl Arrival {
 /// in the order in which they were put, which is mostly that in which they leave.
 #[derive(Debug, Drop)]
 pub struct Lane {
-    arrivals: VecDeque<Arrival>,
+    arrivals: VecDeque<OutstandingArrival>,
     expiries: VecDeque<EventNo>,
     room: usize,
 }
@@ -118,7 +118,7 @@ impl Lane {
         ensures { self.new ≡ record self.old { arrivals = self.old.arrivals ++ record { no = no; taken = None } ∷ [] } }
     {
         self.arrivals
-            .push_back_reserved(Arrival { no, taken: None });
+            .push_back_reserved(OutstandingArrival { no, taken: None });
     }
 
     /// Takes note that the expiry of a row is put.

@@ -7,7 +7,7 @@ use Rattle.hj_base.specs.Outside.{RoleState}
 use Rattle.hj_msg.specs.declared.drain.Drained.{Drained}
 use Rattle.hj_msg.specs.declared.feed.Given.{Given}
 use Rattle.hj_msg.specs.Feed.{FeedState, events_in}
-use Rattle.hj_query.specs.Parts.{Parts}
+use Rattle.hj_query.specs.QueryParts.{QueryParts}
 use Rattle.hj_eval.specs.Holds.{holds}
 use Rattle.hj_raw.specs.Items.{Item, raw_items}
 use Rattle.hj_raw.specs.Text.{raw_text}
@@ -19,7 +19,7 @@ use Rattle.hj_engine.specs.ShowingRaw.{ShowsRaw}
 use Rattle.hj_engine.proofs.ByRun.{ends_whole}
 use Rattle.hj_stream.proofs.RawOver.{JoinsRawOver}
 
-module _ {F D : Type 0} {gives : F → Given (List Field) → F → Type 0} {state : F → FeedState} {takes_item : D → Item (List Field) → Drained → D → Type 0} {cores in_flight : ℕ} {from to : F} {unfilled filled : D} {ran : RanSeen (List Field)} (query : Parts)
+module _ {F D : Type 0} {gives : F → Given (List Field) → F → Type 0} {state : F → FeedState} {takes_item : D → Item (List Field) → Drained → D → Type 0} {cores in_flight : ℕ} {from to : F} {unfilled filled : D} {ran : RanSeen (List Field)} (query : QueryParts)
     (runs : RunsRaw gives state takes_item (holds query) cores in_flight from to unfilled filled ran) {made : Outcome} {limit : ℕ} {before now : Role → RoleState} {old new : Option (List ℕ)}
     (over : JoinsRawOver (raw_text (raw_items cores runs.taken)) made ran.ended query limit before now old new (events_in runs.answers)) where
   -- the join, with its text

@@ -23,7 +23,7 @@ use Rattle.hj_msg.specs.Met.{AreReportsOf}
 use Rattle.hj_msg.specs.Run.{IsRun}
 use Rattle.hj_msg.specs.RunsJoin.{EndsJoin, RunsJoin}
 use Rattle.hj_msg.proofs.Emitting.{emits_prefix}
-use Rattle.hj_query.specs.Parts.{Parts}
+use Rattle.hj_query.specs.QueryParts.{QueryParts}
 use Rattle.hj_eval.specs.Holds.{holds}
 use Rattle.hj_crew.specs.Ran.{RanSeen, RunsOnThreads, queue_at, reports_of, run_of}
 use Rattle.hj_stream.specs.declared.outcome.Outcome.{Outcome}
@@ -75,7 +75,7 @@ all_taken fin.Done stopped taken joined ends is = ends.2
 all_taken fin.Refused stopped taken joined ends is = absurd (let wrong : fin.Refused ≡ fin.Done = is in cc)
 all_taken fin.Memory stopped taken joined ends is = absurd (let wrong : fin.Memory ≡ fin.Done = is in cc)
 
-module _ {F D : Type 0} {gives : F → Given (List Field) → F → Type 0} {state : F → FeedState} {takes_pair : D → Pair (List Field) → Drained → D → Type 0} {cores in_flight : ℕ} {from to : F} {unfilled filled : D} {ran : RanSeen (List Field)} (query : Parts)
+module _ {F D : Type 0} {gives : F → Given (List Field) → F → Type 0} {state : F → FeedState} {takes_pair : D → Pair (List Field) → Drained → D → Type 0} {cores in_flight : ℕ} {from to : F} {unfilled filled : D} {ran : RanSeen (List Field)} (query : QueryParts)
     (runs : RunsOnThreads gives state takes_pair (holds query) cores in_flight from to unfilled filled ran) where
   -- it joins, as a run on a serial chain does
   abbrev pub as_join : RunsJoin gives state takes_pair (holds query) ran.ended from to unfilled filled

@@ -15,7 +15,7 @@ use Rattle.hj_msg.specs.Emission.{emitted}
 use Rattle.hj_msg.specs.Event.{IsWellFormed}
 use Rattle.hj_msg.specs.Feed.{FeedState, event_in, is_stop, events_in}
 use Rattle.hj_msg.specs.Kang.{kang}
-use Rattle.hj_query.specs.Parts.{Parts}
+use Rattle.hj_query.specs.QueryParts.{QueryParts}
 use Rattle.hj_eval.specs.Holds.{holds}
 use Rattle.hj_chain.specs.declared.serial.Chooser.{Chooser}
 use Rattle.hj_msg.specs.declared.fin.Fin.{Fin}
@@ -25,10 +25,10 @@ use Rattle.hj_chain.specs.Progress.{IsDone}
 use Rattle.hj_chain.specs.declared.actor.Actor.{Actor}
 use Rattle.hj_msg.specs.RunsJoin.{EndsJoin, RunsJoin}
 use Rattle.hj_chain.specs.Reached.{StandsFor, collected_of, next_pair}
-use Rattle.hj_chain.specs.Serial.{Ends, RunsSerially}
+use Rattle.hj_chain.specs.Serial.{EndsSerial, RunsSerially}
 use Rattle.hj_chain.specs.Steps.{GoesWith}
 use Rattle.hj_chain.proofs.Finishing.{emission_begins, emission_whole}
-use Rattle.hj_engine.specs.Running.{IsBegun}
+use Rattle.hj_engine.specs.Running.{IsBegunChain}
 use Rattle.hj_stream.proofs.Prefixes.{IsPrefix-trans}
 
 -- nothing was done, since memory ran out
@@ -57,14 +57,14 @@ length-past xs i none = elim (slice_get_cases xs i).1 [
 ]
 
 ends_by : {P J : Type 0} {predicate : J → P → P → Bool} {chain : Contents P J} {schedule : List Actor} {events : List (event.Event P)} {given : ℕ} (ended : Fin) (pairs : List (Drainage P)) (stands : StandsFor predicate chain schedule events given)
-    (stopped : Bool) (joined : List (Pair P)) → Ends ended pairs stands → IsPrefix (pairs_in pairs) joined → (next_pair stands ≡ None → chain.state.over ≡ false → IsDone chain.state → pairs_in pairs ≡ joined)
+    (stopped : Bool) (joined : List (Pair P)) → EndsSerial ended pairs stands → IsPrefix (pairs_in pairs) joined → (next_pair stands ≡ None → chain.state.over ≡ false → IsDone chain.state → pairs_in pairs ≡ joined)
     → (is_stop chain.state.next ≡ true → stopped ≡ true) → EndsJoin ended stopped pairs joined
 ends_by fin.Done pairs stands stopped joined ends begins whole stops = (stops ends.3, ends.0, whole ends.1 ends.2 ends.4)
 ends_by fin.Refused pairs stands stopped joined ends begins whole stops = (ends, begins)
 ends_by fin.Memory pairs stands stopped joined ends begins whole stops = (ends.0, begins)
 
-module _ {F D : Type 0} (gives : F → Given (List Field) → F → Type 0) (is_ready : F → Bool) (state : F → FeedState) (takes : D → Pair (List Field) → Drained → D → Type 0) (query : Parts) (rule : Chooser)
-    (old new : Contents (List Field) Parts) (from mid to : F) (unfilled filled : D) (begun : IsBegun gives query old from mid) (join : new.join ≡ old.join) (goes : GoesWith holds new (state to)) where
+module _ {F D : Type 0} (gives : F → Given (List Field) → F → Type 0) (is_ready : F → Bool) (state : F → FeedState) (takes : D → Pair (List Field) → Drained → D → Type 0) (query : QueryParts) (rule : Chooser)
+    (old new : Contents (List Field) QueryParts) (from mid to : F) (unfilled filled : D) (begun : IsBegunChain gives query old from mid) (join : new.join ≡ old.join) (goes : GoesWith holds new (state to)) where
   module _ (ended : Fin) (runs : RunsSerially gives is_ready takes holds rule [] (event_in (Some begun.first)) 0 old mid unfilled ended new to filled) where
     abbrev events : List (event.Event (List Field))
     events = event_in (Some begun.first) ++ runs.taken
@@ -79,14 +79,14 @@ module _ {F D : Type 0} (gives : F → Given (List Field) → F → Type 0) (is_
     begins well =
         IsPrefix-trans (pairs_in runs.pairs) collected joined
         (subst (λ (l : List (Pair (List Field))). IsPrefix l collected) (sym runs.in_order) (take-begins (length runs.pairs) collected))
-        (subst (λ (q : Parts). IsPrefix collected (kang (holds q) events)) (join ∙ begun.join) (emission_begins holds new _ events (0 + length runs.pairs) runs.stands well))
+        (subst (λ (q : QueryParts). IsPrefix collected (kang (holds q) events)) (join ∙ begun.join) (emission_begins holds new _ events (0 + length runs.pairs) runs.stands well))
 
     whole : IsWellFormed events → next_pair runs.stands ≡ None → new.state.over ≡ false → IsDone new.state → pairs_in runs.pairs ≡ joined
     whole well none going done =
         let past : slice_get collected (0 + length runs.pairs) ≡ None = subst (λ over. cond over None (slice_get collected (0 + length runs.pairs)) ≡ None) going none in
         let all : length collected ≤ length runs.pairs = omega (arith, length-past collected (0 + length runs.pairs) past) in
         runs.in_order ∙ (take_all (length runs.pairs) collected all
-        ∙ (emission_whole holds new _ events (0 + length runs.pairs) runs.stands well done ∙ ap (λ (q : Parts). kang (holds q) events) (join ∙ begun.join)))
+        ∙ (emission_whole holds new _ events (0 + length runs.pairs) runs.stands well done ∙ ap (λ (q : QueryParts). kang (holds q) events) (join ∙ begun.join)))
 
     ends : IsWellFormed events → EndsJoin ended (state to).stopped runs.pairs joined
     ends well = ends_by ended runs.pairs runs.stands (state to).stopped joined runs.ends (begins well) (whole well) goes.stopped

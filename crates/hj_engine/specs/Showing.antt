@@ -7,7 +7,7 @@ use Rattle.hj_base.specs.Outside.{RoleState}
 use Rattle.hj_value.specs.declared.field.Field.{Field}
 use Rattle.hj_msg.specs.declared.event.Event.{Event}
 use Rattle.hj_msg.specs.Emission.{emitted}
-use Rattle.hj_query.specs.Parts.{Parts}
+use Rattle.hj_query.specs.QueryParts.{QueryParts}
 use Rattle.hj_eval.specs.Holds.{holds}
 use Rattle.hj_crew.specs.Ran.{MakesRun, RanSeen, reports_of}
 use Rattle.hj_stream.specs.declared.outcome.Outcome.{Outcome}
@@ -15,7 +15,7 @@ use Rattle.hj_stream.specs.Joining.{Joins, JoinsBy}
 use Rattle.hj_stream.specs.JoinText.{Line, pair_line, text_by}
 use Rattle.hj_stream.specs.Runs.{EndsRun, OfEvents}
 
-module _ {ended : Outcome} {query : Parts} {limit : ℕ} {before now : Role → RoleState} {old new : Option (List ℕ)} where
+module _ {ended : Outcome} {query : QueryParts} {limit : ℕ} {before now : Role → RoleState} {old new : Option (List ℕ)} where
   -- A run of this many cores, with at most this many events outstanding, made this join. Its journals make a run under the query, over
   -- events that begin those of the streams; and what was written begins the text of the pairs that the reports of this very run let
   -- through. Where the events ended, the run had all of them, and all of that text was written.

@@ -8,7 +8,7 @@ ghost use Rattle.hj_stores.specs.Stores.{AreReady, AreReadyFor};
 
 use hj_base::{Gate, Memory};
 use hj_crew::{CrewPlan, JoinInput, Ran, Stores};
-use hj_desk::{InOrder, Outlet, Raw};
+use hj_desk::{OrderedOutlet, Outlet, RawOutlet};
 use hj_eval::{QueryJoin, ReadyQuery};
 use hj_msg::{Drain, Feed, Join, Store};
 use hj_query::Query;
@@ -41,7 +41,7 @@ impl<T: Threads + Wait + Clock + Sync, G: Gate + Sync> QueryRun<'_, '_, '_, T, G
             self.now.plan.now.size.chain.cores self.now.plan.now.size.chain.flight feed result.1 drain result.2) }
         ensures refused { OnErr result.0 ((result.1 ≡ feed) × (result.2 ≡ drain)) }
     {
-        let outlet = InOrder::new(self.alloc, drain);
+        let outlet = OrderedOutlet::new(self.alloc, drain);
         let (ran, feed, outlet) = self.run_between(feed, outlet);
         (ran, feed, outlet.drain)
     }
@@ -57,7 +57,7 @@ impl<T: Threads + Wait + Clock + Sync, G: Gate + Sync> QueryRun<'_, '_, '_, T, G
             self.now.plan.now.size.chain.cores self.now.plan.now.size.chain.flight feed result.1 drain result.2) }
         ensures refused { OnErr result.0 ((result.1 ≡ feed) × (result.2 ≡ drain)) }
     {
-        let outlet = Raw::new(self.alloc, drain);
+        let outlet = RawOutlet::new(self.alloc, drain);
         let (ran, feed, outlet) = self.run_between(feed, outlet);
         (ran, feed, outlet.drain)
     }

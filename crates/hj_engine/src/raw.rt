@@ -1,7 +1,7 @@
 ghost use Rattle.std.specs.Prelude.{◌≡◌, false, ℕ, IfNone, IfSome};
 ghost use Rattle.hj_base.specs.Outside.{NamesStay};
 ghost use Rattle.hj_base.specs.declared.outside.Role.TheVariants as role;
-ghost use Rattle.hj_event.specs.Merger.{IsNew};
+ghost use Rattle.hj_event.specs.Merger.{IsNewMerger};
 ghost use Rattle.hj_event.specs.Roles.{IsInStep};
 ghost use Rattle.hj_stream.specs.Ends.{IsUnasked};
 ghost use Rattle.hj_stream.specs.Joining.{CountsSinkFault};
@@ -71,7 +71,7 @@ fn join_merged<T: Threads + Wait + Clock + Sync, O: Outside, K: Sink, G: Gate + 
     outside: &mut O,
     out: &mut K,
 ) -> (Outcome, Option<Ran<SharedRow>>)
-    requires merger { IsNew query.now limit merger.old }
+    requires merger { IsNewMerger query.now limit merger.old }
     requires left { IsInStep false (O.state outside.old role.Left) }
     requires right { IsInStep false (O.state outside.old role.Right) }
     ensures joins { (joins : JoinsRaw result.0 query.now limit (O.state outside.old) (O.state outside.new)
@@ -91,7 +91,7 @@ fn join_merged<T: Threads + Wait + Clock + Sync, O: Outside, K: Sink, G: Gate + 
 
 /// Holds how a join ended, and what it ran between.
 #[derive(Drop)]
-struct RawJoined<'f, 'd, O: Outside, K: Sink> {
+struct EndedRawJoin<'f, 'd, O: Outside, K: Sink> {
     ended: Outcome,
     feed: EventFeed<'f, O>,
     drain: RawLineDrain<'d, K>,
@@ -107,7 +107,7 @@ fn join_feed<'f, 'd, T: Threads + Wait + Clock + Sync, O: Outside, K: Sink, G: G
     feed: EventFeed<'f, O>,
     drain: RawLineDrain<'d, K>,
     ran: &mut Option<Ran<SharedRow>>,
-) -> RawJoined<'f, 'd, O, K>
+) -> EndedRawJoin<'f, 'd, O, K>
     requires unasked { (limit : ℕ) × IsUnasked query.now limit feed }
     ensures same_outside { result.feed.outside.ghost_name ≡ feed.entry.outside.ghost_name }
     ensures same_out { result.drain.out.ghost_name ≡ drain.entry.out.ghost_name }
@@ -128,12 +128,12 @@ fn join_feed<'f, 'd, T: Threads + Wait + Clock + Sync, O: Outside, K: Sink, G: G
         Ok(made) => {
             let ended = raw_outcome_of(made.fin(), &feed, &drain);
             *ran = Some(made);
-            RawJoined { ended, feed, drain }
+            EndedRawJoin { ended, feed, drain }
         }
         Err(Memory) => {
             *ran = None;
             let ended = Outcome::Memory;
-            RawJoined { ended, feed, drain }
+            EndedRawJoin { ended, feed, drain }
         }
     }
 }

@@ -3,7 +3,7 @@ ghost use Rattle.hj_msg.specs.Feed.{IsFresh};
 ghost use Rattle.hj_eval.specs.Holds.{holds};
 ghost use Rattle.hj_msg.specs.RunsJoin.{RunsJoin};
 ghost use Rattle.hj_chain.specs.Steps.{GoesWith};
-ghost use Rattle.hj_engine.specs.Running.{IsBegun};
+ghost use Rattle.hj_engine.specs.Running.{IsBegunChain};
 ghost use Rattle.hj_stores.specs.Stores.{AreReady, AreReadyFor};
 
 use hj_base::{ChainSize, Gate, Memory};
@@ -158,7 +158,7 @@ fn begun<'r, 'q, S: Store<SharedRow, QueryJoin<'r>> + Drop, F: Feed<SharedRow>>(
 ) -> Result<Chain<SharedRow, QueryJoin<'r>, S>, Memory>
     requires fresh { IsFresh (F.state feed.old) }
     requires stores { AreReady S.entries S.suits query.now size.cores stores }
-    ensures begun { IfOk result (λ chain. IsBegun F.gives query.now chain feed.old feed.new) }
+    ensures begun { IfOk result (λ chain. IsBegunChain F.gives query.now chain feed.old feed.new) }
     ensures goes { IfOk result (λ chain. GoesWith holds chain (F.state feed.new)) }
     ensures refused { OnErr result (feed.new ≡ feed.old) }
 {

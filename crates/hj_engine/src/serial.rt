@@ -1,7 +1,7 @@
 ghost use Rattle.std.specs.Prelude.{◌≡◌, false, ℕ};
 ghost use Rattle.hj_base.specs.Outside.{NamesStay};
 ghost use Rattle.hj_base.specs.declared.outside.Role.TheVariants as role;
-ghost use Rattle.hj_event.specs.Merger.{IsNew};
+ghost use Rattle.hj_event.specs.Merger.{IsNewMerger};
 ghost use Rattle.hj_event.specs.Roles.{IsInStep};
 ghost use Rattle.hj_stream.specs.Ends.{IsUnasked};
 ghost use Rattle.hj_stream.specs.Joining.{CountsSinkFault, Joins, JoinsBy};
@@ -75,7 +75,7 @@ fn join_merged<L: PairLine, O: Outside, K: Sink, G: Gate>(
     outside: &mut O,
     out: &mut K,
 ) -> Outcome
-    requires merger { IsNew join.now.query.now join.now.limit merger.old }
+    requires merger { IsNewMerger join.now.query.now join.now.limit merger.old }
     requires left { IsInStep false (O.state outside.old role.Left) }
     requires right { IsInStep false (O.state outside.old role.Right) }
     ensures joins { JoinsBy (L.line join.now.lines.now) result join.now.query.now join.now.limit (O.state outside.old) (O.state outside.new)

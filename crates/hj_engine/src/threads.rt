@@ -1,7 +1,7 @@
 ghost use Rattle.std.specs.Prelude.{◌≡◌, false, ℕ, IfNone, IfSome};
 ghost use Rattle.hj_base.specs.Outside.{NamesStay};
 ghost use Rattle.hj_base.specs.declared.outside.Role.TheVariants as role;
-ghost use Rattle.hj_event.specs.Merger.{IsNew};
+ghost use Rattle.hj_event.specs.Merger.{IsNewMerger};
 ghost use Rattle.hj_event.specs.Roles.{IsInStep};
 ghost use Rattle.hj_stream.specs.Ends.{IsUnasked};
 ghost use Rattle.hj_stream.specs.Joining.{CountsSinkFault, Joins, JoinsBy};
@@ -95,7 +95,7 @@ fn join_merged<L: PairLine, T: Threads + Wait + Clock + Sync, O: Outside, K: Sin
     outside: &mut O,
     out: &mut K,
 ) -> (Outcome, Option<Ran<SharedRow>>)
-    requires merger { IsNew join.now.query.now join.now.limit merger.old }
+    requires merger { IsNewMerger join.now.query.now join.now.limit merger.old }
     requires left { IsInStep false (O.state outside.old role.Left) }
     requires right { IsInStep false (O.state outside.old role.Right) }
     ensures joins { (joins : JoinsBy (L.line join.now.lines.now) result.0 join.now.query.now join.now.limit (O.state outside.old) (O.state outside.new)
@@ -115,7 +115,7 @@ fn join_merged<L: PairLine, T: Threads + Wait + Clock + Sync, O: Outside, K: Sin
 
 /// Holds how a join on threads ended, and what it ran between.
 #[derive(Drop)]
-struct Joined<'f, 'd, O: Outside, K: Sink, L: PairLine> {
+struct EndedJoin<'f, 'd, O: Outside, K: Sink, L: PairLine> {
     ended: Outcome,
     feed: EventFeed<'f, O>,
     drain: LineDrain<'d, K, L>,
@@ -139,7 +139,7 @@ fn join_feed<
     feed: EventFeed<'f, O>,
     drain: LineDrain<'d, K, L>,
     ran: &mut Option<Ran<SharedRow>>,
-) -> Joined<'f, 'd, O, K, L>
+) -> EndedJoin<'f, 'd, O, K, L>
     requires unasked { (limit : ℕ) × IsUnasked query.now limit feed }
     ensures same_outside { result.feed.outside.ghost_name ≡ feed.entry.outside.ghost_name }
     ensures same_out { result.drain.out.ghost_name ≡ drain.entry.out.ghost_name }
@@ -160,12 +160,12 @@ fn join_feed<
         Ok(made) => {
             let ended = outcome_of(made.fin(), &feed, &drain);
             *ran = Some(made);
-            Joined { ended, feed, drain }
+            EndedJoin { ended, feed, drain }
         }
         Err(Memory) => {
             *ran = None;
             let ended = Outcome::Memory;
-            Joined { ended, feed, drain }
+            EndedJoin { ended, feed, drain }
         }
     }
 }

@@ -10,7 +10,7 @@ use hj_base::{Gate, MemSink, OpenGate, Opened, Outside, Role, Sink};
 use hj_crew::Ran;
 use hj_engine::{join_serial, join_threads};
 use hj_msg::Fin;
-use hj_relay::{Twice, fits};
+use hj_relay::{TwiceOutcome, fits};
 use hj_stream::Outcome;
 use hj_twice::{Mode, TwoJoins, join_twice};
 use std::alloc::Global;
@@ -80,7 +80,7 @@ fn joined_twice<R: Abort + Threads + Wait + Clock + Sync, O: Outside, K: Sink, G
     mode: &Mode<'_, R, G>,
     outside: &mut O,
     sink: &mut K,
-) -> Twice
+) -> TwiceOutcome
     requires { AreUnbegun (O.state outside.old) }
 {
     let first = query_of(rt, alloc, case.query);

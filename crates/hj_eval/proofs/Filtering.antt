@@ -29,7 +29,7 @@ use Rattle.hj_eval.specs.declared.filter.Need.{Need}
 use Rattle.hj_eval.specs.declared.filter.Need.TheVariants as needs
 use Rattle.std.proofs.lemmas.List.Elements.{All-push}
 use Rattle.hj_rows.specs.declared.key_filter.KeyRange.{KeyRange}
-use Rattle.hj_rows.specs.Keys.{IsWithin}
+use Rattle.hj_rows.specs.Keys.{IsKeyWithin}
 use Rattle.hj_msg.specs.Quiet.{other_side}
 use Rattle.hj_eval.specs.Filter.{difference, high_key, key_of, key_or_zero, least_of, low_key, more, most_of, number_in, number_of, own_key, range_of, total, with_number, with_numbers, IsShort, KeepsMatches}
 use Rattle.hj_eval.specs.Holds.{accepts, column_value, compares, has_type, is_within, sum_value, term_value, with_parts}
@@ -219,7 +219,7 @@ Meets value need first second = (x y : ℤ) × (sum_value value first ≡ Some (
 
 lets_through : (columns : Side → List Column) (left right : List Field) (filter : Filter) (side : Side)
     → Meets (term_value columns (by_side left right)) filter.need filter.first.now filter.second.now
-    → IsWithin (range_of filter side (by_side left right (other_side side))) (own_key filter side (by_side left right side))
+    → IsKeyWithin (range_of filter side (by_side left right (other_side side))) (own_key filter side (by_side left right side))
 lets_through columns left right filter side m =
     let s = split_difference (term_value columns (by_side left right)) (number_of side (by_side left right side) false) (number_of (other_side side) (by_side left right (other_side side)) true)
     (terms_split columns left right side) filter.first.now filter.second.now m.0 m.1 m.2 m.3 in

@@ -14,11 +14,11 @@ use Rattle.hj_query.specs.declared.sum.Sum.{Sum}
 use Rattle.hj_query.specs.declared.sum.Term.{Term}
 use Rattle.hj_query.specs.declared.sum.Term.TheVariants as terms
 use Rattle.hj_query.specs.Grammar.{columns_of, is_text}
-use Rattle.hj_query.specs.Parts.{Parts}
+use Rattle.hj_query.specs.QueryParts.{QueryParts}
 use Rattle.hj_query.specs.Sides.{by_side}
 use Rattle.hj_msg.specs.Quiet.{other_side}
 use Rattle.hj_rows.specs.declared.key_filter.KeyRange.{KeyRange}
-use Rattle.hj_rows.specs.Keys.{Keeps}
+use Rattle.hj_rows.specs.Keys.{KeepsKeys}
 use Rattle.hj_eval.specs.declared.filter.Filter.{Filter}
 use Rattle.hj_eval.specs.declared.filter.Need.{Need}
 use Rattle.hj_eval.specs.declared.filter.Need.TheVariants as needs
@@ -134,12 +134,12 @@ asks_of columns pred = flat_map (ask_of columns) (conjuncts pred)
 
 -- a filter lets through all rows that match
 abbrev pub KeepsMatches : (List Field → List Field → Bool) → Filter → Type 0
-KeepsMatches matches filter = Keeps matches (own_key filter) (range_of filter)
+KeepsMatches matches filter = KeepsKeys matches (own_key filter) (range_of filter)
 
 -- Conditions.
 
 -- a part of a query's condition, as a predicate of a left and a right row
-abbrev pub pred_on : Parts → Pred → List Field → List Field → Bool
+abbrev pub pred_on : QueryParts → Pred → List Field → List Field → Bool
 pred_on query pred left right = pred_holds (term_value (columns_of query) (by_side left right)) pred
 
 -- rows that match by the one predicate match by the other

@@ -16,7 +16,7 @@ use Rattle.hj_query.specs.declared.sum.Sum.{Sum}
 use Rattle.hj_query.specs.declared.sum.Term.{Term}
 use Rattle.hj_query.specs.declared.sum.Term.TheVariants as terms
 use Rattle.hj_query.specs.Grammar.{columns_of}
-use Rattle.hj_query.specs.Parts.{Parts}
+use Rattle.hj_query.specs.QueryParts.{QueryParts}
 use Rattle.hj_query.specs.Sides.{by_side}
 
 -- Values of terms. The columns and the fields of each side are known.
@@ -91,5 +91,5 @@ pred_holds value (Compare op left right) = compares op (sum_value value left) (s
 pred_holds value (Within distance left right) = is_within distance (sum_value value left) (sum_value value right)
 
 -- the condition of a query, for a left and a right row
-abbrev pub holds : Parts → List Field → List Field → Bool
+abbrev pub holds : QueryParts → List Field → List Field → Bool
 holds query left right = pred_holds (term_value (columns_of query) (by_side left right)) query.pred

@@ -10,7 +10,7 @@ use Rattle.hj_value.specs.declared.field.Field.TheVariants as field
 use Rattle.hj_query.specs.declared.pred.Op.{Op}
 use Rattle.hj_query.specs.declared.sum.Sum.{Sum}
 use Rattle.hj_query.specs.declared.sum.Term.TheVariants as terms
-use Rattle.hj_query.specs.Parts.{Parts}
+use Rattle.hj_query.specs.QueryParts.{QueryParts}
 use Rattle.hj_eval.specs.declared.column_test.ColumnPair.{ColumnPair}
 use Rattle.hj_eval.specs.declared.column_test.NumberTest.{NumberTest}
 use Rattle.hj_eval.specs.declared.conjuncts.Conjuncts.{Conjuncts}
@@ -83,7 +83,7 @@ number_holds test left right =
     if test.is_negated then not (numbers_meet test.need test.columns left right) else numbers_meet test.need test.columns left right
 
 -- all parts of a condition hold
-abbrev pub all_hold : Parts → Conjuncts → List Field → List Field → Bool
+abbrev pub all_hold : QueryParts → Conjuncts → List Field → List Field → Bool
 all_hold query conjuncts left right =
     list_all (λ test. number_holds test left right) conjuncts.numbers.items
     && (list_all (λ test. texts_meet test.op test.columns left right) conjuncts.texts.items

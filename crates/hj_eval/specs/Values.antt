@@ -6,18 +6,18 @@ use Rattle.hj_value.specs.declared.field.Field.TheVariants as field
 use Rattle.hj_query.specs.declared.sum.Term.{Term}
 use Rattle.hj_query.specs.Grammar.{columns_of}
 use Rattle.hj_query.specs.Sides.{by_side}
-use Rattle.hj_eval.specs.declared.value.Value.{Value}
-use Rattle.hj_eval.specs.declared.value.Value.TheVariants as values
+use Rattle.hj_eval.specs.declared.value.SumValue.{SumValue}
+use Rattle.hj_eval.specs.declared.value.SumValue.TheVariants as values
 use Rattle.hj_eval.specs.declared.row_pair.RowPair.{RowPair}
 use Rattle.hj_eval.specs.Holds.{term_value}
 
 -- the number or the text that a value is
-abbrev pub field_of : Value → Field
+abbrev pub field_of : SumValue → Field
 field_of (values.Number number) = field.Int number
 field_of (values.Text text) = field.Text text.now
 
 -- a value that is a number has at most 64 bits
-abbrev pub IsSmall : Value → Type 0
+abbrev pub IsSmall : SumValue → Type 0
 IsSmall (values.Number number) = FitsSigned w64 number
 IsSmall (values.Text text) = Unit {0}
 

@@ -100,7 +100,7 @@ impl Filter<'_> {
     pub fn own(&self, side: Side, row: &Row) -> u64
         ensures { result ≡ own_key self.now side row.now }
     {
-        let reading = Reading {
+        let reading = RowOfSide {
             side,
             row,
             has_numbers: false,
@@ -115,7 +115,7 @@ impl Filter<'_> {
     pub fn range(&self, side: Side, against: &Row) -> Option<KeyRange>
         ensures { result ≡ range_of self.now side against.now }
     {
-        let reading = Reading {
+        let reading = RowOfSide {
             side: other_side(side),
             row: against,
             has_numbers: true,
@@ -129,7 +129,7 @@ impl Filter<'_> {
 
     /// Gives what the first sum is more than the second, as far as it is read: the nearest number of 128 bits; None where a term
     /// has no number.
-    fn difference(&self, reading: &Reading<'_>) -> Option<i128>
+    fn difference(&self, reading: &RowOfSide<'_>) -> Option<i128>
         ensures { result ≡ option_map (saturate_to_bits 127)
             (difference (number_of reading.now.side reading.now.row.now reading.now.has_numbers) self.now.first.now self.now.second.now) }
     {
@@ -203,13 +203,13 @@ impl Need {
 
 /// The row of one side, of which the columns count in a sum. Numbers count where so said, and columns of the other side don't.
 #[derive(Clone, Copy)]
-struct Reading<'a> {
+struct RowOfSide<'a> {
     side: Side,
     row: &'a Row,
     has_numbers: bool,
 }
 
-impl Reading<'_> {
+impl RowOfSide<'_> {
     /// Gives what a sum comes to; None where a term has no number.
     fn total(&self, sum: &Sum) -> Option<i128>
         ensures { result ≡ total (number_of self.now.side self.now.row.now self.now.has_numbers) sum.now }

@@ -19,14 +19,14 @@ pub struct ReadyQuery<'a> {
 
 impl<'a> Model for ReadyQuery<'a> {
     ghost use Rattle.std.specs.Prelude.{◌≡◌, List};
-    ghost use Rattle.hj_query.specs.Parts.{Parts};
+    ghost use Rattle.hj_query.specs.QueryParts.{QueryParts};
     ghost use Rattle.hj_query.specs.contracts.pred.Pred as e;
     ghost use Rattle.std.specs.Coded.{codes};
     ghost use Rattle.hj_value.specs.declared.field.Field.{Field};
     ghost use Rattle.hj_eval.specs.Holds.{holds};
     ghost use Rattle.hj_eval.specs.Tests.{all_hold};
 
-    ghost Value = { Parts };
+    ghost Value = { QueryParts };
 
     ghost coded = { Prim.hlevel (codes, e.the_row.coded) };
 
@@ -62,11 +62,11 @@ pub struct QueryJoin<'r> {
 }
 
 impl<'r> Model for QueryJoin<'r> {
-    ghost use Rattle.hj_query.specs.Parts.{Parts};
+    ghost use Rattle.hj_query.specs.QueryParts.{QueryParts};
     ghost use Rattle.hj_query.specs.contracts.pred.Pred as e;
     ghost use Rattle.std.specs.Coded.{codes};
 
-    ghost Value = { Parts };
+    ghost Value = { QueryParts };
 
     ghost coded = { Prim.hlevel (codes, e.the_row.coded) };
 

@@ -6,7 +6,7 @@ ghost use Rattle.hj_query.specs.Grammar.{columns_of};
 ghost use Rattle.hj_query.specs.Sides.{by_side};
 ghost use Rattle.hj_value.specs.declared.field.Field.TheVariants as field;
 
-use crate::value::Value;
+use crate::value::SumValue;
 use hj_base::Side;
 use hj_query::{FurtherTerms, Query, SignedTerm, Sum, Term};
 use hj_value::{ColumnType, Field, Row};
@@ -37,7 +37,7 @@ pub fn lone_number<'a>(rows: &RowPair<'a>, sum: &'a Sum) -> Option<i64>
 }
 
 /// Gives the value of a sum; None where a term has none, and where a text is one of several terms.
-pub fn sum_value<'a>(rows: &RowPair<'a>, sum: &'a Sum) -> Option<Value<'a>>
+pub fn sum_value<'a>(rows: &RowPair<'a>, sum: &'a Sum) -> Option<SumValue<'a>>
     ensures { option_map field_of result ≡ sum_value (value_in rows.now) sum.now }
 {
     let first = term_value(rows, &sum.first)?;
@@ -45,8 +45,8 @@ pub fn sum_value<'a>(rows: &RowPair<'a>, sum: &'a Sum) -> Option<Value<'a>>
         return Some(first);
     }
     match first {
-        Value::Number(number) => Some(Value::Number(total(rows, number, &sum.rest)?)),
-        Value::Text(_) => None,
+        SumValue::Number(number) => Some(SumValue::Number(total(rows, number, &sum.rest)?)),
+        SumValue::Text(_) => None,
     }
 }
 
@@ -72,24 +72,24 @@ fn with_part<'a>(rows: &RowPair<'a>, total: i128, part: &'a SignedTerm) -> Optio
     ensures grows { (terms : ℕ) → IsTotalOf terms total → IfSome result (IsTotalOf (terms + 1)) }
 {
     match term_value(rows, &part.term)? {
-        Value::Number(number) if part.plus => Some(total + number),
-        Value::Number(number) => Some(total - number),
-        Value::Text(_) => None,
+        SumValue::Number(number) if part.plus => Some(total + number),
+        SumValue::Number(number) => Some(total - number),
+        SumValue::Text(_) => None,
     }
 }
 
 /// Gives the value of a term; None for a column that isn't in its row, or has another type there.
-fn term_value<'a>(rows: &RowPair<'a>, term: &'a Term) -> Option<Value<'a>>
+fn term_value<'a>(rows: &RowPair<'a>, term: &'a Term) -> Option<SumValue<'a>>
     ensures value { option_map field_of result ≡ value_in rows.now term.now }
     ensures small { IfSome result IsSmall }
 {
     match term {
         Term::Column(side, at) => match column_value(rows, *side, usize::from(*at))? {
-            Field::Int(number) => Some(Value::Number(i128::from(number))),
-            Field::Text(text) => Some(Value::Text(text.bytes())),
+            Field::Int(number) => Some(SumValue::Number(i128::from(number))),
+            Field::Text(text) => Some(SumValue::Text(text.bytes())),
         },
-        Term::Number(number) => Some(Value::Number(i128::from(*number))),
-        Term::Text(text) => Some(Value::Text(text.bytes())),
+        Term::Number(number) => Some(SumValue::Number(i128::from(*number))),
+        Term::Text(text) => Some(SumValue::Text(text.bytes())),
     }
 }
 

@@ -8,18 +8,18 @@ use std::cmp::Ordering;
 
 /// The value of a sum: a number, or the bytes of a text that stands elsewhere.
 #[derive(Clone, Copy)]
-pub enum Value<'a> {
+pub enum SumValue<'a> {
     Number(i128),
     Text(&'a [u8]),
 }
 
 /// Asks whether two values compare so.
-pub fn compares(op: Op, left: Value<'_>, right: Value<'_>) -> bool
+pub fn compares(op: Op, left: SumValue<'_>, right: SumValue<'_>) -> bool
     ensures { result ≡ compares op (Some (field_of left.entry)) (Some (field_of right.entry)) }
 {
     match (left, right) {
-        (Value::Number(left), Value::Number(right)) => accepts(op, left.cmp(&right)),
-        (Value::Text(left), Value::Text(right)) => texts_compare(op, left, right),
+        (SumValue::Number(left), SumValue::Number(right)) => accepts(op, left.cmp(&right)),
+        (SumValue::Text(left), SumValue::Text(right)) => texts_compare(op, left, right),
         _ => false,
     }
 }
@@ -50,11 +50,12 @@ pub fn accepts(op: Op, order: Ordering) -> bool
 }
 
 /// Asks whether two values are numbers that differ by at most `distance`.
-pub fn is_within(distance: u64, left: Value<'_>, right: Value<'_>) -> bool
+pub fn is_within(distance: u64, left: SumValue<'_>, right: SumValue<'_>) -> bool
     ensures { result ≡ is_within distance (Some (field_of left.entry)) (Some (field_of right.entry)) }
 {
     match (left, right) {
-        (Value::Number(left), Value::Number(right)) => left.abs_diff(right) <= u128::from(distance),
+        (SumValue::Number(left), SumValue::Number(right)) => left.abs_diff(right)
+            <= u128::from(distance),
         _ => false,
     }
 }

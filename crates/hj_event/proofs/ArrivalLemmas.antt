@@ -12,21 +12,21 @@ use Rattle.hj_base.specs.declared.outside.Role.TheVariants as role
 use Rattle.hj_base.specs.Outside.{RoleState, ChangesOnly, ChangesOnlyStreams}
 use Rattle.hj_record.specs.Pieces.{Stream}
 use Rattle.hj_event.specs.declared.fault.RecordFault.{RecordFault}
-use Rattle.hj_event.specs.declared.stop.Stop.{Stop}
-use Rattle.hj_event.specs.declared.stop.Stop.TheVariants as stop
-use Rattle.hj_event.specs.declared.stop.Last.{Last}
-use Rattle.hj_event.specs.declared.stop.Last.TheVariants as last
+use Rattle.hj_event.specs.declared.stop.SideStop.{SideStop}
+use Rattle.hj_event.specs.declared.stop.SideStop.TheVariants as stop
+use Rattle.hj_event.specs.declared.stop.MergeEnd.{MergeEnd}
+use Rattle.hj_event.specs.declared.stop.MergeEnd.TheVariants as last
 use Rattle.hj_event.specs.Rows.{Rows, no_row, then_rows, clean as rows_clean, bad, unread}
 use Rattle.hj_event.specs.Arrivals.{Arrivals, arrivals_of, then_arrivals, no_arrival, clean, bad as merge_bad, unread as merge_unread}
 use Rattle.hj_event.specs.Arriving.{last_of, first_side, head_on, without_head, ArrivalLeads, TakesArrival, TakesHead, EndsBoth, fails}
-use Rattle.hj_event.specs.Sides.{Reading, SideState, Sides, with_head, in_front, Follows, side_ahead, arrivals_ahead}
+use Rattle.hj_event.specs.Sides.{ReaderState, SideState, Sides, with_head, in_front, Follows, side_ahead, arrivals_ahead}
 use Rattle.hj_event.specs.Roles.{IsReadOn, IsInStep}
 use Rattle.hj_event.specs.Taking.{EndsSide, IsReadAsNeeded, RowLeads, TakesRow, has_failed, unseen}
 use Rattle.hj_event.proofs.RoleLemmas.{not_read, not_needed}
 
 -- ---- the merge
 
-left_stops : (why : Stop) (left left_behind right : Rows) (behind : Arrivals) → RowLeads (Err why) left left_behind → ArrivalLeads (Err (last_of Left why)) (arrivals_of left right) behind
+left_stops : (why : SideStop) (left left_behind right : Rows) (behind : Arrivals) → RowLeads (Err why) left left_behind → ArrivalLeads (Err (last_of Left why)) (arrivals_of left right) behind
 left_stops (stop.Bad at why) left left_behind right behind is = ap (λ (l : Rows). arrivals_of l right) is
 left_stops stop.Failed left left_behind right behind is = ap (λ (l : Rows). arrivals_of l right) is
 left_stops stop.Memory left left_behind right behind is = tt
@@ -40,7 +40,7 @@ right_unread : (head : Option (List Field)) (left left_behind : Rows) → RowLea
 right_unread None left left_behind is = ap (λ (l : Rows). arrivals_of l (no_row unread)) is.0
 right_unread (Some row) left left_behind is = ap (λ (l : Rows). arrivals_of l (no_row unread)) is
 
-right_stops : (head : Option (List Field)) (why : Stop) (left left_behind right right_behind : Rows) (behind : Arrivals) → RowLeads (Ok head) left left_behind → RowLeads (Err why) right right_behind → ArrivalLeads (Err (last_of Right why)) (arrivals_of left right) behind
+right_stops : (head : Option (List Field)) (why : SideStop) (left left_behind right right_behind : Rows) (behind : Arrivals) → RowLeads (Ok head) left left_behind → RowLeads (Err why) right right_behind → ArrivalLeads (Err (last_of Right why)) (arrivals_of left right) behind
 right_stops head (stop.Bad at why) left left_behind right right_behind behind is other = ap (arrivals_of left) other ∙ right_bad head at why left left_behind is
 right_stops head stop.Failed left left_behind right right_behind behind is other = ap (arrivals_of left) other ∙ right_unread head left left_behind is
 right_stops head stop.Memory left left_behind right right_behind behind is other = tt
@@ -63,22 +63,22 @@ abbrev pub Roles : Type 0
 Roles = Role → RoleState
 
 -- what the stop of a side says of its failures
-stop_fails_left : (why : Stop) → has_failed {T = Option (List Field)} (Err why) ≡ fails (Err (last_of Left why)) Left
+stop_fails_left : (why : SideStop) → has_failed {T = Option (List Field)} (Err why) ≡ fails (Err (last_of Left why)) Left
 stop_fails_left (stop.Bad at why) = refl
 stop_fails_left stop.Failed = refl
 stop_fails_left stop.Memory = refl
 
-stop_fails_left_other : (why : Stop) → false ≡ fails (Err (last_of Left why)) Right
+stop_fails_left_other : (why : SideStop) → false ≡ fails (Err (last_of Left why)) Right
 stop_fails_left_other (stop.Bad at why) = refl
 stop_fails_left_other stop.Failed = refl
 stop_fails_left_other stop.Memory = refl
 
-stop_fails_right : (why : Stop) → has_failed {T = Option (List Field)} (Err why) ≡ fails (Err (last_of Right why)) Right
+stop_fails_right : (why : SideStop) → has_failed {T = Option (List Field)} (Err why) ≡ fails (Err (last_of Right why)) Right
 stop_fails_right (stop.Bad at why) = refl
 stop_fails_right stop.Failed = refl
 stop_fails_right stop.Memory = refl
 
-stop_fails_right_other : (why : Stop) → false ≡ fails (Err (last_of Right why)) Left
+stop_fails_right_other : (why : SideStop) → false ≡ fails (Err (last_of Right why)) Left
 stop_fails_right_other (stop.Bad at why) = refl
 stop_fails_right_other stop.Failed = refl
 stop_fails_right_other stop.Memory = refl
@@ -86,7 +86,7 @@ stop_fails_right_other stop.Memory = refl
 follows_as : (one other ended : Bool) (stream : Stream) → one ≡ other → Follows other ended stream → Follows one ended stream
 follows_as one other ended stream e follows = subst (λ (f : Bool). Follows f ended stream) (sym e) follows
 
-stop_ends : (side : Side) (why : Stop) (left right : Bool) → EndsBoth (Err (last_of side why)) left right
+stop_ends : (side : Side) (why : SideStop) (left right : Bool) → EndsBoth (Err (last_of side why)) left right
 stop_ends side (stop.Bad at why) left right = tt
 stop_ends side stop.Failed left right = tt
 stop_ends side stop.Memory left right = tt
@@ -94,7 +94,7 @@ stop_ends side stop.Memory left right = tt
 -- ---- a call
 
 -- The left side stops, and the right one isn't looked at.
-pub stops_left : (why : Stop) (old : Sides) (left : SideState) (before now : Roles) → TakesRow (Err why) old.left left (before role.Left) (now role.Left) → ChangesOnly role.Left before now → IsInStep old.right.reading.ended (before role.Right)
+pub stops_left : (why : SideStop) (old : Sides) (left : SideState) (before now : Roles) → TakesRow (Err why) old.left left (before role.Left) (now role.Left) → ChangesOnly role.Left before now → IsInStep old.right.reading.ended (before role.Right)
     → TakesArrival (Err (last_of Left why)) old (record { left = left; right = old.right }) before now
 stops_left why old left before now takes others step = record {
   left_bytes = takes.bytes;
@@ -111,13 +111,13 @@ stops_left why old left before now takes others step = record {
 }
 
 -- What both sides did, where the left one gave its head.
-pub record BothTaken (head : Option (List Field)) (answer : Result (Option (List Field)) Stop) (old new : Sides) (before between now : Roles) : Type 0 where
+pub record BothTaken (head : Option (List Field)) (answer : Result (Option (List Field)) SideStop) (old new : Sides) (before between now : Roles) : Type 0 where
   pub left : TakesRow (Ok head) old.left new.left (before role.Left) (between role.Left)
   pub left_others : ChangesOnly role.Left before between
   pub right : TakesRow answer old.right new.right (between role.Right) (now role.Right)
   pub right_others : ChangesOnly role.Right between now
 
-module _ (head : Option (List Field)) (answer : Result (Option (List Field)) Stop) (old new : Sides) (before between now : Roles) (both : BothTaken head answer old new before between now) where
+module _ (head : Option (List Field)) (answer : Result (Option (List Field)) SideStop) (old new : Sides) (before between now : Roles) (both : BothTaken head answer old new before between now) where
   left_read : IsReadOn false both.left.bytes old.left.reading.ended new.left.reading.ended (before role.Left) (now role.Left)
   left_read = subst (λ (s : RoleState). IsReadOn false both.left.bytes old.left.reading.ended new.left.reading.ended (before role.Left) s) (sym (both.right_others role.Left (λ e. cc))) both.left.reads
 
@@ -134,7 +134,7 @@ module _ (head : Option (List Field)) (answer : Result (Option (List Field)) Sto
   others_stay = λ of not_left not_right. both.right_others of not_right ∙ both.left_others of not_left
 
 -- The right side stops.
-pub stops_right : (head : Option (List Field)) (why : Stop) (old new : Sides) (before between now : Roles) → BothTaken head (Err why) old new before between now → TakesArrival (Err (last_of Right why)) old new before now
+pub stops_right : (head : Option (List Field)) (why : SideStop) (old new : Sides) (before between now : Roles) → BothTaken head (Err why) old new before between now → TakesArrival (Err (last_of Right why)) old new before now
 stops_right head why old new before between now both = record {
   left_bytes = both.left.bytes;
   right_bytes = both.right.bytes;
@@ -165,10 +165,10 @@ sees_known side role some step = by side.head refl some
 -- An arrival, where the sides behind it have these rows.
 module _ (head : Option (List Field)) (answer : Option (List Field)) (old mid new : Sides) (before between now : Roles) (both : BothTaken head (Ok answer) old mid before between now) (left_same : new.left.reading ≡ mid.left.reading) (right_same : new.right.reading ≡ mid.right.reading) where
   left_ended : mid.left.reading.ended ≡ new.left.reading.ended
-  left_ended = ap (λ (r : Reading). r.ended) (sym left_same)
+  left_ended = ap (λ (r : ReaderState). r.ended) (sym left_same)
 
   right_ended : mid.right.reading.ended ≡ new.right.reading.ended
-  right_ended = ap (λ (r : Reading). r.ended) (sym right_same)
+  right_ended = ap (λ (r : ReaderState). r.ended) (sym right_same)
 
   arrives : (side : Side) (row : List Field)
       → ((l r : Stream) → RowLeads (Ok head) (side_ahead old.left (in_front both.left.bytes l)) (side_ahead mid.left l) → RowLeads (Ok answer) (side_ahead old.right (in_front both.right.bytes r)) (side_ahead mid.right r)
@@ -259,7 +259,7 @@ module _ (old mid : Sides) (before between now : Roles) (both : BothTaken mid.le
   pub takes_none : (new : Sides) → TakesHead None mid new → TakesArrival (Err last.Done) old new before now
   takes_none new takes = subst (λ (sides : Sides). TakesArrival (Err last.Done) old sides before now) (sym takes.2) (ends_both takes.0 takes.1)
 
-any_behind : (why : Last) (ahead one other : Arrivals) → ArrivalLeads (Err why) ahead one → ArrivalLeads (Err why) ahead other
+any_behind : (why : MergeEnd) (ahead one other : Arrivals) → ArrivalLeads (Err why) ahead one → ArrivalLeads (Err why) ahead other
 any_behind last.Done ahead one other is = is
 any_behind (last.Bad side at why) ahead one other is = is
 any_behind (last.Failed side) ahead one other is = is
@@ -267,7 +267,7 @@ any_behind last.TooMany ahead one other is = is
 any_behind last.Memory ahead one other is = is
 
 -- The right side stops, where the left one was looked at.
-pub stops_behind : (why : Stop) (old mid : Sides) (before between now : Roles) → BothTaken mid.left.head (Err why) old (record mid { left = unseen mid.left }) before between now → TakesArrival (Err (last_of Right why)) old mid before now
+pub stops_behind : (why : SideStop) (old mid : Sides) (before between now : Roles) → BothTaken mid.left.head (Err why) old (record mid { left = unseen mid.left }) before between now → TakesArrival (Err (last_of Right why)) old mid before now
 stops_behind why old mid before between now both =
     let takes = stops_right mid.left.head why old (record mid { left = unseen mid.left }) before between now both in
     record {

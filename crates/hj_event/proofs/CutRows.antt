@@ -12,13 +12,13 @@ use Rattle.hj_base.specs.declared.numbers.Side.TheVariants.{Left, Right}
 use Rattle.hj_base.specs.Journals.{IsPrefix}
 use Rattle.hj_msg.specs.declared.event.Event.{Event}
 use Rattle.hj_record.specs.Pieces.{Stream, Pieces, PiecesEnd, pieces_of, unread as pieces_unread}
-use Rattle.hj_query.specs.Parts.{Parts}
+use Rattle.hj_query.specs.QueryParts.{QueryParts}
 use Rattle.hj_window.specs.LiveRows.{LiveRows, arrive}
 use Rattle.hj_event.specs.declared.fault.RecordFault.{RecordFault}
 use Rattle.hj_event.specs.Rows.{Rows, RowsEnd, then_rows, put_row, row_at, rows_from, rows_in, rows_of, with_time, put_in, is_sure, in_order, most_in_stream, clean as rows_clean, bad as rows_bad, unread as rows_unread}
 use Rattle.hj_event.specs.Waiting.{AreInOrder}
 use Rattle.hj_event.specs.Arrivals.{Arrival, Arrivals, Ending, unread, too_many, no_arrival, then_arrivals, stop_or, right_only, left_among, merge, arrivals_of}
-use Rattle.hj_event.specs.Events.{Silence, no_silence, silence_at, quiet_side, silence_behind, events_at, number_from, none_live, Numbered, numbered, up_to, all_events_of, events_of}
+use Rattle.hj_event.specs.Events.{Silence, no_silence, silence_at, quiet_side, silence_behind, events_at, number_from, none_live, NumberedEvents, numbered, up_to, all_events_of, events_of}
 use Rattle.hj_event.specs.Cut.{IsCutOf}
 use Rattle.hj_event.proofs.CutPieces.{IsPrefix-cons, IsPrefix-nil, PiecesCut, pieces_of-cut}
 use Rattle.hj_event.proofs.OrderLemmas.{none_sure, put_in-in_order, sure_ahead}
@@ -181,7 +181,7 @@ number_from-prefix quiet at live silence (arrival ∷ arrivals) others =
     IsPrefix-front events (number_from quiet (at + length events) came.live silent arrivals) (number_from quiet (at + length events) came.live silent (arrivals ++ others)) (number_from-prefix quiet (at + length events) came.live silent arrivals others)
 
 -- The same events with the same ending, or the first of them, up to where a stream was cut off.
-abbrev pub NumberedCut : Numbered → Numbered → Type 0
+abbrev pub NumberedCut : NumberedEvents → NumberedEvents → Type 0
 NumberedCut cut all = (cut ≡ all) ⊎ (((side : Side) × (cut.ending ≡ unread side)) × IsPrefix cut.events all.events)
 
 numbered-cut : (quiet : ℕ) (live : LiveRows) (silence : Silence) (cut all : Arrivals) → ArrivalsCut cut all → NumberedCut (numbered quiet 0 live silence cut) (numbered quiet 0 live silence all)
@@ -196,17 +196,17 @@ limited limit events rest cut_ending ending side is = elim (cases_lt limit (leng
   | inr fits ↦ rw (le-ltb limit (length events) fits) (inr ((side, is), within (ltb limit (length (events ++ rest))) fits))
 ]
   where
-    within : (test : Bool) → length events ≤ limit → IsPrefix events (cond {A = Numbered} test (record { events = take limit (events ++ rest); ending = too_many }) (record { events = events ++ rest; ending = ending })).events
+    within : (test : Bool) → length events ≤ limit → IsPrefix events (cond {A = NumberedEvents} test (record { events = take limit (events ++ rest); ending = too_many }) (record { events = events ++ rest; ending = ending })).events
     within true fits = record { rest = take (limit - length events) rest; is = ap (λ (n : ℕ). take n (events ++ rest)) (omega arith) ∙ take-append-add events rest (limit - length events) }
     within false fits = record { rest = rest; is = refl }
 
-up_to-cut : (limit : ℕ) (cut all : Numbered) → NumberedCut cut all → NumberedCut (up_to limit cut) (up_to limit all)
+up_to-cut : (limit : ℕ) (cut all : NumberedEvents) → NumberedCut cut all → NumberedCut (up_to limit cut) (up_to limit all)
 up_to-cut limit cut all (inl e) = inl (ap (up_to limit) e)
 up_to-cut limit cut all (inr e) =
     subst (λ (events : List (Event (List Field))). NumberedCut (up_to limit cut) (up_to limit (record { events = events; ending = all.ending }))) (sym e.1.is)
     (limited limit cut.events e.1.rest cut.ending all.ending e.0.0 e.0.1)
 
-pub events_of-cut : (query : Parts) (limit : ℕ) (cut_left cut_right left right : Stream) → IsCutOf cut_left left → IsCutOf cut_right right → NumberedCut (events_of query cut_left cut_right limit) (events_of query left right limit)
+pub events_of-cut : (query : QueryParts) (limit : ℕ) (cut_left cut_right left right : Stream) → IsCutOf cut_left left → IsCutOf cut_right right → NumberedCut (events_of query cut_left cut_right limit) (events_of query left right limit)
 events_of-cut query limit cut_left cut_right left right h k =
     let one = rows_of query.left.columns query.slack in
     let other = rows_of query.right.columns query.slack in
@@ -214,10 +214,10 @@ events_of-cut query limit cut_left cut_right left right h k =
     (numbered-cut query.quiet (none_live query) no_silence (arrivals_of (one cut_left) (other cut_right)) (arrivals_of (one left) (other right))
     (arrivals_of-cut (one cut_left) (other cut_right) (one left) (other right) (rows_of-cut query.left.columns query.slack cut_left left h) (rows_of-cut query.right.columns query.slack cut_right right k)))
 
-pub events-begin : (cut all : Numbered) → NumberedCut cut all → IsPrefix cut.events all.events
+pub events-begin : (cut all : NumberedEvents) → NumberedCut cut all → IsPrefix cut.events all.events
 events-begin cut all (inl e) = record { rest = []; is = sym (ap (λ numbered. numbered.events) e) ∙ sym (append-nil cut.events) }
 events-begin cut all (inr e) = e.1
 
-pub ends_as : (cut all : Numbered) → NumberedCut cut all → (cut ≡ all) ⊎ ((side : Side) × (cut.ending ≡ unread side))
+pub ends_as : (cut all : NumberedEvents) → NumberedCut cut all → (cut ≡ all) ⊎ ((side : Side) × (cut.ending ≡ unread side))
 ends_as cut all (inl e) = inl e
 ends_as cut all (inr e) = inr e.0

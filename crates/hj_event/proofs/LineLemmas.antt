@@ -15,7 +15,7 @@ use Rattle.hj_record.specs.Cuts.{Cuts, CutsFrom}
 use Rattle.hj_record.specs.LineEnd.{inside_after, may_take, EndsWithin, HasEnd}
 use Rattle.hj_record.specs.Pieces.{quotes, IsPiece}
 use Rattle.hj_record.proofs.Splits.{inside_by_quotes, inside_behind_both, outside_behind}
-use Rattle.hj_event.specs.Sides.{Reading}
+use Rattle.hj_event.specs.Sides.{ReaderState}
 use Rattle.hj_event.specs.Reads.{reading, IsReadable}
 use Rattle.hj_event.specs.Taking.{TellsRow}
 use Rattle.hj_event.proofs.LinesAhead.{ends_behind, outside_through, tells_row}
@@ -112,7 +112,7 @@ kept_lines old mid new portion taken filled used lines_end readable cuts ready =
 -- ---- what a line tells
 
 -- a side of which no piece has begun
-tells_rest : (side : Reading) (at k : ℕ) → side.part ≡ [] → EndsWithin false side.rest at → k ≤ at → is_blank (get_or side.rest k 0) ≡ false → TellsRow side
+tells_rest : (side : ReaderState) (at k : ℕ) → side.part ≡ [] → EndsWithin false side.rest at → k ≤ at → is_blank (get_or side.rest k 0) ≡ false → TellsRow side
 tells_rest side at k none ends le written =
     tells_row side at k (subst (λ part. EndsWithin false (part ++ side.rest) at) (sym none) ends) le (subst (λ part. is_blank (get_or (part ++ side.rest) k 0) ≡ false) (sym none) written)
 
@@ -129,7 +129,7 @@ blank_unquoted : (b : ℕ) → is_blank b ≡ true → b ≢ 34
 blank_unquoted b blank quote = false≢true (ap is_blank (sym quote) ∙ blank)
 
 module _ (columns : List Column) (slack : ℕ) (cutting : Cutting) (portion : List ℕ) (taken filled : ℕ) (ended : Bool) (record_no : ℕ) (time : Option ℤ) where
-  abbrev side : Reading
+  abbrev side : ReaderState
   side = reading columns slack cutting portion taken filled ended record_no time
 
   -- The piece that has begun ends in what was read.

@@ -20,7 +20,7 @@ use Rattle.hj_schema.specs.Rows.{row_of}
 use Rattle.hj_event.specs.declared.fault.RecordFault.{RecordFault}
 use Rattle.hj_event.specs.declared.fault.RecordFault.TheVariants as fault
 use Rattle.hj_event.specs.Rows.{Rows, in_time, row_in_time, record_row, row_at, no_row, end_at, put_row, rows_from, rows_in, unread}
-use Rattle.hj_event.specs.Sides.{Reading, unless_refused}
+use Rattle.hj_event.specs.Sides.{ReaderState, unless_refused}
 use Rattle.hj_event.specs.Taking.{TellsRow}
 
 -- ---- the end of a line
@@ -81,7 +81,7 @@ none_told columns slack record_no before (piece ∷ pieces) ending e =
 
 -- ---- a side
 
-written_told : (side : Reading) (stream : Stream) (at k : ℕ) → EndsWithin false stream.bytes at → k ≤ at → is_blank (get_or stream.bytes k 0) ≡ false → (found : Option PieceFault) → rows_in side.columns side.slack side.record_no side.time (unless_refused found (pieces_of side.room stream)) ≡ no_row unread → ⊥
+written_told : (side : ReaderState) (stream : Stream) (at k : ℕ) → EndsWithin false stream.bytes at → k ≤ at → is_blank (get_or stream.bytes k 0) ≡ false → (found : Option PieceFault) → rows_in side.columns side.slack side.record_no side.time (unless_refused found (pieces_of side.room stream)) ≡ no_row unread → ⊥
 written_told side stream at k ends le written None e =
     let pieces = pieces_of side.room stream in
     let none = none_told side.columns side.slack side.record_no side.time pieces.pieces pieces.ending e in
@@ -89,7 +89,7 @@ written_told side stream at k ends le written None e =
 written_told side stream at k ends le written (Some found) e = let ends = ap (λ (rows : Rows). rows.ending) e in cc
 
 -- Where a line with a byte that no empty line has ends in what was read, a row is told.
-pub tells_row : (side : Reading) (at k : ℕ) → EndsWithin false (side.part ++ side.rest) at → k ≤ at → is_blank (get_or (side.part ++ side.rest) k 0) ≡ false → TellsRow side
+pub tells_row : (side : ReaderState) (at k : ℕ) → EndsWithin false (side.part ++ side.rest) at → k ≤ at → is_blank (get_or (side.part ++ side.rest) k 0) ≡ false → TellsRow side
 tells_row side at k ends le written e =
     let same : side.part ++ (side.rest ++ []) ≡ side.part ++ side.rest = ap (λ rest. side.part ++ rest) (append-nil side.rest) in
     let stream : Stream = record { bytes = side.part ++ (side.rest ++ []); whole = false } in

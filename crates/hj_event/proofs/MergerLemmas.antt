@@ -10,15 +10,15 @@ use Rattle.hj_base.specs.declared.outside.Role.TheVariants as role
 use Rattle.hj_base.specs.Outside.{RoleState}
 use Rattle.hj_msg.specs.declared.event.Event.{Event}
 use Rattle.hj_value.specs.declared.column.Column.{Column}
-use Rattle.hj_query.specs.Parts.{Parts}
+use Rattle.hj_query.specs.QueryParts.{QueryParts}
 use Rattle.hj_record.specs.Pieces.{Stream}
-use Rattle.hj_event.specs.declared.stop.Last.{Last}
-use Rattle.hj_event.specs.declared.stop.Last.TheVariants as last
+use Rattle.hj_event.specs.declared.stop.MergeEnd.{MergeEnd}
+use Rattle.hj_event.specs.declared.stop.MergeEnd.TheVariants as last
 use Rattle.hj_event.specs.Arrivals.{Arrivals, arrivals_of, then_arrivals, clean, bad, unread}
 use Rattle.hj_event.specs.Arriving.{ArrivalLeads, TakesArrival, EndsBoth, fails}
-use Rattle.hj_event.specs.Events.{Numbered, numbered, none_live, no_silence, up_to, all_events_of, events_of}
-use Rattle.hj_event.specs.Merger.{Merging, IsNew, NextLeads, Steps, IsAllRead, answer_of, next_of, fails_next, events_from}
-use Rattle.hj_event.specs.Numbering.{NumberingState, nothing_due, numbered_ahead, has_due, Gives}
+use Rattle.hj_event.specs.Events.{NumberedEvents, numbered, none_live, no_silence, up_to, all_events_of, events_of}
+use Rattle.hj_event.specs.Merger.{Merging, IsNewMerger, NextLeads, StepsToAnswer, IsAllRead, answer_of, next_of, fails_next, events_from}
+use Rattle.hj_event.specs.Numbering.{NumberingState, nothing_due, numbered_ahead, has_due, GivesDueEvent}
 use Rattle.hj_event.specs.Roles.{IsReadOn, IsInStep}
 use Rattle.hj_event.specs.Rows.{rows_of}
 use Rattle.hj_event.specs.Sides.{Sides, new_sides, in_front, Follows, arrivals_ahead, at_its_end}
@@ -30,7 +30,7 @@ Roles = Role → RoleState
 
 -- ---- what an event that is due says
 
-gives_leads : (answer : Result (Event (List Field)) Last) (ahead behind : Numbered) → Gives answer ahead behind → NextLeads (next_of answer) ahead behind
+gives_leads : (answer : Result (Event (List Field)) MergeEnd) (ahead behind : NumberedEvents) → GivesDueEvent answer ahead behind → NextLeads (next_of answer) ahead behind
 gives_leads (Ok event) ahead behind gives = gives
 gives_leads (Err last.TooMany) ahead behind gives = gives
 gives_leads (Err last.Done) ahead behind gives = absurd gives
@@ -38,7 +38,7 @@ gives_leads (Err (last.Bad side at why)) ahead behind gives = absurd gives
 gives_leads (Err (last.Failed side)) ahead behind gives = absurd gives
 gives_leads (Err last.Memory) ahead behind gives = absurd gives
 
-gives_fails : (answer : Result (Event (List Field)) Last) (ahead behind : Numbered) → Gives answer ahead behind → (side : Side) → false ≡ fails_next (next_of answer) side
+gives_fails : (answer : Result (Event (List Field)) MergeEnd) (ahead behind : NumberedEvents) → GivesDueEvent answer ahead behind → (side : Side) → false ≡ fails_next (next_of answer) side
 gives_fails (Ok event) ahead behind gives side = refl
 gives_fails (Err last.TooMany) ahead behind gives side = refl
 gives_fails (Err last.Done) ahead behind gives side = absurd gives
@@ -46,7 +46,7 @@ gives_fails (Err (last.Bad of at why)) ahead behind gives side = absurd gives
 gives_fails (Err (last.Failed of)) ahead behind gives side = absurd gives
 gives_fails (Err last.Memory) ahead behind gives side = absurd gives
 
-gives_all_read : (answer : Result (Event (List Field)) Last) (ahead behind : Numbered) → Gives answer ahead behind → (left right : Bool) → IsAllRead (next_of answer) left right
+gives_all_read : (answer : Result (Event (List Field)) MergeEnd) (ahead behind : NumberedEvents) → GivesDueEvent answer ahead behind → (left right : Bool) → IsAllRead (next_of answer) left right
 gives_all_read (Ok event) ahead behind gives left right = tt
 gives_all_read (Err last.TooMany) ahead behind gives left right = tt
 gives_all_read (Err last.Done) ahead behind gives left right = absurd gives
@@ -54,26 +54,26 @@ gives_all_read (Err (last.Bad side at why)) ahead behind gives left right = absu
 gives_all_read (Err (last.Failed side)) ahead behind gives left right = absurd gives
 gives_all_read (Err last.Memory) ahead behind gives left right = absurd gives
 
-abbrev GivesFrom : Result (Event (List Field)) Last → NumberingState → NumberingState → Type 0
-GivesFrom answer old new = (arrivals : Arrivals) → Gives answer (numbered_ahead old arrivals) (numbered_ahead new arrivals)
+abbrev GivesFrom : Result (Event (List Field)) MergeEnd → NumberingState → NumberingState → Type 0
+GivesFrom answer old new = (arrivals : Arrivals) → GivesDueEvent answer (numbered_ahead old arrivals) (numbered_ahead new arrivals)
 
 -- ---- what an ending of the arrivals says
 
-last_leads : (why : Last) (state : NumberingState) (ahead behind : Arrivals) (after : Numbered) → has_due state.due ≡ false → ArrivalLeads (Err why) ahead behind → NextLeads (answer_of why) (numbered_ahead state ahead) after
+last_leads : (why : MergeEnd) (state : NumberingState) (ahead behind : Arrivals) (after : NumberedEvents) → has_due state.due ≡ false → ArrivalLeads (Err why) ahead behind → NextLeads (answer_of why) (numbered_ahead state ahead) after
 last_leads last.Done state ahead behind after none is = ap (numbered_ahead state) is ∙ ends-with state clean none
 last_leads (last.Bad side at why) state ahead behind after none is = ap (numbered_ahead state) is ∙ ends-with state (bad side at why) none
 last_leads (last.Failed side) state ahead behind after none is = ap (numbered_ahead state) is ∙ ends-with state (unread side) none
 last_leads last.TooMany state ahead behind after none is = absurd is
 last_leads last.Memory state ahead behind after none is = tt
 
-last_fails : (why : Last) (side : Side) → fails (Err why) side ≡ fails_next (answer_of why) side
+last_fails : (why : MergeEnd) (side : Side) → fails (Err why) side ≡ fails_next (answer_of why) side
 last_fails last.Done side = refl
 last_fails (last.Bad of at why) side = refl
 last_fails (last.Failed of) side = refl
 last_fails last.TooMany side = refl
 last_fails last.Memory side = refl
 
-last_all_read : (why : Last) (left right : Bool) → EndsBoth (Err why) left right → IsAllRead (answer_of why) left right
+last_all_read : (why : MergeEnd) (left right : Bool) → EndsBoth (Err why) left right → IsAllRead (answer_of why) left right
 last_all_read last.Done left right both = both
 last_all_read (last.Bad side at why) left right both = tt
 last_all_read (last.Failed side) left right both = tt
@@ -89,8 +89,8 @@ follows_as one other ended stream e follows = subst (λ (f : Bool). Follows f en
 -- ---- steps
 
 -- An event is given that was due already.
-pub steps_due : (answer : Result (Event (List Field)) Last) (sides : Sides) (over : Option Last) (old new : NumberingState) (roles : Roles) → IsInStep sides.left.reading.ended (roles role.Left) → IsInStep sides.right.reading.ended (roles role.Right) → GivesFrom answer old new
-    → Steps answer (record { sides = sides; numbering = old; over = over }) (record { sides = sides; numbering = new; over = over }) roles roles
+pub steps_due : (answer : Result (Event (List Field)) MergeEnd) (sides : Sides) (over : Option MergeEnd) (old new : NumberingState) (roles : Roles) → IsInStep sides.left.reading.ended (roles role.Left) → IsInStep sides.right.reading.ended (roles role.Right) → GivesFrom answer old new
+    → StepsToAnswer answer (record { sides = sides; numbering = old; over = over }) (record { sides = sides; numbering = new; over = over }) roles roles
 steps_due answer sides over old new roles left right gives =
     let some = gives (arrivals_ahead sides at_its_end at_its_end) in
     let ahead = numbered_ahead old (arrivals_ahead sides at_its_end at_its_end) in
@@ -112,8 +112,8 @@ steps_due answer sides over old new roles left right gives =
     )
 
 -- The arrivals end.
-pub steps_last : (why : Last) (old new : Sides) (over : Option Last) (numbering : NumberingState) (before now : Roles) → has_due numbering.due ≡ false → TakesArrival (Err why) old new before now
-    → Steps (Err why) (record { sides = old; numbering = numbering; over = over }) (record { sides = new; numbering = numbering; over = over }) before now
+pub steps_last : (why : MergeEnd) (old new : Sides) (over : Option MergeEnd) (numbering : NumberingState) (before now : Roles) → has_due numbering.due ≡ false → TakesArrival (Err why) old new before now
+    → StepsToAnswer (Err why) (record { sides = old; numbering = numbering; over = over }) (record { sides = new; numbering = numbering; over = over }) before now
 steps_last why old new over numbering before now none takes = (
   record {
     left_bytes = takes.left_bytes;
@@ -133,9 +133,9 @@ steps_last why old new over numbering before now none takes = (
 )
 
 -- A row arrives, and the first of its events is given.
-pub steps_arrival : (arrival : Side × List Field) (answer : Result (Event (List Field)) Last) (old new : Sides) (over : Option Last) (numbering with_row after : NumberingState) (before now : Roles) → has_due numbering.due ≡ false → TakesArrival (Ok arrival) old new before now
+pub steps_arrival : (arrival : Side × List Field) (answer : Result (Event (List Field)) MergeEnd) (old new : Sides) (over : Option MergeEnd) (numbering with_row after : NumberingState) (before now : Roles) → has_due numbering.due ≡ false → TakesArrival (Ok arrival) old new before now
     → ((arrivals : Arrivals) → numbered_ahead numbering (then_arrivals arrival.0 arrival.1 arrivals) ≡ numbered_ahead with_row arrivals) → GivesFrom answer with_row after
-    → Steps answer (record { sides = old; numbering = numbering; over = over }) (record { sides = new; numbering = after; over = over }) before now
+    → StepsToAnswer answer (record { sides = old; numbering = numbering; over = over }) (record { sides = new; numbering = after; over = over }) before now
 steps_arrival arrival answer old new over numbering with_row after before now none takes arrives gives =
     let some = gives (arrivals_ahead new at_its_end at_its_end) in
     let ahead = numbered_ahead with_row (arrivals_ahead new at_its_end at_its_end) in
@@ -147,7 +147,7 @@ steps_arrival arrival answer old new over numbering with_row after before now no
         right = read_as false (fails_next (next_of answer) Right) takes.right_bytes old.right.reading.ended new.right.reading.ended (before role.Right) (now role.Right) (gives_fails answer ahead behind some Right) takes.right;
         others = takes.others;
         leads = λ l r l_follows r_follows. gives_leads answer (numbered_ahead numbering (arrivals_ahead old (in_front takes.left_bytes l) (in_front takes.right_bytes r))) (numbered_ahead after (arrivals_ahead new l r))
-            (subst (λ (n : Numbered). Gives answer n (numbered_ahead after (arrivals_ahead new l r)))
+            (subst (λ (n : NumberedEvents). GivesDueEvent answer n (numbered_ahead after (arrivals_ahead new l r)))
             (sym (ap (numbered_ahead numbering) (takes.leads l r (follows_as false (fails_next (next_of answer) Left) new.left.reading.ended l (gives_fails answer ahead behind some Left) l_follows) (follows_as false (fails_next (next_of answer) Right) new.right.reading.ended r (gives_fails answer ahead behind some Right) r_follows))
             ∙ arrives (arrivals_ahead new l r)))
             (gives (arrivals_ahead new l r)));
@@ -162,7 +162,7 @@ steps_arrival arrival answer old new over numbering with_row after before now no
 
 -- ---- a new merger
 
-begins : (query : Parts) (limit : ℕ) (left right : List Column) (slack : ℕ) → left ≡ query.left.columns → right ≡ query.right.columns → slack ≡ query.slack → (l r : Stream)
+begins : (query : QueryParts) (limit : ℕ) (left right : List Column) (slack : ℕ) → left ≡ query.left.columns → right ≡ query.right.columns → slack ≡ query.slack → (l r : Stream)
     → events_from (record { sides = new_sides left right slack; numbering = record { live = none_live query; silence = no_silence; quiet = query.quiet; due = nothing_due; next = 0; limit = limit }; over = None }) l r ≡ events_of query l r limit
 begins query limit left right slack is are late l r =
     let all : limit - 0 ≡ limit = omega arith in
@@ -171,9 +171,9 @@ begins query limit left right slack is are late l r =
     ∙ (ap (λ (k : ℕ). up_to (limit - 0) (numbered query.quiet 0 (none_live query) no_silence (arrivals_of (rows_of query.left.columns k l) (rows_of query.right.columns k r)))) late
     ∙ ap (λ (n : ℕ). up_to n (all_events_of query l r)) all))
 
-pub is_new : (query : Parts) (limit : ℕ) (left right : List Column) (slack : ℕ) (merging : Merging) → left ≡ query.left.columns → right ≡ query.right.columns → slack ≡ query.slack
-    → merging ≡ record { sides = new_sides left right slack; numbering = record { live = none_live query; silence = no_silence; quiet = query.quiet; due = nothing_due; next = 0; limit = limit }; over = None } → IsNew query limit merging
-is_new query limit left right slack merging is are late same = subst (λ (m : Merging). IsNew query limit m) (sym same) (record {
+pub is_new : (query : QueryParts) (limit : ℕ) (left right : List Column) (slack : ℕ) (merging : Merging) → left ≡ query.left.columns → right ≡ query.right.columns → slack ≡ query.slack
+    → merging ≡ record { sides = new_sides left right slack; numbering = record { live = none_live query; silence = no_silence; quiet = query.quiet; due = nothing_due; next = 0; limit = limit }; over = None } → IsNewMerger query limit merging
+is_new query limit left right slack merging is are late same = subst (λ (m : Merging). IsNewMerger query limit m) (sym same) (record {
   left = refl;
   right = refl;
   over = refl;

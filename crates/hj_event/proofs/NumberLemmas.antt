@@ -20,7 +20,7 @@ use Rattle.hj_window.specs.LiveRows.{LiveRow, LiveRows, AllBelow, arrive, is_sam
 use Rattle.hj_window.specs.Numbers.{numbers_of, number_of_some}
 use Rattle.hj_window.proofs.Order.{live_below}
 use Rattle.hj_event.specs.Arrivals.{Arrivals, Ending, then_arrivals, no_arrival, too_many}
-use Rattle.hj_event.specs.Events.{Numbered, Silence, rows_in_silence, silence_at, quiet_side, silence_behind, quiet_event, expiries, events_at, number_from, numbered, up_to}
+use Rattle.hj_event.specs.Events.{NumberedEvents, Silence, rows_in_silence, silence_at, quiet_side, silence_behind, quiet_event, expiries, events_at, number_from, numbered, up_to}
 use Rattle.hj_event.specs.Numbering.{DueState, NumberingState, expiries_of, arrival_at, due_count, due_events, has_due, due_of, numbered_ahead, no_event, TakesDue, IsCounted}
 
 -- ---- a limit
@@ -28,7 +28,7 @@ use Rattle.hj_event.specs.Numbering.{DueState, NumberingState, expiries_of, arri
 pub up_to-none : (room : ℕ) (ending : Ending) → up_to room (no_event ending) ≡ no_event ending
 up_to-none room ending = ap (λ (t : Bool). cond t (record { events = take room []; ending = too_many }) (no_event ending)) (le-ltb room 0 (omega arith))
 
-pub up_to-zero : (room : ℕ) (all : Numbered) → room ≡ 0 → 0 < length all.events → up_to room all ≡ no_event too_many
+pub up_to-zero : (room : ℕ) (all : NumberedEvents) → room ≡ 0 → 0 < length all.events → up_to room all ≡ no_event too_many
 up_to-zero room all none some =
     ap (λ (k : ℕ). up_to k all) none
     ∙ ap (λ (t : Bool). cond t (no_event too_many) all) (lt-ltb 0 (length all.events) some)

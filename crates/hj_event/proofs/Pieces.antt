@@ -8,7 +8,7 @@ use Rattle.hj_record.specs.declared.fault.PieceFault.{PieceFault}
 use Rattle.hj_record.specs.declared.fault.PieceFault.TheVariants as fault
 use Rattle.hj_record.specs.declared.cutter.Cut.TheVariants as cut
 use Rattle.hj_record.specs.declared.cutter.Fed.TheVariants as fed
-use Rattle.hj_record.specs.Cutter.{Cutting, cleared, pieces_from, Ends, EndsFrom, LeadsAtEnd}
+use Rattle.hj_record.specs.Cutter.{Cutting, cleared, pieces_from, EndsStream, EndsFrom, LeadsAtEnd}
 use Rattle.hj_record.specs.Cuts.{Cuts, CutsFrom, LeadsBy, with_piece}
 use Rattle.hj_record.specs.Pieces.{Pieces, ended, then_pieces, clean, bad, unread, pieces_of}
 use Rattle.hj_event.specs.Sides.{unless_refused}
@@ -114,5 +114,5 @@ module _ (old new : Cutting) where
       )
   last_from (Some found) e used stays leads = cc
 
-  pub last_ahead : (used : ℕ) → Ends (fed.Piece used) old new → (old.fault ≡ None → LeadsAtEnd (fed.Piece used) old new) → (ahead_of old [] true ≡ then_pieces new.piece (ahead_of (cleared new) [] true)) × (new.piece ≡ old.piece)
+  pub last_ahead : (used : ℕ) → EndsStream (fed.Piece used) old new → (old.fault ≡ None → LeadsAtEnd (fed.Piece used) old new) → (ahead_of old [] true ≡ then_pieces new.piece (ahead_of (cleared new) [] true)) × (new.piece ≡ old.piece)
   last_ahead = last_from old.fault refl

@@ -10,10 +10,10 @@ use Rattle.hj_record.specs.Pieces.{Pieces, Stream, then_pieces}
 use Rattle.hj_schema.specs.declared.fault.RowFault.TheVariants as row_fault
 use Rattle.hj_event.specs.declared.fault.RecordFault.{RecordFault}
 use Rattle.hj_event.specs.declared.fault.RecordFault.TheVariants as fault
-use Rattle.hj_event.specs.declared.stop.Stop.{Stop}
+use Rattle.hj_event.specs.declared.stop.SideStop.{SideStop}
 use Rattle.hj_event.specs.declared.stop.ReadStep.{ReadStep}
 use Rattle.hj_event.specs.Rows.{Rows, no_row, then_rows, put_row, row_at, rows_in, bad}
-use Rattle.hj_event.specs.Sides.{Reading, pieces_ahead, read_ahead, at_its_end, MayFollow}
+use Rattle.hj_event.specs.Sides.{ReaderState, pieces_ahead, read_ahead, at_its_end, MayFollow}
 use Rattle.hj_event.specs.Taking.{ReadsPiece, Holds, StepLeads, Wants, TimeGoes, stop_of}
 use Rattle.hj_event.proofs.OrderLemmas.{row_at_in_time}
 
@@ -27,20 +27,20 @@ err_leads number (fault.Row row_fault.Memory) columns slack time piece ahead beh
 err_leads number why columns slack time piece ahead behind reads is = is reads
 
 -- What a piece holds leads from the rows with it to the rows behind it.
-pub holds_leads : (row : Result (Option (List Field)) RecordFault) (answer : Result ReadStep Stop) (mid new : Reading) (piece : List ℕ) (stream : Stream) (ahead : Rows)
+pub holds_leads : (row : Result (Option (List Field)) RecordFault) (answer : Result ReadStep SideStop) (mid new : ReaderState) (piece : List ℕ) (stream : Stream) (ahead : Rows)
     → ReadsPiece row mid.columns mid.slack mid.time piece → Holds row answer mid new
     → ahead ≡ rows_in mid.columns mid.slack mid.record_no mid.time (then_pieces piece (pieces_ahead mid stream))
     → StepLeads answer ahead (read_ahead new stream)
 holds_leads (Ok None) answer mid new piece stream ahead reads holds is =
-    subst (λ (a : Result ReadStep Stop). StepLeads a ahead (read_ahead new stream)) (sym holds.0)
-    (is ∙ piece_first mid.columns mid.slack mid.record_no mid.time piece (pieces_ahead mid stream) (Ok None) reads ∙ ap (λ (r : Reading). read_ahead r stream) (sym holds.1))
+    subst (λ (a : Result ReadStep SideStop). StepLeads a ahead (read_ahead new stream)) (sym holds.0)
+    (is ∙ piece_first mid.columns mid.slack mid.record_no mid.time piece (pieces_ahead mid stream) (Ok None) reads ∙ ap (λ (r : ReaderState). read_ahead r stream) (sym holds.1))
 holds_leads (Ok (Some row)) answer mid new piece stream ahead reads (inl memory) is =
-    subst (λ (a : Result ReadStep Stop). StepLeads a ahead (read_ahead new stream)) (sym memory.0) tt
+    subst (λ (a : Result ReadStep SideStop). StepLeads a ahead (read_ahead new stream)) (sym memory.0) tt
 holds_leads (Ok (Some row)) answer mid new piece stream ahead reads (inr gives) is =
-    subst (λ (a : Result ReadStep Stop). StepLeads a ahead (read_ahead new stream)) (sym gives.0)
-    (is ∙ piece_first mid.columns mid.slack mid.record_no mid.time piece (pieces_ahead mid stream) (Ok (Some row)) reads ∙ ap (λ (r : Reading). then_rows row (read_ahead r stream)) (sym gives.1))
+    subst (λ (a : Result ReadStep SideStop). StepLeads a ahead (read_ahead new stream)) (sym gives.0)
+    (is ∙ piece_first mid.columns mid.slack mid.record_no mid.time piece (pieces_ahead mid stream) (Ok (Some row)) reads ∙ ap (λ (r : ReaderState). then_rows row (read_ahead r stream)) (sym gives.1))
 holds_leads (Err why) answer mid new piece stream ahead reads holds is =
-    subst (λ (a : Result ReadStep Stop). StepLeads a ahead (read_ahead new stream)) (sym holds.0)
+    subst (λ (a : Result ReadStep SideStop). StepLeads a ahead (read_ahead new stream)) (sym holds.0)
     (err_leads mid.record_no why mid.columns mid.slack mid.time piece ahead (read_ahead new stream) reads
     (λ e. is ∙ piece_first mid.columns mid.slack mid.record_no mid.time piece (pieces_ahead mid stream) (Err why) e))
 
@@ -54,34 +54,34 @@ pub at_end_follows : (ended : Bool) (stream : Stream) → ended ≡ true → May
 at_end_follows true stream e follows = follows
 at_end_follows false stream e follows = cc
 
-pub holds_ended : (row : Result (Option (List Field)) RecordFault) (answer : Result ReadStep Stop) (old new : Reading) → Holds row answer old new → new.ended ≡ old.ended
-holds_ended (Ok None) answer old new holds = ap (λ (r : Reading). r.ended) holds.1
-holds_ended (Ok (Some row)) answer old new (inl memory) = ap (λ (r : Reading). r.ended) memory.1
-holds_ended (Ok (Some row)) answer old new (inr gives) = ap (λ (r : Reading). r.ended) gives.1
-holds_ended (Err why) answer old new holds = ap (λ (r : Reading). r.ended) holds.1
+pub holds_ended : (row : Result (Option (List Field)) RecordFault) (answer : Result ReadStep SideStop) (old new : ReaderState) → Holds row answer old new → new.ended ≡ old.ended
+holds_ended (Ok None) answer old new holds = ap (λ (r : ReaderState). r.ended) holds.1
+holds_ended (Ok (Some row)) answer old new (inl memory) = ap (λ (r : ReaderState). r.ended) memory.1
+holds_ended (Ok (Some row)) answer old new (inr gives) = ap (λ (r : ReaderState). r.ended) gives.1
+holds_ended (Err why) answer old new holds = ap (λ (r : ReaderState). r.ended) holds.1
 
-stops_wanting : (number : ℕ) (why : RecordFault) (side : Reading) (ahead : Stream → Rows) → Wants (Err (stop_of number why)) side ahead
+stops_wanting : (number : ℕ) (why : RecordFault) (side : ReaderState) (ahead : Stream → Rows) → Wants (Err (stop_of number why)) side ahead
 stops_wanting number why side ahead = tt
 
-pub holds_slack : (row : Result (Option (List Field)) RecordFault) (answer : Result ReadStep Stop) (old new : Reading) → Holds row answer old new → new.slack ≡ old.slack
-holds_slack (Ok None) answer old new holds = ap (λ (r : Reading). r.slack) holds.1
-holds_slack (Ok (Some row)) answer old new (inl memory) = ap (λ (r : Reading). r.slack) memory.1
-holds_slack (Ok (Some row)) answer old new (inr gives) = ap (λ (r : Reading). r.slack) gives.1
-holds_slack (Err why) answer old new holds = ap (λ (r : Reading). r.slack) holds.1
+pub holds_slack : (row : Result (Option (List Field)) RecordFault) (answer : Result ReadStep SideStop) (old new : ReaderState) → Holds row answer old new → new.slack ≡ old.slack
+holds_slack (Ok None) answer old new holds = ap (λ (r : ReaderState). r.slack) holds.1
+holds_slack (Ok (Some row)) answer old new (inl memory) = ap (λ (r : ReaderState). r.slack) memory.1
+holds_slack (Ok (Some row)) answer old new (inr gives) = ap (λ (r : ReaderState). r.slack) gives.1
+holds_slack (Err why) answer old new holds = ap (λ (r : ReaderState). r.slack) holds.1
 
 pub stop_time : (number : ℕ) (why : RecordFault) (slack : ℕ) (before after : Option ℤ) → after ≡ before → TimeGoes (Err (stop_of number why)) slack before after
 stop_time number why slack before after same = same
 
-pub holds_time : (row : Result (Option (List Field)) RecordFault) (answer : Result ReadStep Stop) (old new : Reading) (piece : List ℕ) → ReadsPiece row old.columns old.slack old.time piece → Holds row answer old new → TimeGoes answer old.slack old.time new.time
-holds_time (Ok None) answer old new piece reads holds = subst (λ (a : Result ReadStep Stop). TimeGoes a old.slack old.time new.time) (sym holds.0) (ap (λ (r : Reading). r.time) holds.1)
-holds_time (Ok (Some row)) answer old new piece reads (inl memory) = subst (λ (a : Result ReadStep Stop). TimeGoes a old.slack old.time new.time) (sym memory.0) (ap (λ (r : Reading). r.time) memory.1)
+pub holds_time : (row : Result (Option (List Field)) RecordFault) (answer : Result ReadStep SideStop) (old new : ReaderState) (piece : List ℕ) → ReadsPiece row old.columns old.slack old.time piece → Holds row answer old new → TimeGoes answer old.slack old.time new.time
+holds_time (Ok None) answer old new piece reads holds = subst (λ (a : Result ReadStep SideStop). TimeGoes a old.slack old.time new.time) (sym holds.0) (ap (λ (r : ReaderState). r.time) holds.1)
+holds_time (Ok (Some row)) answer old new piece reads (inl memory) = subst (λ (a : Result ReadStep SideStop). TimeGoes a old.slack old.time new.time) (sym memory.0) (ap (λ (r : ReaderState). r.time) memory.1)
 holds_time (Ok (Some row)) answer old new piece reads (inr gives) =
-    subst (λ (a : Result ReadStep Stop). TimeGoes a old.slack old.time new.time) (sym gives.0) (row_at_in_time old.columns old.slack old.time piece row reads, ap (λ (r : Reading). r.time) gives.1)
+    subst (λ (a : Result ReadStep SideStop). TimeGoes a old.slack old.time new.time) (sym gives.0) (row_at_in_time old.columns old.slack old.time piece row reads, ap (λ (r : ReaderState). r.time) gives.1)
 holds_time (Err why) answer old new piece reads holds =
-    subst (λ (a : Result ReadStep Stop). TimeGoes a old.slack old.time new.time) (sym holds.0) (stop_time old.record_no why old.slack old.time new.time (ap (λ (r : Reading). r.time) holds.1))
+    subst (λ (a : Result ReadStep SideStop). TimeGoes a old.slack old.time new.time) (sym holds.0) (stop_time old.record_no why old.slack old.time new.time (ap (λ (r : ReaderState). r.time) holds.1))
 
-pub holds_wants : (row : Result (Option (List Field)) RecordFault) (answer : Result ReadStep Stop) (old new : Reading) (ahead : Stream → Rows) → Holds row answer old new → Wants answer new ahead
-holds_wants (Ok None) answer old new ahead holds = subst (λ (a : Result ReadStep Stop). Wants a new ahead) (sym holds.0) tt
-holds_wants (Ok (Some row)) answer old new ahead (inl memory) = subst (λ (a : Result ReadStep Stop). Wants a new ahead) (sym memory.0) tt
-holds_wants (Ok (Some row)) answer old new ahead (inr gives) = subst (λ (a : Result ReadStep Stop). Wants a new ahead) (sym gives.0) tt
-holds_wants (Err why) answer old new ahead holds = subst (λ (a : Result ReadStep Stop). Wants a new ahead) (sym holds.0) (stops_wanting old.record_no why new ahead)
+pub holds_wants : (row : Result (Option (List Field)) RecordFault) (answer : Result ReadStep SideStop) (old new : ReaderState) (ahead : Stream → Rows) → Holds row answer old new → Wants answer new ahead
+holds_wants (Ok None) answer old new ahead holds = subst (λ (a : Result ReadStep SideStop). Wants a new ahead) (sym holds.0) tt
+holds_wants (Ok (Some row)) answer old new ahead (inl memory) = subst (λ (a : Result ReadStep SideStop). Wants a new ahead) (sym memory.0) tt
+holds_wants (Ok (Some row)) answer old new ahead (inr gives) = subst (λ (a : Result ReadStep SideStop). Wants a new ahead) (sym gives.0) tt
+holds_wants (Err why) answer old new ahead holds = subst (λ (a : Result ReadStep SideStop). Wants a new ahead) (sym holds.0) (stops_wanting old.record_no why new ahead)

@@ -8,18 +8,18 @@ use Rattle.hj_base.specs.declared.numbers.Memory.{Memory}
 use Rattle.hj_base.specs.Outside.{RoleState}
 use Rattle.hj_record.specs.Pieces.{Stream}
 use Rattle.hj_event.specs.declared.fault.RecordFault.{RecordFault}
-use Rattle.hj_event.specs.declared.stop.Stop.{Stop}
-use Rattle.hj_event.specs.declared.stop.Stop.TheVariants as stop
-use Rattle.hj_event.specs.declared.source.Ahead.{Ahead}
-use Rattle.hj_event.specs.declared.source.Ahead.TheVariants as ahead
+use Rattle.hj_event.specs.declared.stop.SideStop.{SideStop}
+use Rattle.hj_event.specs.declared.stop.SideStop.TheVariants as stop
+use Rattle.hj_event.specs.declared.row_source.Ahead.{Ahead}
+use Rattle.hj_event.specs.declared.row_source.Ahead.TheVariants as ahead
 use Rattle.hj_event.specs.declared.stop.ReadStep.{ReadStep}
 use Rattle.hj_event.specs.declared.stop.ReadStep.TheVariants as read_step
 use Rattle.hj_value.specs.Row.{time_of}
 use Rattle.hj_event.specs.Rows.{Rows, no_row, then_rows, put_in, is_sure, in_order, rows_in, with_time, clean, unread}
-use Rattle.hj_event.specs.Sides.{Reading, SideState, in_front, at_its_end, cut_off, MayFollow, pieces_ahead, read_ahead, rows_ahead}
+use Rattle.hj_event.specs.Sides.{ReaderState, SideState, in_front, at_its_end, cut_off, MayFollow, pieces_ahead, read_ahead, rows_ahead}
 use Rattle.hj_event.specs.Reads.{Fills}
 use Rattle.hj_event.specs.Roles.{IsReadOn, IsInStep}
-use Rattle.hj_event.specs.Taking.{IsNeeded, IsReadAsNeeded, StepLeads, Wants, Advances, TakesLine, GoesOn, TakesRow, TakesStraight, TellsRow, TellsNext, IsTold, IsOver, IsKnown, IsNext, IsKept, ReadsLines, late_side, refused_in, step_by, unseen, has_failed}
+use Rattle.hj_event.specs.Taking.{IsNeeded, IsReadAsNeeded, StepLeads, Wants, Advances, TakesNextLine, SideGoesOn, TakesRow, TakesStraight, TellsRow, TellsNext, IsTold, IsSideOver, IsKnown, IsNextRow, KeepsBehind, ReadsLines, late_side, refused_in, step_by, unseen, has_failed}
 use Rattle.hj_event.specs.Waiting.{AreInOrder, TakesSure, has_sure, is_held}
 use Rattle.hj_event.proofs.OrderLemmas.{as_read, sure_ahead}
 use Rattle.hj_event.proofs.WaitingLemmas.{none_first, still_unsure}
@@ -49,35 +49,35 @@ follows_going stream ended e = subst (λ (b : Bool). MayFollow b stream) (sym e)
 
 module _ (old now new : SideState) (before after : RoleState) (so_far : SoFar old now before after) where
   -- where the bytes give something, from the rows of the first state
-  from_first : (answer : Result ReadStep Stop) → GoesOn answer now new → (stream : Stream) → MayFollow new.reading.ended stream → StepLeads answer (rows_ahead old (in_front so_far.bytes stream)) (rows_ahead new stream)
+  from_first : (answer : Result ReadStep SideStop) → SideGoesOn answer now new → (stream : Stream) → MayFollow new.reading.ended stream → StepLeads answer (rows_ahead old (in_front so_far.bytes stream)) (rows_ahead new stream)
   from_first answer goes stream follows =
       subst (λ (ahead : Rows). StepLeads answer ahead (rows_ahead new stream)) (sym (so_far.leads stream (follows_as stream new.reading.ended now.reading.ended goes.ended follows))) (goes.leads stream follows)
 
-  reads_on : (answer : Result ReadStep Stop) → GoesOn answer now new → IsReadOn false so_far.bytes old.reading.ended new.reading.ended before after
+  reads_on : (answer : Result ReadStep SideStop) → SideGoesOn answer now new → IsReadOn false so_far.bytes old.reading.ended new.reading.ended before after
   reads_on answer goes = read_as false so_far.bytes old.reading.ended now.reading.ended new.reading.ended before after goes.ended so_far.reads
 
-  pub so_far-no_record : GoesOn (Ok read_step.NoRecord) now new → SoFar old new before after
+  pub so_far-no_record : SideGoesOn (Ok read_step.NoRecord) now new → SoFar old new before after
   so_far-no_record goes = record { bytes = so_far.bytes; reads = reads_on (Ok read_step.NoRecord) goes; leads = from_first (Ok read_step.NoRecord) goes; needed = so_far.needed }
 
-  pub so_far-more : GoesOn (Ok read_step.More) now new → SoFar old new before after
+  pub so_far-more : SideGoesOn (Ok read_step.More) now new → SoFar old new before after
   so_far-more goes = record { bytes = so_far.bytes; reads = reads_on (Ok read_step.More) goes; leads = from_first (Ok read_step.More) goes; needed = so_far.needed }
 
   some_follows : (ended : Bool) → (stream : Stream) × MayFollow ended stream
   some_follows true = (at_its_end, refl)
   some_follows false = (at_its_end, tt)
 
-  pub takes_stop : (why : Stop) → GoesOn (Err why) now new → TakesRow (Err why) (unseen old) (unseen new) before after
+  pub takes_stop : (why : SideStop) → SideGoesOn (Err why) now new → TakesRow (Err why) (unseen old) (unseen new) before after
   takes_stop (stop.Bad at why) goes = record { bytes = so_far.bytes; reads = reads_on (Err (stop.Bad at why)) goes; leads = from_first (Err (stop.Bad at why)) goes; ended = tt; needed = so_far.needed }
   takes_stop stop.Failed goes = let some = some_follows new.reading.ended in absurd (goes.leads some.0 some.1)
   takes_stop stop.Memory goes = record { bytes = so_far.bytes; reads = reads_on (Err stop.Memory) goes; leads = λ stream follows. tt; ended = tt; needed = so_far.needed }
 
 -- Nothing is read of a side that stops.
-pub stops_unread : (why : Stop) (old new : SideState) (head : Option (List Field)) (role : RoleState) → is_some head ≡ false → IsInStep old.reading.ended role → GoesOn (Err why) old new → TakesRow (Err why) (record old { head = head }) (record new { head = head }) role role
+pub stops_unread : (why : SideStop) (old new : SideState) (head : Option (List Field)) (role : RoleState) → is_some head ≡ false → IsInStep old.reading.ended role → SideGoesOn (Err why) old new → TakesRow (Err why) (record old { head = head }) (record new { head = head }) role role
 stops_unread why old new None role none step goes = takes_stop old old new role role (so_far-none old role step) why goes
 stops_unread why old new (Some row) role none step goes = absurd (true≢false none)
 
 -- Nothing is read of a side whose next row is known, or whose line is read straight.
-pub takes_unread : (row : List Field) (old new : SideState) (head : Option (List Field)) (role : RoleState) → is_some head ≡ false → IsInStep old.reading.ended role → GoesOn (Ok (read_step.Row row)) old new → TakesRow (Ok (Some row)) (record old { head = head }) (record new { head = None }) role role
+pub takes_unread : (row : List Field) (old new : SideState) (head : Option (List Field)) (role : RoleState) → is_some head ≡ false → IsInStep old.reading.ended role → SideGoesOn (Ok (read_step.Row row)) old new → TakesRow (Ok (Some row)) (record old { head = head }) (record new { head = None }) role role
 takes_unread row old new None role none step goes =
     let so_far = so_far-none old role step in
     record {
@@ -99,7 +99,7 @@ module _ (old now new : SideState) (before between after : RoleState) (so_far : 
   filled : (ys : List ℕ) (stream : Stream) → new.reading ≡ record now.reading { rest = ys; ended = new.reading.ended } → rows_ahead now (in_front ys stream) ≡ rows_ahead new stream
   filled ys stream fills =
       ap (λ (rest : List ℕ). rows_ahead (record now { reading = record now.reading { rest = rest } }) (in_front ys stream)) none
-      ∙ (ap (λ (r : Reading). rows_ahead (record now { reading = r }) stream) (sym fills)
+      ∙ (ap (λ (r : ReaderState). rows_ahead (record now { reading = r }) stream) (sym fills)
       ∙ ap (λ (s : SideState). rows_ahead s stream) (sym same))
 
   -- a side that goes on went on before
@@ -129,14 +129,14 @@ module _ (old now new : SideState) (before between after : RoleState) (so_far : 
     needed = inr (needed_read fills.bytes fills.within missing);
   }
 
-  pub takes_failed : {T : Type 0} (why : Stop) → rows_ahead now cut_off ≡ no_row unread → Fills {T = T} (Err why) now.reading new.reading between after → TakesRow (Err why) (unseen old) (unseen new) before after
+  pub takes_failed : {T : Type 0} (why : SideStop) → rows_ahead now cut_off ≡ no_row unread → Fills {T = T} (Err why) now.reading new.reading between after → TakesRow (Err why) (unseen old) (unseen new) before after
   takes_failed {T} why missing fills =
-      subst (λ (w : Stop). TakesRow (Err w) (unseen old) (unseen new) before after) (sym fills.failed.0)
+      subst (λ (w : SideStop). TakesRow (Err w) (unseen old) (unseen new) before after) (sym fills.failed.0)
       (record {
         bytes = so_far.bytes ++ fills.bytes;
         reads = read_more true so_far.bytes fills.bytes old.reading.ended now.reading.ended new.reading.ended before between after so_far.reads
             (subst (λ (was : Bool). IsReadOn true fills.bytes was new.reading.ended between after) (sym going)
-            (subst (λ (w : Stop). IsReadOn (has_failed {T = T} (Err w)) fills.bytes false new.reading.ended between after) fills.failed.0 fills.reads));
+            (subst (λ (w : SideStop). IsReadOn (has_failed {T = T} (Err w)) fills.bytes false new.reading.ended between after) fills.failed.0 fills.reads));
         leads = λ stream follows.
             ap (λ (s : Stream). rows_ahead old (in_front (so_far.bytes ++ fills.bytes) s)) follows
             ∙ (both_behind so_far.bytes fills.bytes cut_off
@@ -149,22 +149,22 @@ module _ (old now new : SideState) (before between after : RoleState) (so_far : 
 -- ---- a step of a side
 
 -- a side whose next row wasn't looked at, by what it keeps
-abbrev pub source : Reading → List (List Field) → Option (ℕ × RecordFault) → SideState
+abbrev pub source : ReaderState → List (List Field) → Option (ℕ × RecordFault) → SideState
 source reading waiting refused = record { head = None; reading = reading; waiting = waiting; stop = refused }
 
 -- Without a slack the rows to come are those that are still to be read.
-pub rows_as_read : (reading : Reading) → reading.slack ≡ 0 → (stream : Stream) → rows_ahead (source reading [] None) stream ≡ read_ahead reading stream
+pub rows_as_read : (reading : ReaderState) → reading.slack ≡ 0 → (stream : Stream) → rows_ahead (source reading [] None) stream ≡ read_ahead reading stream
 rows_as_read reading none stream =
     let pieces = pieces_ahead reading stream in
     subst (λ (slack : ℕ). in_order slack reading.time [] (rows_in reading.columns slack reading.record_no reading.time pieces) ≡ rows_in reading.columns slack reading.record_no reading.time pieces) (sym none)
     (as_read reading.columns reading.record_no reading.time pieces)
 
-leads_as_read : (answer : Result ReadStep Stop) (old new : Reading) → old.slack ≡ 0 → new.slack ≡ 0 → (stream : Stream) → StepLeads answer (read_ahead old stream) (read_ahead new stream) → StepLeads answer (rows_ahead (source old [] None) stream) (rows_ahead (source new [] None) stream)
+leads_as_read : (answer : Result ReadStep SideStop) (old new : ReaderState) → old.slack ≡ 0 → new.slack ≡ 0 → (stream : Stream) → StepLeads answer (read_ahead old stream) (read_ahead new stream) → StepLeads answer (rows_ahead (source old [] None) stream) (rows_ahead (source new [] None) stream)
 leads_as_read answer old new was is stream leads =
     subst (λ (ahead : Rows). StepLeads answer ahead (rows_ahead (source new [] None) stream)) (sym (rows_as_read old was stream))
     (subst (λ (behind : Rows). StepLeads answer (read_ahead old stream) behind) (sym (rows_as_read new is stream)) leads)
 
-wants_as_read : (answer : Result ReadStep Stop) (new : Reading) → new.slack ≡ 0 → Wants answer new (read_ahead new) → Wants answer new (rows_ahead (source new [] None))
+wants_as_read : (answer : Result ReadStep SideStop) (new : ReaderState) → new.slack ≡ 0 → Wants answer new (read_ahead new) → Wants answer new (rows_ahead (source new [] None))
 wants_as_read (Ok read_step.More) new none wants = (wants.0, wants.1, rows_as_read new none cut_off ∙ wants.2)
 wants_as_read (Ok read_step.End) new none wants = wants
 wants_as_read (Ok read_step.NoRecord) new none wants = tt
@@ -172,7 +172,7 @@ wants_as_read (Ok (read_step.Row row)) new none wants = tt
 wants_as_read (Err why) new none wants = tt
 
 -- A piece, where there is no slack.
-pub goes_on_as_read : (answer : Result ReadStep Stop) (old new : Reading) → old.slack ≡ 0 → Advances answer old new → GoesOn answer (source old [] None) (source new [] None)
+pub goes_on_as_read : (answer : Result ReadStep SideStop) (old new : ReaderState) → old.slack ≡ 0 → Advances answer old new → SideGoesOn answer (source old [] None) (source new [] None)
 goes_on_as_read answer old new none advances =
     let still = advances.slack ∙ none in
     record {
@@ -181,36 +181,36 @@ goes_on_as_read answer old new none advances =
       wants = wants_as_read answer new still advances.wants;
     }
 
-as_source : (reading : Reading) (waiting : List (List Field)) (known : Ahead) → (waiting ≡ []) × (known ≡ ahead.Unknown) → source reading waiting (refused_in known) ≡ source reading [] None
+as_source : (reading : ReaderState) (waiting : List (List Field)) (known : Ahead) → (waiting ≡ []) × (known ≡ ahead.Unknown) → source reading waiting (refused_in known) ≡ source reading [] None
 as_source reading waiting known none = ap (λ (rows : List (List Field)). source reading rows (refused_in known)) none.0 ∙ ap (λ (k : Ahead). source reading [] (refused_in k)) none.1
 
-pub goes_on_without : (answer : Result ReadStep Stop) (old new : Reading) (next : Option (List Field)) (waiting : List (List Field)) (known : Ahead) → IsKept old next waiting known → old.slack ≡ 0 → Advances answer old new
-    → GoesOn answer (source old (option_to_list next ++ waiting) (refused_in known)) (source new (option_to_list next ++ waiting) (refused_in known))
+pub goes_on_without : (answer : Result ReadStep SideStop) (old new : ReaderState) (next : Option (List Field)) (waiting : List (List Field)) (known : Ahead) → KeepsBehind old next waiting known → old.slack ≡ 0 → Advances answer old new
+    → SideGoesOn answer (source old (option_to_list next ++ waiting) (refused_in known)) (source new (option_to_list next ++ waiting) (refused_in known))
 goes_on_without answer old new next waiting known kept none advances =
     let all = option_to_list next ++ waiting in
-    subst (λ (before : SideState). GoesOn answer before (source new all (refused_in known))) (sym (as_source old all known (kept.without none)))
-    (subst (λ (after : SideState). GoesOn answer (source old [] None) after) (sym (as_source new all known (kept.without none))) (goes_on_as_read answer old new none advances))
+    subst (λ (before : SideState). SideGoesOn answer before (source new all (refused_in known))) (sym (as_source old all known (kept.without none)))
+    (subst (λ (after : SideState). SideGoesOn answer (source old [] None) after) (sym (as_source new all known (kept.without none))) (goes_on_as_read answer old new none advances))
 
 -- A line that is read straight, where there is no slack.
-pub straight_without : (answer : Result (Option (List Field)) Memory) (old new : Reading) (next : Option (List Field)) (waiting : List (List Field)) (known : Ahead) → IsKept old next waiting known → old.slack ≡ 0 → TakesLine answer old new
+pub straight_without : (answer : Result (Option (List Field)) Memory) (old new : ReaderState) (next : Option (List Field)) (waiting : List (List Field)) (known : Ahead) → KeepsBehind old next waiting known → old.slack ≡ 0 → TakesNextLine answer old new
     → TakesStraight answer (source old (option_to_list next ++ waiting) (refused_in known)) (source new (option_to_list next ++ waiting) (refused_in known))
 straight_without (Ok (Some row)) old new next waiting known kept none takes = goes_on_without (Ok (read_step.Row row)) old new next waiting known kept none takes
-straight_without (Ok None) old new next waiting known kept none takes = ap (λ (r : Reading). source r (option_to_list next ++ waiting) (refused_in known)) takes
-straight_without (Err why) old new next waiting known kept none takes = record { ended = ap (λ (r : Reading). r.ended) takes; leads = λ stream follows. tt; wants = tt }
+straight_without (Ok None) old new next waiting known kept none takes = ap (λ (r : ReaderState). source r (option_to_list next ++ waiting) (refused_in known)) takes
+straight_without (Err why) old new next waiting known kept none takes = record { ended = ap (λ (r : ReaderState). r.ended) takes; leads = λ stream follows. tt; wants = tt }
 
 -- Where no row waits, none is known to be the next one.
-no_next : (next : Option (List Field)) (waiting : List (List Field)) (side : Reading) (known : Ahead) → option_to_list next ++ waiting ≡ [] → IsNext next side known
+no_next : (next : Option (List Field)) (waiting : List (List Field)) (side : ReaderState) (known : Ahead) → option_to_list next ++ waiting ≡ [] → IsNextRow next side known
 no_next None waiting side known is = tt
 no_next (Some row) waiting side known is = cc
 
 -- Without a slack nothing is known beside what was read.
-pub kept_without : (old new : Reading) (next : Option (List Field)) (waiting : List (List Field)) (known : Ahead) → IsKept old next waiting known → old.slack ≡ 0 → IsKept new next waiting known
+pub kept_without : (old new : ReaderState) (next : Option (List Field)) (waiting : List (List Field)) (known : Ahead) → KeepsBehind old next waiting known → old.slack ≡ 0 → KeepsBehind new next waiting known
 kept_without old new next waiting known kept none =
     let nothing = kept.without none in
     record { without = λ still. nothing; is_known = subst (λ (k : Ahead). IsKnown k new) (sym nothing.1) tt; is_next = no_next next waiting new known nothing.0 }
 
 -- A read changes nothing of what is known while the stream goes on.
-pub kept_filled : (old : Reading) (rest : List ℕ) (ended : Bool) (next : Option (List Field)) (waiting : List (List Field)) (known : Ahead) → old.ended ≡ false → IsKept old next waiting known → IsKept (record old { rest = rest; ended = ended }) next waiting known
+pub kept_filled : (old : ReaderState) (rest : List ℕ) (ended : Bool) (next : Option (List Field)) (waiting : List (List Field)) (known : Ahead) → old.ended ≡ false → KeepsBehind old next waiting known → KeepsBehind (record old { rest = rest; ended = ended }) next waiting known
 kept_filled old rest ended next waiting known going kept = record { without = kept.without; is_known = by known kept.is_known; is_next = by_next next kept.is_next }
   where
     by : (k : Ahead) → IsKnown k old → IsKnown k (record old { rest = rest; ended = ended })
@@ -218,17 +218,17 @@ kept_filled old rest ended next waiting known going kept = record { without = ke
     by ahead.Over is = absurd (true≢false (sym is.0 ∙ going))
     by (ahead.Refused at why) is = tt
 
-    by_next : (n : Option (List Field)) → IsNext n old known → IsNext n (record old { rest = rest; ended = ended }) known
+    by_next : (n : Option (List Field)) → IsNextRow n old known → IsNextRow n (record old { rest = rest; ended = ended }) known
     by_next None is = tt
     by_next (Some row) is = is
 
-module _ (old new : Reading) (waiting : List (List Field)) where
+module _ (old new : ReaderState) (waiting : List (List Field)) where
   as_late : (slack : ℕ) (time : Option ℤ) → new.slack ≡ slack → new.time ≡ time → (stream : Stream) → rows_ahead (source new waiting None) stream ≡ in_order slack time waiting (read_ahead new stream)
   as_late slack time late great stream =
       ap (λ (s : ℕ). in_order s new.time waiting (read_ahead new stream)) late ∙ ap (λ (t : Option ℤ). in_order slack t waiting (read_ahead new stream)) great
 
   -- A row that was read is put among those that wait.
-  pub puts_row : (row : List Field) → Advances (Ok (read_step.Row row)) old new → GoesOn (Ok read_step.NoRecord) (source old waiting None) (source new (put_in row waiting) None)
+  pub puts_row : (row : List Field) → Advances (Ok (read_step.Row row)) old new → SideGoesOn (Ok read_step.NoRecord) (source old waiting None) (source new (put_in row waiting) None)
   puts_row row advances = record {
     ended = advances.ended;
     leads = λ stream follows.
@@ -238,7 +238,7 @@ module _ (old new : Reading) (waiting : List (List Field)) where
     wants = tt;
   }
 
-  pub puts_none : Advances (Ok read_step.NoRecord) old new → GoesOn (Ok read_step.NoRecord) (source old waiting None) (source new waiting None)
+  pub puts_none : Advances (Ok read_step.NoRecord) old new → SideGoesOn (Ok read_step.NoRecord) (source old waiting None) (source new waiting None)
   puts_none advances = record {
     ended = advances.ended;
     leads = λ stream follows. ap (in_order old.slack old.time waiting) (advances.leads stream follows) ∙ sym (as_late old.slack old.time advances.slack advances.time stream);
@@ -246,7 +246,7 @@ module _ (old new : Reading) (waiting : List (List Field)) where
   }
 
   -- No row is sure, so more bytes are wanted.
-  pub wants_more : filter (is_sure new.slack new.time) waiting ≡ [] → Advances (Ok read_step.More) old new → GoesOn (Ok read_step.More) (source old waiting None) (source new waiting None)
+  pub wants_more : filter (is_sure new.slack new.time) waiting ≡ [] → Advances (Ok read_step.More) old new → SideGoesOn (Ok read_step.More) (source old waiting None) (source new waiting None)
   wants_more none advances = record {
     ended = advances.ended;
     leads = λ stream follows. ap (in_order old.slack old.time waiting) (advances.leads stream follows) ∙ sym (as_late old.slack old.time advances.slack advances.time stream);
@@ -261,22 +261,22 @@ module _ (old new : Reading) (waiting : List (List Field)) where
       no_more rows = record { rows = rows; ending = unread }
 
   -- The record that was read is refused: the rows that wait come first.
-  pub refuses : (at : ℕ) (why : RecordFault) → Advances (Err (stop.Bad at why)) old new → GoesOn (Ok read_step.NoRecord) (source old waiting None) (source new waiting (Some (at, why)))
+  pub refuses : (at : ℕ) (why : RecordFault) → Advances (Err (stop.Bad at why)) old new → SideGoesOn (Ok read_step.NoRecord) (source old waiting None) (source new waiting (Some (at, why)))
   refuses at why advances = record {
     ended = advances.ended;
     leads = λ stream follows. ap (in_order old.slack old.time waiting) (advances.leads stream follows);
     wants = tt;
   }
 
-  pub runs_out : (after : List (List Field)) → Advances (Err stop.Memory) old new → GoesOn (Err stop.Memory) (source old waiting None) (source new after None)
+  pub runs_out : (after : List (List Field)) → Advances (Err stop.Memory) old new → SideGoesOn (Err stop.Memory) (source old waiting None) (source new after None)
   runs_out after advances = record { ended = advances.ended; leads = λ stream follows. tt; wants = tt }
 
   -- memory ran out for a row
-  pub puts_nowhere : (row : List Field) (after : List (List Field)) → Advances (Ok (read_step.Row row)) old new → GoesOn (Err stop.Memory) (source old waiting None) (source new after None)
+  pub puts_nowhere : (row : List Field) (after : List (List Field)) → Advances (Ok (read_step.Row row)) old new → SideGoesOn (Err stop.Memory) (source old waiting None) (source new after None)
   puts_nowhere row after advances = record { ended = advances.ended; leads = λ stream follows. tt; wants = tt }
 
   -- At the end of the stream each row that waits comes.
-  pub gives_last : (row : List Field) → Advances (Ok read_step.End) old new → GoesOn (Ok (read_step.Row row)) (source old (row ∷ waiting) None) (source new waiting None)
+  pub gives_last : (row : List Field) → Advances (Ok read_step.End) old new → SideGoesOn (Ok (read_step.Row row)) (source old (row ∷ waiting) None) (source new waiting None)
   gives_last row advances = record {
     ended = advances.ended;
     leads = λ stream follows.
@@ -285,7 +285,7 @@ module _ (old new : Reading) (waiting : List (List Field)) where
     wants = tt;
   }
 
-pub gives_end : (old new : Reading) → Advances (Ok read_step.End) old new → GoesOn (Ok read_step.End) (source old [] None) (source new [] None)
+pub gives_end : (old new : ReaderState) → Advances (Ok read_step.End) old new → SideGoesOn (Ok read_step.End) (source old [] None) (source new [] None)
 gives_end old new advances = record {
   ended = advances.ended;
   leads = λ stream follows. (ap (in_order old.slack old.time []) (advances.leads stream follows).0, ap (in_order new.slack new.time []) (advances.leads stream follows).1);
@@ -294,39 +294,39 @@ gives_end old new advances = record {
 
 -- ---- what is told
 
-pub tells_as_read : (reading : Reading) → reading.slack ≡ 0 → TellsRow reading → TellsNext (source reading [] None)
+pub tells_as_read : (reading : ReaderState) → reading.slack ≡ 0 → TellsRow reading → TellsNext (source reading [] None)
 tells_as_read reading none tells = λ e. tells (sym (rows_as_read reading none cut_off) ∙ e)
 
-pub tells_without : (reading : Reading) (next : Option (List Field)) (waiting : List (List Field)) (known : Ahead) → IsKept reading next waiting known → reading.slack ≡ 0 → TellsRow reading → TellsNext (source reading (option_to_list next ++ waiting) (refused_in known))
+pub tells_without : (reading : ReaderState) (next : Option (List Field)) (waiting : List (List Field)) (known : Ahead) → KeepsBehind reading next waiting known → reading.slack ≡ 0 → TellsRow reading → TellsNext (source reading (option_to_list next ++ waiting) (refused_in known))
 tells_without reading next waiting known kept none tells = subst TellsNext (sym (as_source reading (option_to_list next ++ waiting) known (kept.without none))) (tells_as_read reading none tells)
 
-pub tells_refused : (reading : Reading) (waiting : List (List Field)) (refused : ℕ × RecordFault) → TellsNext (source reading waiting (Some refused))
+pub tells_refused : (reading : ReaderState) (waiting : List (List Field)) (refused : ℕ × RecordFault) → TellsNext (source reading waiting (Some refused))
 tells_refused reading waiting refused = λ e. let ends = ap (λ (rows : Rows). rows.ending) e in cc
 
-pub tells_sure : (reading : Reading) (waiting : List (List Field)) → has_sure reading.slack reading.time waiting ≡ true → TellsNext (source reading waiting None)
+pub tells_sure : (reading : ReaderState) (waiting : List (List Field)) → has_sure reading.slack reading.time waiting ≡ true → TellsNext (source reading waiting None)
 tells_sure reading [] has = cc
 tells_sure reading (row ∷ waiting) has =
     λ e. let rows = ap (λ (rows : Rows). rows.rows) (sym (sure_ahead reading.columns reading.slack row reading.record_no reading.time waiting (pieces_ahead reading cut_off) has) ∙ e) in cc
 
 -- What is known tells what comes next.
-pub tells_known : (reading : Reading) (waiting : List (List Field)) (known : Ahead) → (known ≡ ahead.Unknown → ⊥) → IsKnown known reading → IsTold (source reading waiting (refused_in known))
+pub tells_known : (reading : ReaderState) (waiting : List (List Field)) (known : Ahead) → (known ≡ ahead.Unknown → ⊥) → IsKnown known reading → IsTold (source reading waiting (refused_in known))
 tells_known reading waiting ahead.Unknown some is = absurd (some refl)
 tells_known reading waiting ahead.Over some is = inr (inl is.0)
 tells_known reading waiting (ahead.Refused at why) some is = inr (inr (tells_refused reading waiting (at, why)))
 
-pub tells_next : (reading : Reading) (next : Option (List Field)) (waiting : List (List Field)) (known : Ahead) → IsSome next → IsNext next reading known → IsTold (source reading (option_to_list next ++ waiting) (refused_in known))
+pub tells_next : (reading : ReaderState) (next : Option (List Field)) (waiting : List (List Field)) (known : Ahead) → IsSome next → IsNextRow next reading known → IsTold (source reading (option_to_list next ++ waiting) (refused_in known))
 tells_next reading None waiting known some is = absurd (true≢false (sym some))
 tells_next reading (Some row) waiting known some is =
     subst (λ (k : Ahead). IsTold (source reading (row ∷ waiting) (refused_in k))) (sym is.0) (inr (inr (tells_sure reading (row ∷ waiting) is.1)))
 
 -- The next row tells what comes next, or what is known of what comes behind.
-pub tells_either : (reading : Reading) (next : Option (List Field)) (waiting : List (List Field)) (known : Ahead) → (is_some next ≡ false → known ≡ ahead.Unknown → ⊥) → IsKnown known reading → IsNext next reading known
+pub tells_either : (reading : ReaderState) (next : Option (List Field)) (waiting : List (List Field)) (known : Ahead) → (is_some next ≡ false → known ≡ ahead.Unknown → ⊥) → IsKnown known reading → IsNextRow next reading known
     → IsTold (source reading (option_to_list next ++ waiting) (refused_in known))
 tells_either reading None waiting known more is first = tells_known reading waiting known (more refl) is
 tells_either reading (Some row) waiting known more is first = tells_next reading (Some row) waiting known refl first
 
 -- Where more is known than of the next row, that is not known.
-pub not_next : (next : Option (List Field)) (side : Reading) (known : Ahead) → (known ≡ ahead.Unknown → ⊥) → IsNext next side known → next ≡ None
+pub not_next : (next : Option (List Field)) (side : ReaderState) (known : Ahead) → (known ≡ ahead.Unknown → ⊥) → IsNextRow next side known → next ≡ None
 not_next None side known more is = refl
 not_next (Some row) side known more is = absurd (more is.0)
 
@@ -335,52 +335,52 @@ pub all_wait : (next : Option (List Field)) (slack : ℕ) (greatest : Option ℤ
 all_wait None slack greatest old new takes = takes.0
 all_wait (Some row) slack greatest old new takes = sym takes.0
 
-pub next_sure : (next : Option (List Field)) (side : Reading) (old new : List (List Field)) → TakesSure next side.slack side.time old new → IsNext next side ahead.Unknown
+pub next_sure : (next : Option (List Field)) (side : ReaderState) (old new : List (List Field)) → TakesSure next side.slack side.time old new → IsNextRow next side ahead.Unknown
 next_sure None side old new takes = tt
 next_sure (Some row) side old new takes = (refl, takes.1)
 
 -- The first row that waits is given where it is sure.
-pub gives_first : (reading : Reading) (row : List Field) (waiting after : List (List Field)) (refused : Option (ℕ × RecordFault)) → refused ≡ None → has_sure reading.slack reading.time waiting ≡ true → waiting ≡ row ∷ after
-    → GoesOn (Ok (read_step.Row row)) (source reading waiting refused) (source reading after refused)
+pub gives_first : (reading : ReaderState) (row : List Field) (waiting after : List (List Field)) (refused : Option (ℕ × RecordFault)) → refused ≡ None → has_sure reading.slack reading.time waiting ≡ true → waiting ≡ row ∷ after
+    → SideGoesOn (Ok (read_step.Row row)) (source reading waiting refused) (source reading after refused)
 gives_first reading row waiting after refused none sure is =
     rw (none, is) (gives_sure_row (subst (λ (rows : List (List Field)). has_sure reading.slack reading.time rows ≡ true) is sure))
   where
-    gives_sure_row : is_sure reading.slack reading.time row ≡ true → GoesOn (Ok (read_step.Row row)) (source reading (row ∷ after) None) (source reading after None)
+    gives_sure_row : is_sure reading.slack reading.time row ≡ true → SideGoesOn (Ok (read_step.Row row)) (source reading (row ∷ after) None) (source reading after None)
     gives_sure_row sure = record { ended = refl; leads = λ stream follows. sure_ahead reading.columns reading.slack row reading.record_no reading.time after (pieces_ahead reading stream) sure; wants = tt }
 
-pub gives_next : (reading : Reading) (row : List Field) (waiting : List (List Field)) (known : Ahead) → IsNext (Some row) reading known → GoesOn (Ok (read_step.Row row)) (source reading (row ∷ waiting) (refused_in known)) (source reading waiting (refused_in known))
+pub gives_next : (reading : ReaderState) (row : List Field) (waiting : List (List Field)) (known : Ahead) → IsNextRow (Some row) reading known → SideGoesOn (Ok (read_step.Row row)) (source reading (row ∷ waiting) (refused_in known)) (source reading waiting (refused_in known))
 gives_next reading row waiting known is = gives_first reading row (row ∷ waiting) waiting (refused_in known) (ap refused_in is.0) is.1 refl
 
 -- No row waits, and nothing is given.
-pub gives_none : (reading : Reading) (waiting after : List (List Field)) (refused : Option (ℕ × RecordFault)) → (waiting ≡ []) × (after ≡ []) → GoesOn (Ok read_step.NoRecord) (source reading waiting refused) (source reading after refused)
+pub gives_none : (reading : ReaderState) (waiting after : List (List Field)) (refused : Option (ℕ × RecordFault)) → (waiting ≡ []) × (after ≡ []) → SideGoesOn (Ok read_step.NoRecord) (source reading waiting refused) (source reading after refused)
 gives_none reading waiting after refused none = rw (none.0, none.1) (record { ended = refl; leads = λ stream follows. refl; wants = tt })
 
 -- All that was read is looked at: a row that waits is sure, or more bytes are wanted.
-pub looked_at : (old new : Reading) (waiting : List (List Field)) (refused : Option (ℕ × RecordFault)) → refused ≡ None → Advances (Ok read_step.More) old new → GoesOn (Ok read_step.NoRecord) (source old waiting refused) (source new waiting refused)
+pub looked_at : (old new : ReaderState) (waiting : List (List Field)) (refused : Option (ℕ × RecordFault)) → refused ≡ None → Advances (Ok read_step.More) old new → SideGoesOn (Ok read_step.NoRecord) (source old waiting refused) (source new waiting refused)
 looked_at old new waiting refused none advances = rw none (record {
   ended = advances.ended;
   leads = λ stream follows. ap (in_order old.slack old.time waiting) (advances.leads stream follows) ∙ sym (as_late old new waiting old.slack old.time advances.slack advances.time stream);
   wants = tt;
 })
 
-pub wants_bytes : (old new : Reading) (waiting : List (List Field)) (refused : Option (ℕ × RecordFault)) → refused ≡ None → AreInOrder waiting → has_sure new.slack new.time waiting ≡ false → Advances (Ok read_step.More) old new
-    → GoesOn (Ok read_step.More) (source old waiting refused) (source new waiting refused)
+pub wants_bytes : (old new : ReaderState) (waiting : List (List Field)) (refused : Option (ℕ × RecordFault)) → refused ≡ None → AreInOrder waiting → has_sure new.slack new.time waiting ≡ false → Advances (Ok read_step.More) old new
+    → SideGoesOn (Ok read_step.More) (source old waiting refused) (source new waiting refused)
 wants_bytes old new waiting refused none ordered unsure advances = rw none (wants_more old new waiting (none_first new.slack new.time waiting ordered unsure) advances)
 
 -- Where all was read, the rows that wait come, and then the end.
-over_ahead : (reading : Reading) (waiting : List (List Field)) (refused : Option (ℕ × RecordFault)) → IsOver reading → refused ≡ None → (stream : Stream) → MayFollow reading.ended stream → rows_ahead (source reading waiting refused) stream ≡ record { rows = waiting; ending = clean }
+over_ahead : (reading : ReaderState) (waiting : List (List Field)) (refused : Option (ℕ × RecordFault)) → IsSideOver reading → refused ≡ None → (stream : Stream) → MayFollow reading.ended stream → rows_ahead (source reading waiting refused) stream ≡ record { rows = waiting; ending = clean }
 over_ahead reading waiting refused over none stream follows =
     ap (λ (r : Option (ℕ × RecordFault)). rows_ahead (source reading waiting r) stream) none
     ∙ (ap (rows_ahead (source reading waiting None)) (at_end_follows reading.ended stream over.0 follows) ∙ ap (in_order reading.slack reading.time waiting) over.1)
 
-pub gives_over : (reading : Reading) (row : List Field) (waiting after : List (List Field)) (refused : Option (ℕ × RecordFault)) → IsOver reading → refused ≡ None → waiting ≡ row ∷ after → GoesOn (Ok (read_step.Row row)) (source reading waiting refused) (source reading after refused)
+pub gives_over : (reading : ReaderState) (row : List Field) (waiting after : List (List Field)) (refused : Option (ℕ × RecordFault)) → IsSideOver reading → refused ≡ None → waiting ≡ row ∷ after → SideGoesOn (Ok (read_step.Row row)) (source reading waiting refused) (source reading after refused)
 gives_over reading row waiting after refused over none is = record {
   ended = refl;
   leads = λ stream follows. over_ahead reading waiting refused over none stream follows ∙ (ap (λ (rows : List (List Field)). record { rows = rows; ending = clean }) is ∙ ap (then_rows row) (sym (over_ahead reading after refused over none stream follows)));
   wants = tt;
 }
 
-pub ends_over : (reading : Reading) (waiting after : List (List Field)) (refused : Option (ℕ × RecordFault)) → IsOver reading → refused ≡ None → (waiting ≡ []) × (after ≡ []) → GoesOn (Ok read_step.End) (source reading waiting refused) (source reading after refused)
+pub ends_over : (reading : ReaderState) (waiting after : List (List Field)) (refused : Option (ℕ × RecordFault)) → IsSideOver reading → refused ≡ None → (waiting ≡ []) × (after ≡ []) → SideGoesOn (Ok read_step.End) (source reading waiting refused) (source reading after refused)
 ends_over reading waiting after refused over none is = record {
   ended = refl;
   leads = λ stream follows. (
@@ -391,49 +391,49 @@ ends_over reading waiting after refused over none is = record {
 }
 
 -- All was read.
-pub comes_to_end : (old new : Reading) (waiting : List (List Field)) (refused : Option (ℕ × RecordFault)) → refused ≡ None → Advances (Ok read_step.End) old new → GoesOn (Ok read_step.NoRecord) (source old waiting refused) (source new waiting refused)
+pub comes_to_end : (old new : ReaderState) (waiting : List (List Field)) (refused : Option (ℕ × RecordFault)) → refused ≡ None → Advances (Ok read_step.End) old new → SideGoesOn (Ok read_step.NoRecord) (source old waiting refused) (source new waiting refused)
 comes_to_end old new waiting refused none advances = rw none (record {
   ended = advances.ended;
   leads = λ stream follows. ap (in_order old.slack old.time waiting) (advances.leads stream follows).0 ∙ sym (ap (in_order new.slack new.time waiting) (advances.leads stream follows).1);
   wants = tt;
 })
 
-is_over : (old new : Reading) → Advances (Ok read_step.End) old new → IsOver new
+is_over : (old new : ReaderState) → Advances (Ok read_step.End) old new → IsSideOver new
 is_over old new advances = (advances.wants, (advances.leads at_its_end (subst (λ (ended : Bool). MayFollow ended at_its_end) (sym advances.wants) refl)).1)
 
 -- What is kept where rows may be late.
-pub kept_late : (old new : Reading) (next : Option (List Field)) (waiting : List (List Field)) (known : Ahead) → (old.slack ≡ 0 → ⊥) → new.slack ≡ old.slack → IsKnown known new → IsNext next new known → IsKept new next waiting known
+pub kept_late : (old new : ReaderState) (next : Option (List Field)) (waiting : List (List Field)) (known : Ahead) → (old.slack ≡ 0 → ⊥) → new.slack ≡ old.slack → IsKnown known new → IsNextRow next new known → KeepsBehind new next waiting known
 kept_late old new next waiting known late same is is_next = record { without = λ none. absurd (late (sym same ∙ none)); is_known = is; is_next = is_next }
 
-pub kept_at_end : (old new : Reading) (next : Option (List Field)) (waiting : List (List Field)) → is_some next ≡ false → (old.slack ≡ 0 → ⊥) → Advances (Ok read_step.End) old new → IsKept new next waiting ahead.Over
+pub kept_at_end : (old new : ReaderState) (next : Option (List Field)) (waiting : List (List Field)) → is_some next ≡ false → (old.slack ≡ 0 → ⊥) → Advances (Ok read_step.End) old new → KeepsBehind new next waiting ahead.Over
 kept_at_end old new None waiting none late advances = kept_late old new None waiting ahead.Over late advances.slack (is_over old new advances) tt
 kept_at_end old new (Some row) waiting none late advances = absurd (true≢false none)
 
 -- More bytes are wanted where no row that waits is sure.
-looks_at : (old new : Reading) (waiting after : List (List Field)) (next : Option (List Field)) (wants : Bool) → AreInOrder waiting → TakesSure next new.slack new.time waiting after → is_some next ≡ not wants → Advances (Ok read_step.More) old new
-    → GoesOn (step_by (Ok wants)) (source old waiting None) (source new (option_to_list next ++ after) None)
+looks_at : (old new : ReaderState) (waiting after : List (List Field)) (next : Option (List Field)) (wants : Bool) → AreInOrder waiting → TakesSure next new.slack new.time waiting after → is_some next ≡ not wants → Advances (Ok read_step.More) old new
+    → SideGoesOn (step_by (Ok wants)) (source old waiting None) (source new (option_to_list next ++ after) None)
 looks_at old new waiting after None true ordered takes is advances =
-    subst (λ (rows : List (List Field)). GoesOn (Ok read_step.More) (source old waiting None) (source new rows None)) (sym takes.0) (wants_bytes old new waiting None refl ordered takes.1 advances)
+    subst (λ (rows : List (List Field)). SideGoesOn (Ok read_step.More) (source old waiting None) (source new rows None)) (sym takes.0) (wants_bytes old new waiting None refl ordered takes.1 advances)
 looks_at old new waiting after None false ordered takes is advances = absurd (true≢false (sym is))
 looks_at old new waiting after (Some row) true ordered takes is advances = absurd (true≢false is)
 looks_at old new waiting after (Some row) false ordered takes is advances =
-    subst (λ (rows : List (List Field)). GoesOn (Ok read_step.NoRecord) (source old waiting None) (source new rows None)) takes.0 (looked_at old new waiting None refl advances)
+    subst (λ (rows : List (List Field)). SideGoesOn (Ok read_step.NoRecord) (source old waiting None) (source new rows None)) takes.0 (looked_at old new waiting None refl advances)
 
-pub looks : (old new : Reading) (was : Option (List Field)) (waiting after : List (List Field)) (next : Option (List Field)) (refused : Option (ℕ × RecordFault)) (wants : Bool) → is_some was ≡ false → refused ≡ None → AreInOrder waiting
+pub looks : (old new : ReaderState) (was : Option (List Field)) (waiting after : List (List Field)) (next : Option (List Field)) (refused : Option (ℕ × RecordFault)) (wants : Bool) → is_some was ≡ false → refused ≡ None → AreInOrder waiting
     → TakesSure next new.slack new.time waiting after → is_some next ≡ not wants → Advances (Ok read_step.More) old new
-    → GoesOn (step_by (Ok wants)) (source old (option_to_list was ++ waiting) refused) (source new (option_to_list next ++ after) refused)
+    → SideGoesOn (step_by (Ok wants)) (source old (option_to_list was ++ waiting) refused) (source new (option_to_list next ++ after) refused)
 looks old new None waiting after next refused wants none going ordered takes is advances = rw going (looks_at old new waiting after next wants ordered takes is advances)
 looks old new (Some row) waiting after next refused wants none going ordered takes is advances = absurd (true≢false none)
 
 -- A row that was read waits, and the first one is taken if it is sure.
-pub takes_line : (next : Option (List Field)) (old new : Reading) (before after : List (List Field)) (row : List Field) → Advances (Ok (read_step.Row row)) old new → TakesSure next new.slack new.time (put_in row before) after → ReadsLines next old before new after
+pub takes_line : (next : Option (List Field)) (old new : ReaderState) (before after : List (List Field)) (row : List Field) → Advances (Ok (read_step.Row row)) old new → TakesSure next new.slack new.time (put_in row before) after → ReadsLines next old before new after
 takes_line next old new before after row advances takes = record {
-  goes_on = subst (λ (rows : List (List Field)). GoesOn (Ok read_step.NoRecord) (late_side old before) (late_side new rows)) (sym (all_wait next new.slack new.time (put_in row before) after takes)) (puts_row old new before row advances);
+  goes_on = subst (λ (rows : List (List Field)). SideGoesOn (Ok read_step.NoRecord) (late_side old before) (late_side new rows)) (sym (all_wait next new.slack new.time (put_in row before) after takes)) (puts_row old new before row advances);
   is_next = next_sure next new (put_in row before) after takes;
 }
 
 -- Where no row was sure, none is with a row that was read and is held.
-pub held_unsure : (old new : Reading) (row : List Field) (waiting : List (List Field)) (time : ℤ) → Advances (Ok (read_step.Row row)) old new → time ≡ time_of row → has_sure old.slack old.time waiting ≡ false → is_held new.slack new.time time ≡ true
+pub held_unsure : (old new : ReaderState) (row : List Field) (waiting : List (List Field)) (time : ℤ) → Advances (Ok (read_step.Row row)) old new → time ≡ time_of row → has_sure old.slack old.time waiting ≡ false → is_held new.slack new.time time ≡ true
     → has_sure new.slack new.time (put_in row waiting) ≡ false
 held_unsure old new row waiting time advances is unsure held =
     let own : is_held old.slack (Some (with_time old.time (time_of row))) (time_of row) ≡ true =
@@ -443,8 +443,8 @@ held_unsure old new row waiting time advances is unsure held =
     ∙ (ap (λ (greatest : Option ℤ). has_sure old.slack greatest (put_in row waiting)) advances.time.1 ∙ still_unsure old.slack old.time row waiting unsure own)
 
 -- After a row is given, rows are read that were there already.
-pub then_read : (row : List Field) (old between new : SideState) → GoesOn (Ok (read_step.Row row)) old between → new.reading.ended ≡ between.reading.ended → ((stream : Stream) → MayFollow new.reading.ended stream → rows_ahead between stream ≡ rows_ahead new stream)
-    → GoesOn (Ok (read_step.Row row)) old new
+pub then_read : (row : List Field) (old between new : SideState) → SideGoesOn (Ok (read_step.Row row)) old between → new.reading.ended ≡ between.reading.ended → ((stream : Stream) → MayFollow new.reading.ended stream → rows_ahead between stream ≡ rows_ahead new stream)
+    → SideGoesOn (Ok (read_step.Row row)) old new
 then_read row old between new goes ended same = record {
   ended = ended ∙ goes.ended;
   leads = λ stream follows. goes.leads stream (follows_as stream new.reading.ended between.reading.ended ended follows) ∙ ap (then_rows row) (same stream follows);
@@ -452,18 +452,18 @@ then_read row old between new goes ended same = record {
 }
 
 -- The next row is given, and rows are read until another one is known.
-pub gives_taken : (reading : Reading) (next after : Option (List Field)) (row : List Field) (waiting : List (List Field)) (known : Ahead) (new : SideState) → next ≡ Some row → after ≡ None → IsNext next reading known → new.reading.ended ≡ reading.ended
+pub gives_taken : (reading : ReaderState) (next after : Option (List Field)) (row : List Field) (waiting : List (List Field)) (known : Ahead) (new : SideState) → next ≡ Some row → after ≡ None → IsNextRow next reading known → new.reading.ended ≡ reading.ended
     → ((stream : Stream) → MayFollow new.reading.ended stream → rows_ahead (source reading (option_to_list after ++ waiting) (refused_in known)) stream ≡ rows_ahead new stream)
-    → GoesOn (Ok (read_step.Row row)) (source reading (option_to_list next ++ waiting) (refused_in known)) new
+    → SideGoesOn (Ok (read_step.Row row)) (source reading (option_to_list next ++ waiting) (refused_in known)) new
 gives_taken reading None after row waiting known new is none is_next ended same = cc
 gives_taken reading (Some one) (Some other) row waiting known new is none is_next ended same = cc
 gives_taken reading (Some one) None row waiting known new is none is_next ended same =
     let one_row : one ≡ row = cc in
-    subst (λ (r : List Field). GoesOn (Ok (read_step.Row r)) (source reading (one ∷ waiting) (refused_in known)) new) one_row
+    subst (λ (r : List Field). SideGoesOn (Ok (read_step.Row r)) (source reading (one ∷ waiting) (refused_in known)) new) one_row
     (then_read one (source reading (one ∷ waiting) (refused_in known)) (source reading waiting (refused_in known)) new (gives_next reading one waiting known is_next) ended same)
 
 -- Rows are read that were there already.
-pub reads_rows : (more : Bool) (old now new : SideState) → GoesOn (step_by (Ok more)) now new → now.reading.ended ≡ old.reading.ended → ((stream : Stream) → MayFollow now.reading.ended stream → rows_ahead old stream ≡ rows_ahead now stream)
+pub reads_rows : (more : Bool) (old now new : SideState) → SideGoesOn (step_by (Ok more)) now new → now.reading.ended ≡ old.reading.ended → ((stream : Stream) → MayFollow now.reading.ended stream → rows_ahead old stream ≡ rows_ahead now stream)
     → (new.reading.ended ≡ old.reading.ended) × ((stream : Stream) → MayFollow new.reading.ended stream → rows_ahead old stream ≡ rows_ahead new stream)
 reads_rows true old now new goes ended same =
     (goes.ended ∙ ended, λ stream follows. same stream (follows_as stream new.reading.ended now.reading.ended goes.ended follows) ∙ goes.leads stream follows)

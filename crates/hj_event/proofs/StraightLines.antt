@@ -12,9 +12,9 @@ use Rattle.hj_record.specs.Line.{most_in_next}
 use Rattle.hj_record.specs.Pieces.{IsPiece}
 use Rattle.hj_schema.specs.Lines.{IsLineOf}
 use Rattle.hj_event.specs.declared.stop.ReadStep.TheVariants as read_step
-use Rattle.hj_event.specs.declared.stop.Stop.TheVariants as stop
+use Rattle.hj_event.specs.declared.stop.SideStop.TheVariants as stop
 use Rattle.hj_event.specs.Rows.{in_time, record_row, row_at, row_in_time, with_time}
-use Rattle.hj_event.specs.Sides.{Reading}
+use Rattle.hj_event.specs.Sides.{ReaderState}
 use Rattle.hj_event.specs.Reads.{reading, IsReadable}
 use Rattle.hj_event.specs.Taking.{Advances, IsNextLine, is_late}
 use Rattle.hj_event.proofs.LineLemmas.{lent_lines}
@@ -64,11 +64,11 @@ module _ (columns : List Column) (slack record_no : ℕ) (time : Option ℤ) (en
       let same : take used (take most rest) ≡ take used rest = take-take used most rest (omega (arith, line.within)) in
       lent_lines old new portion taken filled used lines_end readable (cuts rest (omega (arith, line.within)) (subst IsPiece same line.piece))
 
-pub memory_advances : (old new : Reading) → new ≡ old → Advances (Err stop.Memory) old new
+pub memory_advances : (old new : ReaderState) → new ≡ old → Advances (Err stop.Memory) old new
 memory_advances old new same = record {
-  ended = ap (λ (r : Reading). r.ended) same;
-  slack = ap (λ (r : Reading). r.slack) same;
-  time = ap (λ (r : Reading). r.time) same;
+  ended = ap (λ (r : ReaderState). r.ended) same;
+  slack = ap (λ (r : ReaderState). r.slack) same;
+  time = ap (λ (r : ReaderState). r.time) same;
   leads = λ _ _. tt;
   wants = tt;
 }

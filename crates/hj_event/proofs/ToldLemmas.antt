@@ -10,13 +10,13 @@ use Rattle.hj_base.specs.Outside.{RoleState, ChangesOnlyStreams}
 use Rattle.hj_record.specs.declared.fault.PieceFault.{PieceFault}
 use Rattle.hj_record.specs.Pieces.{Pieces, pieces_of}
 use Rattle.hj_event.specs.declared.merger.Next.{Next}
-use Rattle.hj_event.specs.declared.stop.Last.{Last}
+use Rattle.hj_event.specs.declared.stop.MergeEnd.{MergeEnd}
 use Rattle.hj_event.specs.Merger.{Merging, AnswersFrom, ReadsNothingNext, TakesNext, TakesNoBytes}
 use Rattle.hj_event.specs.Numbering.{has_due}
 use Rattle.hj_event.specs.Roles.{IsUnread}
 use Rattle.hj_event.specs.declared.fault.RecordFault.{RecordFault}
 use Rattle.hj_event.specs.Rows.{Rows, RowsEnd, no_row, rows_in, greatest_of, put_all, is_sure, in_order, unread}
-use Rattle.hj_event.specs.Sides.{Reading, SideState, in_front, cut_off, unless_refused, read_ahead, unless_stopped, rows_ahead}
+use Rattle.hj_event.specs.Sides.{ReaderState, SideState, in_front, cut_off, unless_refused, read_ahead, unless_stopped, rows_ahead}
 use Rattle.hj_event.specs.Taking.{IsNeeded, IsReadAsNeeded, IsTold, TellsNext, unseen}
 use Rattle.hj_event.proofs.CutPieces.{PiecesCut, pieces_of-cut}
 use Rattle.hj_event.proofs.CutRows.{RowsCut, rows_from-cut}
@@ -43,7 +43,7 @@ refused_cut None cut all h = h
 refused_cut (Some found) cut all h = inl refl
 
 -- What was read with more behind it tells no row: nor does it alone.
-read_cut : (side : Reading) (more : List ℕ) → RowsCut (read_ahead side cut_off) (read_ahead side (in_front more cut_off))
+read_cut : (side : ReaderState) (more : List ℕ) → RowsCut (read_ahead side cut_off) (read_ahead side (in_front more cut_off))
 read_cut side more =
     let bytes = side.part ++ (side.rest ++ []) in
     let longer : side.part ++ (side.rest ++ (more ++ [])) ≡ bytes ++ more =
@@ -99,17 +99,17 @@ same_roles before now others left right role.Trace = others role.Trace (λ e. cc
 same_roles before now others left right role.Output = others role.Output (λ e. cc) (λ e. cc)
 
 -- A call reads nothing.
-abbrev ReadsNone : (over : Option Last) (answer : Next) (old new : Merging) (before now : Role → RoleState) → AnswersFrom over answer old new before now → Type 0
+abbrev ReadsNone : (over : Option MergeEnd) (answer : Next) (old new : Merging) (before now : Role → RoleState) → AnswersFrom over answer old new before now → Type 0
 ReadsNone over answer old new before now call = TakesNoBytes over answer old new before now call × ((of : Role) → now of ≡ before of)
 
 both_unread : (answer : Next) (old new : Merging) (before now : Role → RoleState) (takes : TakesNext answer old new before now) → IsUnread takes.left_bytes (before role.Left) (now role.Left) → IsUnread takes.right_bytes (before role.Right) (now role.Right) → ReadsNone None answer old new before now takes
 both_unread answer old new before now takes left right = ((left.0, right.0), same_roles before now takes.others left.1 right.1)
 
-none_over : (over : Option Last) → over ≡ None → IsSome over → ⊥
+none_over : (over : Option MergeEnd) → over ≡ None → IsSome over → ⊥
 none_over None e some = cc
 none_over (Some last) e some = cc
 
-reads_none : (merging : Merging) (answer : Next) (new : Merging) (before now : Role → RoleState) (over : Option Last) → merging.over ≡ over → IsReady merging → (call : AnswersFrom over answer merging new before now) → ReadsNone over answer merging new before now call
+reads_none : (merging : Merging) (answer : Next) (new : Merging) (before now : Role → RoleState) (over : Option MergeEnd) → merging.over ≡ over → IsReady merging → (call : AnswersFrom over answer merging new before now) → ReadsNone over answer merging new before now call
 reads_none merging answer new before now (Some last) is ready repeats = (tt, repeats.2)
 reads_none merging answer new before now None is (inl some) takes = absurd (none_over merging.over is some)
 reads_none merging answer new before now None is (inr (inl due)) takes = let both = takes.due due in both_unread answer merging new before now takes both.0 both.1

@@ -18,7 +18,7 @@ use Rattle.hj_base.specs.declared.numbers.Window.TheVariants.{Rows, Time}
 use Rattle.hj_msg.specs.declared.event.Event.TheVariants.{Arrive, Expire, Quiet}
 use Rattle.hj_msg.specs.Event.{Arrives}
 use Rattle.hj_msg.proofs.Members.{Contains-nil, Contains-head, Contains-cons, Contains-cons_cases, Contains-map, Contains-from_map, Contains-filter, Contains-from_filter, Ranked, Ranked-filter, any_of, find}
-use Rattle.hj_query.specs.Parts.{Parts}
+use Rattle.hj_query.specs.QueryParts.{QueryParts}
 use Rattle.hj_window.specs.LiveRows.{LiveRow, LiveRows, Arrived, window_of, is_same_side, of_side, is_gone_at, is_gone, one_too_many, without, arrive}
 use Rattle.hj_event.specs.Arrivals.{Arrival}
 use Rattle.hj_event.specs.Events.{Silence, no_silence, silence_at, quiet_side, silence_behind, quiet_event, expiries, events_at, number_from}
@@ -28,17 +28,17 @@ use Rattle.hj_event.proofs.Moments.{AtEach}
 use Rattle.hj_event.proofs.Stands.{Events, Stands, Stands-none, Stands-arrival, Stands-expiry, Stands-quiet, no_of, removed, filter_swap, same_self, same_other, of_side-push, of_side-other}
 
 -- No side has more live rows than its window of rows holds.
-abbrev pub Within : Parts → Events → Type 0
+abbrev pub Within : QueryParts → Events → Type 0
 Within query before = (side : Side) (count : ℕ) → window_at query side ≡ Rows count → length (live_rows side before) ≤ count
 
 -- A row arrives next, where no live row is too old for its window of time.
-pub record AtArrival (query : Parts) (before : Events) (at : EventNo) (later : List Field) : Type 0 where
+pub record AtArrival (query : QueryParts) (before : Events) (at : EventNo) (later : List Field) : Type 0 where
   pub numbered : at.0 ≡ length before
   pub within : Within query before
   pub young : (side : Side) (span came : ℕ) (row : List Field) → window_at query side ≡ Time span → Arrives before side came row → Contains (live_rows side before) came → is_aged span row later ≡ false
 
 -- A live row expires next: the oldest of a window of rows that has one too many, or one that is too old for its window of time.
-pub record AtExpiry (query : Parts) (before behind : Events) (at : EventNo) (side : Side) (of : EventNo) : Type 0 where
+pub record AtExpiry (query : QueryParts) (before behind : Events) (at : EventNo) (side : Side) (of : EventNo) : Type 0 where
   pub numbered : at.0 ≡ length before
   pub is_live : Contains (live_rows side before) of.0
   pub rest : (other : Side) (count : ℕ) → (other ≡ side → ⊥) → window_at query other ≡ Rows count → length (live_rows other before) ≤ count
@@ -46,11 +46,11 @@ pub record AtExpiry (query : Parts) (before behind : Events) (at : EventNo) (sid
   pub aged : (span : ℕ) (row : List Field) → window_at query side ≡ Time span → Arrives before side of.0 row → (later : List Field) × ArrivesNext behind later × (is_aged span row later ≡ true)
 
 -- A side has a quiet event next.
-pub record AtQuiet (query : Parts) (before : Events) (at : EventNo) : Type 0 where
+pub record AtQuiet (query : QueryParts) (before : Events) (at : EventNo) : Type 0 where
   pub numbered : at.0 ≡ length before
   pub within : Within query before
 
-abbrev pub Moment : Parts → Events → Events → Type 0
+abbrev pub Moment : QueryParts → Events → Events → Type 0
 Moment query before [] = Within query before
 Moment query before (Arrive at side row ∷ behind) = AtArrival query before at row
 Moment query before (Expire at side of ∷ behind) = AtExpiry query before behind at side of
@@ -153,7 +153,7 @@ arrives_behind (row ∷ rows) at tail later h = arrives_behind rows (at + 1) tai
 
 -- ---- the moments
 
-module _ (query : Parts) where
+module _ (query : QueryParts) where
   abbrev lives : List LiveRow → LiveRows
   lives rows = record { left = query.left_window; right = query.right_window; rows = rows }
 

@@ -11,10 +11,10 @@ use Rattle.hj_msg.specs.declared.event.Event.{Event}
 use Rattle.hj_msg.specs.declared.event.Event.TheVariants.{Arrive, Expire, Quiet}
 use Rattle.hj_msg.specs.Event.{NumbersFrom, NamesLive, IsWellFormed}
 use Rattle.hj_msg.specs.Quiet.{IsQuietWithin}
-use Rattle.hj_query.specs.Parts.{Parts}
+use Rattle.hj_query.specs.QueryParts.{QueryParts}
 use Rattle.hj_record.specs.Pieces.{Stream}
 use Rattle.hj_event.specs.Arrivals.{arrivals_of, too_many}
-use Rattle.hj_event.specs.Events.{Numbered, none_live, all_events_of, events_of}
+use Rattle.hj_event.specs.Events.{NumberedEvents, none_live, all_events_of, events_of}
 use Rattle.hj_event.specs.Rows.{rows_of}
 use Rattle.hj_event.specs.Silences.{IsQuietOnlyAfter}
 use Rattle.hj_event.specs.Windows.{live_rows, ExpiresNext, window_at, ExpiresByCount, ExpiresByTime, ExpiresBy, RowsExpireInTurn}
@@ -24,18 +24,18 @@ use Rattle.hj_event.proofs.Stands.{Events}
 use Rattle.hj_event.proofs.SilenceLemmas.{is_quiet_within, is_quiet_only_after, is_quiet_within-first, is_quiet_only_after-first}
 use Rattle.hj_event.proofs.Turns.{Moment, AtArrival, AtExpiry, turns}
 
-numbers_from : (query : Parts) (first : ℕ) (before events : Events) → length before ≡ first → AtEach (Moment query) before events → NumbersFrom first events
+numbers_from : (query : QueryParts) (first : ℕ) (before events : Events) → length before ≡ first → AtEach (Moment query) before events → NumbersFrom first events
 numbers_from query first before [] e h = tt
 numbers_from query first before (Arrive at side row ∷ events) e h = (h.0.numbered ∙ e, numbers_from query (first + 1) (before ++ Arrive at side row ∷ []) events (omega (arith, length-append before (Arrive at side row ∷ []))) h.1)
 numbers_from query first before (Expire at side of ∷ events) e h = (h.0.numbered ∙ e, numbers_from query (first + 1) (before ++ Expire at side of ∷ []) events (omega (arith, length-append before (Expire at side of ∷ []))) h.1)
 numbers_from query first before (Quiet at side ∷ events) e h = (h.0.numbered ∙ e, numbers_from query (first + 1) (before ++ Quiet at side ∷ []) events (omega (arith, length-append before (Quiet at side ∷ []))) h.1)
 
-names_live : (query : Parts) (before behind : Events) (event : Event (List Field)) → Moment query before (event ∷ behind) → NamesLive before event
+names_live : (query : QueryParts) (before behind : Events) (event : Event (List Field)) → Moment query before (event ∷ behind) → NamesLive before event
 names_live query before behind (Arrive at side row) h = tt
 names_live query before behind (Expire at side of) h = live_rows-live side before of.0 h.is_live
 names_live query before behind (Quiet at side) h = tt
 
-pub well_formed : (query : Parts) (events : Events) → AtEach (Moment query) [] events → IsWellFormed events
+pub well_formed : (query : QueryParts) (events : Events) → AtEach (Moment query) [] events → IsWellFormed events
 well_formed query events h = record {
   numbered = numbers_from query 0 [] events refl h;
   live = λ earlier later event e. names_live query earlier later event (AtEach-cut (Moment query) events earlier (event ∷ later) h e);
@@ -54,7 +54,7 @@ well_formed-first n events h = record {
       (sym (take-append-drop n events) ∙ (ap (λ es. es ++ drop n events) e ∙ append_assoc earlier (event ∷ later) (drop n events)));
 }
 
-module _ (query : Parts) (events : Events) (h : AtEach (Moment query) [] events) where
+module _ (query : QueryParts) (events : Events) (h : AtEach (Moment query) [] events) where
   expiry : (before behind : Events) (at of : EventNo) (side : Side) → events ≡ before ++ Expire at side of ∷ behind → AtExpiry query before behind at side of
   expiry before behind at of side e = AtEach-cut (Moment query) events before (Expire at side of ∷ behind) h e
 
@@ -102,31 +102,31 @@ module _ (query : Parts) (events : Events) (h : AtEach (Moment query) [] events)
 
 -- ---- of two streams
 
-each_moment : (query : Parts) (left right : Stream) → AtEach (Moment query) [] (all_events_of query left right).events
+each_moment : (query : QueryParts) (left right : Stream) → AtEach (Moment query) [] (all_events_of query left right).events
 each_moment query left right = turns query query.quiet (arrivals_of (rows_of query.left.columns query.slack left) (rows_of query.right.columns query.slack right)).rows
 
 -- what holds of all the events holds of the first of them
-first_or_all : (Q : Events → Type 0) → ((n : ℕ) (events : Events) → Q events → Q (take n events)) → (limit : ℕ) (all : Numbered) (over : Bool) → Q all.events
-    → Q (cond {A = Numbered} over (record { events = take limit all.events; ending = too_many }) all).events
+first_or_all : (Q : Events → Type 0) → ((n : ℕ) (events : Events) → Q events → Q (take n events)) → (limit : ℕ) (all : NumberedEvents) (over : Bool) → Q all.events
+    → Q (cond {A = NumberedEvents} over (record { events = take limit all.events; ending = too_many }) all).events
 first_or_all Q first limit all true h = first limit all.events h
 first_or_all Q first limit all false h = h
 
-pub are_well_formed : (query : Parts) (left right : Stream) (limit : ℕ) → IsWellFormed (events_of query left right limit).events
+pub are_well_formed : (query : QueryParts) (left right : Stream) (limit : ℕ) → IsWellFormed (events_of query left right limit).events
 are_well_formed query left right limit =
     let all = all_events_of query left right in
     first_or_all IsWellFormed well_formed-first limit all (ltb limit (length all.events)) (well_formed query all.events (each_moment query left right))
 
-pub are_quiet_within : (query : Parts) (left right : Stream) (limit : ℕ) → 1 ≤ query.quiet → IsQuietWithin query.quiet (events_of query left right limit).events
+pub are_quiet_within : (query : QueryParts) (left right : Stream) (limit : ℕ) → 1 ≤ query.quiet → IsQuietWithin query.quiet (events_of query left right limit).events
 are_quiet_within query left right limit some =
     let all = all_events_of query left right in
     first_or_all (IsQuietWithin query.quiet) (λ n events. is_quiet_within-first n query.quiet events) limit all (ltb limit (length all.events))
     (is_quiet_within query.quiet (none_live query) (arrivals_of (rows_of query.left.columns query.slack left) (rows_of query.right.columns query.slack right)).rows some)
 
-pub are_quiet_only_after : (query : Parts) (left right : Stream) (limit : ℕ) → IsQuietOnlyAfter query.quiet (events_of query left right limit).events
+pub are_quiet_only_after : (query : QueryParts) (left right : Stream) (limit : ℕ) → IsQuietOnlyAfter query.quiet (events_of query left right limit).events
 are_quiet_only_after query left right limit =
     let all = all_events_of query left right in
     first_or_all (IsQuietOnlyAfter query.quiet) (λ n events. is_quiet_only_after-first n query.quiet events) limit all (ltb limit (length all.events))
     (is_quiet_only_after query.quiet (none_live query) (arrivals_of (rows_of query.left.columns query.slack left) (rows_of query.right.columns query.slack right)).rows)
 
-pub expire_in_turn : (query : Parts) (left right : Stream) → RowsExpireInTurn query (all_events_of query left right).events
+pub expire_in_turn : (query : QueryParts) (left right : Stream) → RowsExpireInTurn query (all_events_of query left right).events
 expire_in_turn query left right = expires_in_turn query (all_events_of query left right).events (each_moment query left right)

@@ -11,23 +11,23 @@ use Rattle.hj_base.specs.declared.outside.Role.TheVariants as role
 use Rattle.hj_base.specs.Outside.{RoleState, ChangesOnlyStreams}
 use Rattle.hj_record.specs.Pieces.{Stream}
 use Rattle.hj_window.specs.LiveRows.{is_same_side}
-use Rattle.hj_event.specs.declared.stop.Stop.{Stop}
-use Rattle.hj_event.specs.declared.stop.Stop.TheVariants as stop
-use Rattle.hj_event.specs.declared.stop.Last.{Last}
-use Rattle.hj_event.specs.declared.stop.Last.TheVariants as last
+use Rattle.hj_event.specs.declared.stop.SideStop.{SideStop}
+use Rattle.hj_event.specs.declared.stop.SideStop.TheVariants as stop
+use Rattle.hj_event.specs.declared.stop.MergeEnd.{MergeEnd}
+use Rattle.hj_event.specs.declared.stop.MergeEnd.TheVariants as last
 use Rattle.hj_event.specs.Arrivals.{Arrivals, then_arrivals, no_arrival, clean, bad, unread}
 use Rattle.hj_event.specs.Sides.{Sides, in_front, Follows, arrivals_ahead}
 use Rattle.hj_event.specs.Roles.{IsReadOn}
 use Rattle.hj_event.specs.Taking.{IsReadAsNeeded, unseen}
 
 -- how the merge ends where a side stops
-abbrev pub last_of : Side → Stop → Last
+abbrev pub last_of : Side → SideStop → MergeEnd
 last_of side (stop.Bad at why) = last.Bad side at why
 last_of side stop.Failed = last.Failed side
 last_of side stop.Memory = last.Memory
 
 -- Taking the next arrival. After an ending nothing is said of the arrivals behind it.
-abbrev pub ArrivalLeads : Result (Side × List Field) Last → Arrivals → Arrivals → Type 0
+abbrev pub ArrivalLeads : Result (Side × List Field) MergeEnd → Arrivals → Arrivals → Type 0
 ArrivalLeads (Ok arrival) ahead behind = ahead ≡ then_arrivals arrival.0 arrival.1 behind
 ArrivalLeads (Err last.Done) ahead behind = ahead ≡ no_arrival clean
 ArrivalLeads (Err (last.Bad side at why)) ahead behind = ahead ≡ no_arrival (bad side at why)
@@ -36,18 +36,18 @@ ArrivalLeads (Err last.TooMany) ahead behind = ⊥
 ArrivalLeads (Err last.Memory) ahead behind = Unit {0}
 
 -- a read of this side failed
-abbrev pub fails_last : Last → Side → Bool
+abbrev pub fails_last : MergeEnd → Side → Bool
 fails_last last.Done side = false
 fails_last (last.Bad of at why) side = false
 fails_last (last.Failed of) side = is_same_side of side
 fails_last last.TooMany side = false
 fails_last last.Memory side = false
 
-abbrev pub fails : Result (Side × List Field) Last → Side → Bool
+abbrev pub fails : Result (Side × List Field) MergeEnd → Side → Bool
 fails (Ok arrival) side = false
 fails (Err why) side = fails_last why side
 
-abbrev pub EndsBoth : Result (Side × List Field) Last → Bool → Bool → Type 0
+abbrev pub EndsBoth : Result (Side × List Field) MergeEnd → Bool → Bool → Type 0
 EndsBoth (Err last.Done) left right = (left ≡ true) × (right ≡ true)
 EndsBoth answer left right = Unit {0}
 
@@ -72,7 +72,7 @@ TakesHead None old new = (old.left.head ≡ None) × (old.right.head ≡ None) �
 TakesHead (Some arrival) old new =
     (first_side old.left.head old.right.head ≡ arrival.0) × (head_on arrival.0 old ≡ Some arrival.1) × (new ≡ without_head arrival.0 old)
 
-pub record TakesArrival (answer : Result (Side × List Field) Last) (old new : Sides) (before now : Role → RoleState) : Type 0 where
+pub record TakesArrival (answer : Result (Side × List Field) MergeEnd) (old new : Sides) (before now : Role → RoleState) : Type 0 where
   pub left_bytes : List ℕ
   pub right_bytes : List ℕ
   pub left : IsReadOn (fails answer Left) left_bytes old.left.reading.ended new.left.reading.ended (before role.Left) (now role.Left)

@@ -10,7 +10,7 @@ use Rattle.hj_base.specs.declared.numbers.Side.TheVariants.{Left}
 use Rattle.hj_msg.specs.declared.event.Event.{Event}
 use Rattle.hj_msg.specs.declared.event.Event.TheVariants.{Arrive, Expire, Quiet}
 use Rattle.hj_msg.specs.Quiet.{other_side}
-use Rattle.hj_query.specs.Parts.{Parts}
+use Rattle.hj_query.specs.QueryParts.{QueryParts}
 use Rattle.hj_record.specs.Pieces.{Stream}
 use Rattle.hj_window.specs.LiveRows.{LiveRow, LiveRows, Arrived, arrive, is_same_side}
 use Rattle.hj_event.specs.Rows.{rows_of}
@@ -70,26 +70,26 @@ number_from quiet at live silence (arrival ∷ arrivals) =
     events ++ number_from quiet (at + length events) came.live (silence_behind told silent) arrivals
 
 -- Events, and how the merge ends behind them.
-pub record Numbered : Type 0 where
+pub record NumberedEvents : Type 0 where
   pub events : List (Event (List Field))
   pub ending : Ending
 
 -- All of them, or the first ones, where they are more than this number.
-abbrev pub up_to : ℕ → Numbered → Numbered
+abbrev pub up_to : ℕ → NumberedEvents → NumberedEvents
 up_to limit all = if nat_lt limit (length all.events) then record { events = take limit all.events; ending = too_many } else all
 
 -- no row is live before the first arrival
-abbrev pub none_live : Parts → LiveRows
+abbrev pub none_live : QueryParts → LiveRows
 none_live query = record { left = query.left_window; right = query.right_window; rows = [] }
 
-abbrev pub numbered : ℕ → ℕ → LiveRows → Silence → Arrivals → Numbered
+abbrev pub numbered : ℕ → ℕ → LiveRows → Silence → Arrivals → NumberedEvents
 numbered quiet at live silence arrivals = record { events = number_from quiet at live silence arrivals.rows; ending = arrivals.ending }
 
 -- The events of two streams under a query's schemas, windows and quiet number.
-abbrev pub all_events_of : Parts → Stream → Stream → Numbered
+abbrev pub all_events_of : QueryParts → Stream → Stream → NumberedEvents
 all_events_of query left right =
     numbered query.quiet 0 (none_live query) no_silence (arrivals_of (rows_of query.left.columns query.slack left) (rows_of query.right.columns query.slack right))
 
 -- The first of them, up to a limit.
-abbrev pub events_of : Parts → Stream → Stream → ℕ → Numbered
+abbrev pub events_of : QueryParts → Stream → Stream → ℕ → NumberedEvents
 events_of query left right limit = up_to limit (all_events_of query left right)

@@ -9,15 +9,15 @@ use Rattle.hj_base.specs.declared.outside.Role.{Role}
 use Rattle.hj_base.specs.declared.outside.Role.TheVariants as role
 use Rattle.hj_base.specs.Outside.{RoleState, ChangesOnlyStreams}
 use Rattle.hj_msg.specs.declared.event.Event.{Event}
-use Rattle.hj_query.specs.Parts.{Parts}
+use Rattle.hj_query.specs.QueryParts.{QueryParts}
 use Rattle.hj_record.specs.Pieces.{Stream}
 use Rattle.hj_event.specs.declared.merger.Next.{Next}
 use Rattle.hj_event.specs.declared.merger.Next.TheVariants as next
-use Rattle.hj_event.specs.declared.stop.Last.{Last}
-use Rattle.hj_event.specs.declared.stop.Last.TheVariants as last
+use Rattle.hj_event.specs.declared.stop.MergeEnd.{MergeEnd}
+use Rattle.hj_event.specs.declared.stop.MergeEnd.TheVariants as last
 use Rattle.hj_event.specs.Arrivals.{Arrivals, then_arrivals, clean, bad, unread, too_many}
 use Rattle.hj_event.specs.Arriving.{TakesArrival, fails_last}
-use Rattle.hj_event.specs.Events.{Numbered, events_of}
+use Rattle.hj_event.specs.Events.{NumberedEvents, events_of}
 use Rattle.hj_event.specs.Numbering.{NumberingState, numbered_ahead, has_due, no_event, then_event}
 use Rattle.hj_event.specs.Roles.{IsReadOn, IsUnread}
 use Rattle.hj_event.specs.Sides.{Sides, in_front, Follows, arrivals_ahead}
@@ -27,13 +27,13 @@ pub record Merging : Type 0 where
   pub sides : Sides
   pub numbering : NumberingState
   -- the answer that every call gives from now on
-  pub over : Option Last
+  pub over : Option MergeEnd
 
 -- The events to come, where these streams come.
-abbrev pub events_from : Merging → Stream → Stream → Numbered
+abbrev pub events_from : Merging → Stream → Stream → NumberedEvents
 events_from merging left right = numbered_ahead merging.numbering (arrivals_ahead merging.sides left right)
 
-abbrev pub answer_of : Last → Next
+abbrev pub answer_of : MergeEnd → Next
 answer_of last.Done = next.Done
 answer_of (last.Bad side at why) = next.Bad side at why
 answer_of (last.Failed side) = next.Failed side
@@ -41,7 +41,7 @@ answer_of last.TooMany = next.TooMany
 answer_of last.Memory = next.Memory
 
 -- the answer that stays behind this one
-abbrev pub stays_by : Next → Option Last
+abbrev pub stays_by : Next → Option MergeEnd
 stays_by (next.Event event) = None
 stays_by next.Done = Some last.Done
 stays_by (next.Bad side at why) = Some (last.Bad side at why)
@@ -55,7 +55,7 @@ fails_next (next.Failed of) side = fails_last (last.Failed of) side
 fails_next answer side = false
 
 -- What an answer says of the events to come before it and after it.
-abbrev pub NextLeads : Next → Numbered → Numbered → Type 0
+abbrev pub NextLeads : Next → NumberedEvents → NumberedEvents → Type 0
 NextLeads (next.Event event) ahead behind = ahead ≡ then_event event behind
 NextLeads next.Done ahead behind = ahead ≡ no_event clean
 NextLeads (next.Bad side at why) ahead behind = ahead ≡ no_event (bad side at why)
@@ -86,13 +86,13 @@ pub record TakesNext (answer : Next) (old new : Merging) (before now : Role → 
   pub right_needed : IsReadAsNeeded old.sides.right.head old.sides.right right_bytes (before role.Right) (now role.Right)
 
 -- the answer to a step
-abbrev pub next_of : Result (Event (List Field)) Last → Next
+abbrev pub next_of : Result (Event (List Field)) MergeEnd → Next
 next_of (Ok event) = next.Event event
 next_of (Err last) = answer_of last
 
 -- A step of a merger is a call of it but for the answer that stays.
-abbrev pub Steps : Result (Event (List Field)) Last → Merging → Merging → (Role → RoleState) → (Role → RoleState) → Type 0
-Steps step old new before now = TakesNext (next_of step) old (record new { over = stays_by (next_of step) }) before now × (new.over ≡ old.over)
+abbrev pub StepsToAnswer : Result (Event (List Field)) MergeEnd → Merging → Merging → (Role → RoleState) → (Role → RoleState) → Type 0
+StepsToAnswer step old new before now = TakesNext (next_of step) old (record new { over = stays_by (next_of step) }) before now × (new.over ≡ old.over)
 
 -- The next arrival is taken, whose events are due then.
 pub record IsDue (old new : Merging) (before now : Role → RoleState) : Type 0 where
@@ -103,34 +103,34 @@ pub record IsDue (old new : Merging) (before now : Role → RoleState) : Type 0 
   pub over : new.over ≡ old.over
 
 -- The same, or the arrivals end.
-abbrev pub Arrives : {T : Type 0} → Result T Last → Merging → Merging → (Role → RoleState) → (Role → RoleState) → Type 0
-Arrives (Ok done) old new before now = IsDue old new before now
-Arrives (Err why) old new before now = Steps (Err why) old new before now
+abbrev pub LetsArrive : {T : Type 0} → Result T MergeEnd → Merging → Merging → (Role → RoleState) → (Role → RoleState) → Type 0
+LetsArrive (Ok done) old new before now = IsDue old new before now
+LetsArrive (Err why) old new before now = StepsToAnswer (Err why) old new before now
 
 -- A last answer is given again, and nothing is read.
-abbrev pub Repeats : Last → Next → Merging → Merging → (Role → RoleState) → (Role → RoleState) → Type 0
+abbrev pub Repeats : MergeEnd → Next → Merging → Merging → (Role → RoleState) → (Role → RoleState) → Type 0
 Repeats last answer old new before now = (answer ≡ answer_of last) × (new ≡ old) × ((of : Role) → now of ≡ before of)
 
-abbrev pub AnswersFrom : Option Last → Next → Merging → Merging → (Role → RoleState) → (Role → RoleState) → Type 0
+abbrev pub AnswersFrom : Option MergeEnd → Next → Merging → Merging → (Role → RoleState) → (Role → RoleState) → Type 0
 AnswersFrom None answer old new before now = TakesNext answer old new before now
 AnswersFrom (Some last) answer old new before now = Repeats last answer old new before now
 
 -- A call of `next`.
-abbrev pub Answers : Next → Merging → Merging → (Role → RoleState) → (Role → RoleState) → Type 0
-Answers answer old new before now = AnswersFrom old.over answer old new before now
+abbrev pub AnswersNext : Next → Merging → Merging → (Role → RoleState) → (Role → RoleState) → Type 0
+AnswersNext answer old new before now = AnswersFrom old.over answer old new before now
 
 -- By this call no bytes came.
-abbrev pub TakesNoBytes : (over : Option Last) (answer : Next) (old new : Merging) (before now : Role → RoleState) → AnswersFrom over answer old new before now → Type 0
+abbrev pub TakesNoBytes : (over : Option MergeEnd) (answer : Next) (old new : Merging) (before now : Role → RoleState) → AnswersFrom over answer old new before now → Type 0
 TakesNoBytes None answer old new before now takes = (takes.left_bytes ≡ []) × (takes.right_bytes ≡ [])
 TakesNoBytes (Some last) answer old new before now repeats = Unit {0}
 
 -- The next call reads nothing, whatever it answers: no bytes come, and each role stays as it was.
 abbrev pub ReadsNothingNext : Merging → Type 0
-ReadsNothingNext merging = (answer : Next) (new : Merging) (before now : Role → RoleState) (call : Answers answer merging new before now)
+ReadsNothingNext merging = (answer : Next) (new : Merging) (before now : Role → RoleState) (call : AnswersNext answer merging new before now)
     → TakesNoBytes merging.over answer merging new before now call × ((of : Role) → now of ≡ before of)
 
 -- Nothing was read yet, and nothing given.
-pub record IsNew (query : Parts) (limit : ℕ) (merging : Merging) : Type 0 where
+pub record IsNewMerger (query : QueryParts) (limit : ℕ) (merging : Merging) : Type 0 where
   pub left : merging.sides.left.reading.ended ≡ false
   pub right : merging.sides.right.reading.ended ≡ false
   pub over : merging.over ≡ None

@@ -8,10 +8,10 @@ use Rattle.hj_base.specs.declared.numbers.Side.{Side}
 use Rattle.hj_msg.specs.declared.event.Event.{Event}
 use Rattle.hj_msg.specs.declared.event.Event.TheVariants.{Arrive, Expire}
 use Rattle.hj_window.specs.LiveRows.{LiveRows, AllBelow}
-use Rattle.hj_event.specs.declared.stop.Last.{Last}
-use Rattle.hj_event.specs.declared.stop.Last.TheVariants as last
+use Rattle.hj_event.specs.declared.stop.MergeEnd.{MergeEnd}
+use Rattle.hj_event.specs.declared.stop.MergeEnd.TheVariants as last
 use Rattle.hj_event.specs.Arrivals.{Arrivals, Ending, too_many}
-use Rattle.hj_event.specs.Events.{Numbered, Silence, quiet_event, numbered, up_to}
+use Rattle.hj_event.specs.Events.{NumberedEvents, Silence, quiet_event, numbered, up_to}
 
 -- What came of an arrival and wasn't given yet: the rows that expire before it, itself, the row that expires after it, and
 -- the side that has a quiet event behind these.
@@ -69,22 +69,22 @@ pub record NumberingState : Type 0 where
   pub limit : ℕ
 
 -- The events to come, where these arrivals come.
-abbrev pub numbered_ahead : NumberingState → Arrivals → Numbered
+abbrev pub numbered_ahead : NumberingState → Arrivals → NumberedEvents
 numbered_ahead state arrivals =
     let behind = numbered state.quiet (state.next + due_count state.due) state.live state.silence arrivals in
     up_to (state.limit - state.next) (record { events = due_events state.next state.due ++ behind.events; ending = behind.ending })
 
-abbrev pub no_event : Ending → Numbered
+abbrev pub no_event : Ending → NumberedEvents
 no_event ending = record { events = []; ending = ending }
 
-abbrev pub then_event : Event (List Field) → Numbered → Numbered
+abbrev pub then_event : Event (List Field) → NumberedEvents → NumberedEvents
 then_event event others = record { events = event ∷ others.events; ending = others.ending }
 
 -- Giving an event that is due: it, or there are too many.
-abbrev pub Gives : Result (Event (List Field)) Last → Numbered → Numbered → Type 0
-Gives (Ok event) ahead behind = ahead ≡ then_event event behind
-Gives (Err last.TooMany) ahead behind = ahead ≡ no_event too_many
-Gives (Err why) ahead behind = ⊥
+abbrev pub GivesDueEvent : Result (Event (List Field)) MergeEnd → NumberedEvents → NumberedEvents → Type 0
+GivesDueEvent (Ok event) ahead behind = ahead ≡ then_event event behind
+GivesDueEvent (Err last.TooMany) ahead behind = ahead ≡ no_event too_many
+GivesDueEvent (Err why) ahead behind = ⊥
 
 -- Each live row has a number below those of the events to come, as many rows as arrived in a silence do, and the events given
 -- are within the limit.

@@ -7,13 +7,13 @@ use Rattle.hj_base.specs.Outside.{RoleState}
 use Rattle.hj_record.specs.Cutter.{Cutting}
 use Rattle.hj_record.specs.LineEnd.{inside_after}
 use Rattle.hj_record.specs.Pieces.{quotes}
-use Rattle.hj_event.specs.declared.stop.Stop.{Stop}
-use Rattle.hj_event.specs.declared.stop.Stop.TheVariants as stop
-use Rattle.hj_event.specs.Sides.{Reading}
+use Rattle.hj_event.specs.declared.stop.SideStop.{SideStop}
+use Rattle.hj_event.specs.declared.stop.SideStop.TheVariants as stop
+use Rattle.hj_event.specs.Sides.{ReaderState}
 use Rattle.hj_event.specs.Roles.{IsReadOn}
 use Rattle.hj_event.specs.Taking.{has_failed}
 
-abbrev pub reading : List Column → ℕ → Cutting → List ℕ → ℕ → ℕ → Bool → ℕ → Option ℤ → Reading
+abbrev pub reading : List Column → ℕ → Cutting → List ℕ → ℕ → ℕ → Bool → ℕ → Option ℤ → ReaderState
 reading columns slack cutting portion taken filled ended record_no time = record {
   columns = columns;
   slack = slack;
@@ -37,7 +37,7 @@ pub record IsReadable (cutting : Cutting) (portion : List ℕ) (taken filled lin
   pub outside : taken < lines_end → inside_after (quotes cutting.piece % 2 == 1) (slice_range portion taken (lines_end - 1)) ≡ false
 
 -- A read: these bytes came, or the end, or it failed.
-pub record Fills {T : Type 0} (answer : Result T Stop) (old new : Reading) (before now : RoleState) : Type 0 where
+pub record Fills {T : Type 0} (answer : Result T SideStop) (old new : ReaderState) (before now : RoleState) : Type 0 where
   pub bytes : List ℕ
   pub reads : IsReadOn (has_failed answer) bytes false new.ended before now
   pub same : new ≡ record old { rest = bytes; ended = new.ended }

@@ -10,7 +10,7 @@ use Rattle.hj_event.specs.Rows.{Rows, no_row, then_rows, rows_in, in_order, most
 use Rattle.hj_event.specs.Arrivals.{Arrivals, arrivals_of}
 
 -- The bytes of a side as far as they were looked at.
-pub record Reading : Type 0 where
+pub record ReaderState : Type 0 where
   pub columns : List Column
   pub slack : ℕ
   -- how many bytes the stream may still have, from the first of the current piece on
@@ -31,7 +31,7 @@ pub record Reading : Type 0 where
 -- A side: the row that it is at, where that was looked at, and what was read behind it.
 pub record SideState : Type 0 where
   pub head : Option (List Field)
-  pub reading : Reading
+  pub reading : ReaderState
   -- the rows that were read and not looked at, in order
   pub waiting : List (List Field)
   -- the number of the record that was refused behind them, and why
@@ -42,7 +42,7 @@ pub record Sides : Type 0 where
   pub right : SideState
 
 -- a side of which nothing was read
-abbrev pub new_reading : List Column → ℕ → Reading
+abbrev pub new_reading : List Column → ℕ → ReaderState
 new_reading columns slack = record { columns = columns; slack = slack; room = most_in_stream; part = []; rest = []; fault = None; ended = false; record_no = 1; time = None }
 
 abbrev pub new_side : List Column → ℕ → SideState
@@ -78,12 +78,12 @@ unless_refused None pieces = pieces
 unless_refused (Some found) pieces = ended (bad found)
 
 -- the pieces to come, where this stream comes
-abbrev pub pieces_ahead : Reading → Stream → Pieces
+abbrev pub pieces_ahead : ReaderState → Stream → Pieces
 pieces_ahead side stream =
     unless_refused side.fault (pieces_of side.room (record { bytes = side.part ++ (side.rest ++ stream.bytes); whole = stream.whole }))
 
 -- the rows that are still to be read
-abbrev pub read_ahead : Reading → Stream → Rows
+abbrev pub read_ahead : ReaderState → Stream → Rows
 read_ahead side stream = rows_in side.columns side.slack side.record_no side.time (pieces_ahead side stream)
 
 -- behind a record that was refused no row comes

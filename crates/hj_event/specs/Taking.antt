@@ -14,16 +14,16 @@ use Rattle.hj_schema.specs.declared.fault.RowFault.TheVariants as row_fault
 use Rattle.hj_schema.specs.Lines.{IsLineOf}
 use Rattle.hj_event.specs.declared.fault.RecordFault.{RecordFault}
 use Rattle.hj_event.specs.declared.fault.RecordFault.TheVariants as fault
-use Rattle.hj_event.specs.declared.stop.Stop.{Stop}
-use Rattle.hj_event.specs.declared.stop.Stop.TheVariants as stop
-use Rattle.hj_event.specs.declared.source.Ahead.{Ahead}
-use Rattle.hj_event.specs.declared.source.Ahead.TheVariants as ahead
-use Rattle.hj_event.specs.declared.source.LineStep.{LineStep}
-use Rattle.hj_event.specs.declared.source.LineStep.TheVariants as line_step
+use Rattle.hj_event.specs.declared.stop.SideStop.{SideStop}
+use Rattle.hj_event.specs.declared.stop.SideStop.TheVariants as stop
+use Rattle.hj_event.specs.declared.row_source.Ahead.{Ahead}
+use Rattle.hj_event.specs.declared.row_source.Ahead.TheVariants as ahead
+use Rattle.hj_event.specs.declared.row_source.LineStep.{LineStep}
+use Rattle.hj_event.specs.declared.row_source.LineStep.TheVariants as line_step
 use Rattle.hj_event.specs.declared.stop.ReadStep.{ReadStep}
 use Rattle.hj_event.specs.declared.stop.ReadStep.TheVariants as read_step
 use Rattle.hj_event.specs.Rows.{Rows, no_row, then_rows, row_at, in_time, with_time, is_sure, clean, bad, unread}
-use Rattle.hj_event.specs.Sides.{Reading, SideState, in_front, at_its_end, cut_off, MayFollow, Follows, read_ahead, rows_ahead, side_ahead}
+use Rattle.hj_event.specs.Sides.{ReaderState, SideState, in_front, at_its_end, cut_off, MayFollow, Follows, read_ahead, rows_ahead, side_ahead}
 use Rattle.hj_event.specs.Roles.{IsReadOn, IsUnread}
 use Rattle.hj_event.specs.Waiting.{has_sure}
 
@@ -46,32 +46,32 @@ is_late slack None time = false
 is_late slack (Some greatest) time = int_lt time (greatest -ℤ pos slack)
 
 -- how many of the bytes that were read the next piece may have
-abbrev pub most_in_line : Reading → ℕ
+abbrev pub most_in_line : ReaderState → ℕ
 most_in_line side = min (most_from side.fault side.part side.room) (length side.rest)
 
 -- The next bytes of those, so many, are a line, and this is the row of its record.
-abbrev pub IsNextLine : List Field → ℕ → Reading → Type 0
+abbrev pub IsNextLine : List Field → ℕ → ReaderState → Type 0
 IsNextLine row used side = IsLineOf side.columns row used (take (most_in_line side) side.rest)
 
 -- why the stream stops at the record of this number
-abbrev pub stop_of : ℕ → RecordFault → Stop
+abbrev pub stop_of : ℕ → RecordFault → SideStop
 stop_of at (fault.Piece piece_fault.Memory) = stop.Memory
 stop_of at (fault.Row row_fault.Memory) = stop.Memory
 stop_of at why = stop.Bad at why
 
 -- the side behind a row
-abbrev pub counted : List Field → Reading → Reading
+abbrev pub counted : List Field → ReaderState → ReaderState
 counted row side = record side { record_no = side.record_no + 1; time = Some (with_time side.time (time_of row)) }
 
 -- What a piece that was read holds.
-abbrev pub Holds : Result (Option (List Field)) RecordFault → Result ReadStep Stop → Reading → Reading → Type 0
+abbrev pub Holds : Result (Option (List Field)) RecordFault → Result ReadStep SideStop → ReaderState → ReaderState → Type 0
 Holds (Ok None) answer old new = (answer ≡ Ok read_step.NoRecord) × (new ≡ old)
 Holds (Ok (Some row)) answer old new = ((answer ≡ Err stop.Memory) × (new ≡ old)) ⊎ ((answer ≡ Ok (read_step.Row row)) × (new ≡ counted row old))
 Holds (Err why) answer old new = (answer ≡ Err (stop_of old.record_no why)) × (new ≡ old)
 
 -- Looking at the bytes that were read, up to the end of a piece: of the rows to come before and after. After a stop nothing
 -- is said of those after.
-abbrev pub StepLeads : Result ReadStep Stop → Rows → Rows → Type 0
+abbrev pub StepLeads : Result ReadStep SideStop → Rows → Rows → Type 0
 StepLeads (Ok (read_step.Row row)) ahead behind = ahead ≡ then_rows row behind
 StepLeads (Ok read_step.NoRecord) ahead behind = ahead ≡ behind
 StepLeads (Ok read_step.More) ahead behind = ahead ≡ behind
@@ -81,18 +81,18 @@ StepLeads (Err stop.Failed) ahead behind = ⊥
 StepLeads (Err stop.Memory) ahead behind = Unit {0}
 
 -- More bytes are wanted only before the end: nothing is left to look at, and a stream that is cut off here has no more rows.
-abbrev pub Wants : Result ReadStep Stop → Reading → (Stream → Rows) → Type 0
+abbrev pub Wants : Result ReadStep SideStop → ReaderState → (Stream → Rows) → Type 0
 Wants (Ok read_step.More) side ahead = (side.ended ≡ false) × (side.rest ≡ []) × (ahead cut_off ≡ no_row unread)
 Wants (Ok read_step.End) side ahead = side.ended ≡ true
 Wants answer side ahead = Unit {0}
 
 -- The greatest time goes on with a row, which is in time.
-abbrev pub TimeGoes : Result ReadStep Stop → ℕ → Option ℤ → Option ℤ → Type 0
+abbrev pub TimeGoes : Result ReadStep SideStop → ℕ → Option ℤ → Option ℤ → Type 0
 TimeGoes (Ok (read_step.Row row)) slack before after = (in_time slack before row ≡ Ok (Some row)) × (after ≡ Some (with_time before (time_of row)))
 TimeGoes answer slack before after = after ≡ before
 
 -- The bytes of a side are looked at up to the end of a piece.
-pub record Advances (answer : Result ReadStep Stop) (old new : Reading) : Type 0 where
+pub record Advances (answer : Result ReadStep SideStop) (old new : ReaderState) : Type 0 where
   pub ended : new.ended ≡ old.ended
   pub slack : new.slack ≡ old.slack
   pub time : TimeGoes answer old.slack old.time new.time
@@ -100,38 +100,38 @@ pub record Advances (answer : Result ReadStep Stop) (old new : Reading) : Type 0
   pub wants : Wants answer new (read_ahead new)
 
 -- The row of the next line is taken, or nothing changes.
-abbrev pub TakesLine : Result (Option (List Field)) Memory → Reading → Reading → Type 0
-TakesLine (Ok (Some row)) old new = Advances (Ok (read_step.Row row)) old new
-TakesLine (Ok None) old new = new ≡ old
-TakesLine (Err why) old new = new ≡ old
+abbrev pub TakesNextLine : Result (Option (List Field)) Memory → ReaderState → ReaderState → Type 0
+TakesNextLine (Ok (Some row)) old new = Advances (Ok (read_step.Row row)) old new
+TakesNextLine (Ok None) old new = new ≡ old
+TakesNextLine (Err why) old new = new ≡ old
 
 -- A side goes on by a piece, or by a row that waited.
-pub record GoesOn (answer : Result ReadStep Stop) (old new : SideState) : Type 0 where
+pub record SideGoesOn (answer : Result ReadStep SideStop) (old new : SideState) : Type 0 where
   pub ended : new.reading.ended ≡ old.reading.ended
   pub leads : (stream : Stream) → MayFollow new.reading.ended stream → StepLeads answer (rows_ahead old stream) (rows_ahead new stream)
   pub wants : Wants answer new.reading (rows_ahead new)
 
 -- Taking the next row, or coming to the end.
-abbrev pub RowLeads : Result (Option (List Field)) Stop → Rows → Rows → Type 0
+abbrev pub RowLeads : Result (Option (List Field)) SideStop → Rows → Rows → Type 0
 RowLeads (Ok (Some row)) ahead behind = ahead ≡ then_rows row behind
 RowLeads (Ok None) ahead behind = (ahead ≡ no_row clean) × (behind ≡ no_row clean)
 RowLeads (Err (stop.Bad at why)) ahead behind = ahead ≡ no_row (bad at why)
 RowLeads (Err stop.Failed) ahead behind = ahead ≡ no_row unread
 RowLeads (Err stop.Memory) ahead behind = Unit {0}
 
-abbrev pub has_failed : {T : Type 0} → Result T Stop → Bool
+abbrev pub has_failed : {T : Type 0} → Result T SideStop → Bool
 has_failed (Ok x) = false
 has_failed (Err (stop.Bad at why)) = false
 has_failed (Err stop.Failed) = true
 has_failed (Err stop.Memory) = false
 
-abbrev pub EndsSide : Result (Option (List Field)) Stop → Bool → Type 0
+abbrev pub EndsSide : Result (Option (List Field)) SideStop → Bool → Type 0
 EndsSide (Ok None) ended = ended ≡ true
 EndsSide answer ended = Unit {0}
 
 -- A side has ended, and no row is still to be read.
-abbrev pub IsOver : Reading → Type 0
-IsOver side = (side.ended ≡ true) × (read_ahead side at_its_end ≡ no_row clean)
+abbrev pub IsSideOver : ReaderState → Type 0
+IsSideOver side = (side.ended ≡ true) × (read_ahead side at_its_end ≡ no_row clean)
 
 -- the record that is refused, where it is known
 abbrev pub refused_in : Ahead → Option (ℕ × RecordFault)
@@ -140,44 +140,44 @@ refused_in ahead.Over = None
 refused_in (ahead.Refused at why) = Some (at, why)
 
 -- What is known of what comes after the rows that wait is so.
-abbrev pub IsKnown : Ahead → Reading → Type 0
+abbrev pub IsKnown : Ahead → ReaderState → Type 0
 IsKnown ahead.Unknown side = Unit {0}
-IsKnown ahead.Over side = IsOver side
+IsKnown ahead.Over side = IsSideOver side
 IsKnown (ahead.Refused at why) side = Unit {0}
 
 -- The next row is sure, where it is known.
-abbrev pub IsNext : Option (List Field) → Reading → Ahead → Type 0
-IsNext None side known = Unit {0}
-IsNext (Some row) side known = (known ≡ ahead.Unknown) × (is_sure side.slack side.time row ≡ true)
+abbrev pub IsNextRow : Option (List Field) → ReaderState → Ahead → Type 0
+IsNextRow None side known = Unit {0}
+IsNextRow (Some row) side known = (known ≡ ahead.Unknown) × (is_sure side.slack side.time row ≡ true)
 
 -- What a side keeps behind its reader. Without a slack no row waits, and nothing is known of what comes behind those that do.
-pub record IsKept (side : Reading) (next : Option (List Field)) (waiting : List (List Field)) (known : Ahead) : Type 0 where
+pub record KeepsBehind (side : ReaderState) (next : Option (List Field)) (waiting : List (List Field)) (known : Ahead) : Type 0 where
   pub without : side.slack ≡ 0 → (option_to_list next ++ waiting ≡ []) × (known ≡ ahead.Unknown)
   pub is_known : IsKnown known side
-  pub is_next : IsNext next side known
+  pub is_next : IsNextRow next side known
 
 -- what was found where rows wait: more bytes are wanted, or what was read is kept
-abbrev pub step_by : Result Bool Memory → Result ReadStep Stop
+abbrev pub step_by : Result Bool Memory → Result ReadStep SideStop
 step_by (Ok true) = Ok read_step.More
 step_by (Ok false) = Ok read_step.NoRecord
 step_by (Err why) = Err stop.Memory
 
 -- what was found where the row of a piece was read, or memory ran out
-abbrev pub read_by : {T : Type 0} → Result T Memory → Result ReadStep Stop
+abbrev pub read_by : {T : Type 0} → Result T Memory → Result ReadStep SideStop
 read_by (Ok found) = Ok read_step.NoRecord
 read_by (Err why) = Err stop.Memory
 
 -- a side with these rows that wait, whose next row isn't known
-abbrev pub late_side : Reading → List (List Field) → SideState
+abbrev pub late_side : ReaderState → List (List Field) → SideState
 late_side reading waiting = record { head = None; reading = reading; waiting = waiting; stop = None }
 
 -- Lines were read, and the first row that waits then is taken as the next one, if it is sure.
-pub record ReadsLines (next : Option (List Field)) (old : Reading) (before : List (List Field)) (new : Reading) (after : List (List Field)) : Type 0 where
-  pub goes_on : GoesOn (Ok read_step.NoRecord) (late_side old before) (late_side new (option_to_list next ++ after))
-  pub is_next : IsNext next new ahead.Unknown
+pub record ReadsLines (next : Option (List Field)) (old : ReaderState) (before : List (List Field)) (new : ReaderState) (after : List (List Field)) : Type 0 where
+  pub goes_on : SideGoesOn (Ok read_step.NoRecord) (late_side old before) (late_side new (option_to_list next ++ after))
+  pub is_next : IsNextRow next new ahead.Unknown
 
 -- A line was read, whose row waits then.
-abbrev pub ReadsLine : LineStep → Reading → List (List Field) → Reading → List (List Field) → Type 0
+abbrev pub ReadsLine : LineStep → ReaderState → List (List Field) → ReaderState → List (List Field) → Type 0
 ReadsLine (line_step.Next row) old before new after = ReadsLines (Some row) old before new after
 ReadsLine line_step.NoneSure old before new after = ReadsLines None old before new after × (has_sure new.slack new.time after ≡ false)
 ReadsLine line_step.NoLine old before new after = (new ≡ old) × (after ≡ before)
@@ -197,7 +197,7 @@ IsReadAsNeeded (Some row) side bytes before now = IsUnread bytes before now
 IsReadAsNeeded None side bytes before now = IsUnread bytes before now ⊎ IsNeeded side bytes
 
 -- What was read of a side tells a row, or the fault in place of it.
-abbrev pub TellsRow : Reading → Type 0
+abbrev pub TellsRow : ReaderState → Type 0
 TellsRow side = ¬ (read_ahead side cut_off ≡ no_row unread)
 
 -- What was read of a side tells its next row, or the fault in place of it.
@@ -208,7 +208,7 @@ TellsNext side = ¬ (rows_ahead side cut_off ≡ no_row unread)
 abbrev pub IsTold : SideState → Type 0
 IsTold side = IsSome side.head ⊎ (side.reading.ended ≡ true) ⊎ TellsNext side
 
-pub record TakesRow (answer : Result (Option (List Field)) Stop) (old new : SideState) (before now : RoleState) : Type 0 where
+pub record TakesRow (answer : Result (Option (List Field)) SideStop) (old new : SideState) (before now : RoleState) : Type 0 where
   pub bytes : List ℕ
   pub reads : IsReadOn (has_failed answer) bytes old.reading.ended new.reading.ended before now
   pub leads : (stream : Stream) → Follows (has_failed answer) new.reading.ended stream → RowLeads answer (side_ahead old (in_front bytes stream)) (side_ahead new stream)
@@ -216,15 +216,15 @@ pub record TakesRow (answer : Result (Option (List Field)) Stop) (old new : Side
   pub needed : IsReadAsNeeded old.head old bytes before now
 
 -- The first row of a side is looked at: it is the head then. Without a head the side has no more rows.
-abbrev pub LooksAt : {T : Type 0} → Result T Stop → SideState → SideState → RoleState → RoleState → Type 0
+abbrev pub LooksAt : {T : Type 0} → Result T SideStop → SideState → SideState → RoleState → RoleState → Type 0
 LooksAt (Ok done) old new before now = TakesRow (Ok new.head) old (record new { head = None }) before now
 LooksAt (Err why) old new before now = TakesRow (Err why) old new before now
 
 -- The next row is taken, where it is known, or its line is read straight. Else nothing changes.
 abbrev pub TakesStraight : Result (Option (List Field)) Memory → SideState → SideState → Type 0
-TakesStraight (Ok (Some row)) old new = GoesOn (Ok (read_step.Row row)) old new
+TakesStraight (Ok (Some row)) old new = SideGoesOn (Ok (read_step.Row row)) old new
 TakesStraight (Ok None) old new = new ≡ old
-TakesStraight (Err why) old new = GoesOn (Err stop.Memory) old new
+TakesStraight (Err why) old new = SideGoesOn (Err stop.Memory) old new
 
 -- a side whose next row wasn't looked at
 abbrev pub unseen : SideState → SideState

@@ -12,7 +12,7 @@ use Rattle.hj_base.specs.declared.numbers.Window.TheVariants.{Rows, Time}
 use Rattle.hj_msg.specs.declared.event.Event.{Event}
 use Rattle.hj_msg.specs.declared.event.Event.TheVariants.{Arrive, Expire, Quiet}
 use Rattle.hj_msg.specs.Event.{Arrives, Expires}
-use Rattle.hj_query.specs.Parts.{Parts}
+use Rattle.hj_query.specs.QueryParts.{QueryParts}
 
 -- the number of an event by which a row of this side arrives
 abbrev pub arrival_no : {P : Type 0} → Side → Event P → Option ℕ
@@ -45,7 +45,7 @@ ArrivesNext (Expire at side of ∷ events) row = ArrivesNext events row
 ArrivesNext (Quiet at side ∷ events) row = ⊥
 
 -- the window of a side
-abbrev pub window_at : Parts → Side → Window
+abbrev pub window_at : QueryParts → Side → Window
 window_at query Left = query.left_window
 window_at query Right = query.right_window
 
@@ -78,5 +78,5 @@ ExpiresBy (Rows count) side events = ExpiresByCount side count events
 ExpiresBy (Time span) side events = ExpiresByTime side span events
 
 -- The rows of each side expire by its window.
-abbrev pub RowsExpireInTurn : Parts → List (Event (List Field)) → Type 0
+abbrev pub RowsExpireInTurn : QueryParts → List (Event (List Field)) → Type 0
 RowsExpireInTurn query events = (side : Side) → ExpiresBy (window_at query side) side events

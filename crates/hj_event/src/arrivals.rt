@@ -6,8 +6,8 @@ ghost use Rattle.hj_event.specs.Roles.{IsInStep};
 ghost use Rattle.hj_event.specs.Sides.{new_side, new_sides};
 ghost use Rattle.hj_event.specs.Taking.{LooksAt, IsTold};
 
-use crate::source::Source;
-use crate::stop::{Last, Stop};
+use crate::row_source::RowSource;
+use crate::stop::{MergeEnd, SideStop};
 use hj_base::{Outside, Side};
 use hj_value::{Schema, SharedRow};
 use std::alloc::Global;
@@ -16,7 +16,7 @@ use std::marker::Model;
 /// The rows of one side, of which the first may have been looked at.
 #[derive(Drop)]
 struct PeekedRows {
-    source: Source,
+    source: RowSource,
     head: Option<SharedRow>,
 }
 
@@ -34,14 +34,14 @@ impl PeekedRows {
         ensures { result ≡ new_side schema.columns slack }
     {
         PeekedRows {
-            source: Source::new(alloc, schema, slack),
+            source: RowSource::new(alloc, schema, slack),
             head: None,
         }
     }
 
     /// Looks at the first row, which is the head then; there is none at the end of the stream.
     #[inline(always)]
-    fn look<O: Outside>(&mut self, side: Side, outside: &mut O) -> Result<(), Stop>
+    fn look<O: Outside>(&mut self, side: Side, outside: &mut O) -> Result<(), SideStop>
         requires { IsInStep self.old.reading.ended (O.state outside.old (role_of side)) }
         ensures looks { LooksAt result self.old self.new (O.state outside.old (role_of side)) (O.state outside.new (role_of side)) }
         ensures others { ChangesOnly (role_of side) (O.state outside.old) (O.state outside.new) }
@@ -61,7 +61,7 @@ impl PeekedRows {
 
     /// Takes the first row where no row comes after those that wait, else reads it.
     #[inline(always)]
-    fn take_or_read<O: Outside>(&mut self, side: Side, outside: &mut O) -> Result<(), Stop>
+    fn take_or_read<O: Outside>(&mut self, side: Side, outside: &mut O) -> Result<(), SideStop>
         requires in_step { IsInStep self.old.reading.ended (O.state outside.old (role_of side)) }
         requires unknown { self.old.head ≡ None }
         ensures looks { LooksAt result self.old self.new (O.state outside.old (role_of side)) (O.state outside.new (role_of side)) }
@@ -79,7 +79,7 @@ impl PeekedRows {
 
     /// Reads the first row where none is known, in whatever form it is.
     #[inline(never)]
-    fn read<O: Outside>(&mut self, side: Side, outside: &mut O) -> Result<(), Stop>
+    fn read<O: Outside>(&mut self, side: Side, outside: &mut O) -> Result<(), SideStop>
         requires in_step { IsInStep self.old.reading.ended (O.state outside.old (role_of side)) }
         requires unknown { self.old.head ≡ None }
         ensures looks { LooksAt result self.old self.new (O.state outside.old (role_of side)) (O.state outside.new (role_of side)) }
@@ -131,7 +131,7 @@ impl Arrivals {
     pub(crate) fn next_arrival<O: Outside>(
         &mut self,
         outside: &mut O,
-    ) -> Result<(Side, SharedRow), Last>
+    ) -> Result<(Side, SharedRow), MergeEnd>
         requires left { IsInStep self.old.left.reading.ended (O.state outside.old role.Left) }
         requires right { IsInStep self.old.right.reading.ended (O.state outside.old role.Right) }
         ensures takes { TakesArrival result self.old self.new (O.state outside.old) (O.state outside.new) }
@@ -147,7 +147,7 @@ impl Arrivals {
         }
         match self.take_head() {
             Some(arrival) => Ok(arrival),
-            None => Err(Last::Done),
+            None => Err(MergeEnd::Done),
         }
     }
 
@@ -186,12 +186,12 @@ fn first_side(left: &Option<SharedRow>, right: &Option<SharedRow>) -> Side
 }
 
 /// Returns how the merge ends where a side stops.
-fn last(side: Side, stop: Stop) -> Last
+fn last(side: Side, stop: SideStop) -> MergeEnd
     ensures { result ≡ last_of side stop }
 {
     match stop {
-        Stop::Bad { at, fault } => Last::Bad { side, at, fault },
-        Stop::Failed => Last::Failed(side),
-        Stop::Memory => Last::Memory,
+        SideStop::Bad { at, fault } => MergeEnd::Bad { side, at, fault },
+        SideStop::Failed => MergeEnd::Failed(side),
+        SideStop::Memory => MergeEnd::Memory,
     }
 }

@@ -10,7 +10,7 @@ use std::marker::Model;
 
 /// What came of an arrival and wasn't given yet.
 #[derive(Drop)]
-pub(crate) struct Due {
+pub(crate) struct DueEvents {
     /// The rows that expire before it, of which the first `given` were given.
     before: Numbers,
     given: usize,
@@ -21,7 +21,7 @@ pub(crate) struct Due {
     quiet: Option<Side>,
 }
 
-impl Model for Due {
+impl Model for DueEvents {
     ghost use Rattle.std.specs.Prelude.{drop};
     ghost use Rattle.hj_event.specs.Numbering.{DueState};
 
@@ -30,12 +30,12 @@ impl Model for Due {
     ghost view = { λ d. record { before = drop d.given d.before; arrival = d.arrival; after = d.after; quiet = d.quiet } };
 }
 
-impl Due {
+impl DueEvents {
     /// Makes one of which nothing is due.
     pub(crate) fn new(alloc: Global) -> Self
         ensures { result ≡ nothing_due }
     {
-        Due {
+        DueEvents {
             before: Numbers::new(alloc),
             given: 0,
             arrival: None,
@@ -54,7 +54,7 @@ impl Due {
     ) -> Self
         ensures { result ≡ due_of side row expired.before expired.after quiet }
     {
-        Due {
+        DueEvents {
             before: expired.before,
             given: 0,
             arrival: Some((side, row)),

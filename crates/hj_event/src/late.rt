@@ -20,7 +20,7 @@ const FEW: usize = 16;
 
 /// Rows in order of time, rows of equal time in the order in which they came.
 #[derive(Drop)]
-pub(crate) struct Late {
+pub(crate) struct LateRows {
     /// The rows that came while few waited, and those that had no place on a day.
     others: BinaryHeap<LateRow>,
     days: Days,
@@ -28,7 +28,7 @@ pub(crate) struct Late {
     next: u64,
 }
 
-impl Model for Late {
+impl Model for LateRows {
     ghost use Rattle.std.specs.Prelude.{List};
     ghost use Rattle.std.specs.BinaryHeap.{heap_items, IsHeap};
     ghost use Rattle.hj_value.specs.declared.field.Field.{Field};
@@ -42,12 +42,12 @@ impl Model for Late {
     ghost invariant = { λ l. IsHeap late_cmp (heap_items l.others) × AreOnDays l.days × AreLate l.next (all_late (heap_items l.others) l.days) };
 }
 
-impl Late {
+impl LateRows {
     /// Makes one that keeps no rows, for rows that are late by at most this slack.
     pub(crate) fn new(alloc: Global, slack: u64) -> Self
         ensures { result ≡ [] }
     {
-        Late {
+        LateRows {
             others: BinaryHeap::new(alloc),
             days: Days::new(alloc, slack),
             next: 0,

@@ -13,8 +13,8 @@ mod merger;
 mod numbering;
 mod reader;
 mod record;
+mod row_source;
 mod silence;
-mod source;
 mod stop;
 mod waiting;
 

@@ -1,14 +1,14 @@
 ghost use Rattle.std.specs.Prelude.{◌≡◌, IfOk, IsTrue, false};
 ghost use Rattle.hj_base.specs.Outside.{NamesStay};
 ghost use Rattle.hj_base.specs.declared.outside.Role.TheVariants as role;
-ghost use Rattle.hj_event.specs.Merger.{answer_of, Answers, Arrives, Steps, IsNew, ReadsNothingNext};
+ghost use Rattle.hj_event.specs.Merger.{answer_of, AnswersNext, LetsArrive, StepsToAnswer, IsNewMerger, ReadsNothingNext};
 ghost use Rattle.hj_event.specs.Numbering.{has_due};
 ghost use Rattle.hj_event.specs.Roles.{IsInStep};
 
 use crate::RecordFault;
 use crate::arrivals::Arrivals;
 use crate::numbering::Numbering;
-use crate::stop::Last;
+use crate::stop::MergeEnd;
 use hj_base::{Memory, Outside, Side};
 use hj_msg::Event;
 use hj_query::Query;
@@ -44,7 +44,7 @@ pub struct Merger {
     arrivals: Arrivals,
     numbering: Numbering,
     /// The answer that every call gives from now on.
-    over: Option<Last>,
+    over: Option<MergeEnd>,
 }
 
 impl Model for Merger {
@@ -59,7 +59,7 @@ impl Merger {
     /// Makes a merger of the streams of `query`, by its schemas, windows, slack and quiet number, that gives at most `limit`
     /// events. It fails only where memory runs out.
     pub fn new(alloc: Global, query: &Query, limit: u64) -> Result<Merger, Memory>
-        ensures { IfOk result (λ merger. IsNew query.now limit merger) }
+        ensures { IfOk result (λ merger. IsNewMerger query.now limit merger) }
     {
         let left = query.schema(Side::Left).copy(alloc)?;
         let right = query.schema(Side::Right).copy(alloc)?;
@@ -77,7 +77,7 @@ impl Merger {
     pub fn next<O: Outside>(&mut self, outside: &mut O) -> Next
         requires left { IsInStep self.old.sides.left.reading.ended (O.state outside.old role.Left) }
         requires right { IsInStep self.old.sides.right.reading.ended (O.state outside.old role.Right) }
-        ensures answers { Answers result self.old self.new (O.state outside.old) (O.state outside.new) }
+        ensures answers { AnswersNext result self.old self.new (O.state outside.old) (O.state outside.new) }
         ensures names { NamesStay (O.under outside.old) (O.under outside.new) }
     {
         if let Some(last) = self.over {
@@ -102,10 +102,10 @@ impl Merger {
 
     /// Gives the next event, or the last answer.
     #[inline(always)]
-    fn step<O: Outside>(&mut self, outside: &mut O) -> Result<Event<SharedRow>, Last>
+    fn step<O: Outside>(&mut self, outside: &mut O) -> Result<Event<SharedRow>, MergeEnd>
         requires left { IsInStep self.old.sides.left.reading.ended (O.state outside.old role.Left) }
         requires right { IsInStep self.old.sides.right.reading.ended (O.state outside.old role.Right) }
-        ensures steps { Steps result self.old self.new (O.state outside.old) (O.state outside.new) }
+        ensures steps { StepsToAnswer result self.old self.new (O.state outside.old) (O.state outside.new) }
         ensures names { NamesStay (O.under outside.old) (O.under outside.new) }
     {
         if self.numbering.has_due() {
@@ -116,11 +116,11 @@ impl Merger {
 
     /// Takes the next arrival, and gives the first of its events.
     #[inline(never)]
-    fn give_next<O: Outside>(&mut self, outside: &mut O) -> Result<Event<SharedRow>, Last>
+    fn give_next<O: Outside>(&mut self, outside: &mut O) -> Result<Event<SharedRow>, MergeEnd>
         requires left { IsInStep self.old.sides.left.reading.ended (O.state outside.old role.Left) }
         requires right { IsInStep self.old.sides.right.reading.ended (O.state outside.old role.Right) }
         requires none { has_due self.old.numbering.due ≡ false }
-        ensures steps { Steps result self.old self.new (O.state outside.old) (O.state outside.new) }
+        ensures steps { StepsToAnswer result self.old self.new (O.state outside.old) (O.state outside.new) }
         ensures names { NamesStay (O.under outside.old) (O.under outside.new) }
     {
         self.arrive(outside)?;
@@ -129,11 +129,11 @@ impl Merger {
 
     /// Takes the next arrival, whose events are due then.
     #[inline(always)]
-    fn arrive<O: Outside>(&mut self, outside: &mut O) -> Result<(), Last>
+    fn arrive<O: Outside>(&mut self, outside: &mut O) -> Result<(), MergeEnd>
         requires left { IsInStep self.old.sides.left.reading.ended (O.state outside.old role.Left) }
         requires right { IsInStep self.old.sides.right.reading.ended (O.state outside.old role.Right) }
         requires none { has_due self.old.numbering.due ≡ false }
-        ensures arrives { Arrives result self.old self.new (O.state outside.old) (O.state outside.new) }
+        ensures arrives { LetsArrive result self.old self.new (O.state outside.old) (O.state outside.new) }
         ensures names { NamesStay (O.under outside.old) (O.under outside.new) }
     {
         let (side, row) = self.arrivals.next_arrival(outside)?;
@@ -143,14 +143,14 @@ impl Merger {
 }
 
 /// Returns the answer of a merger that is over.
-fn answer(last: Last) -> Next
+fn answer(last: MergeEnd) -> Next
     ensures { result ≡ answer_of last }
 {
     match last {
-        Last::Done => Next::Done,
-        Last::Bad { side, at, fault } => Next::Bad { side, at, fault },
-        Last::Failed(side) => Next::Failed(side),
-        Last::TooMany => Next::TooMany,
-        Last::Memory => Next::Memory,
+        MergeEnd::Done => Next::Done,
+        MergeEnd::Bad { side, at, fault } => Next::Bad { side, at, fault },
+        MergeEnd::Failed(side) => Next::Failed(side),
+        MergeEnd::TooMany => Next::TooMany,
+        MergeEnd::Memory => Next::Memory,
     }
 }

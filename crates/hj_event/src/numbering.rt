@@ -1,12 +1,12 @@
 ghost use Rattle.std.specs.Prelude.{◌≡◌, OnOk, IfErr, true, false, []};
-ghost use Rattle.hj_event.specs.declared.stop.Last.TheVariants as last;
+ghost use Rattle.hj_event.specs.declared.stop.MergeEnd.TheVariants as last;
 ghost use Rattle.hj_event.specs.Arrivals.{Arrivals, then_arrivals};
 ghost use Rattle.hj_event.specs.Events.{no_silence};
-ghost use Rattle.hj_event.specs.Numbering.{nothing_due, has_due, numbered_ahead, Gives};
+ghost use Rattle.hj_event.specs.Numbering.{nothing_due, has_due, numbered_ahead, GivesDueEvent};
 
-use crate::due::Due;
+use crate::due::DueEvents;
 use crate::silence::Silence;
-use crate::stop::Last;
+use crate::stop::MergeEnd;
 use hj_base::{EventNo, Side, Window};
 use hj_msg::Event;
 use hj_value::SharedRow;
@@ -24,7 +24,7 @@ pub(crate) struct Numbering {
     silence: Silence,
     /// After how many rows of one side the other one, where it is silent, has a quiet event; 0: never.
     quiet: u32,
-    due: Due,
+    due: DueEvents,
     /// The number of the next event.
     next: u64,
     limit: u64,
@@ -49,7 +49,7 @@ impl Numbering {
             live: Live::new(alloc, left, right),
             silence: Silence::new(),
             quiet,
-            due: Due::new(alloc),
+            due: DueEvents::new(alloc),
             next: 0,
             limit,
         }
@@ -65,30 +65,30 @@ impl Numbering {
 
     /// Takes a row that arrives on a side, whose events are due then.
     #[inline(always)]
-    pub(crate) fn arrive(&mut self, side: Side, row: SharedRow) -> Result<(), Last>
+    pub(crate) fn arrive(&mut self, side: Side, row: SharedRow) -> Result<(), MergeEnd>
         requires { has_due self.old.due ≡ false }
         ensures ok { OnOk result ((arrivals : Arrivals) → numbered_ahead self.old (then_arrivals side row arrivals) ≡ numbered_ahead self.new arrivals) }
         ensures due { OnOk result (has_due self.new.due ≡ true) }
         ensures err { IfErr result (λ why. why ≡ last.Memory) }
     {
         if self.next >= MOST_NUMBERS {
-            return Err(Last::Memory);
+            return Err(MergeEnd::Memory);
         }
         let time = row.row().time();
         let expired = self.live.arrive(side, time, EventNo(self.next))?;
         let quiet = self.silence.arrive(side, self.quiet);
-        self.due = Due::of_arrival(side, row, expired, quiet);
+        self.due = DueEvents::of_arrival(side, row, expired, quiet);
         Ok(())
     }
 
     /// Takes the next event that is due, unless that is one too many.
     #[inline(always)]
-    pub(crate) fn give(&mut self) -> Result<Event<SharedRow>, Last>
+    pub(crate) fn give(&mut self) -> Result<Event<SharedRow>, MergeEnd>
         requires { has_due self.old.due ≡ true }
-        ensures { (arrivals : Arrivals) → Gives result (numbered_ahead self.old arrivals) (numbered_ahead self.new arrivals) }
+        ensures { (arrivals : Arrivals) → GivesDueEvent result (numbered_ahead self.old arrivals) (numbered_ahead self.new arrivals) }
     {
         if self.next >= self.limit {
-            return Err(Last::TooMany);
+            return Err(MergeEnd::TooMany);
         }
         let no = EventNo(self.next);
         let Some(event) = self.due.take(no) else {

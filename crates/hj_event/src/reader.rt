@@ -7,10 +7,10 @@ ghost use Rattle.hj_event.specs.Roles.{IsInStep};
 ghost use Rattle.hj_event.specs.Reads.{Fills};
 ghost use Rattle.hj_event.specs.Rows.{with_time};
 ghost use Rattle.hj_event.specs.Sides.{new_reading};
-ghost use Rattle.hj_event.specs.Taking.{stop_of, ReadsPiece, Holds, Advances, IsNextLine, TakesLine, TellsRow, most_in_line};
+ghost use Rattle.hj_event.specs.Taking.{stop_of, ReadsPiece, Holds, Advances, IsNextLine, TakesNextLine, TellsRow, most_in_line};
 
 use crate::record::{is_late, read_record};
-use crate::stop::{ReadStep, Stop};
+use crate::stop::{ReadStep, SideStop};
 use crate::{RecordFault, RowFault};
 use hj_base::{Got, Memory, Outside, Side};
 use hj_record::{CARRIAGE_RETURN, Cut, Cutter, Fed, Fields, LINE_FEED, PieceFault, QUOTE};
@@ -59,10 +59,10 @@ pub(crate) struct Reader {
 }
 
 impl Model for Reader {
-    ghost use Rattle.hj_event.specs.Sides.{Reading};
+    ghost use Rattle.hj_event.specs.Sides.{ReaderState};
     ghost use Rattle.hj_event.specs.Reads.{reading, IsReadable};
 
-    ghost Value = { Reading };
+    ghost Value = { ReaderState };
 
     ghost view = { λ s. reading s.schema.columns s.slack s.cutter s.portion s.taken s.filled s.ended s.record_no s.greatest };
 
@@ -161,7 +161,7 @@ impl Reader {
     }
 
     /// Reads the next bytes, once all that were read are looked at.
-    pub(crate) fn fill<O: Outside>(&mut self, side: Side, outside: &mut O) -> Result<(), Stop>
+    pub(crate) fn fill<O: Outside>(&mut self, side: Side, outside: &mut O) -> Result<(), SideStop>
         requires in_step { IsInStep false (O.state outside.old (role_of side)) }
         requires going { self.old.ended ≡ false }
         requires rest { self.old.rest ≡ [] }
@@ -181,7 +181,7 @@ impl Reader {
                 self.ended = true;
                 Ok(())
             }
-            Got::Failed => Err(Stop::Failed),
+            Got::Failed => Err(SideStop::Failed),
         }
     }
 
@@ -189,7 +189,7 @@ impl Reader {
     /// its fields are read. None changes nothing that is seen.
     #[inline(always)]
     pub(crate) fn take_line(&mut self) -> Result<Option<SharedRow>, Memory>
-        ensures { TakesLine result self.old self.new }
+        ensures { TakesNextLine result self.old self.new }
     {
         let most = self.most_in_line();
         if most == 0 {
@@ -209,7 +209,7 @@ impl Reader {
         let greatest = later(self.greatest, time);
         let shared = SharedRow::new(self.alloc, row)?;
         self.line_bytes = used;
-        self.cutter.pass(used);
+        self.cutter.skip_piece(used);
         self.taken += used;
         self.record_no = next;
         self.greatest = Some(greatest);
@@ -249,7 +249,7 @@ impl Reader {
 
     /// Goes on to the end of the next piece in the bytes that were read, in whatever form it is.
     #[inline(never)]
-    pub(crate) fn cut(&mut self) -> Result<ReadStep, Stop>
+    pub(crate) fn cut(&mut self) -> Result<ReadStep, SideStop>
         ensures { Advances result self.old self.new }
     {
         let portion: &[u8] = &self.portion;
@@ -292,7 +292,7 @@ impl Reader {
     }
 
     /// Comes to the end of the stream, once all its bytes were looked at.
-    fn close(&mut self) -> Result<ReadStep, Stop>
+    fn close(&mut self) -> Result<ReadStep, SideStop>
         requires ended { self.old.ended ≡ true }
         requires rest { self.old.rest ≡ [] }
         ensures { Advances result self.old self.new }
@@ -316,7 +316,7 @@ impl Reader {
 
     /// Counts the row of a piece, and gives it to be shared.
     #[inline(always)]
-    fn hold(&mut self, row: Result<Option<Row>, RecordFault>) -> Result<ReadStep, Stop>
+    fn hold(&mut self, row: Result<Option<Row>, RecordFault>) -> Result<ReadStep, SideStop>
         ensures { Holds row result self.old self.new }
     {
         let row = match row {
@@ -326,7 +326,7 @@ impl Reader {
         };
         let time = row.time();
         let shared = SharedRow::new(self.alloc, row)?;
-        self.record_no = self.record_no.checked_add(1).ok_or(Stop::Memory)?;
+        self.record_no = self.record_no.checked_add(1).ok_or(SideStop::Memory)?;
         self.greatest = Some(later(self.greatest, time));
         Ok(ReadStep::Row(shared))
     }
@@ -419,11 +419,12 @@ fn read_kept(
 }
 
 /// Returns why the stream stops at the record of this number.
-fn stop(at: u64, fault: RecordFault) -> Stop
+fn stop(at: u64, fault: RecordFault) -> SideStop
     ensures { result ≡ stop_of at fault }
 {
     match fault {
-        RecordFault::Piece(PieceFault::Memory) | RecordFault::Row(RowFault::Memory) => Stop::Memory,
-        _ => Stop::Bad { at, fault },
+        RecordFault::Piece(PieceFault::Memory) | RecordFault::Row(RowFault::Memory) =>
+            SideStop::Memory,
+        _ => SideStop::Bad { at, fault },
     }
 }

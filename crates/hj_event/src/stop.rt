@@ -4,7 +4,7 @@ use hj_value::SharedRow;
 
 /// Why a side has no further row before its end.
 #[derive(Clone, Copy)]
-pub(crate) enum Stop {
+pub(crate) enum SideStop {
     /// The record of this number is refused.
     Bad { at: u64, fault: RecordFault },
     /// A read failed.
@@ -26,7 +26,7 @@ pub(crate) enum ReadStep {
 
 /// An answer that a merger gives again by every later call: how it ends.
 #[derive(Clone, Copy)]
-pub(crate) enum Last {
+pub(crate) enum MergeEnd {
     /// Both streams have ended.
     Done,
     /// The record of a side is refused.
@@ -43,24 +43,24 @@ pub(crate) enum Last {
     Memory,
 }
 
-impl From<Memory> for Stop {
+impl From<Memory> for SideStop {
     ghost use Rattle.std.specs.Prelude.{◌≡◌};
-    ghost use Rattle.hj_event.specs.declared.stop.Stop.TheVariants as stop;
+    ghost use Rattle.hj_event.specs.declared.stop.SideStop.TheVariants as stop;
 
     ghost from_gives = { λ _ e. e ≡ stop.Memory };
 
     fn from(_: Memory) -> Self {
-        Stop::Memory
+        SideStop::Memory
     }
 }
 
-impl From<Memory> for Last {
+impl From<Memory> for MergeEnd {
     ghost use Rattle.std.specs.Prelude.{◌≡◌};
-    ghost use Rattle.hj_event.specs.declared.stop.Last.TheVariants as last;
+    ghost use Rattle.hj_event.specs.declared.stop.MergeEnd.TheVariants as last;
 
     ghost from_gives = { λ _ e. e ≡ last.Memory };
 
     fn from(_: Memory) -> Self {
-        Last::Memory
+        MergeEnd::Memory
     }
 }

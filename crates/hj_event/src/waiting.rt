@@ -5,7 +5,7 @@ ghost use Rattle.hj_event.specs.Rows.{put_in};
 ghost use Rattle.hj_event.specs.Timed.{timed_rows, AreTimed};
 ghost use Rattle.hj_event.specs.Waiting.{first_time, last_time, is_before, has_sure, is_held, AreInOrder, TakesFirst, TakesSure};
 
-use crate::late::Late;
+use crate::late::LateRows;
 use hj_base::Memory;
 use hj_value::SharedRow;
 use std::alloc::Global;
@@ -21,14 +21,14 @@ struct TimedRow {
 
 /// Rows in order of time, rows of equal time in the order in which they came.
 #[derive(Drop)]
-pub(crate) struct Waiting {
+pub(crate) struct WaitingRows {
     /// The rows that came in order.
     queue: VecDeque<TimedRow>,
     /// The rows that came late: each is earlier than the last row of the queue.
-    late: Late,
+    late: LateRows,
 }
 
-impl Model for Waiting {
+impl Model for WaitingRows {
     ghost use Rattle.std.specs.Prelude.{List};
     ghost use Rattle.hj_value.specs.declared.field.Field.{Field};
     ghost use Rattle.hj_event.specs.Rows.{put_all};
@@ -42,14 +42,14 @@ impl Model for Waiting {
     ghost invariant = { λ w. AreTimed w.queue.items × AreWaiting (timed_rows w.queue.items) w.late };
 }
 
-impl Waiting {
+impl WaitingRows {
     /// Makes one that keeps no rows, for rows that are late by at most this slack.
     pub(crate) fn new(alloc: Global, slack: u64) -> Self
         ensures { result ≡ [] }
     {
-        Waiting {
+        WaitingRows {
             queue: VecDeque::new(alloc),
-            late: Late::new(alloc, slack),
+            late: LateRows::new(alloc, slack),
         }
     }
 

@@ -3,7 +3,7 @@ use Rattle.std.specs.Prelude.{ℕ, suc, zero, ◌+◌, ◌*◌, ◌%◌, ◌^◌
 use Rattle.std.specs.List.{flat_map}
 use Rattle.hj_base.specs.Lcg.{next, drawn}
 
-pub record Row : Type 0 where
+pub record DrawnRow : Type 0 where
   pub time : ℕ
   pub key : ℕ
 
@@ -14,14 +14,14 @@ draws_of held (suc more) = drawn (next held) ∷ draws_of (next held) more
 
 -- the rows after one of this time, by two draws each: the time grows by the first mod 3, and the key is the second mod the
 -- number of keys
-abbrev pub rows_of : (time keys : ℕ) → List ℕ → List Row
+abbrev pub rows_of : (time keys : ℕ) → List ℕ → List DrawnRow
 rows_of time keys [] = []
 rows_of time keys (growth ∷ []) = []
 rows_of time keys (growth ∷ choice ∷ draws) =
     record { time = time + growth % 3; key = choice % keys } ∷ rows_of (time + growth % 3) keys draws
 
 -- the line of a row
-abbrev pub row_line : Row → List ℕ
+abbrev pub row_line : DrawnRow → List ℕ
 row_line row = decimal row.time ++ codes "," ++ decimal row.key ++ codes "\n"
 
 -- the lines of n rows by the draws of a seed, from time 0 on

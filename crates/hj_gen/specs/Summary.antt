@@ -2,7 +2,7 @@
 use Rattle.std.specs.Prelude.{ℕ, ◌+◌, ◌*◌, ◌%◌, ◌^◌, ◌++◌, ◌==◌, List, codes, count_by, decimal, fold, length}
 
 -- what is told of a text
-pub record Counts : Type 0 where
+pub record TextCounts : Type 0 where
   pub pairs : ℕ
   pub bytes : ℕ
   pub mix : ℕ
@@ -19,11 +19,11 @@ mixed mix byte = (mix * 31 + byte) % 2 ^ 64
 abbrev pub mix_of : List ℕ → ℕ
 mix_of text = fold mixed 0 text
 
-abbrev pub counts_of : List ℕ → Counts
+abbrev pub counts_of : List ℕ → TextCounts
 counts_of text = record { pairs = pairs_of text; bytes = length text; mix = mix_of text }
 
 -- the line of these counts
-abbrev pub line_of : ℕ → Counts → List ℕ
+abbrev pub line_of : ℕ → TextCounts → List ℕ
 line_of events counts =
     codes "events " ++ decimal events ++ codes " pairs " ++ decimal counts.pairs
     ++ codes " bytes " ++ decimal counts.bytes ++ codes " mix " ++ decimal counts.mix ++ codes "\n"

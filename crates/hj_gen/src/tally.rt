@@ -17,9 +17,9 @@ pub struct Tally {
 
 impl Model for Tally {
     ghost use Rattle.std.specs.Prelude.{◌≤◌};
-    ghost use Rattle.hj_gen.specs.Summary.{Counts};
+    ghost use Rattle.hj_gen.specs.Summary.{TextCounts};
 
-    ghost Value = { Counts };
+    ghost Value = { TextCounts };
 
     ghost view = { λ tally. record { pairs = tally.pairs; bytes = tally.bytes; mix = tally.mix } };
 

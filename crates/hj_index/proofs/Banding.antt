@@ -24,7 +24,7 @@ use Rattle.hj_value.specs.declared.field.Field.{Field}
 use Rattle.hj_value.specs.declared.field.Field.TheVariants as field
 use Rattle.hj_index.specs.declared.ordered_index.OrderedIndex.{OrderedIndex}
 use Rattle.hj_rows.specs.declared.place.RestingRow.{RestingRow}
-use Rattle.hj_index.specs.OrderedIndex.{holds_key, is_key, key_cmp, key_of, number_at, number_of, AreWithin, Key}
+use Rattle.hj_index.specs.OrderedIndex.{holds_key, is_key, key_cmp, key_of, number_at, number_of, AreWithin, OrderedKey}
 use Rattle.hj_index.specs.OrderedStore.{key_at, rest_at, rest_of, AreOrdered, JoinsNear}
 use Rattle.hj_rows.specs.Places.{entry_at, joining, rows_of}
 use Rattle.hj_index.proofs.OrderedKeys.{key_equiv, key_found, key_itself, key_total, same_key}
@@ -122,11 +122,11 @@ module _ {P : Type 0} where
 abbrev pub Rows : Type 0
 Rows = List (Resting (List Field))
 
-abbrev pub places_at : Rows → List Key → Places (List Field)
-places_at rows keys = map (λ (key : Key). (key.1, rest_at key.1 rows)) keys
+abbrev pub places_at : Rows → List OrderedKey → Places (List Field)
+places_at rows keys = map (λ (key : OrderedKey). (key.1, rest_at key.1 rows)) keys
 
-abbrev pub arrivals : List Key → List ℕ
-arrivals keys = map (λ (key : Key). key.1) keys
+abbrev pub arrivals : List OrderedKey → List ℕ
+arrivals keys = map (λ (key : OrderedKey). key.1) keys
 
 module _ (rows : Rows) where
   abbrev entry_of : ℕ → RestingRow (List Field) → Resting (List Field)
@@ -145,7 +145,7 @@ module _ (rows : Rows) where
       found.1 ∙ ap (λ m. Some (entry_of m rest)) (entry_listed n rows (entry_of found.0 rest) found.1).1
 
   -- a row of the places is that of its number
-  pub listed_found : (keys : List Key) (entry : Resting (List Field)) → Contains (rows_of (places_at rows keys)) entry → (entry_at entry.no rows ≡ Some entry) × Contains (arrivals keys) entry.no
+  pub listed_found : (keys : List OrderedKey) (entry : Resting (List Field)) → Contains (rows_of (places_at rows keys)) entry → (entry_at entry.no rows ≡ Some entry) × Contains (arrivals keys) entry.no
   listed_found [] entry at = absurd (Contains-nil entry at)
   listed_found (key ∷ keys) entry at = by (rest_at key.1 rows) refl at (listed_found keys entry)
     where
@@ -160,7 +160,7 @@ module _ (rows : Rows) where
       ]
 
   -- the row of a key's number is one of the places
-  pub found_listed : (keys : List Key) (key : Key) (entry : Resting (List Field)) → entry_at key.1 rows ≡ Some entry → Contains keys key → Contains (rows_of (places_at rows keys)) entry
+  pub found_listed : (keys : List OrderedKey) (key : OrderedKey) (entry : Resting (List Field)) → entry_at key.1 rows ≡ Some entry → Contains keys key → Contains (rows_of (places_at rows keys)) entry
   found_listed [] key entry is at = absurd (Contains-nil key at)
   found_listed (other ∷ keys) key entry is at = by (rest_at other.1 rows) refl (Contains-cons_cases other key keys at) (found_listed keys key entry is)
     where
@@ -169,18 +169,18 @@ module _ (rows : Rows) where
       by None none (inr k) later = later k
       by (Some rest) some (inr k) later = Contains-cons (entry_of other.1 rest) entry (rows_of (places_at rows keys)) (later k)
       by None none (inl e) later =
-          absurd (clash (sym (ap (option_map (λ (entry : Resting (List Field)). record { row = entry.row; settled = entry.settled })) is) ∙ (ap (λ (key : Key). rest_at key.1 rows) (sym e) ∙ none)))
+          absurd (clash (sym (ap (option_map (λ (entry : Resting (List Field)). record { row = entry.row; settled = entry.settled })) is) ∙ (ap (λ (key : OrderedKey). rest_at key.1 rows) (sym e) ∙ none)))
         where
           clash : {rest : RestingRow (List Field)} → Some rest ≡ None → ⊥
           clash e = cc
       by (Some rest) some (inl e) later =
-          let one : entry_of other.1 rest ≡ entry = some_same (entry_of other.1 rest) entry (sym (rest_entry other.1 rest some) ∙ (ap (λ (key : Key). entry_at key.1 rows) e ∙ is)) in
+          let one : entry_of other.1 rest ≡ entry = some_same (entry_of other.1 rest) entry (sym (rest_entry other.1 rest some) ∙ (ap (λ (key : OrderedKey). entry_at key.1 rows) e ∙ is)) in
           subst (Contains (entry_of other.1 rest ∷ rows_of (places_at rows keys))) one (Contains-head (entry_of other.1 rest) (rows_of (places_at rows keys)))
         where
           some_same : (x y : Resting (List Field)) → Some x ≡ Some y → x ≡ y
           some_same x y e = cc
 
-  pub places_differ : (keys : List Key) → Ranked (λ m n. m ≢ n) (arrivals keys) → Ranked Differs (rows_of (places_at rows keys))
+  pub places_differ : (keys : List OrderedKey) → Ranked (λ m n. m ≢ n) (arrivals keys) → Ranked Differs (rows_of (places_at rows keys))
   places_differ [] r = tt
   places_differ (key ∷ keys) r = by (rest_at key.1 rows) (places_differ keys r.1)
     where
@@ -188,7 +188,7 @@ module _ (rows : Rows) where
       by None later = later
       by (Some rest) later = (λ entry at. r.0 entry.no (listed_found keys entry at).1, later)
 
-  pub places_distinct : (keys : List Key) → Ranked (λ m n. m ≢ n) (arrivals keys) → IsDistinct nat_eq (keys_of (places_at rows keys))
+  pub places_distinct : (keys : List OrderedKey) → Ranked (λ m n. m ≢ n) (arrivals keys) → IsDistinct nat_eq (keys_of (places_at rows keys))
   unfolding IsDistinct
   places_distinct [] r = tt
   places_distinct (key ∷ keys) r = (away keys r.0, places_distinct keys r.1)
@@ -200,29 +200,29 @@ module _ (rows : Rows) where
           by true e = absurd (apart (eqb-true m n e))
           by false e = e
 
-      away : (others : List Key) → ((n : ℕ) → Contains (arrivals others) n → key.1 ≢ n) → AllByRecursion (λ n. nat_eq key.1 n ≡ false) (keys_of (places_at rows others))
+      away : (others : List OrderedKey) → ((n : ℕ) → Contains (arrivals others) n → key.1 ≢ n) → AllByRecursion (λ n. nat_eq key.1 n ≡ false) (keys_of (places_at rows others))
       away [] apart = tt
       away (other ∷ others) apart = (differ key.1 other.1 (apart other.1 (Contains-head other.1 (arrivals others))), away others (λ n at. apart n (Contains-cons other.1 n (arrivals others) at)))
 
 -- ---- the keys of a band
 
-ranked_keys : (keys : List Key) → IsStrictlySortedBy key_cmp keys → Ranked (λ key other. key_cmp key other ≡ Less) keys
+ranked_keys : (keys : List OrderedKey) → IsStrictlySortedBy key_cmp keys → Ranked (λ key other. key_cmp key other ≡ Less) keys
 ranked_keys [] s = tt
 ranked_keys (key ∷ keys) s = (λ other at. of (λ other. key_cmp key other ≡ Less) keys (sorted_head key_cmp key keys s) other at, ranked_keys keys (sorted_tail key_cmp key keys s))
   where
-    of : (Q : Key → Type 0) (keys : List Key) → AllByRecursion Q keys → (other : Key) → Contains keys other → Q other
+    of : (Q : OrderedKey → Type 0) (keys : List OrderedKey) → AllByRecursion Q keys → (other : OrderedKey) → Contains keys other → Q other
     of Q [] all other at = absurd (Contains-nil other at)
     of Q (x ∷ xs) all other at = elim (Contains-cons_cases x other xs at) [ inl e ↦ subst Q e all.0 | inr k ↦ of Q xs all.1 other k ]
 
 -- the keys that stand there for rows
-abbrev pub row_keys : Option Key → List Key → List Key
+abbrev pub row_keys : Option OrderedKey → List OrderedKey → List OrderedKey
 row_keys reserved keys = filter (λ key. not (is_key key reserved)) keys
 
-abbrev pub places_left : Rows → Option Key → List Key → Places (List Field)
+abbrev pub places_left : Rows → Option OrderedKey → List OrderedKey → Places (List Field)
 places_left rows reserved keys = places_at rows (row_keys reserved keys)
 
-module _ (own : ℕ) (rows : Rows) (index : OrderedIndex) (ordered : AreOrdered own rows index) (first last : Bound Key) where
-  abbrev band_keys : List Key
+module _ (own : ℕ) (rows : Rows) (index : OrderedIndex) (ordered : AreOrdered own rows index) (first last : Bound OrderedKey) where
+  abbrev band_keys : List OrderedKey
   band_keys = filter (range_contains key_cmp first last) index.keys.keys
 
   both : (a b : Bool) → a ≡ true → b ≡ true → (a && b) ≡ true
@@ -231,7 +231,7 @@ module _ (own : ℕ) (rows : Rows) (index : OrderedIndex) (ordered : AreOrdered 
   both false b p q = absurd cc
 
   -- such a key is that of its row
-  standing : (key : Key) → Contains (row_keys index.reserved band_keys) key → key_at own rows key.1 ≡ Some key
+  standing : (key : OrderedKey) → Contains (row_keys index.reserved band_keys) key → key_at own rows key.1 ≡ Some key
   standing key at =
       let kept = Contains-from_filter (λ key. not (is_key key index.reserved)) band_keys key at in
       let held = Contains-from_filter (range_contains key_cmp first last) index.keys.keys key kept.0 in
@@ -240,27 +240,27 @@ module _ (own : ℕ) (rows : Rows) (index : OrderedIndex) (ordered : AreOrdered 
 
   pub arrivals_differ : IsStrictlySortedBy key_cmp index.keys.keys → Ranked (λ m n. m ≢ n) (arrivals (row_keys index.reserved band_keys))
   arrivals_differ in_order =
-      Ranked-map (λ key other. key_cmp key other ≡ Less) (λ m n. m ≢ n) (λ (key : Key). key.1) (row_keys index.reserved band_keys)
+      Ranked-map (λ key other. key_cmp key other ≡ Less) (λ m n. m ≢ n) (λ (key : OrderedKey). key.1) (row_keys index.reserved band_keys)
       (λ key other h k less same. apart key other less (some_same key other (sym (standing key h) ∙ (ap (key_at own rows) same ∙ standing other k))))
       (Ranked-filter (λ key other. key_cmp key other ≡ Less) (λ key. not (is_key key index.reserved)) band_keys
       (Ranked-filter (λ key other. key_cmp key other ≡ Less) (range_contains key_cmp first last) index.keys.keys (ranked_keys index.keys.keys in_order)))
     where
-      some_same : (x y : Key) → Some x ≡ Some y → x ≡ y
+      some_same : (x y : OrderedKey) → Some x ≡ Some y → x ≡ y
       some_same x y e = cc
 
       clash : Less ≡ Equal → ⊥
       clash e = cc
 
-      apart : (key other : Key) → key_cmp key other ≡ Less → key ≡ other → ⊥
+      apart : (key other : OrderedKey) → key_cmp key other ≡ Less → key ≡ other → ⊥
       apart key other less same = clash (sym less ∙ (ap (key_cmp key) (sym same) ∙ tied_itself key_total key))
 
   module _ (other within : ℕ) (predicate : List Field → List Field → Bool) (side : Side) (suits : JoinsNear own other within predicate side) (against : List Field) (number_against : ℤ) (at : number_at other against ≡ Some number_against)
-      (in_band : (key : Key) → AreWithin within key.0 number_against → range_contains key_cmp first last key ≡ true) where
+      (in_band : (key : OrderedKey) → AreWithin within key.0 number_against → range_contains key_cmp first last key ≡ true) where
     abbrev test : List Field → Bool
     test row = joins predicate side row against
 
     -- a row that joins has a key in the band
-    has_key : (entry : Resting (List Field)) → entry_at entry.no rows ≡ Some entry → test entry.row ≡ true → (key : Key) × Contains (row_keys index.reserved band_keys) key × (key.1 ≡ entry.no)
+    has_key : (entry : Resting (List Field)) → entry_at entry.no rows ≡ Some entry → test entry.row ≡ true → (key : OrderedKey) × Contains (row_keys index.reserved band_keys) key × (key.1 ≡ entry.no)
     has_key entry is e = of (suits entry.row against e)
       where
         same_number : (b : ℤ) → slice_get against other ≡ Some (field.Int b) → b ≡ number_against
@@ -273,9 +273,9 @@ module _ (own : ℕ) (rows : Rows) (index : OrderedIndex) (ordered : AreOrdered 
         parts true b e = (refl, e)
         parts false b e = absurd cc
 
-        of : AreNear within (slice_get entry.row own) (slice_get against other) → (key : Key) × Contains (row_keys index.reserved band_keys) key × (key.1 ≡ entry.no)
+        of : AreNear within (slice_get entry.row own) (slice_get against other) → (key : OrderedKey) × Contains (row_keys index.reserved band_keys) key × (key.1 ≡ entry.no)
         of (a, b, is_a, is_b, near) =
-            let key : Key = (a, entry.no) in
+            let key : OrderedKey = (a, entry.no) in
             let found : key_at own rows entry.no ≡ Some key =
             ap (λ (found : Option (Resting (List Field))). option_and_then (key_of own entry.no) (option_map (λ (entry : Resting (List Field)). entry.row) found)) is
             ∙ ap (λ (value : Option Field). option_map (λ (number : ℤ). (number, entry.no)) (number_of value)) is_a in
@@ -305,13 +305,13 @@ module _ (own : ℕ) (rows : Rows) (index : OrderedIndex) (ordered : AreOrdered 
         found_listed rows (row_keys index.reserved band_keys) k.0 entry (subst (λ n. entry_at n rows ≡ Some entry) (sym k.2) found) k.1)
 
     -- what a probe finds before its first step
-    pub finds_first : (found : List (Partner (List Field))) (keys : List Key) → IsStrictlySortedBy key_cmp index.keys.keys → found ≡ [] → keys ≡ band_keys → Finds test target found (places_left rows index.reserved keys)
+    pub finds_first : (found : List (Partner (List Field))) (keys : List OrderedKey) → IsStrictlySortedBy key_cmp index.keys.keys → found ≡ [] → keys ≡ band_keys → Finds test target found (places_left rows index.reserved keys)
     finds_first found keys in_order none all =
         subst (λ keys. Finds test target found (places_left rows index.reserved keys)) (sym all)
         (subst (λ goal. Finds test goal found (places_left rows index.reserved band_keys)) (band_suffices in_order)
         (finds-nothing test found (places_left rows index.reserved band_keys) (places_left rows index.reserved band_keys) none refl))
 
-    pub sorts_first : (found : List (ℕ × List Field)) (keys : List Key) → IsStrictlySortedBy key_cmp index.keys.keys → found ≡ [] → keys ≡ band_keys → Sorts test target found (places_left rows index.reserved keys)
+    pub sorts_first : (found : List (ℕ × List Field)) (keys : List OrderedKey) → IsStrictlySortedBy key_cmp index.keys.keys → found ≡ [] → keys ≡ band_keys → Sorts test target found (places_left rows index.reserved keys)
     sorts_first found keys in_order none all =
         subst (λ keys. Sorts test target found (places_left rows index.reserved keys)) (sym all)
         (subst (λ goal. Sorts test goal found (places_left rows index.reserved band_keys)) (band_suffices in_order)
@@ -319,7 +319,7 @@ module _ (own : ℕ) (rows : Rows) (index : OrderedIndex) (ordered : AreOrdered 
 
 -- ---- one key after another
 
-module _ (rows : Rows) (reserved : Option Key) (key : Key) (before keys : List Key) (is : before ≡ key ∷ keys) where
+module _ (rows : Rows) (reserved : Option OrderedKey) (key : OrderedKey) (before keys : List OrderedKey) (is : before ≡ key ∷ keys) where
   seen : is_key key reserved ≡ false → places_left rows reserved before ≡ (key.1, rest_of rows reserved key) ∷ places_left rows reserved keys
   seen e =
       ap (places_left rows reserved) is

@@ -8,7 +8,7 @@ use Rattle.std.specs.Prelude.{FitsSigned}
 use Rattle.std.proofs.lemmas.Bool.{eqb-false, ltb-true, ltb-false}
 use Rattle.std.proofs.lemmas.Cmp.{by_ranked, int_ranked}
 use Rattle.std.proofs.lemmas.Int.{ints}
-use Rattle.hj_index.specs.OrderedIndex.{key_cmp, AreWithin, Key}
+use Rattle.hj_index.specs.OrderedIndex.{key_cmp, AreWithin, OrderedKey}
 
 -- ---- numbers that are near
 
@@ -63,28 +63,28 @@ least n = by (ltb 0 n) refl (nat_eq 0 n) refl
     by false p true q = rw (p, q) refl
     by false p false q = absurd (eqb-false 0 n q (omega (arith, ltb-false 0 n p)))
 
-pub from_start : (low : ℤ) (key : Key) → low ≤ℤ key.0 → is_from_start key_cmp (Included (low, 0)) key ≡ true
+pub from_start : (low : ℤ) (key : OrderedKey) → low ≤ℤ key.0 → is_from_start key_cmp (Included (low, 0)) key ≡ true
 from_start low key above =
     by_ranked (low <ℤ key.0) (low ≡ key.0) (key.0 <ℤ low) (int_cmp low key.0) (int_ranked low key.0 (int_cmp low key.0) refl)
     (λ e h. ap (λ o. is_le (ordering_then o (nat_cmp 0 key.1))) e)
     (λ e h. ap (λ o. is_le (ordering_then o (nat_cmp 0 key.1))) e ∙ least key.1)
     (λ e h. absurd (omega (arith, ints)))
 
-pub start_above : (low : ℤ) (key : Key) → is_from_start key_cmp (Included (low, 0)) key ≡ true → low ≤ℤ key.0
+pub start_above : (low : ℤ) (key : OrderedKey) → is_from_start key_cmp (Included (low, 0)) key ≡ true → low ≤ℤ key.0
 start_above low key inside =
     by_ranked (low <ℤ key.0) (low ≡ key.0) (key.0 <ℤ low) (int_cmp low key.0) (int_ranked low key.0 (int_cmp low key.0) refl)
     (λ e h. omega (arith, ints))
     (λ e h. omega (arith, ints))
     (λ e h. absurd (true≢false (sym inside ∙ ap (λ o. is_le (ordering_then o (nat_cmp 0 key.1))) e)))
 
-pub before_end : (end : ℤ) (key : Key) → key.0 <ℤ end → is_past_end key_cmp (Excluded (end, 0)) key ≡ false
+pub before_end : (end : ℤ) (key : OrderedKey) → key.0 <ℤ end → is_past_end key_cmp (Excluded (end, 0)) key ≡ false
 before_end end key below =
     by_ranked (end <ℤ key.0) (end ≡ key.0) (key.0 <ℤ end) (int_cmp end key.0) (int_ranked end key.0 (int_cmp end key.0) refl)
     (λ e h. absurd (omega (arith, ints)))
     (λ e h. absurd (omega (arith, ints)))
     (λ e h. ap (λ o. is_le (ordering_then o (nat_cmp 0 key.1))) e)
 
-pub end_above : (end : ℤ) (key : Key) → is_past_end key_cmp (Excluded (end, 0)) key ≡ false → key.0 <ℤ end
+pub end_above : (end : ℤ) (key : OrderedKey) → is_past_end key_cmp (Excluded (end, 0)) key ≡ false → key.0 <ℤ end
 end_above end key inside =
     by_ranked (end <ℤ key.0) (end ≡ key.0) (key.0 <ℤ end) (int_cmp end key.0) (int_ranked end key.0 (int_cmp end key.0) refl)
     (λ e h. absurd (true≢false (sym (ap (λ o. is_le (ordering_then o (nat_cmp 0 key.1))) e) ∙ inside)))

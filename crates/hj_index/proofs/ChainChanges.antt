@@ -8,35 +8,35 @@ use Rattle.hj_value.specs.declared.field.Field.{Field}
 use Rattle.hj_msg.specs.Store.{Resting, holds, with_entry, with_settled, without_entry}
 use Rattle.hj_rows.specs.declared.place.RestingRow.{RestingRow}
 use Rattle.hj_rows.proofs.Rows.{without-absent}
-use Rattle.hj_index.specs.declared.chains.Chains.{Chains}
-use Rattle.hj_index.specs.declared.chains.Place.{Place}
-use Rattle.hj_index.specs.Chains.{is_key, is_member, is_row, known_place, numbers, rows_at, rows_in, AreApart, AreChained, AreKeyed, AreKnown, AreLinked, IsAbove, IsAscending, NearlyChained}
+use Rattle.hj_index.specs.declared.chains.KeyChains.{KeyChains}
+use Rattle.hj_index.specs.declared.chains.RowPlace.{RowPlace}
+use Rattle.hj_index.specs.KeyChains.{is_key, is_member, is_row, known_place, numbers, rows_at, rows_in, AreApart, AreChained, AreKeyed, AreKnown, AreLinked, IsAbove, IsAscending, NearlyChained}
 use Rattle.hj_index.specs.Keys.{key_at}
 use Rattle.hj_index.proofs.ChainLinks.{ascending-same, key-here, linked-keyed, linked-known, linked-popped, linked-pushed, linked-set, set-at, number-at, set-numbers}
 use Rattle.hj_index.proofs.ChainRows.{apart-pushed, apart-put, apart-without, ascending-later, ascending-pushed, emptied, holds-member, number_list, numbers-settled, put-last, row-held, rows-emptied, rows-pushed, rows-replaced, rows-settled, settled}
 
 -- what stands at a place that holds the row of a number
-pub record Reads (n at : ℕ) (places : List Place) (place : Place) : Type 0 where
+pub record Reads (n at : ℕ) (places : List RowPlace) (place : RowPlace) : Type 0 where
   pub there : slice_get places at ≡ Some place
   pub numbered : place.no ≡ n
   pub full : is_some place.rest ≡ true
 
-pub reads : (n at : ℕ) (places : List Place) (place : Place) → option_map (is_row n) (slice_get places at) ≡ Some true → place ≡ slice_index_or places at place → Reads n at places place
+pub reads : (n at : ℕ) (places : List RowPlace) (place : RowPlace) → option_map (is_row n) (slice_get places at) ≡ Some true → place ≡ slice_index_or places at place → Reads n at places place
 reads n at places place filled value = by (slice_get places at) refl filled
   where
     both : (a b : Bool) → (a && b) ≡ true → (a ≡ true) × (b ≡ true)
     both true b e = (refl, e)
     both false b e = absurd cc
 
-    by : (found : Option Place) → slice_get places at ≡ found → option_map (is_row n) found ≡ Some true → Reads n at places place
+    by : (found : Option RowPlace) → slice_get places at ≡ found → option_map (is_row n) found ≡ Some true → Reads n at places place
     by None e h = absurd cc
     by (Some other) e h =
         let same : place ≡ other = value ∙ get_or_from_slice_get places at other place e in
         let parts = both (nat_eq other.no n) (is_some other.rest) (let row : is_row n other ≡ true = cc in row) in
-        record { there = e ∙ ap Some (sym same); numbered = ap (λ (p : Place). p.no) same ∙ eqb-true other.no n parts.0; full = ap (λ (p : Place). is_some p.rest) same ∙ parts.1 }
+        record { there = e ∙ ap Some (sym same); numbered = ap (λ (p : RowPlace). p.no) same ∙ eqb-true other.no n parts.0; full = ap (λ (p : RowPlace). is_some p.rest) same ∙ parts.1 }
 
 -- the same numbers at as many places
-nearly-changed : (old new : Chains) → NearlyChained old → new.own ≡ old.own → new.base ≡ old.base → new.last ≡ old.last → new.is_ascending ≡ old.is_ascending → AreLinked old.own old.base new.places.items (get nat_eq old.last)
+nearly-changed : (old new : KeyChains) → NearlyChained old → new.own ≡ old.own → new.base ≡ old.base → new.last ≡ old.last → new.is_ascending ≡ old.is_ascending → AreLinked old.own old.base new.places.items (get nat_eq old.last)
     → number_list new.places.items ≡ number_list old.places.items → length new.places.items ≡ length old.places.items → AreApart (numbers (rows_in new)) → length (rows_in new) + new.empty ≡ length new.places.items → NearlyChained new
 nearly-changed old new nearly own base last up linked nos long apart counted = record {
   linked = rw (own, base, last) linked;
@@ -50,11 +50,11 @@ settled-length : (n : ℕ) (rows : List (Resting (List Field))) → length (with
 settled-length n [] = refl
 settled-length n (row ∷ rows) = ap suc (settled-length n rows)
 
-module _ (old : Chains) (n at : ℕ) (place : Place) (rest : RestingRow (List Field)) (chained : AreChained old) (read : Reads n at old.places.items place) (some : place.rest ≡ Some rest) where
+module _ (old : KeyChains) (n at : ℕ) (place : RowPlace) (rest : RestingRow (List Field)) (chained : AreChained old) (read : Reads n at old.places.items place) (some : place.rest ≡ Some rest) where
   pub settled_rows : rows_at (slice_set old.places.items at (settled place rest)) ≡ with_settled n (rows_in old)
   settled_rows = rows-settled n at old.places.items place rest chained.nearly.apart read.there some read.numbered
 
-  pub settled_chained : (new : Chains) → new.places.items ≡ slice_set old.places.items at (settled place rest) → new.own ≡ old.own → new.base ≡ old.base → new.last ≡ old.last → new.empty ≡ old.empty → new.is_ascending ≡ old.is_ascending → AreChained new
+  pub settled_chained : (new : KeyChains) → new.places.items ≡ slice_set old.places.items at (settled place rest) → new.own ≡ old.own → new.base ≡ old.base → new.last ≡ old.last → new.empty ≡ old.empty → new.is_ascending ≡ old.is_ascending → AreChained new
   settled_chained new items own base last empty up =
       let rows : rows_in new ≡ with_settled n (rows_in old) = ap rows_at items ∙ settled_rows in
       let long : length new.places.items ≡ length old.places.items = ap length items ∙ length-set old.places.items at (settled place rest) in
@@ -87,8 +87,8 @@ without-fewer n (row ∷ rows) apart h = by (nat_eq row.no n) refl (without-fewe
         omega (arith, ap length (without-absent n rows absent))
     by false e later = omega (arith, later (sym (ap (λ b. b || holds n rows) e) ∙ h))
 
-module _ (old : Chains) (n at : ℕ) (place : Place) (rest : RestingRow (List Field)) (chained : AreChained old) (read : Reads n at old.places.items place) (some : place.rest ≡ Some rest) (filled : option_map (is_row n) (slice_get old.places.items at) ≡ Some true) where
-  pub emptied_nearly : (new : Chains) → new.places.items ≡ slice_set old.places.items at (emptied place) → new.own ≡ old.own → new.base ≡ old.base → new.last ≡ old.last → new.empty ≡ old.empty + 1 → new.is_ascending ≡ old.is_ascending → NearlyChained new
+module _ (old : KeyChains) (n at : ℕ) (place : RowPlace) (rest : RestingRow (List Field)) (chained : AreChained old) (read : Reads n at old.places.items place) (some : place.rest ≡ Some rest) (filled : option_map (is_row n) (slice_get old.places.items at) ≡ Some true) where
+  pub emptied_nearly : (new : KeyChains) → new.places.items ≡ slice_set old.places.items at (emptied place) → new.own ≡ old.own → new.base ≡ old.base → new.last ≡ old.last → new.empty ≡ old.empty + 1 → new.is_ascending ≡ old.is_ascending → NearlyChained new
   emptied_nearly new items own base last empty up =
       let rows : rows_in new ≡ without_entry n (rows_in old) = ap rows_at items ∙ rows-emptied n at old.places.items place rest chained.nearly.apart read.there some read.numbered in
       let long : length new.places.items ≡ length old.places.items = ap length items ∙ length-set old.places.items at (emptied place) in
@@ -105,8 +105,9 @@ longer : {X : Type 0} (xs : List X) (x : X) → length (xs ++ x ∷ []) ≡ leng
 longer [] x = refl
 longer (y ∷ xs) x = omega (arith, longer xs x)
 
-module _ (old new : Chains) (n : ℕ) (row : List Field) (settled : Bool) (key : Option ℕ) (count before : ℕ) (chained : AreChained old) where
-  abbrev pub pushed : Place
+module _ (old new : KeyChains) (n : ℕ) (row : List Field) (settled : Bool) (key : Option ℕ) (count before : ℕ)
+    (chained : AreChained old) where
+  abbrev pub pushed : RowPlace
   pushed = record { no = n; key = key; before = before; rest = Some (record { row = row; settled = settled }) }
 
   abbrev pub entry : Resting (List Field)
@@ -143,7 +144,7 @@ module _ (old new : Chains) (n : ℕ) (row : List Field) (settled : Bool) (key :
       by other true = omega (arith, counted)
       by other false = refl
 
-pub held_rest : (place : Place) → is_some place.rest ≡ true → (rest : RestingRow (List Field)) × (place.rest ≡ Some rest)
+pub held_rest : (place : RowPlace) → is_some place.rest ≡ true → (rest : RestingRow (List Field)) × (place.rest ≡ Some rest)
 held_rest place full = by place.rest refl
   where
     by : (found : Option (RestingRow (List Field))) → place.rest ≡ found → (rest : RestingRow (List Field)) × (place.rest ≡ Some rest)
@@ -152,7 +153,7 @@ held_rest place full = by place.rest refl
 
 -- ---- an empty place that is dropped from the front
 
-module _ (old new : Chains) (first : Place) (nearly : NearlyChained old) (items : old.places.items ≡ first ∷ new.places.items) (none : first.rest ≡ None) where
+module _ (old new : KeyChains) (first : RowPlace) (nearly : NearlyChained old) (items : old.places.items ≡ first ∷ new.places.items) (none : first.rest ≡ None) where
   pub dropped_rows : rows_in new ≡ rows_in old
   dropped_rows = sym (ap rows_at items ∙ rw none refl)
 
@@ -160,7 +161,7 @@ module _ (old new : Chains) (first : Place) (nearly : NearlyChained old) (items 
   pub one_empty : 0 < old.empty
   one_empty = omega (arith, nearly.counted, fewer new.places.items, ap length items, ap length dropped_rows)
     where
-      fewer : (places : List Place) → length (rows_at places) ≤ length places
+      fewer : (places : List RowPlace) → length (rows_at places) ≤ length places
       fewer [] = omega arith
       fewer (place ∷ places) = each place.rest refl (fewer places)
         where
@@ -177,7 +178,7 @@ module _ (old new : Chains) (first : Place) (nearly : NearlyChained old) (items 
     near = omega (arith, base, ap length items, nearly.near);
   }
 
-pub front-split : (places : List Place) → option_map (λ (place : Place). is_some place.rest) (slice_get places 0) ≡ Some false → (first : Place) × (places ≡ first ∷ drop 1 places) × (first.rest ≡ None)
+pub front-split : (places : List RowPlace) → option_map (λ (place : RowPlace). is_some place.rest) (slice_get places 0) ≡ Some false → (first : RowPlace) × (places ≡ first ∷ drop 1 places) × (first.rest ≡ None)
 front-split [] e = absurd cc
 front-split (first ∷ places) e = (first, refl, by first.rest refl)
   where
@@ -187,29 +188,29 @@ front-split (first ∷ places) e = (first, refl, by first.rest refl)
 
 -- ---- a row that is put in the place of one
 
-module _ (old : Chains) (n at : ℕ) (row : List Field) (settled : Bool) (key : Option ℕ) (chained : AreChained old) (filled : option_map (is_row n) (slice_get old.places.items at) ≡ Some true) where
-  abbrev pub instead : Place
+module _ (old : KeyChains) (n at : ℕ) (row : List Field) (settled : Bool) (key : Option ℕ) (chained : AreChained old) (filled : option_map (is_row n) (slice_get old.places.items at) ≡ Some true) where
+  abbrev pub instead : RowPlace
   instead = record { no = n; key = key; before = 0; rest = Some (record { row = row; settled = settled }) }
 
   pub replaced_within : at < length old.places.items
   replaced_within = by (slice_get old.places.items at) refl filled
     where
-      by : (found : Option Place) → slice_get old.places.items at ≡ found → option_map (is_row n) found ≡ Some true → at < length old.places.items
+      by : (found : Option RowPlace) → slice_get old.places.items at ≡ found → option_map (is_row n) found ≡ Some true → at < length old.places.items
       by None e h = absurd cc
       by (Some place) e h = slice_get_within old.places.items at place e
 
-  pub replaced_rows : (new : Chains) → new.places.items ≡ slice_set old.places.items at instead → rows_in new ≡ with_entry (record { no = n; row = row; settled = settled }) (rows_in old)
+  pub replaced_rows : (new : KeyChains) → new.places.items ≡ slice_set old.places.items at instead → rows_in new ≡ with_entry (record { no = n; row = row; settled = settled }) (rows_in old)
   replaced_rows new items = ap rows_at items ∙ rows-replaced n at old.places.items instead (record { row = row; settled = settled }) chained.nearly.apart filled refl refl
 
-  pub replaced_apart : (new : Chains) → new.places.items ≡ slice_set old.places.items at instead → AreApart (numbers (rows_in new))
+  pub replaced_apart : (new : KeyChains) → new.places.items ≡ slice_set old.places.items at instead → AreApart (numbers (rows_in new))
   replaced_apart new items =
       subst AreApart (sym (ap numbers (replaced_rows new items)))
       (apart-put (record { no = n; row = row; settled = settled }) (rows_in old) (row-held n at old.places.items filled) chained.nearly.apart)
 
-  pub replaced_known : (new : Chains) → new.places.items ≡ slice_set old.places.items at instead → ((other : ℕ) → get nat_eq new.last other ≡ cond (is_key other key) (Some 0) (get nat_eq old.last other)) → AreKnown new.places.items (get nat_eq new.last)
+  pub replaced_known : (new : KeyChains) → new.places.items ≡ slice_set old.places.items at instead → ((other : ℕ) → get nat_eq new.last other ≡ cond (is_key other key) (Some 0) (get nat_eq old.last other)) → AreKnown new.places.items (get nat_eq new.last)
   replaced_known new items sets i other place found is = elim (set-at old.places.items at instead i place (ap (λ places. slice_get places i) (sym items) ∙ found)) [
     | inl same ↦ ap is_some (sets other) ∙ either (is_key other key) (linked-known old.own old.base old.places.items (get nat_eq old.last) chained.nearly.linked i other place same is)
-    | inr here ↦ ap is_some (sets other) ∙ own (is_key other key) (key-here other instead (ap (λ (p : Place). p.key) (sym here.1) ∙ is))
+    | inr here ↦ ap is_some (sets other) ∙ own (is_key other key) (key-here other instead (ap (λ (p : RowPlace). p.key) (sym here.1) ∙ is))
   ]
     where
       either : (b : Bool) → is_some (get nat_eq old.last other) ≡ true → is_some (cond b (Some 0) (get nat_eq old.last other)) ≡ true
@@ -220,17 +221,17 @@ module _ (old : Chains) (n at : ℕ) (row : List Field) (settled : Bool) (key : 
       own true h = refl
       own false h = absurd cc
 
-  pub replaced_keyed : (new : Chains) → new.places.items ≡ slice_set old.places.items at instead → key ≡ key_at old.own row → AreKeyed old.own new.places.items
+  pub replaced_keyed : (new : KeyChains) → new.places.items ≡ slice_set old.places.items at instead → key ≡ key_at old.own row → AreKeyed old.own new.places.items
   replaced_keyed new items keyed i place rest found is = elim (set-at old.places.items at instead i place (ap (λ places. slice_get places i) (sym items) ∙ found)) [
     | inl same ↦ linked-keyed old.own old.base old.places.items (get nat_eq old.last) chained.nearly.linked i place rest same is
     | inr here ↦
-        ap (λ (p : Place). p.key) here.1 ∙ (keyed ∙ ap (λ (r : RestingRow (List Field)). key_at old.own r.row) (row_same (ap (λ (p : Place). p.rest) (sym here.1) ∙ is)))
+        ap (λ (p : RowPlace). p.key) here.1 ∙ (keyed ∙ ap (λ (r : RestingRow (List Field)). key_at old.own r.row) (row_same (ap (λ (p : RowPlace). p.rest) (sym here.1) ∙ is)))
   ]
     where
       row_same : Some (record { row = row; settled = settled }) ≡ Some rest → record { row = row; settled = settled } ≡ rest
       row_same is = cc
 
-  pub replaced_ascending : (new : Chains) → new.places.items ≡ slice_set old.places.items at instead → new.is_ascending ≡ old.is_ascending → new.is_ascending ≡ true → IsAscending 0 new.places.items
+  pub replaced_ascending : (new : KeyChains) → new.places.items ≡ slice_set old.places.items at instead → new.is_ascending ≡ old.is_ascending → new.is_ascending ≡ true → IsAscending 0 new.places.items
   replaced_ascending new items up rises =
       ascending-same 0 old.places.items new.places.items (ap number_list items ∙ set-numbers old.places.items at n instead (by (slice_get old.places.items at) refl filled) refl) (chained.nearly.ascending (sym up ∙ rises))
     where
@@ -238,7 +239,7 @@ module _ (old : Chains) (n at : ℕ) (row : List Field) (settled : Bool) (key : 
       both true b e = refl
       both false b e = absurd cc
 
-      by : (found : Option Place) → slice_get old.places.items at ≡ found → option_map (is_row n) found ≡ Some true → slice_get (number_list old.places.items) at ≡ Some n
+      by : (found : Option RowPlace) → slice_get old.places.items at ≡ found → option_map (is_row n) found ≡ Some true → slice_get (number_list old.places.items) at ≡ Some n
       by None e h = absurd cc
       by (Some place) e h =
           number-at old.places.items at place e ∙ ap Some (eqb-true place.no n (both (nat_eq place.no n) (is_some place.rest) (let is : is_row n place ≡ true = cc in is)))

@@ -1,9 +1,9 @@
 -- The last place of a key among places, as places are added behind, taken from the front, or cut off.
 use Rattle.std.proofs.Common.{◌≡◌, ℕ, zero, suc, ◌-◌, ◌≤◌, Bool, true, false, cond, List, [], ◌∷◌, ◌++◌, Some, Option, length, take, slice_get, map, arith, refl, sym, ap, ◌∙◌}
-use Rattle.hj_index.specs.declared.chains.Place.{Place}
-use Rattle.hj_index.specs.Chains.{counted_on, has_key, last_place}
+use Rattle.hj_index.specs.declared.chains.RowPlace.{RowPlace}
+use Rattle.hj_index.specs.KeyChains.{counted_on, has_key, last_place}
 
-last-within : (key : ℕ) (places : List Place) → last_place key places ≤ length places
+last-within : (key : ℕ) (places : List RowPlace) → last_place key places ≤ length places
 last-within key [] = omega arith
 last-within key (place ∷ places) = by (has_key key place) (last_place key places) (last-within key places)
   where
@@ -12,7 +12,7 @@ last-within key (place ∷ places) = by (has_key key place) (last_place key plac
     by false zero h = omega arith
     by b (suc n) h = omega (arith, h)
 
-pub last-popped : (key : ℕ) (place : Place) (places : List Place) → last_place key (place ∷ places) - 1 ≡ last_place key places
+pub last-popped : (key : ℕ) (place : RowPlace) (places : List RowPlace) → last_place key (place ∷ places) - 1 ≡ last_place key places
 last-popped key place places = by (has_key key place) (last_place key places)
   where
     by : (b : Bool) (n : ℕ) → counted_on b n - 1 ≡ n
@@ -20,7 +20,7 @@ last-popped key place places = by (has_key key place) (last_place key places)
     by false zero = refl
     by b (suc n) = omega arith
 
-pub last-pushed : (key : ℕ) (places : List Place) (place : Place) → last_place key (places ++ place ∷ []) ≡ cond (has_key key place) (suc (length places)) (last_place key places)
+pub last-pushed : (key : ℕ) (places : List RowPlace) (place : RowPlace) → last_place key (places ++ place ∷ []) ≡ cond (has_key key place) (suc (length places)) (last_place key places)
 last-pushed key [] place = by (has_key key place)
   where
     by : (b : Bool) → counted_on b 0 ≡ cond b 1 0
@@ -32,7 +32,7 @@ last-pushed key (first ∷ places) place = ap (counted_on (has_key key first)) (
     by true = refl
     by false = refl
 
-pub last-cut : (key at : ℕ) (places : List Place) → last_place key (take at places) ≤ at
+pub last-cut : (key at : ℕ) (places : List RowPlace) → last_place key (take at places) ≤ at
 last-cut key zero places = omega arith
 last-cut key (suc at) [] = omega arith
 last-cut key (suc at) (place ∷ places) = by (has_key key place) (last_place key (take at places)) (last-cut key at places)
@@ -43,11 +43,11 @@ last-cut key (suc at) (place ∷ places) = by (has_key key place) (last_place ke
     by b (suc n) h = omega (arith, h)
 
 -- where the last place is behind all that went before, it has the key
-pub last-there : (key at : ℕ) (places : List Place) → last_place key (take (suc at) places) ≡ suc at → (place : Place) × (slice_get places at ≡ Some place) × (has_key key place ≡ true)
+pub last-there : (key at : ℕ) (places : List RowPlace) → last_place key (take (suc at) places) ≡ suc at → (place : RowPlace) × (slice_get places at ≡ Some place) × (has_key key place ≡ true)
 last-there key at [] e = absurd cc
 last-there key zero (place ∷ places) e = by (has_key key place) refl e
   where
-    by : (b : Bool) → has_key key place ≡ b → counted_on b 0 ≡ 1 → (found : Place) × (slice_get (place ∷ places) 0 ≡ Some found) × (has_key key found ≡ true)
+    by : (b : Bool) → has_key key place ≡ b → counted_on b 0 ≡ 1 → (found : RowPlace) × (slice_get (place ∷ places) 0 ≡ Some found) × (has_key key found ≡ true)
     by true h e = (place, refl, h)
     by false h e = absurd (omega (arith, e))
 last-there key (suc at) (place ∷ places) e = last-there key at places (by (has_key key place) (last_place key (take (suc at) places)) e)
@@ -58,7 +58,7 @@ last-there key (suc at) (place ∷ places) e = last-there key at places (by (has
     by b (suc n) e = omega (arith, e)
 
 -- up to the last place, it stays the last
-pub last-again : (key : ℕ) (places : List Place) → last_place key (take (last_place key places) places) ≡ last_place key places
+pub last-again : (key : ℕ) (places : List RowPlace) → last_place key (take (last_place key places) places) ≡ last_place key places
 last-again key [] = refl
 last-again key (place ∷ places) = by (has_key key place) refl (last_place key places) refl (last-again key places)
   where
@@ -68,7 +68,7 @@ last-again key (place ∷ places) = by (has_key key place) refl (last_place key 
     by false h zero e again = refl
     by b h (suc n) e again = rw h (ap (counted_on b) (sym (ap (λ m. last_place key (take m places)) e) ∙ (again ∙ e)))
 
-pub last-again-cut : (key at : ℕ) (places : List Place) → last_place key (take (last_place key (take at places)) places) ≡ last_place key (take at places)
+pub last-again-cut : (key at : ℕ) (places : List RowPlace) → last_place key (take (last_place key (take at places)) places) ≡ last_place key (take at places)
 last-again-cut key zero places = refl
 last-again-cut key (suc at) [] = refl
 last-again-cut key (suc at) (place ∷ places) = by (has_key key place) refl (last_place key (take at places)) refl (last-again-cut key at places)
@@ -81,10 +81,11 @@ last-again-cut key (suc at) (place ∷ places) = by (has_key key place) refl (la
 
 -- ---- places that have the keys of others
 
-abbrev pub key_list : List Place → List (Option ℕ)
-key_list places = map (λ (place : Place). place.key) places
+abbrev pub key_list : List RowPlace → List (Option ℕ)
+key_list places = map (λ (place : RowPlace). place.key) places
 
-pub same-keys : (key : ℕ) (places others : List Place) → key_list others ≡ key_list places → last_place key others ≡ last_place key places
+pub same-keys : (key : ℕ) (places others : List RowPlace) → key_list others ≡ key_list places
+    → last_place key others ≡ last_place key places
 same-keys key [] [] e = refl
 same-keys key [] (other ∷ others) e = absurd cc
 same-keys key (place ∷ places) [] e = absurd cc

@@ -5,20 +5,20 @@ use Rattle.std.specs.List.{slice_set}
 use Rattle.std.proofs.lemmas.Bool.{eqb-true}
 use Rattle.hj_value.specs.declared.field.Field.{Field}
 use Rattle.hj_rows.specs.declared.place.RestingRow.{RestingRow}
-use Rattle.hj_index.specs.declared.chains.Place.{Place}
-use Rattle.hj_index.specs.Chains.{counted_on, has_key, known_place, last_place, AreKeyed, AreKnown, AreLinked, IsAscending, IsLinked}
+use Rattle.hj_index.specs.declared.chains.RowPlace.{RowPlace}
+use Rattle.hj_index.specs.KeyChains.{counted_on, has_key, known_place, last_place, AreKeyed, AreKnown, AreLinked, IsAscending, IsLinked}
 use Rattle.hj_index.specs.Keys.{key_at}
 use Rattle.hj_index.proofs.ChainKeys.{key_list, last-popped, last-pushed, same-keys}
 use Rattle.hj_index.proofs.ChainRows.{number_list}
 
-pub key-here : (key : ℕ) (place : Place) → place.key ≡ Some key → has_key key place ≡ true
+pub key-here : (key : ℕ) (place : RowPlace) → place.key ≡ Some key → has_key key place ≡ true
 key-here key place e = by place.key e refl
   where
     by : (k : Option ℕ) → k ≡ Some key → place.key ≡ k → has_key key place ≡ true
     by None e is = absurd cc
     by (Some k) e is = let same : k ≡ key = cc in rw is (ap (λ n. nat_eq n key) same ∙ nat_eq_equiv.refl key)
 
-pub key-is : (key : ℕ) (place : Place) → has_key key place ≡ true → place.key ≡ Some key
+pub key-is : (key : ℕ) (place : RowPlace) → has_key key place ≡ true → place.key ≡ Some key
 key-is key place e = by place.key refl e
   where
     by : (k : Option ℕ) → place.key ≡ k → has_key key place ≡ true → place.key ≡ Some key
@@ -27,7 +27,7 @@ key-is key place e = by place.key refl e
 
 -- ---- a place that is added behind
 
-pushed-at : (places : List Place) (new : Place) (at : ℕ) (place : Place) → slice_get (places ++ new ∷ []) at ≡ Some place
+pushed-at : (places : List RowPlace) (new : RowPlace) (at : ℕ) (place : RowPlace) → slice_get (places ++ new ∷ []) at ≡ Some place
     → ((slice_get places at ≡ Some place) × (take at (places ++ new ∷ []) ≡ take at places)) ⊎ ((place ≡ new) × (take at (places ++ new ∷ []) ≡ places))
 pushed-at [] new zero place e = inr (let same : place ≡ new = cc in same, refl)
 pushed-at [] new (suc at) place e = absurd cc
@@ -38,7 +38,7 @@ pushed-at (first ∷ places) new (suc at) place e =
       | inr found ↦ inr (found.0, ap (λ ps. first ∷ ps) found.1)
     ]
 
-pub linked-pushed : (own base : ℕ) (places : List Place) (last : ℕ → Option ℕ) (new : Place) (now : ℕ → Option ℕ) → AreLinked own base places last
+pub linked-pushed : (own base : ℕ) (places : List RowPlace) (last : ℕ → Option ℕ) (new : RowPlace) (now : ℕ → Option ℕ) → AreLinked own base places last
     → ((rest : RestingRow (List Field)) → new.rest ≡ Some rest → new.key ≡ key_at own rest.row)
     → ((key : ℕ) → new.key ≡ Some key → new.before ≡ known_place (last key))
     → ((key : ℕ) → known_place (now key) ≡ cond (has_key key new) (base + suc (length places)) (known_place (last key)))
@@ -58,7 +58,7 @@ linked-pushed own base places last new now linked keyed before known = record {
 
 -- ---- a place that is dropped from the front
 
-pub linked-popped : (own base : ℕ) (first : Place) (places : List Place) (last : ℕ → Option ℕ) → AreLinked own base (first ∷ places) last → AreLinked own (base + 1) places last
+pub linked-popped : (own base : ℕ) (first : RowPlace) (places : List RowPlace) (last : ℕ → Option ℕ) → AreLinked own base (first ∷ places) last → AreLinked own (base + 1) places last
 linked-popped own base first places last linked = record {
   placed = λ at place e. let it = linked.placed (suc at) place e in record {
     keyed = it.keyed;
@@ -72,7 +72,7 @@ linked-popped own base first places last linked = record {
 
 -- ---- a place that is changed
 
-pub set-at : (places : List Place) (i : ℕ) (new : Place) (at : ℕ) (place : Place) → slice_get (slice_set places i new) at ≡ Some place → (slice_get places at ≡ Some place) ⊎ ((at ≡ i) × (place ≡ new))
+pub set-at : (places : List RowPlace) (i : ℕ) (new : RowPlace) (at : ℕ) (place : RowPlace) → slice_get (slice_set places i new) at ≡ Some place → (slice_get places at ≡ Some place) ⊎ ((at ≡ i) × (place ≡ new))
 set-at [] i new at place e = inl e
 set-at (first ∷ places) zero new zero place e = inr (refl, let same : place ≡ new = cc in same)
 set-at (first ∷ places) zero new (suc at) place e = inl e
@@ -83,18 +83,18 @@ set-at (first ∷ places) (suc i) new (suc at) place e =
       | inr found ↦ inr (ap suc found.0, found.1)
     ]
 
-set-keys : (places : List Place) (i : ℕ) (old new : Place) → slice_get places i ≡ Some old → new.key ≡ old.key → key_list (slice_set places i new) ≡ key_list places
+set-keys : (places : List RowPlace) (i : ℕ) (old new : RowPlace) → slice_get places i ≡ Some old → new.key ≡ old.key → key_list (slice_set places i new) ≡ key_list places
 set-keys [] i old new e same = refl
-set-keys (first ∷ places) zero old new e same = let is : first ≡ old = cc in ap (λ k. k ∷ key_list places) (same ∙ ap (λ (p : Place). p.key) (sym is))
+set-keys (first ∷ places) zero old new e same = let is : first ≡ old = cc in ap (λ k. k ∷ key_list places) (same ∙ ap (λ (p : RowPlace). p.key) (sym is))
 set-keys (first ∷ places) (suc i) old new e same = ap (λ ks. first.key ∷ ks) (set-keys places i old new e same)
 
-cut-keys : (places : List Place) (i : ℕ) (old new : Place) (at : ℕ) → slice_get places i ≡ Some old → new.key ≡ old.key → key_list (take at (slice_set places i new)) ≡ key_list (take at places)
+cut-keys : (places : List RowPlace) (i : ℕ) (old new : RowPlace) (at : ℕ) → slice_get places i ≡ Some old → new.key ≡ old.key → key_list (take at (slice_set places i new)) ≡ key_list (take at places)
 cut-keys places i old new zero e same = refl
 cut-keys [] i old new (suc at) e same = refl
-cut-keys (first ∷ places) zero old new (suc at) e same = let is : first ≡ old = cc in ap (λ k. k ∷ key_list (take at places)) (same ∙ ap (λ (p : Place). p.key) (sym is))
+cut-keys (first ∷ places) zero old new (suc at) e same = let is : first ≡ old = cc in ap (λ k. k ∷ key_list (take at places)) (same ∙ ap (λ (p : RowPlace). p.key) (sym is))
 cut-keys (first ∷ places) (suc i) old new (suc at) e same = ap (λ ks. first.key ∷ ks) (cut-keys places i old new at e same)
 
-pub linked-set : (own base : ℕ) (places : List Place) (last : ℕ → Option ℕ) (i : ℕ) (old new : Place) → AreLinked own base places last → slice_get places i ≡ Some old → new.key ≡ old.key → new.before ≡ old.before
+pub linked-set : (own base : ℕ) (places : List RowPlace) (last : ℕ → Option ℕ) (i : ℕ) (old new : RowPlace) → AreLinked own base places last → slice_get places i ≡ Some old → new.key ≡ old.key → new.before ≡ old.before
     → ((rest : RestingRow (List Field)) → new.rest ≡ Some rest → new.key ≡ key_at own rest.row) → AreLinked own base (slice_set places i new) last
 linked-set own base places last i old new linked e key before keyed = record {
   placed = λ at place found. elim (set-at places i new at place found) [
@@ -112,17 +112,17 @@ linked-set own base places last i old new linked e key before keyed = record {
   ended = λ k. linked.ended k ∙ sym (same-keys k places (slice_set places i new) (set-keys places i old new e key));
 }
 
-pub set-numbers : (places : List Place) (i n : ℕ) (new : Place) → slice_get (number_list places) i ≡ Some n → new.no ≡ n → number_list (slice_set places i new) ≡ number_list places
+pub set-numbers : (places : List RowPlace) (i n : ℕ) (new : RowPlace) → slice_get (number_list places) i ≡ Some n → new.no ≡ n → number_list (slice_set places i new) ≡ number_list places
 set-numbers [] i n new e same = refl
 set-numbers (first ∷ places) zero n new e same = let is : first.no ≡ n = cc in ap (λ k. k ∷ number_list places) (same ∙ sym is)
 set-numbers (first ∷ places) (suc i) n new e same = ap (λ ks. first.no ∷ ks) (set-numbers places i n new e same)
 
-pub number-at : (places : List Place) (i : ℕ) (place : Place) → slice_get places i ≡ Some place → slice_get (number_list places) i ≡ Some place.no
+pub number-at : (places : List RowPlace) (i : ℕ) (place : RowPlace) → slice_get places i ≡ Some place → slice_get (number_list places) i ≡ Some place.no
 number-at [] i place e = absurd cc
-number-at (first ∷ places) zero place e = let is : first ≡ place = cc in ap (λ (p : Place). Some p.no) is
+number-at (first ∷ places) zero place e = let is : first ≡ place = cc in ap (λ (p : RowPlace). Some p.no) is
 number-at (first ∷ places) (suc i) place e = number-at places i place e
 
-pub ascending-same : (low : ℕ) (places others : List Place) → number_list others ≡ number_list places → IsAscending low places → IsAscending low others
+pub ascending-same : (low : ℕ) (places others : List RowPlace) → number_list others ≡ number_list places → IsAscending low places → IsAscending low others
 ascending-same low [] [] e up = tt
 ascending-same low [] (other ∷ others) e up = absurd cc
 ascending-same low (place ∷ places) [] e up = absurd cc
@@ -133,7 +133,7 @@ ascending-same low (place ∷ places) (other ∷ others) e up =
 
 -- ---- keys that are known
 
-at-least : (key at : ℕ) (places : List Place) (place : Place) → slice_get places at ≡ Some place → has_key key place ≡ true → 0 < last_place key places
+at-least : (key at : ℕ) (places : List RowPlace) (place : RowPlace) → slice_get places at ≡ Some place → has_key key place ≡ true → 0 < last_place key places
 at-least key at [] place e has = absurd cc
 at-least key zero (first ∷ places) place e has = let is : first ≡ place = cc in by (last_place key places)
   where
@@ -146,12 +146,12 @@ at-least key (suc at) (first ∷ places) place e has = by (has_key key first) (l
     by b zero h = absurd (omega (arith, h))
     by b (suc n) h = omega arith
 
-pub linked-known : (own base : ℕ) (places : List Place) (last : ℕ → Option ℕ) → AreLinked own base places last → AreKnown places last
+pub linked-known : (own base : ℕ) (places : List RowPlace) (last : ℕ → Option ℕ) → AreLinked own base places last → AreKnown places last
 linked-known own base places last linked at key place e is = by (last key) refl
   where
     by : (known : Option ℕ) → last key ≡ known → is_some known ≡ true
     by None none = absurd (omega (arith, at-least key at places place e (key-here key place is), sym (ap (λ o. known_place o - base) none) ∙ linked.ended key))
     by (Some n) some = refl
 
-pub linked-keyed : (own base : ℕ) (places : List Place) (last : ℕ → Option ℕ) → AreLinked own base places last → AreKeyed own places
+pub linked-keyed : (own base : ℕ) (places : List RowPlace) (last : ℕ → Option ℕ) → AreLinked own base places last → AreKeyed own places
 linked-keyed own base places last linked at place rest e is = (linked.placed at place e).keyed rest is

@@ -9,8 +9,8 @@ use Rattle.hj_value.specs.declared.field.Field.{Field}
 use Rattle.hj_msg.specs.Store.{Resting, AreDistinct, holds, with_entry, with_settled, without_entry}
 use Rattle.hj_rows.specs.declared.place.RestingRow.{RestingRow}
 use Rattle.hj_rows.proofs.Rows.{settled-absent, without-absent, row_of}
-use Rattle.hj_index.specs.declared.chains.Place.{Place}
-use Rattle.hj_index.specs.Chains.{is_member, is_row, numbers, rows_at, AreApart, IsAbove, IsAscending}
+use Rattle.hj_index.specs.declared.chains.RowPlace.{RowPlace}
+use Rattle.hj_index.specs.KeyChains.{is_member, is_row, numbers, rows_at, AreApart, IsAbove, IsAscending}
 
 abbrev pub Entries : Type 0
 Entries = List (Resting (List Field))
@@ -41,7 +41,7 @@ differ m n rows held out = by (nat_eq n m) refl
 
 -- ---- one more row
 
-pub rows-pushed : (places others : List Place) → rows_at (places ++ others) ≡ rows_at places ++ rows_at others
+pub rows-pushed : (places others : List RowPlace) → rows_at (places ++ others) ≡ rows_at places ++ rows_at others
 rows-pushed [] others = refl
 rows-pushed (place ∷ places) others = by place.rest refl (rows-pushed places others)
   where
@@ -77,7 +77,8 @@ some_rest : (rest : Option (RestingRow (List Field))) → is_some rest ≡ true 
 some_rest None e = absurd cc
 some_rest (Some r) e = (r, refl)
 
-pub row-held : (n at : ℕ) (places : List Place) → option_map (is_row n) (slice_get places at) ≡ Some true → holds n (rows_at places) ≡ true
+pub row-held : (n at : ℕ) (places : List RowPlace) → option_map (is_row n) (slice_get places at) ≡ Some true
+    → holds n (rows_at places) ≡ true
 row-held n at [] e = absurd cc
 row-held n zero (place ∷ places) e =
     let here : is_row n place ≡ true = cc in
@@ -98,23 +99,23 @@ or-false : (b : Bool) → (b || false) ≡ b
 or-false true = refl
 or-false false = refl
 
-abbrev pub settled : Place → RestingRow (List Field) → Place
+abbrev pub settled : RowPlace → RestingRow (List Field) → RowPlace
 settled place rest = record place { rest = Some (record rest { settled = true }) }
 
-abbrev pub emptied : Place → Place
+abbrev pub emptied : RowPlace → RowPlace
 emptied place = record place { rest = None }
 
-pub rows-settled : (n at : ℕ) (places : List Place) (place : Place) (rest : RestingRow (List Field)) → AreApart (numbers (rows_at places)) → slice_get places at ≡ Some place → place.rest ≡ Some rest → place.no ≡ n
+pub rows-settled : (n at : ℕ) (places : List RowPlace) (place : RowPlace) (rest : RestingRow (List Field)) → AreApart (numbers (rows_at places)) → slice_get places at ≡ Some place → place.rest ≡ Some rest → place.no ≡ n
     → rows_at (slice_set places at (settled place rest)) ≡ with_settled n (rows_at places)
 rows-settled n at [] place rest apart e is numbered = absurd cc
 rows-settled n zero (first ∷ places) place rest apart e is numbered =
     let same : first ≡ place = cc in
-    let here : first.rest ≡ Some rest = ap (λ (p : Place). p.rest) same ∙ is in
-    let number : first.no ≡ n = ap (λ (p : Place). p.no) same ∙ numbered in
+    let here : first.rest ≡ Some rest = ap (λ (p : RowPlace). p.rest) same ∙ is in
+    let number : first.no ≡ n = ap (λ (p : RowPlace). p.no) same ∙ numbered in
     let apart' : AreApart (numbers (row_of first.no rest ∷ rows_at places)) = rw here at apart in
     let absent : holds n (rows_at places) ≡ false = holds-member n (rows_at places) ∙ (ap (λ k. is_member k (numbers (rows_at places))) (sym number) ∙ apart'.0) in
     let equal : nat_eq first.no n ≡ true = ap (λ k. nat_eq k n) number ∙ nat_eq_equiv.refl n in
-    rw (here, equal, or-true rest.settled, settled-absent n (rows_at places) absent, ap (λ (p : Place). p.no) (sym same)) refl
+    rw (here, equal, or-true rest.settled, settled-absent n (rows_at places) absent, ap (λ (p : RowPlace). p.no) (sym same)) refl
 rows-settled n (suc at) (first ∷ places) place rest apart e is numbered = by first.rest refl (λ apart. rows-settled n at places place rest apart e is numbered)
   where
     held : holds n (rows_at places) ≡ true
@@ -130,13 +131,13 @@ rows-settled n (suc at) (first ∷ places) place rest apart e is numbered = by f
         let apart' : AreApart (numbers (row_of first.no other ∷ rows_at places)) = rw here at apart in
         rw (here, differ n first.no (rows_at places) held apart'.0, or-false other.settled) (ap (λ rows. row_of first.no other ∷ rows) (later apart'.1))
 
-pub rows-emptied : (n at : ℕ) (places : List Place) (place : Place) (rest : RestingRow (List Field)) → AreApart (numbers (rows_at places)) → slice_get places at ≡ Some place → place.rest ≡ Some rest → place.no ≡ n
+pub rows-emptied : (n at : ℕ) (places : List RowPlace) (place : RowPlace) (rest : RestingRow (List Field)) → AreApart (numbers (rows_at places)) → slice_get places at ≡ Some place → place.rest ≡ Some rest → place.no ≡ n
     → rows_at (slice_set places at (emptied place)) ≡ without_entry n (rows_at places)
 rows-emptied n at [] place rest apart e is numbered = absurd cc
 rows-emptied n zero (first ∷ places) place rest apart e is numbered =
     let same : first ≡ place = cc in
-    let here : first.rest ≡ Some rest = ap (λ (p : Place). p.rest) same ∙ is in
-    let number : first.no ≡ n = ap (λ (p : Place). p.no) same ∙ numbered in
+    let here : first.rest ≡ Some rest = ap (λ (p : RowPlace). p.rest) same ∙ is in
+    let number : first.no ≡ n = ap (λ (p : RowPlace). p.no) same ∙ numbered in
     let apart' : AreApart (numbers (row_of first.no rest ∷ rows_at places)) = rw here at apart in
     let absent : holds n (rows_at places) ≡ false = holds-member n (rows_at places) ∙ (ap (λ k. is_member k (numbers (rows_at places))) (sym number) ∙ apart'.0) in
     let equal : nat_eq first.no n ≡ true = ap (λ k. nat_eq k n) number ∙ nat_eq_equiv.refl n in
@@ -156,11 +157,11 @@ rows-emptied n (suc at) (first ∷ places) place rest apart e is numbered = by f
         let apart' : AreApart (numbers (row_of first.no other ∷ rows_at places)) = rw here at apart in
         rw (here, differ n first.no (rows_at places) held apart'.0) (ap (λ rows. row_of first.no other ∷ rows) (later apart'.1))
 
-head-replaced : (n : ℕ) (first new : Place) (places : List Place) (rest held : RestingRow (List Field)) → first.rest ≡ Some held → nat_eq first.no n ≡ true → new.rest ≡ Some rest → new.no ≡ n → rows_at (new ∷ places) ≡ with_entry (row_of n rest) (rows_at (first ∷ places))
+head-replaced : (n : ℕ) (first new : RowPlace) (places : List RowPlace) (rest held : RestingRow (List Field)) → first.rest ≡ Some held → nat_eq first.no n ≡ true → new.rest ≡ Some rest → new.no ≡ n → rows_at (new ∷ places) ≡ with_entry (row_of n rest) (rows_at (first ∷ places))
 head-replaced n first new places rest held some equal is numbered = rw (some, is, numbered) (rw equal refl)
 
 -- another row in the place of one
-pub rows-replaced : (n at : ℕ) (places : List Place) (new : Place) (rest : RestingRow (List Field)) → AreApart (numbers (rows_at places)) → option_map (is_row n) (slice_get places at) ≡ Some true → new.rest ≡ Some rest → new.no ≡ n
+pub rows-replaced : (n at : ℕ) (places : List RowPlace) (new : RowPlace) (rest : RestingRow (List Field)) → AreApart (numbers (rows_at places)) → option_map (is_row n) (slice_get places at) ≡ Some true → new.rest ≡ Some rest → new.no ≡ n
     → rows_at (slice_set places at new) ≡ with_entry (row_of n rest) (rows_at places)
 rows-replaced n at [] new rest apart e is numbered = absurd cc
 rows-replaced n zero (first ∷ places) new rest apart e is numbered =
@@ -211,7 +212,7 @@ apart-put x rows h apart = subst AreApart (sym (same-numbers-put x rows h)) apar
 
 -- ---- places whose numbers ascend
 
-pub above-absent : (n : ℕ) (places : List Place) → IsAbove n places → holds n (rows_at places) ≡ false
+pub above-absent : (n : ℕ) (places : List RowPlace) → IsAbove n places → holds n (rows_at places) ≡ false
 above-absent n [] h = refl
 above-absent n (place ∷ places) h = by place.rest refl (above-absent n places h.1)
   where
@@ -227,22 +228,22 @@ above-absent n (place ∷ places) h = by place.rest refl (above-absent n places 
     by (Some rest) is later = rw is (or_from (nat_eq place.no n) (holds n (rows_at places)) apart later)
 
 -- a number above the last one is above all
-pub last-above : (n low : ℕ) (places : List Place) (last : Place) → IsAscending low places → (at : ℕ) → suc at ≡ length places → slice_get places at ≡ Some last → last.no < n → IsAbove n places
+pub last-above : (n low : ℕ) (places : List RowPlace) (last : RowPlace) → IsAscending low places → (at : ℕ) → suc at ≡ length places → slice_get places at ≡ Some last → last.no < n → IsAbove n places
 last-above n low [] last up at long e above = tt
-last-above n low (place ∷ []) last up zero long e above = let same : place ≡ last = cc in (subst (λ (p : Place). p.no < n) (sym same) above, tt)
+last-above n low (place ∷ []) last up zero long e above = let same : place ≡ last = cc in (subst (λ (p : RowPlace). p.no < n) (sym same) above, tt)
 last-above n low (place ∷ []) last up (suc at) long e above = absurd cc
 last-above n low (place ∷ next ∷ places) last up zero long e above = absurd (omega (arith, long))
 last-above n low (place ∷ next ∷ places) last up (suc at) long e above =
     let later = last-above n (place.no + 1) (next ∷ places) last up.1 at (omega (arith, long)) e above in
     (omega (arith, up.1.0, later.0), later)
 
-pub ascending-pushed : (low : ℕ) (places : List Place) (place : Place) → low ≤ place.no → IsAscending low places → IsAbove place.no places → IsAscending low (places ++ place ∷ [])
+pub ascending-pushed : (low : ℕ) (places : List RowPlace) (place : RowPlace) → low ≤ place.no → IsAscending low places → IsAbove place.no places → IsAscending low (places ++ place ∷ [])
 ascending-pushed low [] place le up above = (le, tt)
 ascending-pushed low (first ∷ places) place le up above = (up.0, ascending-pushed (first.no + 1) places place (omega (arith, above.0)) up.1 above.1)
 
-pub ascending-later : (low high : ℕ) (places : List Place) → low ≤ high → IsAscending high places → IsAscending low places
+pub ascending-later : (low high : ℕ) (places : List RowPlace) → low ≤ high → IsAscending high places → IsAscending low places
 ascending-later low high [] le up = tt
 ascending-later low high (place ∷ places) le up = (omega (arith, le, up.0), up.1)
 
-abbrev pub number_list : List Place → List ℕ
-number_list places = map (λ (place : Place). place.no) places
+abbrev pub number_list : List RowPlace → List ℕ
+number_list places = map (λ (place : RowPlace). place.no) places

@@ -12,8 +12,8 @@ use Rattle.hj_rows.specs.declared.place.RestingRow.{RestingRow}
 use Rattle.hj_rows.specs.Places.{joining, rows_of}
 use Rattle.hj_rows.proofs.Rows.{Places}
 use Rattle.hj_rows.proofs.SortedProbes.{sorts-joined, sorts-nothing, sorts-passed, Sorts}
-use Rattle.hj_index.specs.declared.chains.Place.{Place}
-use Rattle.hj_index.specs.Chains.{is_member, numbers, rows_at, AreApart}
+use Rattle.hj_index.specs.declared.chains.RowPlace.{RowPlace}
+use Rattle.hj_index.specs.KeyChains.{is_member, numbers, rows_at, AreApart}
 use Rattle.hj_index.proofs.ChainRows.{Entries}
 use Rattle.hj_index.proofs.ChainWalks.{drop-at, matches}
 
@@ -36,10 +36,10 @@ full-distinct (row ∷ rows) h = (away row.no rows h.0, full-distinct rows h.1)
         (nat_eq_equiv.symm n row.no ∙ parts.0, away n rows parts.1)
 
 -- the places with rows from an index on
-abbrev pub left_at : ℕ → List Place → Places (List Field)
+abbrev pub left_at : ℕ → List RowPlace → Places (List Field)
 left_at at places = full_places (rows_at (drop at places))
 
-module _ (test : List Field → Bool) (places : List Place) where
+module _ (test : List Field → Bool) (places : List RowPlace) where
   abbrev pub IsSorting : List (ℕ × List Field) → ℕ → Type 0
   IsSorting rows at = Sorts test (by_number (matches test places)) rows (left_at at places)
 
@@ -49,20 +49,20 @@ module _ (test : List Field → Bool) (places : List Place) where
       (sorts-nothing test rows (full_places (rows_at places)) (full_places (rows_at places)) none refl (full-distinct (rows_at places) apart))
 
   -- what is left before and after a place
-  before : (at : ℕ) (place : Place) (rest : RestingRow (List Field)) → slice_get places at ≡ Some place → place.rest ≡ Some rest → left_at at places ≡ (place.no, Some rest) ∷ left_at (suc at) places
+  before : (at : ℕ) (place : RowPlace) (rest : RestingRow (List Field)) → slice_get places at ≡ Some place → place.rest ≡ Some rest → left_at at places ≡ (place.no, Some rest) ∷ left_at (suc at) places
   before at place rest e is = ap (λ ps. full_places (rows_at ps)) (drop-at places at place e) ∙ rw is refl
 
-  before-empty : (at : ℕ) (place : Place) → slice_get places at ≡ Some place → place.rest ≡ None → left_at at places ≡ left_at (suc at) places
+  before-empty : (at : ℕ) (place : RowPlace) → slice_get places at ≡ Some place → place.rest ≡ None → left_at at places ≡ left_at (suc at) places
   before-empty at place e is = ap (λ ps. full_places (rows_at ps)) (drop-at places at place e) ∙ rw is refl
 
-  pub sort-passed : (rows : List (ℕ × List Field)) (at : ℕ) (place : Place) → slice_get places at ≡ Some place → joining test place.rest ≡ None → IsSorting rows at → IsSorting rows (at + 1)
+  pub sort-passed : (rows : List (ℕ × List Field)) (at : ℕ) (place : RowPlace) → slice_get places at ≡ Some place → joining test place.rest ≡ None → IsSorting rows at → IsSorting rows (at + 1)
   sort-passed rows at place e none sorting = subst (IsSorting rows) (let n : suc at ≡ at + 1 = omega arith in n) (by place.rest refl none)
     where
       by : (rest : Option (RestingRow (List Field))) → place.rest ≡ rest → joining test rest ≡ None → IsSorting rows (suc at)
       by None is none = subst (Sorts test (by_number (matches test places)) rows) (before-empty at place e is) sorting
       by (Some rest) is none = sorts-passed test (by_number (matches test places)) rows place.no (Some rest) (left_at at places) (left_at (suc at) places) none (before at place rest e is) sorting
 
-  pub sort-joined : (rows new : List (ℕ × List Field)) (at : ℕ) (place : Place) (row : List Field) → slice_get places at ≡ Some place → joining test place.rest ≡ Some row → IsSorting rows at
+  pub sort-joined : (rows new : List (ℕ × List Field)) (at : ℕ) (place : RowPlace) (row : List Field) → slice_get places at ≡ Some place → joining test place.rest ≡ Some row → IsSorting rows at
       → new ≡ insert_entry nat_cmp rows place.no row → ((k : ℕ) → lookup (is_at (nat_cmp k)) new ≡ cond (is_at (nat_cmp place.no) k) (Some row) (lookup (is_at (nat_cmp k)) rows)) → IsSorting new (at + 1)
   sort-joined rows new at place row e some sorting inserts looks = subst (IsSorting new) (let n : suc at ≡ at + 1 = omega arith in n) (by place.rest refl some)
     where
@@ -70,7 +70,7 @@ module _ (test : List Field → Bool) (places : List Place) where
       by None is some = absurd cc
       by (Some rest) is some = sorts-joined test (by_number (matches test places)) rows new place.no (Some rest) (left_at at places) (left_at (suc at) places) row some (before at place rest e is) sorting inserts looks
 
-  drop-past : (ps : List Place) (at : ℕ) → length ps ≤ at → drop at ps ≡ []
+  drop-past : (ps : List RowPlace) (at : ℕ) → length ps ≤ at → drop at ps ≡ []
   drop-past [] zero le = refl
   drop-past [] (suc at) le = refl
   drop-past (p ∷ ps) zero le = absurd (omega (arith, le))

@@ -7,17 +7,18 @@ use Rattle.std.proofs.lemmas.Bool.{ltb-true, ltb-false, eqb-true, or_parts, or_f
 use Rattle.std.proofs.lemmas.Map.Entries.{option_filter}
 use Rattle.hj_value.specs.declared.field.Field.{Field}
 use Rattle.hj_rows.specs.declared.place.RestingRow.{RestingRow}
-use Rattle.hj_index.specs.declared.chains.Place.{Place}
-use Rattle.hj_index.specs.Chains.{counted_on, has_key, is_member, known_place, last_place, rows_at, AreApart, AreKeyed, AreKnown, AreLinked, IsAscending}
+use Rattle.hj_index.specs.declared.chains.RowPlace.{RowPlace}
+use Rattle.hj_index.specs.KeyChains.{counted_on, has_key, is_member, known_place, last_place, rows_at, AreApart, AreKeyed, AreKnown, AreLinked, IsAscending}
 use Rattle.hj_index.proofs.ChainLinks.{ascending-same, linked-pushed, key-is}
 use Rattle.hj_index.proofs.ChainRows.{ascending-later, number_list, rows-pushed}
 
 -- ---- one place after another is linked
 
 -- the places that are linked, and those that are left; both together have the rows that there were
-pub record Linking (own : ℕ) (start : List Place) (rising : Bool) (items : List Place) (last : ℕ → Option ℕ) (count at : ℕ) : Type 0 where
-  pub done : List Place
-  pub left : List Place
+pub record Linking (own : ℕ) (start : List RowPlace) (rising : Bool) (items : List RowPlace) (last : ℕ → Option ℕ)
+    (count at : ℕ) : Type 0 where
+  pub done : List RowPlace
+  pub left : List RowPlace
   pub items_are : items ≡ left ++ done
   pub to_go : length left + at ≡ length start
   pub rows : rows_at (done ++ left) ≡ rows_at start
@@ -28,7 +29,7 @@ pub record Linking (own : ℕ) (start : List Place) (rising : Bool) (items : Lis
   pub keyed : AreKeyed own left
   pub ascending : rising ≡ true → IsAscending 0 (done ++ left)
 
-pub linking-starts : (own : ℕ) (start : List Place) (rising : Bool) (last : ℕ → Option ℕ) → ((key : ℕ) → known_place (last key) ≡ 0) → AreKnown start last → AreKeyed own start → (rising ≡ true → IsAscending 0 start)
+pub linking-starts : (own : ℕ) (start : List RowPlace) (rising : Bool) (last : ℕ → Option ℕ) → ((key : ℕ) → known_place (last key) ≡ 0) → AreKnown start last → AreKeyed own start → (rising ≡ true → IsAscending 0 start)
     → Linking own start rising start last 0 0
 linking-starts own start rising last first known keyed ascending = record {
   done = [];
@@ -45,24 +46,25 @@ linking-starts own start rising last first known keyed ascending = record {
 }
 
 -- the first of those that are left
-split : (own : ℕ) (start : List Place) (rising : Bool) (items : List Place) (last : ℕ → Option ℕ) (count at : ℕ) (l : Linking own start rising items last count at) → at < length start → (place : Place) (rest : List Place) → items ≡ place ∷ rest
-    → (others : List Place) × (l.left ≡ place ∷ others) × (rest ≡ others ++ l.done)
+split : (own : ℕ) (start : List RowPlace) (rising : Bool) (items : List RowPlace) (last : ℕ → Option ℕ) (count at : ℕ) (l : Linking own start rising items last count at) → at < length start → (place : RowPlace) (rest : List RowPlace) → items ≡ place ∷ rest
+    → (others : List RowPlace) × (l.left ≡ place ∷ others) × (rest ≡ others ++ l.done)
 split own start rising items last count at l more place rest e = by l.left refl
   where
-    by : (left : List Place) → l.left ≡ left → (others : List Place) × (left ≡ place ∷ others) × (rest ≡ others ++ l.done)
+    by : (left : List RowPlace) → l.left ≡ left → (others : List RowPlace) × (left ≡ place ∷ others) × (rest ≡ others ++ l.done)
     by [] is = absurd (omega (arith, more, l.to_go, ap length is))
     by (first ∷ others) is =
         let all : place ∷ rest ≡ first ∷ (others ++ l.done) = sym e ∙ (l.items_are ∙ ap (λ ps. ps ++ l.done) is) in
         (others, (let same : first ≡ place = cc in ap (λ p. p ∷ others) same), (let same : rest ≡ others ++ l.done = cc in same))
 
-rows-dropped : (done others : List Place) (place : Place) → place.rest ≡ None → rows_at (done ++ place ∷ others) ≡ rows_at (done ++ others)
+rows-dropped : (done others : List RowPlace) (place : RowPlace) → place.rest ≡ None
+    → rows_at (done ++ place ∷ others) ≡ rows_at (done ++ others)
 rows-dropped done others place none = rows-pushed done (place ∷ others) ∙ (ap (λ rows. rows_at done ++ rows) (rw none refl) ∙ sym (rows-pushed done others))
 
-ascending-dropped : (low : ℕ) (done others : List Place) (place : Place) → IsAscending low (done ++ place ∷ others) → IsAscending low (done ++ others)
+ascending-dropped : (low : ℕ) (done others : List RowPlace) (place : RowPlace) → IsAscending low (done ++ place ∷ others) → IsAscending low (done ++ others)
 ascending-dropped low [] others place up = ascending-later low (place.no + 1) others (omega (arith, up.0)) up.1
 ascending-dropped low (first ∷ done) others place up = (up.0, ascending-dropped (first.no + 1) done others place up.1)
 
-pub linking-dropped : (own : ℕ) (start : List Place) (rising : Bool) (items : List Place) (last : ℕ → Option ℕ) (count at : ℕ) → Linking own start rising items last count at → at < length start → (place : Place) (rest : List Place) → items ≡ place ∷ rest → place.rest ≡ None
+pub linking-dropped : (own : ℕ) (start : List RowPlace) (rising : Bool) (items : List RowPlace) (last : ℕ → Option ℕ) (count at : ℕ) → Linking own start rising items last count at → at < length start → (place : RowPlace) (rest : List RowPlace) → items ≡ place ∷ rest → place.rest ≡ None
     → Linking own start rising rest last count (at + 1)
 linking-dropped own start rising items last count at l more place rest e none =
     let s = split own start rising items last count at l more place rest e in record {
@@ -79,7 +81,7 @@ linking-dropped own start rising items last count at l more place rest e none =
       ascending = λ rises. ascending-dropped 0 l.done s.0 place (subst (λ left. IsAscending 0 (l.done ++ left)) s.1 (l.ascending rises));
     }
 
-rows-full : (done : List Place) (new : Place) → is_some new.rest ≡ true → length done ≡ length (rows_at done) → length (done ++ new ∷ []) ≡ length (rows_at (done ++ new ∷ []))
+rows-full : (done : List RowPlace) (new : RowPlace) → is_some new.rest ≡ true → length done ≡ length (rows_at done) → length (done ++ new ∷ []) ≡ length (rows_at (done ++ new ∷ []))
 rows-full [] new some full = by new.rest refl
   where
     by : (rest : Option (RestingRow (List Field))) → new.rest ≡ rest → 1 ≡ length (rows_at (new ∷ []))
@@ -87,7 +89,7 @@ rows-full [] new some full = by new.rest refl
     by (Some rest) is = rw is refl
 rows-full (first ∷ done) new some full = by first.rest refl (rows-full done new some)
   where
-    fewer : (places : List Place) → length (rows_at places) ≤ length places
+    fewer : (places : List RowPlace) → length (rows_at places) ≤ length places
     fewer [] = omega arith
     fewer (place ∷ places) = each place.rest refl (fewer places)
       where
@@ -99,8 +101,8 @@ rows-full (first ∷ done) new some full = by first.rest refl (rows-full done ne
     by None is later = absurd (let short : suc (length done) ≡ length (rows_at done) = rw is at full in omega (arith, short, fewer done))
     by (Some rest) is later = rw is (ap suc (later (let tail : suc (length done) ≡ suc (length (rows_at done)) = rw is at full in omega (arith, tail))))
 
-pub linking-moved : (own : ℕ) (start : List Place) (rising : Bool) (items : List Place) (last : ℕ → Option ℕ) (count at : ℕ) → (l : Linking own start rising items last count at) → at < length start → (place : Place) (rest : List Place) → items ≡ place ∷ rest → is_some place.rest ≡ true
-    → (new : Place) (now : ℕ → Option ℕ) → new.no ≡ place.no → new.key ≡ place.key → new.rest ≡ place.rest
+pub linking-moved : (own : ℕ) (start : List RowPlace) (rising : Bool) (items : List RowPlace) (last : ℕ → Option ℕ) (count at : ℕ) → (l : Linking own start rising items last count at) → at < length start → (place : RowPlace) (rest : List RowPlace) → items ≡ place ∷ rest → is_some place.rest ≡ true
+    → (new : RowPlace) (now : ℕ → Option ℕ) → new.no ≡ place.no → new.key ≡ place.key → new.rest ≡ place.rest
     → ((key : ℕ) → new.key ≡ Some key → new.before ≡ known_place (last key))
     → ((key : ℕ) → now key ≡ cond (has_key key new) (Some (count + 1)) (last key))
     → Linking own start rising (rest ++ new ∷ []) now (count + 1) (at + 1)
@@ -125,10 +127,10 @@ linking-moved own start rising items last count at l more place rest e some new 
       ascending = λ rises. ascending-same 0 (l.done ++ place ∷ s.0) ((l.done ++ new ∷ []) ++ s.0) (numbers-moved l.done s.0) (subst (λ left. IsAscending 0 (l.done ++ left)) s.1 (l.ascending rises));
     }
   where
-    same-row : (others : List Place) → rows_at (new ∷ others) ≡ rows_at (place ∷ others)
+    same-row : (others : List RowPlace) → rows_at (new ∷ others) ≡ rows_at (place ∷ others)
     same-row others = rw (same_rest, numbered) refl
 
-    longer : (done : List Place) → length (done ++ new ∷ []) ≡ suc (length done)
+    longer : (done : List RowPlace) → length (done ++ new ∷ []) ≡ suc (length done)
     longer [] = refl
     longer (p ∷ done) = ap suc (longer done)
 
@@ -143,21 +145,21 @@ linking-moved own start rising items last count at l more place rest e some new 
         each true = refl
         each false = had
 
-    numbers-moved : (done others : List Place) → number_list ((done ++ new ∷ []) ++ others) ≡ number_list (done ++ place ∷ others)
+    numbers-moved : (done others : List RowPlace) → number_list ((done ++ new ∷ []) ++ others) ≡ number_list (done ++ place ∷ others)
     numbers-moved [] others = ap (λ n. n ∷ number_list others) numbered
     numbers-moved (first ∷ done) others = ap (λ ns. first.no ∷ ns) (numbers-moved done others)
 
 -- at last, none is left
-pub record Linked (own : ℕ) (start : List Place) (rising : Bool) (items : List Place) (last : ℕ → Option ℕ) : Type 0 where
+pub record Linked (own : ℕ) (start : List RowPlace) (rising : Bool) (items : List RowPlace) (last : ℕ → Option ℕ) : Type 0 where
   pub rows : rows_at items ≡ rows_at start
   pub linked : AreLinked own 0 items last
   pub full : length items ≡ length (rows_at items)
   pub ascending : rising ≡ true → IsAscending 0 items
 
-pub linking-ends : (own : ℕ) (start : List Place) (rising : Bool) (items : List Place) (last : ℕ → Option ℕ) (count at : ℕ) → Linking own start rising items last count at → length start ≤ at → Linked own start rising items last
+pub linking-ends : (own : ℕ) (start : List RowPlace) (rising : Bool) (items : List RowPlace) (last : ℕ → Option ℕ) (count at : ℕ) → Linking own start rising items last count at → length start ≤ at → Linked own start rising items last
 linking-ends own start rising items last count at l over = by l.left refl
   where
-    by : (left : List Place) → l.left ≡ left → Linked own start rising items last
+    by : (left : List RowPlace) → l.left ≡ left → Linked own start rising items last
     by [] is =
         let all : items ≡ l.done = l.items_are ∙ ap (λ left. left ++ l.done) is in
         let whole : l.done ++ l.left ≡ items = ap (λ left. l.done ++ left) is ∙ (append-nil l.done ∙ sym all) in record {
@@ -171,7 +173,7 @@ linking-ends own start rising items last count at l over = by l.left refl
 -- ---- keys of no place
 
 -- a key that is swept out has no place
-pub keys-swept : (own base : ℕ) (places : List Place) (last now : ℕ → Option ℕ) → ((key : ℕ) → now key ≡ option_filter (λ place. ltb base place) (last key)) → AreLinked own base places last → AreLinked own base places now
+pub keys-swept : (own base : ℕ) (places : List RowPlace) (last now : ℕ → Option ℕ) → ((key : ℕ) → now key ≡ option_filter (λ place. ltb base place) (last key)) → AreLinked own base places last → AreLinked own base places now
 keys-swept own base places last now sweeps linked = record {
   placed = linked.placed;
   ended = λ key. ap (λ place. known_place place - base) (sweeps key) ∙ (by (last key) ∙ linked.ended key);
@@ -232,7 +234,7 @@ member-kept test key (other ∷ keys) h = by (test other) refl h (λ h. let kept
     by false t h later = later h
 
 -- at most one of them is the key of a place
-lose-one : (place : Place) (keys : List ℕ) → AreApart keys → length keys ≤ suc (length (filter (λ key. not (has_key key place)) keys))
+lose-one : (place : RowPlace) (keys : List ℕ) → AreApart keys → length keys ≤ suc (length (filter (λ key. not (has_key key place)) keys))
 lose-one place [] h = omega arith
 lose-one place (key ∷ keys) h = by (has_key key place) refl (lose-one place keys h.1)
   where
@@ -248,7 +250,7 @@ lose-one place (key ∷ keys) h = by (has_key key place) refl (lose-one place ke
     by false e later = omega (arith, later)
 
 -- keys that each have a place are at most as many as the places
-few_keys : (places : List Place) (keys : List ℕ) → AreApart keys → ((key : ℕ) → is_member key keys ≡ true → 0 < last_place key places) → length keys ≤ length places
+few_keys : (places : List RowPlace) (keys : List ℕ) → AreApart keys → ((key : ℕ) → is_member key keys ≡ true → 0 < last_place key places) → length keys ≤ length places
 few_keys [] [] apart all = omega arith
 few_keys [] (key ∷ keys) apart all = absurd (omega (arith, all key (or_left (nat_eq key key) (is_member key keys) (nat_eq_equiv.refl key))))
 few_keys (place ∷ places) keys apart all =
@@ -262,7 +264,7 @@ few_keys (place ∷ places) keys apart all =
         by false e zero h = absurd (omega (arith, h))
         by false e (suc n) h = omega arith
 
-pub keys-few : (own base : ℕ) (places : List Place) (last : ℕ → Option ℕ) (es : List (ℕ × ℕ)) → AreLinked own base places last → ((key : ℕ) → lookup (nat_eq key) es ≡ option_filter (λ place. ltb base place) (last key)) → IsDistinct nat_eq (keys_of es)
+pub keys-few : (own base : ℕ) (places : List RowPlace) (last : ℕ → Option ℕ) (es : List (ℕ × ℕ)) → AreLinked own base places last → ((key : ℕ) → lookup (nat_eq key) es ≡ option_filter (λ place. ltb base place) (last key)) → IsDistinct nat_eq (keys_of es)
     → length (keys_of es) ≤ length places
 keys-few own base places last es linked sweeps distinct = few_keys places (keys_of es) (distinct-apart (keys_of es) distinct) each
   where
@@ -281,7 +283,7 @@ keys-few own base places last es linked sweeps distinct = few_keys places (keys_
             passes false e h = absurd cc
 
 -- the key of the first of those that are left is known
-pub linking-known : (own : ℕ) (start : List Place) (rising : Bool) (items : List Place) (last : ℕ → Option ℕ) (count at : ℕ) → Linking own start rising items last count at → at < length start → (place : Place) (rest : List Place) → items ≡ place ∷ rest
+pub linking-known : (own : ℕ) (start : List RowPlace) (rising : Bool) (items : List RowPlace) (last : ℕ → Option ℕ) (count at : ℕ) → Linking own start rising items last count at → at < length start → (place : RowPlace) (rest : List RowPlace) → items ≡ place ∷ rest
     → (key : ℕ) → place.key ≡ Some key → is_some (last key) ≡ true
 linking-known own start rising items last count at l more place rest e key is =
     let s = split own start rising items last count at l more place rest e in

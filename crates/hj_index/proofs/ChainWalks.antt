@@ -8,8 +8,8 @@ use Rattle.hj_msg.specs.Order.{insert_by}
 use Rattle.hj_msg.specs.Store.{by_number, settled_partners}
 use Rattle.hj_rows.specs.declared.place.RestingRow.{RestingRow}
 use Rattle.hj_rows.specs.Places.{joining}
-use Rattle.hj_index.specs.declared.chains.Place.{Place}
-use Rattle.hj_index.specs.Chains.{counted_on, has_key, known_place, last_place, nth_place, rows_at, AreKeyed, AreLinked, IsAscending}
+use Rattle.hj_index.specs.declared.chains.RowPlace.{RowPlace}
+use Rattle.hj_index.specs.KeyChains.{counted_on, has_key, known_place, last_place, nth_place, rows_at, AreKeyed, AreLinked, IsAscending}
 use Rattle.hj_index.specs.Keys.{key_at}
 use Rattle.hj_index.proofs.ChainKeys.{last-again, last-again-cut, last-cut, last-there}
 use Rattle.hj_index.proofs.ChainLinks.{key-here, key-is, linked-keyed}
@@ -21,11 +21,11 @@ abbrev pub partner : ℕ → List Field → Partner (List Field)
 partner number row = record { no = record { 0 = number }; row = row }
 
 -- the settled rows of places that pass a test
-abbrev pub matches : (List Field → Bool) → List Place → Found
+abbrev pub matches : (List Field → Bool) → List RowPlace → Found
 matches test places = settled_partners test (rows_at places)
 
 module _ (test : List Field → Bool) where
-  pub matches-joined : (place : Place) (places : List Place) (row : List Field) → joining test place.rest ≡ Some row → matches test (place ∷ places) ≡ partner place.no row ∷ matches test places
+  pub matches-joined : (place : RowPlace) (places : List RowPlace) (row : List Field) → joining test place.rest ≡ Some row → matches test (place ∷ places) ≡ partner place.no row ∷ matches test places
   matches-joined place places row e = by place.rest refl e
     where
       by : (rest : Option (RestingRow (List Field))) → place.rest ≡ rest → joining test rest ≡ Some row → matches test (place ∷ places) ≡ partner place.no row ∷ matches test places
@@ -36,7 +36,7 @@ module _ (test : List Field → Bool) where
           passes true p e = let same : rest.row ≡ row = cc in rw (is, p, same) refl
           passes false p e = absurd cc
 
-  pub matches-passed : (place : Place) (places : List Place) → joining test place.rest ≡ None → matches test (place ∷ places) ≡ matches test places
+  pub matches-passed : (place : RowPlace) (places : List RowPlace) → joining test place.rest ≡ None → matches test (place ∷ places) ≡ matches test places
   matches-passed place places e = by place.rest refl e
     where
       by : (rest : Option (RestingRow (List Field))) → place.rest ≡ rest → joining test rest ≡ None → matches test (place ∷ places) ≡ matches test places
@@ -49,7 +49,7 @@ module _ (test : List Field → Bool) where
 
   module _ (own key : ℕ) (joins_key : (row : List Field) → test row ≡ true → key_at own row ≡ Some key) where
     -- a place of another key doesn't join
-    other-key : (place : Place) → ((rest : RestingRow (List Field)) → place.rest ≡ Some rest → place.key ≡ key_at own rest.row) → has_key key place ≡ false → joining test place.rest ≡ None
+    other-key : (place : RowPlace) → ((rest : RestingRow (List Field)) → place.rest ≡ Some rest → place.key ≡ key_at own rest.row) → has_key key place ≡ false → joining test place.rest ≡ None
     other-key place keyed no_key = by place.rest refl
       where
         by : (rest : Option (RestingRow (List Field))) → place.rest ≡ rest → joining test rest ≡ None
@@ -62,7 +62,7 @@ module _ (test : List Field → Bool) where
             passes true true e = absurd (true≢false (sym (key-here key place (keyed rest is ∙ joins_key rest.row e)) ∙ no_key))
 
     -- between a place and the last place of the key before it, nothing joins
-    pub skips : (at : ℕ) (places : List Place) → AreKeyed own places → matches test (drop (last_place key (take at places)) places) ≡ matches test (drop at places)
+    pub skips : (at : ℕ) (places : List RowPlace) → AreKeyed own places → matches test (drop (last_place key (take at places)) places) ≡ matches test (drop at places)
     skips zero places keyed = refl
     skips (suc at) [] keyed = refl
     skips (suc at) (place ∷ places) keyed = by (has_key key place) refl (last_place key (take at places)) (skips at places (λ at. keyed (suc at)))
@@ -83,7 +83,7 @@ up-lower : (low high : ℕ) (ps : Found) → low ≤ high → IsUp high ps → I
 up-lower low high [] le up = tt
 up-lower low high (p ∷ ps) le up = (omega (arith, le, up.0), up.1)
 
-matches-up : (test : List Field → Bool) (low : ℕ) (places : List Place) → IsAscending low places → IsUp low (matches test places)
+matches-up : (test : List Field → Bool) (low : ℕ) (places : List RowPlace) → IsAscending low places → IsUp low (matches test places)
 matches-up test low [] up = tt
 matches-up test low (place ∷ places) up = by (joining test place.rest) refl (matches-up test (place.no + 1) places up.1)
   where
@@ -100,25 +100,25 @@ up-sorted low (p ∷ ps) up = ap (insert_by (λ (p q : Partner (List Field)). na
     first (q ∷ qs) up = rw (le-ltb q.no.0 p.no.0 (omega (arith, up.0))) refl
 
 -- what passes a test among ascending places is in order
-pub matches-sorted : (test : List Field → Bool) (places : List Place) → IsAscending 0 places → by_number (matches test places) ≡ matches test places
+pub matches-sorted : (test : List Field → Bool) (places : List RowPlace) → IsAscending 0 places → by_number (matches test places) ≡ matches test places
 matches-sorted test places up = up-sorted 0 (matches test places) (matches-up test 0 places up)
 
 -- ---- the walk
 
-pub drop-at : (places : List Place) (at : ℕ) (place : Place) → slice_get places at ≡ Some place → drop at places ≡ place ∷ drop (suc at) places
+pub drop-at : (places : List RowPlace) (at : ℕ) (place : RowPlace) → slice_get places at ≡ Some place → drop at places ≡ place ∷ drop (suc at) places
 drop-at [] at place e = absurd cc
 drop-at (first ∷ places) zero place e = let same : first ≡ place = cc in ap (λ p. p ∷ places) same
 drop-at (first ∷ places) (suc at) place e = drop-at places at place e
 
-drop-all : (places : List Place) → drop (length places) places ≡ []
+drop-all : (places : List RowPlace) → drop (length places) places ≡ []
 drop-all [] = refl
 drop-all (place ∷ places) = drop-all places
 
-take-all : (places : List Place) → take (length places) places ≡ places
+take-all : (places : List RowPlace) → take (length places) places ≡ places
 take-all [] = refl
 take-all (place ∷ places) = ap (λ ps. place ∷ ps) (take-all places)
 
-module _ (test : List Field → Bool) (own key base : ℕ) (places : List Place) (last : ℕ → Option ℕ) (joins_key : (row : List Field) → test row ≡ true → key_at own row ≡ Some key) (linked : AreLinked own base places last) where
+module _ (test : List Field → Bool) (own key base : ℕ) (places : List RowPlace) (last : ℕ → Option ℕ) (joins_key : (row : List Field) → test row ≡ true → key_at own row ≡ Some key) (linked : AreLinked own base places last) where
   -- what was found is what joins from the next place on, and that has the key
   abbrev pub IsSeen : Found → ℕ → Type 0
   IsSeen found next = (reverse found ≡ matches test (drop (next - base) places)) × (last_place key (take (next - base) places) ≡ next - base)
@@ -134,13 +134,13 @@ module _ (test : List Field → Bool) (own key base : ℕ) (places : List Place)
         last-again key places,
       )
 
-  record Stands (next : ℕ) (place : Place) : Type 0 where
+  record Stands (next : ℕ) (place : RowPlace) : Type 0 where
     at : ℕ
     next_is : next - base ≡ suc at
     is_there : slice_get places at ≡ Some place
     before : place.before - base ≡ last_place key (take at places)
 
-  stands : (next : ℕ) (place : Place) → last_place key (take (next - base) places) ≡ next - base → nth_place (next - base) places ≡ Some place → Stands next place
+  stands : (next : ℕ) (place : RowPlace) → last_place key (take (next - base) places) ≡ next - base → nth_place (next - base) places ≡ Some place → Stands next place
   stands next place here e = by (next - base) refl here e
     where
       by : (n : ℕ) → next - base ≡ n → last_place key (take n places) ≡ n → nth_place n places ≡ Some place → Stands next place
@@ -155,19 +155,19 @@ module _ (test : List Field → Bool) (own key base : ℕ) (places : List Place)
             before = (linked.placed at place e).linked key (key-is key place (ap (has_key key) (sym same) ∙ there.2));
           }
 
-  pub walk-falls : (found : Found) (next : ℕ) (place : Place) → IsSeen found next → nth_place (next - base) places ≡ Some place → place.before < next
+  pub walk-falls : (found : Found) (next : ℕ) (place : RowPlace) → IsSeen found next → nth_place (next - base) places ≡ Some place → place.before < next
   walk-falls found next place seen e = let s = stands next place seen.1 e in omega (arith, s.next_is, s.before, last-cut key s.at places)
 
-  goes-on : (found : Found) (next : ℕ) (place : Place) (s : Stands next place) → reverse found ≡ matches test (drop s.at places) → IsSeen found place.before
+  goes-on : (found : Found) (next : ℕ) (place : RowPlace) (s : Stands next place) → reverse found ≡ matches test (drop s.at places) → IsSeen found place.before
   goes-on found next place s seen =
       subst (λ n. (reverse found ≡ matches test (drop n places)) × (last_place key (take n places) ≡ n)) (sym s.before) (seen ∙ sym (skipped s.at), last-again-cut key s.at places)
 
-  pub walk-passed : (found : Found) (next : ℕ) (place : Place) → IsSeen found next → nth_place (next - base) places ≡ Some place → joining test place.rest ≡ None → IsSeen found place.before
+  pub walk-passed : (found : Found) (next : ℕ) (place : RowPlace) → IsSeen found next → nth_place (next - base) places ≡ Some place → joining test place.rest ≡ None → IsSeen found place.before
   walk-passed found next place seen e none =
       let s = stands next place seen.1 e in
       goes-on found next place s (seen.0 ∙ (ap (λ n. matches test (drop n places)) s.next_is ∙ sym (ap (matches test) (drop-at places s.at place s.is_there) ∙ matches-passed test place (drop (suc s.at) places) none)))
 
-  pub walk-joined : (found pushed : Found) (next : ℕ) (place : Place) (row : List Field) → IsSeen found next → nth_place (next - base) places ≡ Some place → joining test place.rest ≡ Some row → pushed ≡ found ++ partner place.no row ∷ [] → IsSeen pushed place.before
+  pub walk-joined : (found pushed : Found) (next : ℕ) (place : RowPlace) (row : List Field) → IsSeen found next → nth_place (next - base) places ≡ Some place → joining test place.rest ≡ Some row → pushed ≡ found ++ partner place.no row ∷ [] → IsSeen pushed place.before
   walk-joined found pushed next place row seen e some grown =
       let s = stands next place seen.1 e in
       goes-on pushed next place s (

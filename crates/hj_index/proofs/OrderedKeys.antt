@@ -9,11 +9,11 @@ use Rattle.std.specs.Ordering.{eq_by_cmp, int_cmp, int_eq, is_eq, nat_cmp, order
 use Rattle.std.proofs.lemmas.Cmp.{eq_by_cmp_equiv}
 use Rattle.std.proofs.lemmas.Map.Lookups.{exact_pairs, exact_signed, exact_unsigned}
 use Rattle.hj_value.specs.declared.field.Field.{Field}
-use Rattle.hj_index.specs.OrderedIndex.{is_key, key_cmp, key_of, number_at, Key}
+use Rattle.hj_index.specs.OrderedIndex.{is_key, key_cmp, key_of, number_at, OrderedKey}
 use Rattle.hj_rows.proofs.SortedProbes.{is_at-nat}
 
 pub key_total : IsTotalOrder key_cmp
-key_total = then_total (on_total (λ (key : Key). key.0) int_cmp_total) (on_total (λ (key : Key). key.1) nat_cmp_total)
+key_total = then_total (on_total (λ (key : OrderedKey). key.0) int_cmp_total) (on_total (λ (key : OrderedKey). key.1) nat_cmp_total)
 
 pub key_equiv : IsEquivalence (eq_by_cmp key_cmp)
 key_equiv = eq_by_cmp_equiv key_total
@@ -24,18 +24,18 @@ is_equal Equal e = refl
 is_equal Greater e = absurd cc
 
 -- keys that compare equal are one
-pub same_key : (key other : Key) → is_at (key_cmp key) other ≡ true → key ≡ other
+pub same_key : (key other : OrderedKey) → is_at (key_cmp key) other ≡ true → key ≡ other
 same_key key other e = exact_pairs int_cmp nat_cmp exact_signed exact_unsigned key other (is_equal (key_cmp key other) e)
 
-pub key_itself : (key : Key) → is_key key (Some key) ≡ true
+pub key_itself : (key : OrderedKey) → is_key key (Some key) ≡ true
 key_itself key = key_equiv.refl key
 
-pub key_found : (key : Key) (found : Option Key) → is_key key found ≡ true → found ≡ Some key
+pub key_found : (key : OrderedKey) (found : Option OrderedKey) → is_key key found ≡ true → found ≡ Some key
 key_found key None e = absurd cc
 key_found key (Some other) e = ap Some (same_key other key e)
 
 -- the key of a row is none of another number
-pub other_number : (own arrival : ℕ) (row : List Field) (key : Key) → nat_eq arrival key.1 ≡ false → is_key key (key_of own arrival row) ≡ false
+pub other_number : (own arrival : ℕ) (row : List Field) (key : OrderedKey) → nat_eq arrival key.1 ≡ false → is_key key (key_of own arrival row) ≡ false
 other_number own arrival row key apart = by (is_key key (key_of own arrival row)) refl
   where
     clash : None ≡ Some key → ⊥
@@ -53,10 +53,10 @@ other_number own arrival row key apart = by (is_key key (key_of own arrival row)
 
 -- ---- keys that are compared by `==`
 
-abbrev pub key_eq : Key → Key → Bool
+abbrev pub key_eq : OrderedKey → OrderedKey → Bool
 key_eq key other = int_eq key.0 other.0 && nat_eq key.1 other.1
 
-key_eq-is : (key other : Key) → key_eq key other ≡ is_at (key_cmp key) other
+key_eq-is : (key other : OrderedKey) → key_eq key other ≡ is_at (key_cmp key) other
 key_eq-is key other = by (int_cmp key.0 other.0)
   where
     by : (o : Ordering) → (is_eq o && nat_eq key.1 other.1) ≡ is_eq (ordering_then o (nat_cmp key.1 other.1))
@@ -65,7 +65,7 @@ key_eq-is key other = by (int_cmp key.0 other.0)
     by Greater = refl
 
 -- of two that differ a key is one at most
-pub one_found : (first second : Option Key) → option_eq key_eq first second ≡ false → (key : Key) → is_key key second ≡ true → is_key key first ≡ false
+pub one_found : (first second : Option OrderedKey) → option_eq key_eq first second ≡ false → (key : OrderedKey) → is_key key second ≡ true → is_key key first ≡ false
 one_found first second apart key e = by (is_key key first) refl
   where
     by : (b : Bool) → is_key key first ≡ b → is_key key first ≡ false
@@ -78,7 +78,7 @@ negated true e = absurd (true≢false (sym e))
 negated false e = refl
 
 -- another key leaves
-pub replaced_other : (replaced key : Option Key) (other : Key) (held : Bool) → option_eq key_eq replaced key ≡ false
+pub replaced_other : (replaced key : Option OrderedKey) (other : OrderedKey) (held : Bool) → option_eq key_eq replaced key ≡ false
     → (not (is_key other replaced) && (is_key other key || held)) ≡ (is_key other key || (not (is_key other replaced) && held))
 replaced_other replaced key other held apart = by (is_key other key) refl
   where

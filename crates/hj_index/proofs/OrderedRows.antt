@@ -4,7 +4,7 @@ use Rattle.std.proofs.lemmas.Bool.{eqb-true, eqb-false}
 use Rattle.hj_value.specs.declared.field.Field.{Field}
 use Rattle.hj_msg.specs.Store.{Resting, with_entry, with_settled, without_entry, AreDistinct}
 use Rattle.hj_index.specs.declared.ordered_index.OrderedIndex.{OrderedIndex}
-use Rattle.hj_index.specs.OrderedIndex.{is_key, key_of, stands, Key}
+use Rattle.hj_index.specs.OrderedIndex.{is_key, key_of, stands, OrderedKey}
 use Rattle.hj_index.specs.OrderedStore.{key_at, AreOrdered}
 use Rattle.hj_rows.specs.Places.{row_at}
 use Rattle.hj_index.proofs.OrderedKeys.{other_number}
@@ -69,7 +69,7 @@ module _ (own : ℕ) (rows : List (Resting (List Field))) (index new : OrderedIn
   }
 
   pub put_ordered : (x : Resting (List Field)) → AreDistinct (with_entry x rows)
-      → ((key : Key) → stands new key ≡ (is_key key (key_of own x.no x.row) || (not (is_key key (key_at own rows x.no)) && stands index key)))
+      → ((key : OrderedKey) → stands new key ≡ (is_key key (key_of own x.no x.row) || (not (is_key key (key_at own rows x.no)) && stands index key)))
       → AreOrdered own (with_entry x rows) new
   put_ordered x distinct change = record { distinct = distinct; indexed = λ key. change key ∙ by key (nat_eq x.no key.1) refl }
     where
@@ -81,14 +81,14 @@ module _ (own : ℕ) (rows : List (Resting (List Field))) (index new : OrderedIn
       self false true = refl
       self false false = refl
 
-      away : (key : Key) (row : Option (List Field)) → nat_eq x.no key.1 ≡ false → is_key key (option_and_then (key_of own x.no) row) ≡ false
+      away : (key : OrderedKey) (row : Option (List Field)) → nat_eq x.no key.1 ≡ false → is_key key (option_and_then (key_of own x.no) row) ≡ false
       away key None e = refl
       away key (Some row) e = other_number own x.no row key e
 
-      at : (key : Key) → row_at key.1 (with_entry x rows) ≡ cond (nat_eq x.no key.1) (Some x.row) (row_at key.1 rows)
+      at : (key : OrderedKey) → row_at key.1 (with_entry x rows) ≡ cond (nat_eq x.no key.1) (Some x.row) (row_at key.1 rows)
       at key = row-with x rows key.1
 
-      by : (key : Key) (b : Bool) → nat_eq x.no key.1 ≡ b
+      by : (key : OrderedKey) (b : Bool) → nat_eq x.no key.1 ≡ b
           → (is_key key (key_of own x.no x.row) || (not (is_key key (key_at own rows x.no)) && stands index key)) ≡ is_key key (key_at own (with_entry x rows) key.1)
       by key true e =
           let same : x.no ≡ key.1 = eqb-true x.no key.1 e in
@@ -103,7 +103,7 @@ module _ (own : ℕ) (rows : List (Resting (List Field))) (index new : OrderedIn
           ∙ ap (λ (row : Option (List Field)). is_key key (option_and_then (key_of own key.1) row)) (sym (at key ∙ ap (λ b. cond b (Some x.row) (row_at key.1 rows)) e))))
 
   pub taken_ordered : (n : ℕ) → AreDistinct (without_entry n rows)
-      → ((key : Key) → stands new key ≡ (not (is_key key (key_at own rows n)) && stands index key))
+      → ((key : OrderedKey) → stands new key ≡ (not (is_key key (key_at own rows n)) && stands index key))
       → AreOrdered own (without_entry n rows) new
   taken_ordered n distinct change = record { distinct = distinct; indexed = λ key. change key ∙ by key (nat_eq n key.1) refl }
     where
@@ -111,11 +111,12 @@ module _ (own : ℕ) (rows : List (Resting (List Field))) (index new : OrderedIn
       none true = refl
       none false = refl
 
-      away : (key : Key) (row : Option (List Field)) → nat_eq n key.1 ≡ false → is_key key (option_and_then (key_of own n) row) ≡ false
+      away : (key : OrderedKey) (row : Option (List Field)) → nat_eq n key.1 ≡ false
+          → is_key key (option_and_then (key_of own n) row) ≡ false
       away key None e = refl
       away key (Some row) e = other_number own n row key e
 
-      by : (key : Key) (b : Bool) → nat_eq n key.1 ≡ b → (not (is_key key (key_at own rows n)) && stands index key) ≡ is_key key (key_at own (without_entry n rows) key.1)
+      by : (key : OrderedKey) (b : Bool) → nat_eq n key.1 ≡ b → (not (is_key key (key_at own rows n)) && stands index key) ≡ is_key key (key_at own (without_entry n rows) key.1)
       by key true e =
           let same : n ≡ key.1 = eqb-true n key.1 e in
           ap (λ b. not (is_key key (key_at own rows n)) && b) (ordered.indexed key ∙ ap (λ n. is_key key (key_at own rows n)) (sym same))

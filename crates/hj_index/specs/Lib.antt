@@ -1,4 +1,4 @@
-pub mod Chains
+pub mod KeyChains
 pub mod HashStore
 pub mod Keys
 pub mod OrderedIndex

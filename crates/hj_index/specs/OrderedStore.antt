@@ -10,7 +10,7 @@ use Rattle.hj_eval.specs.Plan.{AreNear}
 use Rattle.hj_msg.specs.Store.{Resting, joins, AreDistinct}
 use Rattle.hj_index.specs.declared.ordered_index.OrderedIndex.{OrderedIndex}
 use Rattle.hj_rows.specs.declared.place.RestingRow.{RestingRow}
-use Rattle.hj_index.specs.OrderedIndex.{is_key, key_of, stands, Key}
+use Rattle.hj_index.specs.OrderedIndex.{is_key, key_of, stands, OrderedKey}
 use Rattle.hj_rows.specs.Places.{entry_at, row_at}
 
 -- what an ordered store is seen as
@@ -22,23 +22,23 @@ pub record OrderedRows : Type 0 where
   pub rows : List (Resting (List Field))
   -- how many more rows there is room for, and the keys for which there is a place
   pub room : ℕ
-  pub keys : List Key
+  pub keys : List OrderedKey
 
 -- the key of the row of a number
-abbrev pub key_at : ℕ → List (Resting (List Field)) → ℕ → Option Key
+abbrev pub key_at : ℕ → List (Resting (List Field)) → ℕ → Option OrderedKey
 key_at own rows number = option_and_then (key_of own number) (row_at number rows)
 
 -- the keys that stand in the index are those of the rows
 pub record AreOrdered (own : ℕ) (rows : List (Resting (List Field))) (index : OrderedIndex) : Type 0 where
   pub distinct : AreDistinct rows
-  pub indexed : (key : Key) → stands index key ≡ is_key key (key_at own rows key.1)
+  pub indexed : (key : OrderedKey) → stands index key ≡ is_key key (key_at own rows key.1)
 
 -- the row of a number
 abbrev pub rest_at : ℕ → List (Resting (List Field)) → Option (RestingRow (List Field))
 rest_at number rows = option_map (λ entry. record { row = entry.row; settled = entry.settled }) (entry_at number rows)
 
 -- the row for which a key stands in the index; none for a key that stands there for no row
-abbrev pub rest_of : List (Resting (List Field)) → Option Key → Key → Option (RestingRow (List Field))
+abbrev pub rest_of : List (Resting (List Field)) → Option OrderedKey → OrderedKey → Option (RestingRow (List Field))
 rest_of rows reserved key = if is_key key reserved then None else rest_at key.1 rows
 
 -- A row of this side joins only with rows of which the number is near its own: it in the one column, they in the other.

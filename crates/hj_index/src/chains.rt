@@ -3,7 +3,7 @@ ghost use Rattle.std.specs.HashMap.{get, spare};
 ghost use Rattle.std.specs.Option.{option_copied};
 ghost use Rattle.std.specs.VecDeque.{deque_capacity, deque_len};
 ghost use Rattle.hj_msg.specs.Store.{holds, with_entry, with_settled, without_entry};
-ghost use Rattle.hj_index.specs.Chains.{known_place, nth_place, rows_in, AreChained};
+ghost use Rattle.hj_index.specs.KeyChains.{known_place, nth_place, rows_in, AreChained};
 
 use crate::keys::key_at;
 use hj_base::Memory;
@@ -19,7 +19,7 @@ mod sweep;
 
 /// The place of a row, or an empty one whose row was taken out. Places are counted from 1 on, from the first that ever came.
 #[derive(Drop)]
-pub struct Place {
+pub struct RowPlace {
     pub(crate) no: u64,
     /// The key of the row's value; None where the row has no such value.
     pub(crate) key: Option<u64>,
@@ -30,10 +30,10 @@ pub struct Place {
 
 /// Rows in the order in which their numbers came, of which those of one key are a chain: each knows the one before it.
 #[derive(Drop)]
-pub struct Chains {
+pub struct KeyChains {
     /// The column by whose values the rows are chained.
     pub(crate) own: u16,
-    pub(crate) places: VecDeque<Place>,
+    pub(crate) places: VecDeque<RowPlace>,
     /// How many places went before the first.
     pub(crate) base: u64,
     /// The last place of each key. A key that has no place any more may stand there too, until it is swept out.
@@ -44,14 +44,14 @@ pub struct Chains {
     pub(crate) is_ascending: bool,
 }
 
-impl Chains {
+impl KeyChains {
     /// Makes chains of no rows, by the values of a column.
     pub(crate) fn new(alloc: Global, own: u16) -> Self
         ensures rows { rows_in result ≡ [] }
         ensures own { result.own ≡ own }
         ensures chained { AreChained result }
     {
-        Chains {
+        KeyChains {
             own,
             places: VecDeque::new(alloc),
             base: 0,
@@ -88,7 +88,7 @@ impl Chains {
 
     /// Returns a place by its count; None where it isn't there.
     #[inline(always)]
-    pub(crate) fn place(&self, count: u64) -> Option<&Place>
+    pub(crate) fn place(&self, count: u64) -> Option<&RowPlace>
         ensures { option_copied result ≡ nth_place (count - self.now.base) self.now.places.items }
     {
         let at = count.saturating_sub(self.base).checked_sub(1)?;

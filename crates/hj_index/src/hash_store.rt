@@ -3,9 +3,9 @@ ghost use Rattle.hj_base.specs.declared.numbers.Side.{Side};
 ghost use Rattle.hj_eval.specs.Holds.{holds};
 ghost use Rattle.hj_eval.specs.Plan.{plan_of};
 ghost use Rattle.hj_index.specs.HashStore.{equal_plan, JoinsEqual};
-ghost use Rattle.hj_query.specs.Parts.{Parts};
+ghost use Rattle.hj_query.specs.QueryParts.{QueryParts};
 
-use crate::chains::Chains;
+use crate::chains::KeyChains;
 use crate::keys::key_at;
 use hj_base::{EventNo, Memory, Side};
 use hj_msg::{Join, Partners, Store};
@@ -24,14 +24,14 @@ pub struct HashStore {
     /// The column of the rows that probe.
     other: u16,
     /// The rows at rest, chained by the values of their column.
-    rows: Chains,
+    rows: KeyChains,
 }
 
 impl Model for HashStore {
     ghost use Rattle.std.specs.Prelude.{◌-◌};
     ghost use Rattle.std.specs.HashMap.{spare};
     ghost use Rattle.std.specs.VecDeque.{deque_capacity, deque_len};
-    ghost use Rattle.hj_index.specs.Chains.{rows_in, AreChained};
+    ghost use Rattle.hj_index.specs.KeyChains.{rows_in, AreChained};
     ghost use Rattle.hj_index.specs.HashStore.{HashRows};
 
     ghost Value = { HashRows };
@@ -54,12 +54,12 @@ impl HashStore {
         ensures rows { result.rows ≡ [] }
         ensures own { result.own ≡ own }
         ensures other { result.other ≡ other }
-        ensures suits { (side : Side) (query : Parts) → plan_of query.pred ≡ equal_plan own other side → JoinsEqual own other (holds query) side }
+        ensures suits { (side : Side) (query : QueryParts) → plan_of query.pred ≡ equal_plan own other side → JoinsEqual own other (holds query) side }
     {
         HashStore {
             alloc,
             other,
-            rows: Chains::new(alloc, own),
+            rows: KeyChains::new(alloc, own),
         }
     }
 }

@@ -2,7 +2,7 @@ ghost use Rattle.std.specs.Prelude.{◌≡◌, ◌||◌, ◌&&◌, not, true, fa
 ghost use Rattle.std.specs.Int.{w64};
 ghost use Rattle.std.specs.BTreeMap.Range.{range_contains, IsLeBy, IsLtBy};
 ghost use Rattle.std.specs.Range.Bound.{IsForward};
-ghost use Rattle.hj_index.specs.OrderedIndex.{holds_key, is_key, key_cmp, key_of, number_at, stands, AreWithin, HasPlace, Key};
+ghost use Rattle.hj_index.specs.OrderedIndex.{holds_key, is_key, key_cmp, key_of, number_at, stands, AreWithin, HasPlace, OrderedKey};
 
 use hj_base::Memory;
 use hj_value::{Field, Row, SharedRow};
@@ -11,22 +11,22 @@ use std::collections::BTreeSet;
 use std::ops::Bound;
 
 /// A row's number in a column, and the number of its arrival.
-pub(crate) type Key = (i64, u64);
+pub(crate) type OrderedKey = (i64, u64);
 
 /// The keys of rows, in order.
 ///
 /// One more key may stand there: that of a row which is still to come, so that it comes without memory.
 #[derive(Drop)]
 pub struct OrderedIndex {
-    pub(crate) keys: BTreeSet<Key>,
+    pub(crate) keys: BTreeSet<OrderedKey>,
     /// The key that stands there for no row.
-    pub(crate) reserved: Option<Key>,
+    pub(crate) reserved: Option<OrderedKey>,
 }
 
 impl OrderedIndex {
     /// Makes an index with no keys.
     pub(crate) fn new(alloc: Global) -> Self
-        ensures { (key : Key) → stands result key ≡ false }
+        ensures { (key : OrderedKey) → stands result key ≡ false }
     {
         OrderedIndex {
             keys: BTreeSet::new(alloc),
@@ -35,8 +35,8 @@ impl OrderedIndex {
     }
 
     /// Makes a place for a key, if there is one. The place that was made before ends.
-    pub(crate) fn reserve(&mut self, key: Option<Key>) -> Result<(), Memory>
-        ensures same { (other : Key) → stands self.new other ≡ stands self.old other }
+    pub(crate) fn reserve(&mut self, key: Option<OrderedKey>) -> Result<(), Memory>
+        ensures same { (other : OrderedKey) → stands self.new other ≡ stands self.old other }
         ensures place { OnOk result (HasPlace self.new.keys.keys key) }
     {
         self.end_place();
@@ -48,7 +48,7 @@ impl OrderedIndex {
 
     /// Ends the place that was made.
     fn end_place(&mut self)
-        ensures same { (other : Key) → stands self.new other ≡ stands self.old other }
+        ensures same { (other : OrderedKey) → stands self.new other ≡ stands self.old other }
         ensures ended { self.new.reserved ≡ None }
     {
         if let Some(reserved) = self.reserved.take() {
@@ -57,9 +57,9 @@ impl OrderedIndex {
     }
 
     /// Makes a place for a key.
-    fn make_place(&mut self, key: Key) -> Result<(), Memory>
+    fn make_place(&mut self, key: OrderedKey) -> Result<(), Memory>
         requires { self.old.reserved ≡ None }
-        ensures same { (other : Key) → stands self.new other ≡ stands self.old other }
+        ensures same { (other : OrderedKey) → stands self.new other ≡ stands self.old other }
         ensures place { OnOk result (holds_key self.new.keys.keys key ≡ true) }
     {
         if self.keys.insert(key)? {
@@ -70,9 +70,9 @@ impl OrderedIndex {
 
     /// Puts a key in the place that was made for it, and takes another one out, if there are such.
     #[inline(always)]
-    pub(crate) fn replace(&mut self, replaced: Option<Key>, key: Option<Key>)
+    pub(crate) fn replace(&mut self, replaced: Option<OrderedKey>, key: Option<OrderedKey>)
         requires { HasPlace self.old.keys.keys key }
-        ensures { (other : Key) → stands self.new other ≡ (is_key other key || (not (is_key other replaced) && stands self.old other)) }
+        ensures { (other : OrderedKey) → stands self.new other ≡ (is_key other key || (not (is_key other replaced) && stands self.old other)) }
     {
         self.fill(key);
         if replaced != key {
@@ -82,9 +82,9 @@ impl OrderedIndex {
 
     /// Puts a key in the place that was made for it, if there is one.
     #[inline(always)]
-    fn fill(&mut self, key: Option<Key>)
+    fn fill(&mut self, key: Option<OrderedKey>)
         requires { HasPlace self.old.keys.keys key }
-        ensures { (other : Key) → stands self.new other ≡ (is_key other key || stands self.old other) }
+        ensures { (other : OrderedKey) → stands self.new other ≡ (is_key other key || stands self.old other) }
     {
         if self.reserved == key {
             self.reserved = None;
@@ -93,8 +93,8 @@ impl OrderedIndex {
 
     /// Takes a key out, if there is one.
     #[inline(always)]
-    pub(crate) fn remove(&mut self, key: Option<Key>)
-        ensures { (other : Key) → stands self.new other ≡ (not (is_key other key) && stands self.old other) }
+    pub(crate) fn remove(&mut self, key: Option<OrderedKey>)
+        ensures { (other : OrderedKey) → stands self.new other ≡ (not (is_key other key) && stands self.old other) }
     {
         if let Some(key) = key {
             self.keys.remove(&key);
@@ -115,7 +115,7 @@ pub(crate) fn number_at(row: &Row, column: u16) -> Option<i64>
 
 /// Gives the key of a row that came under a number; None where it has no number in the column.
 #[inline(always)]
-pub(crate) fn key_of(row: &Row, own: u16, no: u64) -> Option<Key>
+pub(crate) fn key_of(row: &Row, own: u16, no: u64) -> Option<OrderedKey>
     ensures { result ≡ key_of own no row.now }
 {
     Some((number_at(row, own)?, no))
@@ -123,7 +123,7 @@ pub(crate) fn key_of(row: &Row, own: u16, no: u64) -> Option<Key>
 
 /// Finds the key of the row that came under a number, where there is one.
 #[inline(always)]
-pub(crate) fn key_of_held(row: &Option<SharedRow>, own: u16, no: u64) -> Option<Key>
+pub(crate) fn key_of_held(row: &Option<SharedRow>, own: u16, no: u64) -> Option<OrderedKey>
     ensures { result ≡ option_and_then (key_of own no) row.now }
 {
     match row {
@@ -134,10 +134,10 @@ pub(crate) fn key_of_held(row: &Option<SharedRow>, own: u16, no: u64) -> Option<
 
 /// Gives the bounds of the keys of which the number differs from another one by at most `within`.
 #[inline(always)]
-pub(crate) fn band(number: i64, within: u64) -> (Bound<Key>, Bound<Key>)
+pub(crate) fn band(number: i64, within: u64) -> (Bound<OrderedKey>, Bound<OrderedKey>)
     ensures forward { IsForward (IsLeBy key_cmp) (IsLtBy key_cmp) result.0 result.1 }
-    ensures all { (key : Key) → AreWithin within key.0 number → range_contains key_cmp result.0 result.1 key ≡ true }
-    ensures only { (key : Key) → FitsSigned w64 key.0 → range_contains key_cmp result.0 result.1 key ≡ true → AreWithin within key.0 number }
+    ensures all { (key : OrderedKey) → AreWithin within key.0 number → range_contains key_cmp result.0 result.1 key ≡ true }
+    ensures only { (key : OrderedKey) → FitsSigned w64 key.0 → range_contains key_cmp result.0 result.1 key ≡ true → AreWithin within key.0 number }
 {
     let first = match number.checked_sub_unsigned(within) {
         Some(low) => Bound::Included((low, 0)),

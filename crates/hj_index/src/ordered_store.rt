@@ -3,17 +3,17 @@ ghost use Rattle.std.specs.Option.{option_copied};
 ghost use Rattle.hj_base.specs.declared.numbers.Side.{Side};
 ghost use Rattle.hj_eval.specs.Holds.{holds};
 ghost use Rattle.hj_eval.specs.Plan.{plan_of};
-ghost use Rattle.hj_rows.specs.Numbered.{rows_in};
+ghost use Rattle.hj_rows.specs.NumberedRows.{rows_in};
 ghost use Rattle.hj_index.specs.OrderedIndex.{key_of, number_at, HasPlace};
 ghost use Rattle.hj_index.specs.OrderedStore.{band_plan, rest_of, JoinsNear};
 ghost use Rattle.hj_rows.specs.Places.{joining, partner_of};
 ghost use Rattle.hj_msg.specs.Store.{joins, settled_matches};
-ghost use Rattle.hj_query.specs.Parts.{Parts};
+ghost use Rattle.hj_query.specs.QueryParts.{QueryParts};
 
-use crate::ordered_index::{Key, OrderedIndex, band, key_of, key_of_held, number_at};
+use crate::ordered_index::{OrderedIndex, OrderedKey, band, key_of, key_of_held, number_at};
 use hj_base::{EventNo, Memory, Share, Side};
 use hj_msg::{Join, Partner, Partners, Store};
-use hj_rows::{Numbered, is_joined, partners_of};
+use hj_rows::{NumberedRows, is_joined, partners_of};
 use hj_value::SharedRow;
 use std::alloc::Global;
 use std::collections::BTreeMap;
@@ -30,12 +30,12 @@ pub struct OrderedStore {
     other: u16,
     /// By how much the numbers of two rows that match may differ.
     within: u64,
-    rows: Numbered<SharedRow>,
+    rows: NumberedRows<SharedRow>,
     index: OrderedIndex,
 }
 
 impl Model for OrderedStore {
-    ghost use Rattle.hj_rows.specs.Numbered.{room_in, rows_in};
+    ghost use Rattle.hj_rows.specs.NumberedRows.{room_in, rows_in};
     ghost use Rattle.hj_index.specs.OrderedStore.{AreOrdered, OrderedRows};
 
     ghost Value = { OrderedRows };
@@ -61,14 +61,14 @@ impl OrderedStore {
         ensures own { result.own ≡ own }
         ensures other { result.other ≡ other }
         ensures within { result.within ≡ within }
-        ensures suits { (side : Side) (query : Parts) → plan_of query.pred ≡ band_plan own other within side → JoinsNear own other within (holds query) side }
+        ensures suits { (side : Side) (query : QueryParts) → plan_of query.pred ≡ band_plan own other within side → JoinsNear own other within (holds query) side }
     {
         OrderedStore {
             alloc,
             own,
             other,
             within,
-            rows: Numbered::new(alloc),
+            rows: NumberedRows::new(alloc),
             index: OrderedIndex::new(alloc),
         }
     }
@@ -201,9 +201,9 @@ impl OrderedStore {
 /// Returns the row for which a key stands in the index, where it is settled and joins with a row of the other side.
 #[inline(always)]
 fn joining_row<'a, J: Join<SharedRow>>(
-    rows: &'a Numbered<SharedRow>,
-    reserved: Option<Key>,
-    key: Key,
+    rows: &'a NumberedRows<SharedRow>,
+    reserved: Option<OrderedKey>,
+    key: OrderedKey,
     side: Side,
     against: &SharedRow,
     join: &J,

@@ -13,7 +13,7 @@ use Rattle.hj_lex.proofs.Fronts.{name_front, number_front, nothing_front, digit_
 use Rattle.hj_lex.proofs.Runs.{run_is}
 use Rattle.hj_lex.proofs.Signs.{sign_first, sign_front, sign_len, sign_len-none, sign_len-token}
 use Rattle.hj_lex.proofs.Texts.{IsSplit, split_text, split_text-closed, split_text-gives, split_text-open}
-use Rattle.hj_lex.specs.Fronts.{BeginsToken, IsFirst, kind_of}
+use Rattle.hj_lex.specs.Fronts.{BeginsToken, IsFirstByte, kind_of}
 use Rattle.hj_lex.specs.Tokens.{BeginsIllFormedText, BeginsNothing, BeginsRunOnNumber, HasFault, IsBadByte, IsToken, begins, begins_nothing, behind_number, begins_sign, doubled, inside_text, is_blank, is_quote, is_word, number_end, number_value, quote, quoted}
 use Rattle.hj_lex.specs.declared.fault.LexFault.{LexFault}
 use Rattle.hj_lex.specs.declared.fault.LexFault.TheVariants as fault
@@ -206,7 +206,7 @@ text_found at xs value None h = ((value, ap (λ rest. quote ∷ rest) h), refl)
 text_found at xs value (Some rest) h =
     closed_found at (quote ∷ xs) value rest (is_utf8 (doubled value)) (ap (λ more. quote ∷ more) h.0 ∙ ap (λ more. quote ∷ more) (sym (append_assoc (doubled value) (quote ∷ []) rest))) h.1 refl
 
-sign_found : (at : ℕ) (bytes : List ℕ) (found : Option ℕ) → IsFirst kind.Sign bytes → MatchOption found (begins_sign bytes ≡ false) (BeginsToken kind.Sign bytes) → Found at bytes (sign_at at found)
+sign_found : (at : ℕ) (bytes : List ℕ) (found : Option ℕ) → IsFirstByte kind.Sign bytes → MatchOption found (begins_sign bytes ≡ false) (BeginsToken kind.Sign bytes) → Found at bytes (sign_at at found)
 sign_found at bytes None f h = (0, begins_nothing (nothing_front bytes f h) refl, refl)
 sign_found at bytes (Some count) f h = h
 

@@ -15,7 +15,7 @@ use Rattle.hj_value.specs.Number.{fits_i64, int_of, is_number}
 use Rattle.hj_value.specs.declared.number.IntFault.{IntFault}
 use Rattle.hj_value.specs.declared.number.IntFault.TheVariants as int_fault
 use Rattle.hj_lex.proofs.Runs.{list_all-run, begins-after_run}
-use Rattle.hj_lex.specs.Fronts.{BeginsClosedText, BeginsToken, IsFirst}
+use Rattle.hj_lex.specs.Fronts.{BeginsClosedText, BeginsToken, IsFirstByte}
 use Rattle.hj_lex.specs.Tokens.{BeginsLongNumber, BeginsNothing, HasFault, IsBadByte, IsTokenOf, begins, begins_sign, begins_nothing, behind_number, doubled, inside_text, is_blank, is_digits, is_quote, is_word, number_end, number_value, quote, quoted}
 use Rattle.hj_lex.specs.declared.fault.LexFault.TheVariants as fault
 use Rattle.hj_lex.specs.declared.token.Token.{Token}
@@ -144,7 +144,7 @@ black_cases false false true lower quotes b l d q = cc
 black_cases false false false true quotes b l d q = cc
 black_cases false false false false true b l d q = cc
 
-pub nothing_front : (bytes : List ℕ) → IsFirst kind.Sign bytes → begins_sign bytes ≡ false → BeginsNothing bytes
+pub nothing_front : (bytes : List ℕ) → IsFirstByte kind.Sign bytes → begins_sign bytes ≡ false → BeginsNothing bytes
 nothing_front [] f s = absurd f
 nothing_front (x ∷ xs) f s =
     let p = kind_cases (is_ascii_alphabetic x) (is_ascii_digit x) (is_quote x) f.0 in
@@ -156,7 +156,7 @@ name_cases false true quotes e = cc
 name_cases false false true e = cc
 name_cases false false false e = cc
 
-pub first_letter : (bytes : List ℕ) → IsFirst kind.Name bytes → begins is_ascii_alphabetic bytes ≡ true
+pub first_letter : (bytes : List ℕ) → IsFirstByte kind.Name bytes → begins is_ascii_alphabetic bytes ≡ true
 first_letter [] f = absurd f
 first_letter (x ∷ xs) f = name_cases (is_ascii_alphabetic x) (is_ascii_digit x) (is_quote x) f.0
 
@@ -178,14 +178,14 @@ pub whole_number : (rest : List ℕ) (count : ℕ) (r : Result ℤ IntFault) →
 whole_number rest count r h n e k w =
     subst (λ m. BeginsToken kind.Number rest m) (sym n) (number_front rest h (short_number rest count r h n e k) (ap (λ m. begins is_word (drop m rest)) (sym n) ∙ w))
 
-pub whole_name : (k : TokenKind) (rest : List ℕ) (count : ℕ) → k ≡ kind.Name → IsFirst k rest → count ≡ prefix_len is_word rest → BeginsToken k rest count
+pub whole_name : (k : TokenKind) (rest : List ℕ) (count : ℕ) → k ≡ kind.Name → IsFirstByte k rest → count ≡ prefix_len is_word rest → BeginsToken k rest count
 whole_name k rest count e f n =
     subst (λ (k : TokenKind). BeginsToken k rest count) (sym e)
-    (subst (λ m. BeginsToken kind.Name rest m) (sym n) (name_front rest (first_letter rest (subst (λ (k : TokenKind). IsFirst k rest) e f))))
+    (subst (λ m. BeginsToken kind.Name rest m) (sym n) (name_front rest (first_letter rest (subst (λ (k : TokenKind). IsFirstByte k rest) e f))))
 
-pub whole_sign : (k : TokenKind) (rest : List ℕ) (from : ℕ) (r : Option ℕ) → k ≡ kind.Sign → IsFirst k rest → MatchOption r (begins_sign rest ≡ false) (BeginsToken kind.Sign rest) → MatchResult (ok_or r (fault.BadByte from)) (BeginsToken k rest) (HasFault from rest)
+pub whole_sign : (k : TokenKind) (rest : List ℕ) (from : ℕ) (r : Option ℕ) → k ≡ kind.Sign → IsFirstByte k rest → MatchOption r (begins_sign rest ≡ false) (BeginsToken kind.Sign rest) → MatchResult (ok_or r (fault.BadByte from)) (BeginsToken k rest) (HasFault from rest)
 whole_sign k rest from None e f h =
-    (0, begins_nothing (nothing_front rest (subst (λ (k : TokenKind). IsFirst k rest) e f) h) refl, omega arith)
+    (0, begins_nothing (nothing_front rest (subst (λ (k : TokenKind). IsFirstByte k rest) e f) h) refl, omega arith)
 whole_sign k rest from (Some count) e f h = subst (λ (k : TokenKind). BeginsToken k rest count) (sym e) h
 
 -- what begins the bytes of a text from a place on is a token of the text

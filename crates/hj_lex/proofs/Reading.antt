@@ -13,7 +13,7 @@ use Rattle.hj_lex.proofs.Fronts.{token_from}
 use Rattle.hj_lex.proofs.Runs.{begins-after_run_at, blank_between, run_is}
 use Rattle.hj_lex.proofs.Signs.{sign_first}
 use Rattle.hj_lex.specs.Fronts.{BeginsToken}
-use Rattle.hj_lex.specs.Tokens.{AreInOrder, AreTokens, Cuts, Explains, HasFault, HasOneReading, HasReading, IsBlankBetween, IsBadByte, IsFirstFault, IsToken, IsTokenOf, begins, begins_nothing, behind_number, bytes_of, inside_text, is_blank, is_quote}
+use Rattle.hj_lex.specs.Tokens.{AreInOrder, AreTokens, CutsTokens, Explains, HasFault, HasOneReading, HasReading, IsBlankBetween, IsBadByte, IsFirstFault, IsToken, IsTokenOf, begins, begins_nothing, behind_number, bytes_of, inside_text, is_blank, is_quote}
 use Rattle.hj_lex.specs.declared.fault.LexFault.{LexFault}
 use Rattle.hj_lex.specs.declared.fault.LexFault.TheVariants as fault
 use Rattle.hj_lex.specs.declared.token.Token.{Token}
@@ -34,7 +34,7 @@ stop_is text at from b h =
     let run : prefix_len is_blank (drop at text) ≡ length (slice_range text at from) = ap (prefix_len is_blank) split ∙ run_is is_blank (slice_range text at from) (drop from text) b.2 h in
     omega (arith, run, b.0, b.1, length-take (from - at) (drop at text), length-drop at text)
 
-pub in_order : (text : List ℕ) (at : ℕ) (tokens : List Token) → at ≤ length text → Cuts text at tokens None → AreInOrder at (length text) tokens
+pub in_order : (text : List ℕ) (at : ℕ) (tokens : List Token) → at ≤ length text → CutsTokens text at tokens None → AreInOrder at (length text) tokens
 in_order text at [] l h = l
 in_order text at (token ∷ tokens) l h = (h.0.0, h.1.0, in_order text token.to tokens h.1.1 h.2)
 
@@ -109,7 +109,7 @@ same_token token other f t k =
 same_front : (a b : TokenKind × ℕ) → (let x : Front = Ok a in x ≡ Ok b) → a ≡ b
 same_front a b e = cc
 
-pub same_cuts : (text : List ℕ) (at : ℕ) (tokens others : List Token) (end other : Option LexFault) → Cuts text at tokens end → Cuts text at others other → (others ≡ tokens) × (other ≡ end)
+pub same_cuts : (text : List ℕ) (at : ℕ) (tokens others : List Token) (end other : Option LexFault) → CutsTokens text at tokens end → CutsTokens text at others other → (others ≡ tokens) × (other ≡ end)
 same_cuts text at [] [] None None a b = (refl, refl)
 same_cuts text at [] [] None (Some g) a b = absurd (no_memory b.0 (drop b.0 text) g (let e = end_next text at a in let f = fault_next text at b.0 g b.1 b.2 in cc) b.2)
 same_cuts text at [] [] (Some g) None a b = absurd (no_memory a.0 (drop a.0 text) g (let e = end_next text at b in let f = fault_next text at a.0 g a.1 a.2 in cc) a.2)
@@ -127,13 +127,13 @@ same_cuts text at (token ∷ tokens) (this ∷ others) end other a b =
     let size : this.to - this.from ≡ token.to - token.from = ap (λ (f : TokenKind × ℕ). f.1) p in
     let kinds : this.kind ≡ token.kind = ap (λ (f : TokenKind × ℕ). f.0) p in
     let to : this.to ≡ token.to = omega (arith, from, size, a.1.0, b.1.0) in
-    let tail = same_cuts text token.to tokens others end other a.2 (subst (λ n. Cuts text n others other) to b.2) in
+    let tail = same_cuts text token.to tokens others end other a.2 (subst (λ n. CutsTokens text n others other) to b.2) in
     (ap (λ (t : Token). t ∷ others) (same_token token this from to kinds) ∙ ap (λ (ts : List Token). token ∷ ts) tail.0, tail.1)
 
 -- and something comes next, up to the end
 
 abbrev Reads : List ℕ → ℕ → Type 0
-Reads text at = (tokens : List Token) × ((end : Option LexFault) × Cuts text at tokens end)
+Reads text at = (tokens : List Token) × ((end : Option LexFault) × CutsTokens text at tokens end)
 
 goes_on : (text : List ℕ) (at fuel from : ℕ) (found : Front) → ((to : ℕ) → to ≤ length text → length text ≤ to + fuel → Reads text to) → IsBlankBetween text at from → length text ≤ at + suc fuel → MatchResult found (λ p. BeginsToken p.0 (drop from text) p.1) (HasFault from (drop from text)) → Reads text at
 goes_on text at fuel from (Err f) more b l h = ([], (Some f, (from, b, h)))
@@ -165,7 +165,7 @@ reads zero text at l f =
     ([], (None, subst (λ to. IsBlankBetween text at to) (sym e) (blank_nothing text at l)))
 reads (suc fuel) text at l f = reads_on text at fuel (reads fuel text) l f
 
-chosen : (text : List ℕ) (tokens : List Token) (end : Option LexFault) → Cuts text 0 tokens end → HasReading text
+chosen : (text : List ℕ) (tokens : List Token) (end : Option LexFault) → CutsTokens text 0 tokens end → HasReading text
 chosen text tokens None h = inl (tokens, h)
 chosen text tokens (Some f) h = inr (f, (tokens, h))
 
@@ -184,7 +184,7 @@ has_one_reading text = (
 )
 
 -- what each token of a text is
-pub all_tokens : (text : List ℕ) (at : ℕ) (tokens : List Token) → Cuts text at tokens None → All (IsTokenOf text) tokens
+pub all_tokens : (text : List ℕ) (at : ℕ) (tokens : List Token) → CutsTokens text at tokens None → All (IsTokenOf text) tokens
 all_tokens text at [] h = All-nil (IsTokenOf text)
 all_tokens text at (token ∷ tokens) h = All-cons (IsTokenOf text) token tokens h.1 (all_tokens text token.to tokens h.2)
 

@@ -4,7 +4,7 @@ use Rattle.std.proofs.lemmas.List.{append-nil, drop-drop, drop_at, length-drop, 
 use Rattle.std.specs.List.{list_all, slice_range}
 use Rattle.hj_lex.proofs.Fronts.{token_from}
 use Rattle.hj_lex.specs.Fronts.{BeginsToken}
-use Rattle.hj_lex.specs.Tokens.{Cuts, IsBlankBetween, IsToken, is_blank}
+use Rattle.hj_lex.specs.Tokens.{CutsTokens, IsBlankBetween, IsToken, is_blank}
 use Rattle.hj_lex.specs.declared.fault.LexFault.{LexFault}
 use Rattle.hj_lex.specs.declared.token.Token.{Token}
 use Rattle.hj_lex.specs.declared.token.TokenKind.{TokenKind}
@@ -21,7 +21,7 @@ blanks_here text blanks more at l e b =
     (omega arith, omega (arith, l, ap length e, length-append blanks more, length-drop at text), ap (list_all is_blank) slice ∙ b)
 
 -- blanks, a token, and what stands behind it
-pub spells_token : (text blanks word rest : List ℕ) (at : ℕ) (kind : TokenKind) (tokens : List Token) (end : Option LexFault) → at ≤ length text → drop at text ≡ blanks ++ (word ++ rest) → list_all is_blank blanks ≡ true → 0 < length word → IsToken kind word rest → Cuts text (at + length blanks + length word) tokens end → Cuts text at (token_behind at (length blanks) kind word ∷ tokens) end
+pub spells_token : (text blanks word rest : List ℕ) (at : ℕ) (kind : TokenKind) (tokens : List Token) (end : Option LexFault) → at ≤ length text → drop at text ≡ blanks ++ (word ++ rest) → list_all is_blank blanks ≡ true → 0 < length word → IsToken kind word rest → CutsTokens text (at + length blanks + length word) tokens end → CutsTokens text at (token_behind at (length blanks) kind word ∷ tokens) end
 spells_token text blanks word rest at kind tokens end l e b some form tail =
     let from = at + length blanks in
     let here : drop from text ≡ word ++ rest =
@@ -34,7 +34,7 @@ spells_token text blanks word rest at kind tokens end l e b some form tail =
     (blanks_here text blanks (word ++ rest) at l e b, token_from text (token_behind at (length blanks) kind word) (length word) refl begins, tail)
 
 -- only blanks, to the end
-pub spells_end : (text blanks : List ℕ) (at : ℕ) → at ≤ length text → drop at text ≡ blanks → list_all is_blank blanks ≡ true → Cuts text at [] None
+pub spells_end : (text blanks : List ℕ) (at : ℕ) → at ≤ length text → drop at text ≡ blanks → list_all is_blank blanks ≡ true → CutsTokens text at [] None
 spells_end text blanks at l e b =
     let end : at + length blanks ≡ length text = omega (arith, l, ap length e, length-drop at text) in
     subst (λ to. IsBlankBetween text at to) end (blanks_here text blanks [] at l (e ∙ sym (append-nil blanks)) b)

@@ -13,9 +13,9 @@ kind_of byte = if is_ascii_alphabetic byte then kind.Name
     else kind.Sign
 
 -- the first byte begins a token of this kind, or none, and isn't blank
-abbrev pub IsFirst : TokenKind → List ℕ → Type 0
-IsFirst kind [] = ⊥
-IsFirst kind (byte ∷ bytes) = (kind ≡ kind_of byte) × (is_blank byte ≡ false)
+abbrev pub IsFirstByte : TokenKind → List ℕ → Type 0
+IsFirstByte kind [] = ⊥
+IsFirstByte kind (byte ∷ bytes) = (kind ≡ kind_of byte) × (is_blank byte ≡ false)
 
 -- a token of this kind begins the bytes, and it takes so many of them
 pub record BeginsToken (kind : TokenKind) (bytes : List ℕ) (count : ℕ) : Type 0 where

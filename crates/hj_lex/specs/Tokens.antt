@@ -143,18 +143,18 @@ IsTokenOf text token =
     (token.from < token.to) × (token.to ≤ length text) × IsToken token.kind (bytes_of text token) (drop token.to text)
 
 -- From a place on the text is these tokens, with only blanks before, between and behind them, to its end or up to a fault.
-abbrev pub Cuts : List ℕ → ℕ → List Token → Option LexFault → Type 0
-Cuts text at [] option.None = IsBlankBetween text at (length text)
-Cuts text at [] (option.Some found) = (from : ℕ) × IsBlankBetween text at from × HasFault from (drop from text) found
-Cuts text at (token ∷ tokens) end = IsBlankBetween text at token.from × IsTokenOf text token × Cuts text token.to tokens end
+abbrev pub CutsTokens : List ℕ → ℕ → List Token → Option LexFault → Type 0
+CutsTokens text at [] option.None = IsBlankBetween text at (length text)
+CutsTokens text at [] (option.Some found) = (from : ℕ) × IsBlankBetween text at from × HasFault from (drop from text) found
+CutsTokens text at (token ∷ tokens) end = IsBlankBetween text at token.from × IsTokenOf text token × CutsTokens text token.to tokens end
 
 -- the text is these tokens
 abbrev pub AreTokens : List ℕ → List Token → Type 0
-AreTokens text tokens = Cuts text 0 tokens option.None
+AreTokens text tokens = CutsTokens text 0 tokens option.None
 
 -- the text is tokens up to this fault
 abbrev pub IsFirstFault : List ℕ → LexFault → Type 0
-IsFirstFault text found = (tokens : List Token) × Cuts text 0 tokens (option.Some found)
+IsFirstFault text found = (tokens : List Token) × CutsTokens text 0 tokens (option.Some found)
 
 -- why a text wasn't cut
 abbrev pub Explains : List ℕ → LexFault → Type 0

@@ -1,7 +1,7 @@
 ghost use Rattle.std.specs.Prelude.{◌≡◌, ◌⊎◌, ◌+◌, ◌-◌, ◌^◌, ◌<◌, ◌≤◌, false, drop, length, All, IfOk, IsTrue, List, MatchOption, MatchResult, slice_index};
 ghost use Rattle.std.specs.Char.{is_ascii_alphabetic, is_ascii_digit};
 ghost use Rattle.std.specs.List.{prefix_len};
-ghost use Rattle.hj_lex.specs.Fronts.{BeginsClosedText, BeginsToken, IsFirst, kind_of};
+ghost use Rattle.hj_lex.specs.Fronts.{BeginsClosedText, BeginsToken, IsFirstByte, kind_of};
 ghost use Rattle.hj_lex.specs.Tokens.{AreInOrder, AreTokens, BeginsOpenText, Explains, HasFault, IsBlankBetween, IsFirstFault, IsTokenOf, begins, begins_sign, is_blank, is_quote, is_word, quote, quoted, doubled};
 ghost use Rattle.hj_lex.specs.declared.fault.LexFault.{LexFault};
 ghost use Rattle.hj_lex.specs.declared.token.Token.{Token};
@@ -102,7 +102,7 @@ fn kind_of(byte: u8) -> TokenKind
 
 /// Returns the length of the token of a kind that the bytes begin with; they stand at `from` in the text.
 fn token_length(kind: TokenKind, rest: &[u8], from: usize) -> Result<usize, LexFault>
-    requires first { IsFirst kind rest.now }
+    requires first { IsFirstByte kind rest.now }
     requires fits { from + length rest.now < 2 ^ 64 }
     ensures { MatchResult result (BeginsToken kind rest.now) (HasFault from rest.now) }
 {

@@ -2,7 +2,7 @@
 use Rattle.std.proofs.Common.{◌≡◌, ℕ, Bool, true, false, ◌+◌, ◌<◌, ◌≤◌, ◌⊎◌, List, [], ◌∷◌, ◌++◌, length, map, sym, refl, ap, ◌∙◌, subst, ⊎_elim, inl, inr, arith}
 use Rattle.hj_base.specs.Journals.{Entry, puts, takes}
 use Rattle.hj_base.specs.Link.{TookBeforePut}
-use Rattle.hj_link.specs.declared.table.Noted.{Noted}
+use Rattle.hj_link.specs.declared.table.JournalEntry.{JournalEntry}
 use Rattle.hj_link.specs.Rule.{entry_of, InTime}
 use Rattle.hj_link.specs.Steps.{noted}
 
@@ -27,40 +27,42 @@ module _ {A : Type 0} where
 
 module _ {M : Type 0} where
   -- one put, or one take, more
-  sent_more_by : (n : Noted M) (ns : List (Noted M)) (t : ℕ) (x : M) → puts (map entry_of (ns ++ noted true t x ∷ [])) ≡ puts (map entry_of ns) ++ x ∷ [] → (b : Bool) → n.is_put ≡ b → puts (map entry_of ((n ∷ ns) ++ noted true t x ∷ [])) ≡ puts (map entry_of (n ∷ ns)) ++ x ∷ []
+  sent_more_by : (n : JournalEntry M) (ns : List (JournalEntry M)) (t : ℕ) (x : M) → puts (map entry_of (ns ++ noted true t x ∷ [])) ≡ puts (map entry_of ns) ++ x ∷ [] → (b : Bool) → n.is_put ≡ b → puts (map entry_of ((n ∷ ns) ++ noted true t x ∷ [])) ≡ puts (map entry_of (n ∷ ns)) ++ x ∷ []
   sent_more_by n ns t x ih true is = rw is (ap (λ (l : List M). n.message ∷ l) ih)
   sent_more_by n ns t x ih false is = rw is (ih)
 
-  pub sent_more : (j : List (Noted M)) (t : ℕ) (x : M) → puts (map entry_of (j ++ noted true t x ∷ [])) ≡ puts (map entry_of j) ++ x ∷ []
+  pub sent_more : (j : List (JournalEntry M)) (t : ℕ) (x : M)
+      → puts (map entry_of (j ++ noted true t x ∷ [])) ≡ puts (map entry_of j) ++ x ∷ []
   sent_more [] t x = refl
   sent_more (n ∷ ns) t x = sent_more_by n ns t x (sent_more ns t x) n.is_put refl
 
-  got_more_by : (n : Noted M) (ns : List (Noted M)) (t : ℕ) (x : M) → takes (map entry_of (ns ++ noted false t x ∷ [])) ≡ takes (map entry_of ns) ++ x ∷ [] → (b : Bool) → n.is_put ≡ b → takes (map entry_of ((n ∷ ns) ++ noted false t x ∷ [])) ≡ takes (map entry_of (n ∷ ns)) ++ x ∷ []
+  got_more_by : (n : JournalEntry M) (ns : List (JournalEntry M)) (t : ℕ) (x : M) → takes (map entry_of (ns ++ noted false t x ∷ [])) ≡ takes (map entry_of ns) ++ x ∷ [] → (b : Bool) → n.is_put ≡ b → takes (map entry_of ((n ∷ ns) ++ noted false t x ∷ [])) ≡ takes (map entry_of (n ∷ ns)) ++ x ∷ []
   got_more_by n ns t x ih true is = rw is (ih)
   got_more_by n ns t x ih false is = rw is (ap (λ (l : List M). n.message ∷ l) ih)
 
-  pub got_more : (j : List (Noted M)) (t : ℕ) (x : M) → takes (map entry_of (j ++ noted false t x ∷ [])) ≡ takes (map entry_of j) ++ x ∷ []
+  pub got_more : (j : List (JournalEntry M)) (t : ℕ) (x : M)
+      → takes (map entry_of (j ++ noted false t x ∷ [])) ≡ takes (map entry_of j) ++ x ∷ []
   got_more [] t x = refl
   got_more (n ∷ ns) t x = got_more_by n ns t x (got_more ns t x) n.is_put refl
 
-  got_same_by : (n : Noted M) (ns : List (Noted M)) (t : ℕ) (x : M) → takes (map entry_of (ns ++ noted true t x ∷ [])) ≡ takes (map entry_of ns) → (b : Bool) → n.is_put ≡ b → takes (map entry_of ((n ∷ ns) ++ noted true t x ∷ [])) ≡ takes (map entry_of (n ∷ ns))
+  got_same_by : (n : JournalEntry M) (ns : List (JournalEntry M)) (t : ℕ) (x : M) → takes (map entry_of (ns ++ noted true t x ∷ [])) ≡ takes (map entry_of ns) → (b : Bool) → n.is_put ≡ b → takes (map entry_of ((n ∷ ns) ++ noted true t x ∷ [])) ≡ takes (map entry_of (n ∷ ns))
   got_same_by n ns t x ih true is = rw is ih
   got_same_by n ns t x ih false is = rw is (ap (λ (l : List M). n.message ∷ l) ih)
 
-  sent_same_by : (n : Noted M) (ns : List (Noted M)) (t : ℕ) (x : M) → puts (map entry_of (ns ++ noted false t x ∷ [])) ≡ puts (map entry_of ns) → (b : Bool) → n.is_put ≡ b → puts (map entry_of ((n ∷ ns) ++ noted false t x ∷ [])) ≡ puts (map entry_of (n ∷ ns))
+  sent_same_by : (n : JournalEntry M) (ns : List (JournalEntry M)) (t : ℕ) (x : M) → puts (map entry_of (ns ++ noted false t x ∷ [])) ≡ puts (map entry_of ns) → (b : Bool) → n.is_put ≡ b → puts (map entry_of ((n ∷ ns) ++ noted false t x ∷ [])) ≡ puts (map entry_of (n ∷ ns))
   sent_same_by n ns t x ih true is = rw is (ap (λ (l : List M). n.message ∷ l) ih)
   sent_same_by n ns t x ih false is = rw is ih
 
   -- a put, or a take, leaves the other kind as it was
-  pub got_same : (j : List (Noted M)) (t : ℕ) (x : M) → takes (map entry_of (j ++ noted true t x ∷ [])) ≡ takes (map entry_of j)
+  pub got_same : (j : List (JournalEntry M)) (t : ℕ) (x : M) → takes (map entry_of (j ++ noted true t x ∷ [])) ≡ takes (map entry_of j)
   got_same [] t x = refl
   got_same (n ∷ ns) t x = got_same_by n ns t x (got_same ns t x) n.is_put refl
 
-  pub sent_same : (j : List (Noted M)) (t : ℕ) (x : M) → puts (map entry_of (j ++ noted false t x ∷ [])) ≡ puts (map entry_of j)
+  pub sent_same : (j : List (JournalEntry M)) (t : ℕ) (x : M) → puts (map entry_of (j ++ noted false t x ∷ [])) ≡ puts (map entry_of j)
   sent_same [] t x = refl
   sent_same (n ∷ ns) t x = sent_same_by n ns t x (sent_same ns t x) n.is_put refl
 
-  pub journal_more : (j : List (Noted M)) (n : Noted M) → map entry_of (j ++ n ∷ []) ≡ map entry_of j ++ entry_of n ∷ []
+  pub journal_more : (j : List (JournalEntry M)) (n : JournalEntry M) → map entry_of (j ++ n ∷ []) ≡ map entry_of j ++ entry_of n ∷ []
   journal_more [] n = refl
   journal_more (x ∷ xs) n = ap (λ (l : List (Entry M)). entry_of x ∷ l) (journal_more xs n)
 

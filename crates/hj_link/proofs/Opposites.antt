@@ -12,7 +12,7 @@ use Rattle.atomic_table.proofs.Lists.{set_else}
 use Rattle.hj_link.specs.declared.table.MessageSlot.{MessageSlot}
 use Rattle.hj_link.specs.declared.table.MessageSlot.TheVariants.{Empty, Filled}
 use Rattle.hj_link.specs.declared.turn_no.TurnNo.{TurnNo}
-use Rattle.hj_link.specs.declared.table.End.{End}
+use Rattle.hj_link.specs.declared.table.EndState.{EndState}
 use Rattle.hj_link.specs.Flow.{Flow, IsEmpty}
 use Rattle.hj_link.specs.Rule.{Opposed, entry_of, journal_of, sent, got, new_end}
 use Rattle.hj_link.specs.Steps.{noted, saw_takes, saw_puts, set_putting, set_fetching, after_put, after_take}
@@ -27,10 +27,10 @@ module _ {M : Type 0} where
       (λ p m le at home. let q = f.full p m le at home in (q.0, set_else hs j (base + p % k) z (ne p) ∙ q.1))
       (λ p le lt home. let q = f.vacant p le lt home in (q.0, set_else hs j (base + p % k) z (ne p) ∙ q.1))
 
-  pub swapped : (k base k' base' a b c d : ℕ) (hs : Row M) (one two : End M) → Opposed k base k' base' a b c d hs one two → Opposed k' base' k base c d a b hs two one
+  pub swapped : (k base k' base' a b c d : ℕ) (hs : Row M) (one two : EndState M) → Opposed k base k' base' a b c d hs one two → Opposed k' base' k base c d a b hs two one
   swapped k base k' base' a b c d hs one two o = record { apart = (λ p q e. o.apart q p (sym e)); there = o.back; back = o.there; in_time = (λ p q t u. o.in_time q p u t); looks_there = o.looks_back; looks_back = o.looks_there }
 
-  pub both_look_for_room : (k base k' base' a b c d : ℕ) (hs : Row M) (one two : End M) → Opposed k base k' base' a b c d hs one two → Opposed k base k' base' a b c d hs (saw_takes k one (length (got two))) two
+  pub both_look_for_room : (k base k' base' a b c d : ℕ) (hs : Row M) (one two : EndState M) → Opposed k base k' base' a b c d hs one two → Opposed k base k' base' a b c d hs (saw_takes k one (length (got two))) two
   both_look_for_room k base k' base' a b c d hs one two o = record {
     apart = o.apart;
     there = flow_looks_for_room _ _ _ _ _ _ _ _ _ _ _ o.there;
@@ -40,7 +40,7 @@ module _ {M : Type 0} where
     looks_back = o.looks_back;
   }
 
-  pub both_look_for_message : (k base k' base' a b c d : ℕ) (hs : Row M) (one two : End M) → Opposed k base k' base' a b c d hs one two → Opposed k base k' base' a b c d hs (saw_puts one (sent two)) two
+  pub both_look_for_message : (k base k' base' a b c d : ℕ) (hs : Row M) (one two : EndState M) → Opposed k base k' base' a b c d hs one two → Opposed k base k' base' a b c d hs (saw_puts one (sent two)) two
   both_look_for_message k base k' base' a b c d hs one two o = record {
     apart = o.apart;
     there = o.there;
@@ -50,13 +50,13 @@ module _ {M : Type 0} where
     looks_back = looked_for_message k' (length (sent two)) (length (got one)) two.full_looks one.empty_looks two.full_at one.empty_at one.fulls_before two.empties_before o.looks_back (length (sent two) == length (got one)) (λ e. eqb-true _ _ e);
   }
 
-  pub both_reserve : (k base k' base' a b c d : ℕ) (hs : Row M) (one two : End M) → Opposed k base k' base' a b c d hs one two → one.putting ≡ false → length (sent one) < one.known_takes + k
+  pub both_reserve : (k base k' base' a b c d : ℕ) (hs : Row M) (one two : EndState M) → Opposed k base k' base' a b c d hs one two → one.putting ≡ false → length (sent one) < one.known_takes + k
       → (t : TurnNo) × (get_elem? hs (base + length (sent one) % k) ≡ some (some (Empty t))) × Opposed k base k' base' a b c d (set hs (base + length (sent one) % k) none) (set_putting one true) two
   both_reserve k base k' base' a b c d hs one two o idle room = let n : ℕ = length (sent one) in
       let f = flow_reserves _ _ _ _ _ _ _ _ _ _ (subst (λ (x : Bool). Flow k base a b hs (sent one) (got two) two.known one.known_takes x two.fetching) idle o.there) room in
       (f.0, f.1, record { apart = o.apart; there = f.2; back = frame k' base' c d hs (sent two) (got one) one.known two.known_takes two.putting one.fetching (base + n % k) none (λ p e. o.apart n p (sym e)) o.back; in_time = o.in_time; looks_there = o.looks_there; looks_back = o.looks_back })
 
-  pub both_put : (k base k' base' a b c d : ℕ) (hs : Row M) (one two : End M) (t : TurnNo) (m : M) (new : ℕ) → Opposed k base k' base' a b c d hs one two → one.putting ≡ true → new ≡ (length (sent one) + 1) % 2 ^ 64
+  pub both_put : (k base k' base' a b c d : ℕ) (hs : Row M) (one two : EndState M) (t : TurnNo) (m : M) (new : ℕ) → Opposed k base k' base' a b c d hs one two → one.putting ≡ true → new ≡ (length (sent one) + 1) % 2 ^ 64
       → Opposed k base k' base' new b c d (set hs (base + length (sent one) % k) (some (Filled t m))) (after_put one t.number m two.empty_looks) two
   both_put k base k' base' a b c d hs one two t m new o out is = let n : ℕ = length (sent one) in let i : ℕ = base + n % k in let z : maybe.Option (MessageSlot M) = some (Filled t m) in
       let f = flow_publishes _ _ _ _ _ _ _ _ _ _ t m new (subst (λ (x : Bool). Flow k base a b hs (sent one) (got two) two.known one.known_takes x two.fetching) out o.there) is in
@@ -72,13 +72,13 @@ module _ {M : Type 0} where
         looks_back = looks_at k' (length (sent two)) (length (sent two)) (length (got one)) _ two.full_looks one.empty_looks two.full_at one.empty_at one.fulls_before two.empties_before refl (sym (ap length (got_same one.journal t.number m))) o.looks_back;
       }
 
-  pub both_fetch : (k base k' base' a b c d : ℕ) (hs : Row M) (one two : End M) → Opposed k base k' base' a b c d hs one two → one.fetching ≡ false → length (got one) < length one.known
+  pub both_fetch : (k base k' base' a b c d : ℕ) (hs : Row M) (one two : EndState M) → Opposed k base k' base' a b c d hs one two → one.fetching ≡ false → length (got one) < length one.known
       → (t : TurnNo) × (x : M) × (get_elem? one.known (length (got one)) ≡ some x) × (get_elem? hs (base' + length (got one) % k') ≡ some (some (Filled t x))) × Opposed k base k' base' a b c d (set hs (base' + length (got one) % k') none) (set_fetching one true) two
   both_fetch k base k' base' a b c d hs one two o idle some_one = let g : ℕ = length (got one) in
       let f = flow_fetches _ _ _ _ _ _ _ _ _ _ (subst (λ (x : Bool). Flow k' base' c d hs (sent two) (got one) one.known two.known_takes two.putting x) idle o.back) some_one in
       (f.0, f.1, f.2, f.3, record { apart = o.apart; there = frame k base a b hs (sent one) (got two) two.known one.known_takes one.putting two.fetching (base' + g % k') none (λ p e. o.apart p g e) o.there; back = f.4; in_time = o.in_time; looks_there = o.looks_there; looks_back = o.looks_back })
 
-  pub both_take : (k base k' base' a b c d : ℕ) (hs : Row M) (one two : End M) (t : TurnNo) (x : M) (new : ℕ) → Opposed k base k' base' a b c d hs one two → one.fetching ≡ true → get_elem? one.known (length (got one)) ≡ some x → new ≡ (length (got one) + 1) % 2 ^ 64
+  pub both_take : (k base k' base' a b c d : ℕ) (hs : Row M) (one two : EndState M) (t : TurnNo) (x : M) (new : ℕ) → Opposed k base k' base' a b c d hs one two → one.fetching ≡ true → get_elem? one.known (length (got one)) ≡ some x → new ≡ (length (got one) + 1) % 2 ^ 64
       → Opposed k base k' base' a b c new (set hs (base' + length (got one) % k') (some (Empty t))) (after_take one t.number x two.full_looks) two
   both_take k base k' base' a b c d hs one two t x new o out next is = let g : ℕ = length (got one) in let i : ℕ = base' + g % k' in let z : maybe.Option (MessageSlot M) = some (Empty t) in
       let f = flow_publishes_take _ _ _ _ _ _ _ _ _ _ x t new (subst (λ (y : Bool). Flow k' base' c d hs (sent two) (got one) one.known two.known_takes two.putting y) out o.back) next is in
@@ -93,7 +93,7 @@ module _ {M : Type 0} where
             (looks_take k' (length (sent two)) g two.full_looks one.empty_looks two.full_at one.empty_at one.fulls_before two.empties_before o.looks_back);
       }
 
-  pub flows_of : (k base a b : ℕ) (hs : Row M) (from to : End M) (known : List M) (kt : ℕ) (x y : Bool) → Flow k base a b hs (sent from) (got to) known kt x y → Flows k (journal_of from) (journal_of to)
+  pub flows_of : (k base a b : ℕ) (hs : Row M) (from to : EndState M) (known : List M) (kt : ℕ) (x y : Bool) → Flow k base a b hs (sent from) (got to) known kt x y → Flows k (journal_of from) (journal_of to)
   flows_of k base a b hs from to known kt x y f = let n : ℕ = length (sent from) in let g : ℕ = length (got to) in let p : kt ≤ g = f.stale in let q : n ≤ kt + k = f.within in record { taken = prefix_trans _ _ _ f.taken f.learned; room = omega arith }
 
   -- a slot of a list of empty ones

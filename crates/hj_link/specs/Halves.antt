@@ -3,7 +3,7 @@ use Rattle.std.proofs.Common.{sym, subst, ap, ◌∙◌}
 use Rattle.std.specs.Prelude.{◌≡◌, ℕ, Bool, true, false, not, ◌+◌, ◌^◌, ◌%◌, ◌<◌, ◌≤◌, List, [], length}
 use Rattle.atomic_table.specs.Seated.{TableId}
 use Rattle.hj_link.specs.declared.table.Capacities.{Capacities}
-use Rattle.hj_link.specs.declared.table.End.{End}
+use Rattle.hj_link.specs.declared.table.EndState.{EndState}
 use Rattle.hj_link.specs.declared.ring.Ring.{Ring}
 use Rattle.hj_link.specs.declared.outgoing.OutgoingWay.{OutgoingWay}
 use Rattle.hj_link.specs.declared.incoming.IncomingWay.{IncomingWay}
@@ -29,7 +29,7 @@ module _ {M : Type 0} where
     pub no_slot : m.1 ≡ []
 
   -- what an end keeps of the direction into which it puts
-  pub record IsOutgoing (side : Bool) (capacities : Capacities) (end : End M) (half : OutgoingWay) : Type 0 where
+  pub record IsOutgoing (side : Bool) (capacities : Capacities) (end : EndState M) (half : OutgoingWay) : Type 0 where
     pub idle : end.putting ≡ false
     pub ring_is : IsRing side capacities (length (sent end)) half.ring
     pub puts_is : half.puts ≡ length (sent end) % 2 ^ 64
@@ -37,7 +37,7 @@ module _ {M : Type 0} where
     pub room_is : length (sent end) + half.room ≡ end.known_takes + half.ring.capacity
 
   -- what it keeps of the direction from which it takes
-  pub record IsIncoming (side : Bool) (capacities : Capacities) (end : End M) (half : IncomingWay) : Type 0 where
+  pub record IsIncoming (side : Bool) (capacities : Capacities) (end : EndState M) (half : IncomingWay) : Type 0 where
     pub idle : end.fetching ≡ false
     pub ring_is : IsRing (not side) capacities (length (got end)) half.ring
     pub takes_is : half.takes ≡ length (got end) % 2 ^ 64

@@ -1,12 +1,12 @@
 -- Where the ends of a link lie in its table. An end is told by a truth value, which is `true` for the left one.
 use Rattle.std.specs.Prelude.{◌≡◌, ℕ, Bool, true, false, ◌+◌, ◌%◌}
 use Rattle.atomic_table.specs.Seated.{TableId}
-use Rattle.hj_link.specs.declared.endpoints.Words.{Words}
+use Rattle.hj_link.specs.declared.endpoints.CounterWords.{CounterWords}
 use Rattle.hj_link.specs.declared.table.Capacities.{Capacities}
 
 -- Word 0 counts the puts of the left end, word 16 the takes of these by the right end, word 32 the puts of the right end, and
 -- word 48 the takes of these by the left end.
-abbrev pub words_of : Bool → Words
+abbrev pub words_of : Bool → CounterWords
 words_of true = record { puts = 0; takes = 48; other_puts = 32; other_takes = 16 }
 words_of false = record { puts = 32; takes = 16; other_puts = 0; other_takes = 48 }
 

@@ -5,13 +5,13 @@ ghost use Rattle.hj_link.specs.Rule.{journal_of};
 ghost use Rattle.hj_link.specs.Seen.{LinkSeen, WaySeen, closed, closed_way, link_of, one_way_of};
 
 use crate::ends::{LeftEnd, Receiver, RightEnd, Sender};
-use crate::opening::{Joined, join};
+use crate::opening::{JoinedSeat, join};
 use std::marker::Model;
 
 /// A link that goes both ways whose two ends were handed in.
 #[derive(Drop)]
 pub struct Closed<M: Drop> {
-    joined: Joined<M>,
+    joined: JoinedSeat<M>,
 }
 
 impl<M: Drop> Model for Closed<M> {
@@ -36,7 +36,7 @@ pub fn close<M: Drop>(left: LeftEnd<M>, right: RightEnd<M>) -> Closed<M>
 /// A link in one direction whose two ends were handed in.
 #[derive(Drop)]
 pub struct ClosedWay<M: Drop> {
-    joined: Joined<M>,
+    joined: JoinedSeat<M>,
 }
 
 impl<M: Drop> Model for ClosedWay<M> {

@@ -4,7 +4,7 @@ ghost use Rattle.hj_link.specs.Words.{words_of};
 
 /// The words of a table that count the puts and the takes of an end, and those of the other end, each modulo 2^64.
 #[derive(Clone, Copy)]
-pub struct Words {
+pub struct CounterWords {
     pub puts: usize,
     pub takes: usize,
     pub other_puts: usize,
@@ -16,7 +16,7 @@ pub trait Endpoint {
     ghost is_left: { Bool };
 
     /// Returns the words that this end reads and writes. They lie 128 bytes apart, so that no two share a cache line.
-    fn words() -> Words
+    fn words() -> CounterWords
         ensures { result ≡ words_of is_left };
 }
 
@@ -25,8 +25,8 @@ pub struct OnLeft;
 impl Endpoint for OnLeft {
     ghost is_left = { true };
 
-    fn words() -> Words {
-        Words {
+    fn words() -> CounterWords {
+        CounterWords {
             puts: 0,
             takes: 48,
             other_puts: 32,
@@ -40,8 +40,8 @@ pub struct OnRight;
 impl Endpoint for OnRight {
     ghost is_left = { false };
 
-    fn words() -> Words {
-        Words {
+    fn words() -> CounterWords {
+        CounterWords {
             puts: 32,
             takes: 16,
             other_puts: 0,

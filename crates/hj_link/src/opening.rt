@@ -1,6 +1,6 @@
 //! How the table of a link is made, and how its two ends come together again.
 ghost use Rattle.std.specs.Prelude.{◌≡◌, ◌<◌, ◌≤◌, [], IfOk};
-ghost use Rattle.hj_link.specs.declared.table.View.{View};
+ghost use Rattle.hj_link.specs.declared.table.SeatView.{SeatView};
 ghost use Rattle.hj_link.specs.Rule.{opened};
 ghost use Rattle.hj_link.specs.Steps.{Meets, left_alone, right_alone, both_ends};
 
@@ -17,13 +17,13 @@ use std::sync::Arc;
 
 /// The two ends of a new link.
 #[derive(Drop)]
-pub(crate) struct Opened<M: Drop> {
+pub(crate) struct NewLink<M: Drop> {
     pub(crate) left: SeatedEnd<M, OnLeft>,
     pub(crate) right: SeatedEnd<M, OnRight>,
 }
 
 // Takes all the memory that the link ever takes.
-pub(crate) fn open<M: Drop>(alloc: Global, capacities: Capacities) -> Result<Opened<M>, Memory>
+pub(crate) fn open<M: Drop>(alloc: Global, capacities: Capacities) -> Result<NewLink<M>, Memory>
     requires { (0 < capacities.rightwards) × (capacities.rightwards ≤ 514) × (capacities.leftwards ≤ 514) }
     ensures link { IfOk result (λ link. link.left.link ≡ link.right.link) }
     ensures left { IfOk result (λ link. link.left.me ≡ (left_alone (opened capacities), [])) }
@@ -42,7 +42,7 @@ pub(crate) fn open<M: Drop>(alloc: Global, capacities: Capacities) -> Result<Ope
     let Ok(table) = Arc::new(alloc, table) else {
         return Err(Memory);
     };
-    Ok(Opened {
+    Ok(NewLink {
         left: SeatedEnd {
             table: Arc::try_clone(&table)?,
             seat: left,
@@ -58,13 +58,13 @@ pub(crate) fn open<M: Drop>(alloc: Global, capacities: Capacities) -> Result<Ope
 
 /// A link whose two ends were handed in.
 #[derive(Drop)]
-pub(crate) struct Joined<M: Drop> {
+pub(crate) struct JoinedSeat<M: Drop> {
     table: Arc<LinkTable<M>>,
     seat: LinkSeat<M>,
 }
 
-impl<M: Drop> Model for Joined<M> {
-    ghost Value = { View M };
+impl<M: Drop> Model for JoinedSeat<M> {
+    ghost Value = { SeatView M };
 
     ghost view = { λ j. j.seat.me.0 };
 
@@ -72,7 +72,10 @@ impl<M: Drop> Model for Joined<M> {
 }
 
 // Joins the two ends of a link, and learns that their journals agree.
-pub(crate) fn join<M: Drop>(left: SeatedEnd<M, OnLeft>, right: SeatedEnd<M, OnRight>) -> Joined<M>
+pub(crate) fn join<M: Drop>(
+    left: SeatedEnd<M, OnLeft>,
+    right: SeatedEnd<M, OnRight>,
+) -> JoinedSeat<M>
     requires { left.link ≡ right.link }
     ensures both { result ≡ both_ends left.me.0 right.me.0 }
     ensures meets { Meets result }
@@ -84,5 +87,5 @@ pub(crate) fn join<M: Drop>(left: SeatedEnd<M, OnLeft>, right: SeatedEnd<M, OnRi
     } = left;
     table.shared.join_seat::<Together>(&mut seat, right.seat);
     table.shared.load::<Learn>(&mut seat, 0);
-    Joined { table, seat }
+    JoinedSeat { table, seat }
 }

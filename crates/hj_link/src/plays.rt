@@ -2,7 +2,7 @@
 ghost use Rattle.hj_link.specs.Steps.{looks_for_room, looks_for_message, reserves, publishes, fetches, publishes_take, learns, left_alone, right_alone, both_ends, neither};
 
 use crate::endpoints::Endpoint;
-use crate::table::{MessageSlot, View};
+use crate::table::{MessageSlot, SeatView};
 use atomic_table::{Join, Play, Split};
 use std::marker::PhantomData;
 
@@ -10,7 +10,7 @@ pub struct LookForRoom<D> {
     side: PhantomData<D>,
 }
 
-impl<M, D: Endpoint> Play<MessageSlot<M>, View<M>> for LookForRoom<D> {
+impl<M, D: Endpoint> Play<MessageSlot<M>, SeatView<M>> for LookForRoom<D> {
     ghost then = { λ step before found after. looks_for_room D.is_left before found after };
 }
 
@@ -18,7 +18,7 @@ pub struct LookForMessage<D> {
     side: PhantomData<D>,
 }
 
-impl<M, D: Endpoint> Play<MessageSlot<M>, View<M>> for LookForMessage<D> {
+impl<M, D: Endpoint> Play<MessageSlot<M>, SeatView<M>> for LookForMessage<D> {
     ghost then = { λ step before found after. looks_for_message D.is_left before found after };
 }
 
@@ -26,7 +26,7 @@ pub struct Reserve<D> {
     side: PhantomData<D>,
 }
 
-impl<M, D: Endpoint> Play<MessageSlot<M>, View<M>> for Reserve<D> {
+impl<M, D: Endpoint> Play<MessageSlot<M>, SeatView<M>> for Reserve<D> {
     ghost then = { λ step before found after. reserves D.is_left before after };
 }
 
@@ -34,7 +34,7 @@ pub struct PublishPut<D> {
     side: PhantomData<D>,
 }
 
-impl<M, D: Endpoint> Play<MessageSlot<M>, View<M>> for PublishPut<D> {
+impl<M, D: Endpoint> Play<MessageSlot<M>, SeatView<M>> for PublishPut<D> {
     ghost then = { λ step before found after. publishes D.is_left before after };
 }
 
@@ -42,7 +42,7 @@ pub struct Fetch<D> {
     side: PhantomData<D>,
 }
 
-impl<M, D: Endpoint> Play<MessageSlot<M>, View<M>> for Fetch<D> {
+impl<M, D: Endpoint> Play<MessageSlot<M>, SeatView<M>> for Fetch<D> {
     ghost then = { λ step before found after. fetches D.is_left before after };
 }
 
@@ -50,19 +50,19 @@ pub struct PublishTake<D> {
     side: PhantomData<D>,
 }
 
-impl<M, D: Endpoint> Play<MessageSlot<M>, View<M>> for PublishTake<D> {
+impl<M, D: Endpoint> Play<MessageSlot<M>, SeatView<M>> for PublishTake<D> {
     ghost then = { λ step before found after. publishes_take D.is_left before after };
 }
 
 pub struct Learn;
 
-impl<M> Play<MessageSlot<M>, View<M>> for Learn {
+impl<M> Play<MessageSlot<M>, SeatView<M>> for Learn {
     ghost then = { λ step before found after. learns before after };
 }
 
 pub struct Apart;
 
-impl<M> Split<View<M>> for Apart {
+impl<M> Split<SeatView<M>> for Apart {
     ghost left = { left_alone };
 
     ghost right = { right_alone };
@@ -70,7 +70,7 @@ impl<M> Split<View<M>> for Apart {
 
 pub struct Together;
 
-impl<M> Join<View<M>> for Together {
+impl<M> Join<SeatView<M>> for Together {
     ghost both = { both_ends };
 
     ghost spent = { neither };

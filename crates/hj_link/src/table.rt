@@ -21,15 +21,15 @@ pub struct Capacities {
 }
 
 /// An entry of an end's journal. No value of it is made.
-pub struct Noted<M> {
+pub struct JournalEntry<M> {
     pub is_put: bool,
     pub turn: u64,
     pub message: M,
 }
 
 /// What an end of a link has done, and knows of the other end. No value of it is made.
-pub struct End<M> {
-    pub journal: LinkedList<Noted<M>>,
+pub struct EndState<M> {
+    pub journal: LinkedList<JournalEntry<M>>,
     // the puts of the other end that this end has seen, and how many takes
     pub known: LinkedList<M>,
     pub known_takes: u64,
@@ -47,22 +47,22 @@ pub struct End<M> {
 }
 
 /// What a seat knows: one end, the other, both, or neither. No value of it is made.
-pub struct View<M> {
+pub struct SeatView<M> {
     pub capacities: Capacities,
     pub has_left: bool,
-    pub left: End<M>,
+    pub left: EndState<M>,
     pub has_right: bool,
-    pub right: End<M>,
+    pub right: EndState<M>,
 }
 
 pub struct LinkRule;
 
-impl<M> TableRule<MessageSlot<M>, View<M>, Capacities> for LinkRule {
+impl<M> TableRule<MessageSlot<M>, SeatView<M>, Capacities> for LinkRule {
     ghost holds = { λ capacities. Rule capacities };
 
     ghost first = { λ capacities. opened capacities };
 }
 
-pub(crate) type LinkTable<M> = Table<MessageSlot<M>, View<M>, Capacities, LinkRule, Global>;
+pub(crate) type LinkTable<M> = Table<MessageSlot<M>, SeatView<M>, Capacities, LinkRule, Global>;
 
-pub(crate) type LinkSeat<M> = Seat<MessageSlot<M>, View<M>>;
+pub(crate) type LinkSeat<M> = Seat<MessageSlot<M>, SeatView<M>>;

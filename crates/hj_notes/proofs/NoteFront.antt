@@ -7,10 +7,10 @@ use Rattle.std.specs.Io.KnownBytes.{Appends}
 use Rattle.std.specs.declared.option.Option.{Option}
 use Rattle.hj_base.specs.Counts.{Rose}
 use Rattle.hj_base.specs.Journals.{IsPrefix}
-use Rattle.hj_notes.specs.declared.parts.Part.{Part}
+use Rattle.hj_notes.specs.declared.parts.NotePart.{NotePart}
 use Rattle.hj_output.specs.declared.output.Sent.{Sent}
 use Rattle.hj_output.specs.declared.output.Sent.TheVariants as sent
-use Rattle.hj_output.specs.Output.{AppendsFront, Sends, CountsRefusals}
+use Rattle.hj_output.specs.Output.{AppendsFront, SendsPiece, CountsRefusals}
 use Rattle.hj_notes.specs.NoteWritten.{NoteWritten}
 use Rattle.hj_notes.specs.Parts.{part_text}
 
@@ -21,14 +21,14 @@ begins_behind done part rest whole grown is front = record {
   is = is ∙ ap (λ l. done ++ (l ++ rest)) front.is ∙ ap (λ l. done ++ l) (append_assoc grown front.rest rest) ∙ sym (append_assoc done grown (front.rest ++ rest));
 }
 
-cut : (parts : List Part) (i : ℕ) (d : Part) → i < length parts → parts ≡ take i parts ++ (get_or parts i d ∷ drop (suc i) parts)
+cut : (parts : List NotePart) (i : ℕ) (d : NotePart) → i < length parts → parts ≡ take i parts ++ (get_or parts i d ∷ drop (suc i) parts)
 cut parts i d h = sym (take-append-drop i parts) ∙ ap (λ l. take i parts ++ l) (drop-cons parts i d h)
 
-split : (parts : List Part) (i : ℕ) (d : Part) → i < length parts → flat_map part_text parts ≡ flat_map part_text (take i parts) ++ (part_text (get_or parts i d) ++ flat_map part_text (drop (suc i) parts))
+split : (parts : List NotePart) (i : ℕ) (d : NotePart) → i < length parts → flat_map part_text parts ≡ flat_map part_text (take i parts) ++ (part_text (get_or parts i d) ++ flat_map part_text (drop (suc i) parts))
 split parts i d h = ap (flat_map part_text) (cut parts i d h) ∙ flat_map-append part_text (take i parts) (get_or parts i d ∷ drop (suc i) parts)
 
 -- a front of the part at `i` was appended behind the parts before it
-stopped : (parts : List Part) (i : ℕ) (d : Part) (old mid new : Option (List ℕ)) (before now : ℕ) → i < length parts
+stopped : (parts : List NotePart) (i : ℕ) (d : NotePart) (old mid new : Option (List ℕ)) (before now : ℕ) → i < length parts
     → Appends old mid (flat_map part_text (take i parts)) → AppendsFront (part_text (get_or parts i d)) mid new → (before ≤ now) × Rose before now
     → NoteWritten (flat_map part_text parts) old new before now
 stopped parts i d old mid new before now h so_far front rise =
@@ -42,9 +42,9 @@ stopped parts i d old mid new before now h so_far front rise =
       whole = inr rise.1;
     }
 
-pub refused : (parts : List Part) (i : ℕ) (d : Part) (how : Sent) (old mid new : Option (List ℕ)) (before between now : ℕ) → i < length parts
+pub refused : (parts : List NotePart) (i : ℕ) (d : NotePart) (how : Sent) (old mid new : Option (List ℕ)) (before between now : ℕ) → i < length parts
     → Appends old mid (flat_map part_text (take i parts)) → between ≡ before → (how ≡ sent.Failed) ⊎ (how ≡ sent.Memory)
-    → Sends how (part_text (get_or parts i d)) mid new → CountsRefusals how between now
+    → SendsPiece how (part_text (get_or parts i d)) mid new → CountsRefusals how between now
     → NoteWritten (flat_map part_text parts) old new before now
 refused parts i d sent.Whole old mid new before between now h so_far same is sends counts = elim is [ inl e ↦ absurd (cc) | inr e ↦ absurd (cc) ]
 refused parts i d sent.Failed old mid new before between now h so_far same is sends counts =

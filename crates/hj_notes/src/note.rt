@@ -1,4 +1,4 @@
-use crate::parts::{Part, put_parts, role_name, side_name};
+use crate::parts::{NotePart, put_parts, role_name, side_name};
 use crate::query_note::put_query;
 use crate::reason::Reason;
 use crate::record_note::put_record;
@@ -81,21 +81,25 @@ impl Reason for Note {
 
     fn write<N: Sink>(&self, notes: &mut N) {
         match *self {
-            Note::Usage => put_parts(notes, &[Part::Words(USAGE)]),
+            Note::Usage => put_parts(notes, &[NotePart::Words(USAGE)]),
             Note::BadQuery(fault) => put_query(notes, role_name(Role::Query), fault),
             Note::BadRecord { side, at, fault } => put_record(notes, side_name(side), at, fault),
             Note::Source(role) => put_parts(
                 notes,
-                &[Part::Words("source: "), role_name(role), Part::Words("\n")],
+                &[
+                    NotePart::Words("source: "),
+                    role_name(role),
+                    NotePart::Words("\n"),
+                ],
             ),
-            Note::Sink => put_parts(notes, &[Part::Words("sink\n")]),
-            Note::Memory => put_parts(notes, &[Part::Words("memory\n")]),
+            Note::Sink => put_parts(notes, &[NotePart::Words("sink\n")]),
+            Note::Memory => put_parts(notes, &[NotePart::Words("memory\n")]),
             Note::TooManyEvents(limit) => put_parts(
                 notes,
                 &[
-                    Part::Words("events: limit "),
-                    Part::Number(limit),
-                    Part::Words("\n"),
+                    NotePart::Words("events: limit "),
+                    NotePart::Number(limit),
+                    NotePart::Words("\n"),
                 ],
             ),
         }

@@ -4,35 +4,38 @@ ghost use Rattle.hj_notes.specs.Notes.{refused_note, query_place, query_text, le
 ghost use Rattle.hj_notes.specs.NoteWritten.{NoteWritten};
 ghost use Rattle.hj_notes.specs.Parts.{part_text};
 
-use crate::parts::{NOTHING, Part, put_parts};
+use crate::parts::{NOTHING, NotePart, put_parts};
 use hj_base::Sink;
 use hj_lex::LexFault;
 use hj_query::{QueryFault, Wanted};
 
 /// Writes the note of a refused query: its name, its first fault, and the fault's place.
-pub fn put_query<N: Sink>(notes: &mut N, name: Part, fault: QueryFault)
+pub fn put_query<N: Sink>(notes: &mut N, name: NotePart, fault: QueryFault)
     ensures { NoteWritten (refused_note (part_text name) fault) (N.told notes.old) (N.told notes.new) (N.refusals notes.old) (N.refusals notes.new) }
 {
     let [kind, wanted] = query_parts(fault);
     let [at, place] = place_parts(query_place(fault));
     let parts = [
         name,
-        Part::Words(": "),
+        NotePart::Words(": "),
         kind,
         wanted,
         at,
         place,
-        Part::Words("\n"),
+        NotePart::Words("\n"),
     ];
     put_parts(notes, &parts)
 }
 
 /// Spells the fault of a query.
-fn query_parts(fault: QueryFault) -> [Part; 2]
+fn query_parts(fault: QueryFault) -> [NotePart; 2]
     ensures { flat_map part_text result ≡ query_text fault }
 {
     let kind = match fault {
-        QueryFault::Expected(wanted, _) => return [Part::Words("Expected "), wanted_name(wanted)],
+        QueryFault::Expected(wanted, _) => return [
+            NotePart::Words("Expected "),
+            wanted_name(wanted),
+        ],
         QueryFault::Lex(found) => lex_name(found),
         QueryFault::DoubleColumn(_) => "DoubleColumn",
         QueryFault::UnknownColumn(_) => "UnknownColumn",
@@ -46,7 +49,7 @@ fn query_parts(fault: QueryFault) -> [Part; 2]
         QueryFault::TooLong => "TooLong",
         QueryFault::Memory => "Memory",
     };
-    [Part::Words(kind), NOTHING]
+    [NotePart::Words(kind), NOTHING]
 }
 
 /// Names the fault of a token.
@@ -62,10 +65,10 @@ fn lex_name(fault: LexFault) -> &'static str
 }
 
 /// Names what a query's text has to go on with.
-fn wanted_name(wanted: Wanted) -> Part
+fn wanted_name(wanted: Wanted) -> NotePart
     ensures { part_text result ≡ wanted_text wanted }
 {
-    Part::Words(match wanted {
+    NotePart::Words(match wanted {
         Wanted::LeftWord => "LeftWord",
         Wanted::RightWord => "RightWord",
         Wanted::OpenParen => "OpenParen",
@@ -119,11 +122,11 @@ fn lex_place(fault: LexFault) -> Option<usize>
 }
 
 /// Spells a place.
-fn place_parts(place: Option<usize>) -> [Part; 2]
+fn place_parts(place: Option<usize>) -> [NotePart; 2]
     ensures { flat_map part_text result ≡ place_text place }
 {
     match place {
-        Some(place) => [Part::Words(" at "), Part::Number(place as u64)],
+        Some(place) => [NotePart::Words(" at "), NotePart::Number(place as u64)],
         None => [NOTHING, NOTHING],
     }
 }

@@ -4,51 +4,51 @@ ghost use Rattle.hj_notes.specs.Notes.{piece_text, row_text, fault_text, stream_
 ghost use Rattle.hj_notes.specs.NoteWritten.{NoteWritten};
 ghost use Rattle.hj_notes.specs.Parts.{part_text};
 
-use crate::parts::{NOTHING, Part, put_parts};
+use crate::parts::{NOTHING, NotePart, put_parts};
 use hj_base::Sink;
 use hj_event::{RecordFault, RowFault};
 use hj_record::PieceFault;
 
 /// Writes the note of a bad record: its stream's name, its number from 1, and its fault.
-pub fn put_record<N: Sink>(notes: &mut N, stream: Part, at: u64, fault: RecordFault)
+pub fn put_record<N: Sink>(notes: &mut N, stream: NotePart, at: u64, fault: RecordFault)
     ensures { NoteWritten (stream_note (part_text stream) at fault) (N.told notes.old) (N.told notes.new) (N.refusals notes.old) (N.refusals notes.new) }
 {
     let [kind, first, between, second] = fault_parts(fault);
     let parts = [
         stream,
-        Part::Words(" record "),
-        Part::Number(at),
-        Part::Words(": "),
+        NotePart::Words(" record "),
+        NotePart::Number(at),
+        NotePart::Words(": "),
         kind,
         first,
         between,
         second,
-        Part::Words("\n"),
+        NotePart::Words("\n"),
     ];
     put_parts(notes, &parts)
 }
 
 /// Spells the fault of a record.
-fn fault_parts(fault: RecordFault) -> [Part; 4]
+fn fault_parts(fault: RecordFault) -> [NotePart; 4]
     ensures { flat_map part_text result ≡ fault_text fault }
 {
     match fault {
         RecordFault::Piece(found) => [piece_name(found), NOTHING, NOTHING, NOTHING],
         RecordFault::Row(found) => row_parts(found),
         RecordFault::TimeBack(before, found) => [
-            Part::Words("TimeBack "),
-            Part::Signed(before),
-            Part::Words(" "),
-            Part::Signed(found),
+            NotePart::Words("TimeBack "),
+            NotePart::Signed(before),
+            NotePart::Words(" "),
+            NotePart::Signed(found),
         ],
     }
 }
 
 /// Names the fault of a piece.
-fn piece_name(fault: PieceFault) -> Part
+fn piece_name(fault: PieceFault) -> NotePart
     ensures { part_text result ≡ piece_text fault }
 {
-    Part::Words(match fault {
+    NotePart::Words(match fault {
         PieceFault::OpenQuote => "OpenQuote",
         PieceFault::NotOneRecord => "NotOneRecord",
         PieceFault::TooLong => "TooLong",
@@ -58,7 +58,7 @@ fn piece_name(fault: PieceFault) -> Part
 }
 
 /// Spells the fault of a row.
-fn row_parts(fault: RowFault) -> [Part; 4]
+fn row_parts(fault: RowFault) -> [NotePart; 4]
     ensures { flat_map part_text result ≡ row_text fault }
 {
     let (kind, number) = match fault {
@@ -66,7 +66,12 @@ fn row_parts(fault: RowFault) -> [Part; 4]
         RowFault::NotNumber(column) => ("NotNumber column ", u64::from(column)),
         RowFault::NumberRange(column) => ("NumberRange column ", u64::from(column)),
         RowFault::NotText(column) => ("NotText column ", u64::from(column)),
-        RowFault::Memory => return [Part::Words("Memory"), NOTHING, NOTHING, NOTHING],
+        RowFault::Memory => return [NotePart::Words("Memory"), NOTHING, NOTHING, NOTHING],
     };
-    [Part::Words(kind), Part::Number(number), NOTHING, NOTHING]
+    [
+        NotePart::Words(kind),
+        NotePart::Number(number),
+        NOTHING,
+        NOTHING,
+    ]
 }

@@ -4,7 +4,7 @@ ghost use Rattle.hj_notes.specs.Parts.{part_text};
 ghost use Rattle.hj_notes.specs.TwiceText.{second_name};
 
 use crate::note::Note;
-use crate::parts::{Part, put_parts, role_name};
+use crate::parts::{NotePart, put_parts, role_name};
 use crate::query_note::put_query;
 use crate::reason::Reason;
 use crate::record_note::put_record;
@@ -61,7 +61,7 @@ impl Reason for TwiceNote {
             TwiceNote::BadSecondQuery(fault) => {
                 put_query(notes, role_name(Role::SecondQuery), fault);
             }
-            TwiceNote::Shape => put_parts(notes, &[Part::Words("query: Shape\n")]),
+            TwiceNote::Shape => put_parts(notes, &[NotePart::Words("query: Shape\n")]),
             TwiceNote::BadSecondRecord { side, at, fault } => {
                 put_record(notes, second_name(side), at, fault);
             }
@@ -70,11 +70,11 @@ impl Reason for TwiceNote {
 }
 
 /// Names a stream of the second join.
-fn second_name(side: Side) -> Part
+fn second_name(side: Side) -> NotePart
     ensures { part_text result ≡ second_name side }
 {
     match side {
-        Side::Left => Part::Words("relay"),
+        Side::Left => NotePart::Words("relay"),
         Side::Right => role_name(Role::Third),
     }
 }

@@ -3,7 +3,7 @@ ghost use Rattle.hj_notes.specs.NoteWritten.{NoteWritten};
 ghost use Rattle.hj_notes.specs.VerifyText.{line_note, refusal_note};
 
 use crate::note::Note;
-use crate::parts::{Part, put_parts};
+use crate::parts::{NotePart, put_parts};
 use crate::reason::Reason;
 use hj_base::Sink;
 
@@ -79,9 +79,9 @@ fn put_refusal<N: Sink>(notes: &mut N, refusal: Refusal)
         Refusal::Output(at) => put_parts(
             notes,
             &[
-                Part::Words("output byte "),
-                Part::Number(at),
-                Part::Words("\n"),
+                NotePart::Words("output byte "),
+                NotePart::Number(at),
+                NotePart::Words("\n"),
             ],
         ),
     }
@@ -94,11 +94,11 @@ fn put_line<N: Sink>(notes: &mut N, line: u64, rule: &'static str)
     put_parts(
         notes,
         &[
-            Part::Words("trace line "),
-            Part::Number(line),
-            Part::Words(": "),
-            Part::Words(rule),
-            Part::Words("\n"),
+            NotePart::Words("trace line "),
+            NotePart::Number(line),
+            NotePart::Words(": "),
+            NotePart::Words(rule),
+            NotePart::Words("\n"),
         ],
     )
 }

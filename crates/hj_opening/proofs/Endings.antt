@@ -15,12 +15,12 @@ use Rattle.hj_opening.specs.Calls.{Call}
 use Rattle.hj_opening.specs.Check.{BeginsCanonical, WritesCanonical}
 use Rattle.hj_opening.specs.Generating.{BeginsSummary, WritesSummary}
 use Rattle.hj_opening.specs.Run.{RunsOrder}
-use Rattle.hj_opening.specs.Keeping.{Ends, IsQueryAlone, NothingFails, RefusesQuery, status_of_ending}
-use Rattle.hj_opening.specs.Serve.{BeginsInOrder, BeginsSource, EndsBy, EndsCheck, EndsGen, EndsJoin, FailsJoin, IsJoinDecided, IsJoinFront, IsJoinRole, IsRead, JoinsAll, JoinsWhole, RefusesNamed}
+use Rattle.hj_opening.specs.Keeping.{EndsCommand, IsQueryAlone, NothingFails, RefusesQuery, status_of_ending}
+use Rattle.hj_opening.specs.Serve.{BeginsInOrder, BeginsSource, EndsBy, EndsCheck, EndsGen, EndsJoin, FailsJoin, IsJoinDecided, IsJoinFront, IsJoinRole, IsNamedQuery, JoinsAll, JoinsWhole, RefusesNamed}
 use Rattle.hj_opening.specs.Keeping as keeping
 use Rattle.hj_opening.specs.Serve as says
 use Rattle.hj_opening.specs.Streams.{Fails, IsBegunUnder}
-use Rattle.hj_opening.specs.Words.{Names, Recipe, Source, TextKind, check_query, join_streams, keyed, most_events, named, sum_up}
+use Rattle.hj_opening.specs.Words.{Names, Recipe, QuerySource, TextKind, check_query, join_streams, keyed, most_events, named, sum_up}
 use Rattle.hj_opening.proofs.Kept.{decides, kept}
 use Rattle.hj_opening.proofs.Phases.{Roles}
 
@@ -42,11 +42,11 @@ sink_kept _ before now counts other = counts
 abbrev pub NoOther : Roles → Type 0
 NoOther now = (of : Role) → of ≢ role.Query → of ≢ role.Left → of ≢ role.Right → (now of).phase ≡ unbegun
 
-unread_query : (source : Source) (now : Roles) → BeginsSource source (now role.Query).phase → ¬ (IsRead source) → (now role.Query).phase ≡ unbegun
+unread_query : (source : QuerySource) (now : Roles) → BeginsSource source (now role.Query).phase → ¬ (IsNamedQuery source) → (now role.Query).phase ≡ unbegun
 unread_query (keyed rows) now begun unread = begun
 unread_query (named name) now begun unread = absurd (unread tt)
 
-pub join_others : (source : Source) (now : Roles) → BeginsSource source (now role.Query).phase → NoOther now → (of : Role) → ¬ (IsJoinRole source of) → (now of).phase ≡ unbegun
+pub join_others : (source : QuerySource) (now : Roles) → BeginsSource source (now role.Query).phase → NoOther now → (of : Role) → ¬ (IsJoinRole source of) → (now of).phase ≡ unbegun
 join_others source now begun none role.Query unread = unread_query source now begun unread
 join_others source now begun none role.Left unread = absurd (unread tt)
 join_others source now begun none role.Right unread = absurd (unread tt)
@@ -55,7 +55,7 @@ join_others source now begun none role.Third unread = none role.Third (λ e. cc)
 join_others source now begun none role.Trace unread = none role.Trace (λ e. cc) (λ e. cc) (λ e. cc)
 join_others source now begun none role.Output unread = none role.Output (λ e. cc) (λ e. cc) (λ e. cc)
 
-module _ (kind : TextKind) (source : Source) (names : Names) (limit : ℕ) (call : Call) where
+module _ (kind : TextKind) (source : QuerySource) (names : Names) (limit : ℕ) (call : Call) where
   abbrev pub JoinCause : End → Type 0
   JoinCause (Ok done) = JoinsWhole kind source names limit call
   JoinCause (Err why.Usage) = ⊥
@@ -66,7 +66,7 @@ module _ (kind : TextKind) (source : Source) (names : Names) (limit : ℕ) (call
   JoinCause (Err why.Memory) = Unit {0}
   JoinCause (Err (why.TooManyEvents most)) = (most ≡ limit) × JoinsAll kind (λ ending. ending ≡ too_many) source names limit call
 
-  join_ends : (ended : End) → JoinCause ended → CountsSink ended call.faults_before call.faults_now → Ends (EndsJoin kind source names limit call) (status_of_end ended) (text_of_end ended) call
+  join_ends : (ended : End) → JoinCause ended → CountsSink ended call.faults_before call.faults_now → EndsCommand (EndsJoin kind source names limit call) (status_of_end ended) (text_of_end ended) call
   join_ends (Ok done) cause counts = keeping.own (says.joined refl refl cause)
   join_ends (Err why.Usage) cause counts = absurd cause
   join_ends (Err (why.BadQuery found)) cause counts = keeping.own (says.bad_query found refl refl cause)
@@ -114,7 +114,7 @@ module _ (name : List ℕ) (call : Call) where
   CheckCause (Err why.Memory) = Unit {0}
   CheckCause (Err (why.TooManyEvents most)) = ⊥
 
-  check_ends : (ended : End) → CheckCause ended → CountsSink ended call.faults_before call.faults_now → Ends (EndsCheck name call) (status_of_end ended) (text_of_end ended) call
+  check_ends : (ended : End) → CheckCause ended → CountsSink ended call.faults_before call.faults_now → EndsCommand (EndsCheck name call) (status_of_end ended) (text_of_end ended) call
   check_ends (Ok done) cause counts = keeping.own (says.checked refl refl cause)
   check_ends (Err why.Usage) cause counts = absurd cause
   check_ends (Err (why.BadQuery found)) cause counts = keeping.own (says.refused found refl refl cause)
@@ -149,7 +149,7 @@ module _ (recipe : Recipe) (call : Call) where
   GenCause (Err why.Memory) = Unit {0}
   GenCause (Err other) = ⊥
 
-  gen_ends : (ended : End) → GenCause ended → CountsSink ended call.faults_before call.faults_now → Ends (EndsGen recipe call) (status_of_end ended) (text_of_end ended) call
+  gen_ends : (ended : End) → GenCause ended → CountsSink ended call.faults_before call.faults_now → EndsCommand (EndsGen recipe call) (status_of_end ended) (text_of_end ended) call
   gen_ends (Ok done) cause counts = keeping.own (says.summed refl refl cause)
   gen_ends (Err why.Sink) cause counts = keeping.failed_sink refl refl counts
   gen_ends (Err why.Memory) cause counts = keeping.memory refl refl

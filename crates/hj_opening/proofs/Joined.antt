@@ -18,7 +18,7 @@ use Rattle.hj_event.specs.Arrivals.{Ending, clean, bad, unread, too_many}
 use Rattle.hj_event.specs.Events.{events_of}
 use Rattle.hj_event.specs.Roles.{CountsFailure, IsReadOn, name_of}
 use Rattle.hj_event.specs.Sides.{Follows, at_its_end, in_front}
-use Rattle.hj_query.specs.Parts.{Parts}
+use Rattle.hj_query.specs.QueryParts.{QueryParts}
 use Rattle.hj_record.specs.Pieces.{Stream}
 use Rattle.hj_raw.specs.Text.{raw_text}
 use Rattle.hj_notes.specs.declared.note.Note.{Note}
@@ -29,10 +29,10 @@ use Rattle.hj_opening.specs.Opening.{AreOpened, IsOpened}
 use Rattle.hj_opening.specs.Queries.{IsQueryOf}
 use Rattle.hj_opening.specs.Ready.{IsReady}
 use Rattle.hj_opening.specs.Run.{RunsOrder, end_of}
-use Rattle.hj_opening.specs.Serve.{Accepts, AreOpen, BeginsSource, IsJoinRole}
-use Rattle.hj_opening.specs.Streams.{AreStreams, Fails, IsStream, NoneFails, StandsFor, has_ended}
+use Rattle.hj_opening.specs.Serve.{AcceptsQuery, AreOpen, BeginsSource, IsJoinRole}
+use Rattle.hj_opening.specs.Streams.{AreStreams, Fails, IsStream, NoneFails, StandsUnder, has_ended}
 use Rattle.hj_opening.specs.Texts.{IsTextFront, IsWholeText, WritesKind}
-use Rattle.hj_opening.specs.Words.{Names, Source, TextKind, join_streams, pair_lines, raw_items, step_lines}
+use Rattle.hj_opening.specs.Words.{Names, QuerySource, TextKind, join_streams, pair_lines, raw_items, step_lines}
 use Rattle.hj_opening.proofs.Endings.{CountsSink, JoinCause, join_runs}
 use Rattle.hj_opening.proofs.Prefixes.{begins_all, begins_itself}
 use Rattle.hj_opening.proofs.Phases.{Roles, begun-opened, open-opened}
@@ -97,7 +97,7 @@ follows_whole true ended left none at_end = absurd cc
 follows_whole false true left none at_end = rest_none left (at_end refl)
 follows_whole false false left none at_end = tt
 
-stands_whole : (told left : Option (List ℕ)) (bytes : List ℕ) → Consumes told left bytes → StandsFor told (in_front bytes (rest_whole left)).bytes
+stands_whole : (told left : Option (List ℕ)) (bytes : List ℕ) → Consumes told left bytes → StandsUnder told (in_front bytes (rest_whole left)).bytes
 unfolding rest_whole
 stands_whole None left bytes c = tt
 stands_whole (Some xs) None bytes c = absurd c
@@ -166,7 +166,7 @@ whole_behind false false bytes rest none end follows = absurd cc
 -- ---- the text
 
 -- a whole text is a front of itself
-whole_begins : (kind : TextKind) (query : Parts) (left right : Stream) (limit : ℕ) (text : List ℕ) → IsWholeText kind query left right limit text → IsTextFront kind query left right limit text
+whole_begins : (kind : TextKind) (query : QueryParts) (left right : Stream) (limit : ℕ) (text : List ℕ) → IsWholeText kind query left right limit text → IsTextFront kind query left right limit text
 whole_begins pair_lines query left right limit text whole = begins_all text (join_result query left right limit).text (sym whole)
 whole_begins raw_items query left right limit text whole = record {
   first = (events_of query left right limit).events;
@@ -181,7 +181,7 @@ whole_begins (step_lines chain rule) query left right limit text whole = record 
   begins = begins_all text _ (sym whole.is);
 }
 
-writes_lines : (ended : Outcome) (query : Parts) (left right : Stream) (limit : ℕ) (grown : List ℕ) → WritesText ended grown (join_result query left right limit) → WritesKind pair_lines ended query left right limit grown
+writes_lines : (ended : Outcome) (query : QueryParts) (left right : Stream) (limit : ℕ) (grown : List ℕ) → WritesText ended grown (join_result query left right limit) → WritesKind pair_lines ended query left right limit grown
 writes_lines (outcome.Done events) query left right limit grown w = (w.0, w.1)
 writes_lines (outcome.Bad of at why) query left right limit grown w = w
 writes_lines (outcome.SourceFault role.Query) query left right limit grown w = absurd w
@@ -196,7 +196,7 @@ writes_lines outcome.TooMany query left right limit grown w = w
 writes_lines outcome.Memory query left right limit grown w = w
 
 -- a join that writes the line of each pair
-pub joins_lines : {ended : Outcome} {query : Parts} {limit : ℕ} {before now : Roles} {old new : Option (List ℕ)} → Joins ended query limit before now old new → JoinsKind pair_lines ended query limit before now old new
+pub joins_lines : {ended : Outcome} {query : QueryParts} {limit : ℕ} {before now : Roles} {old new : Option (List ℕ)} → Joins ended query limit before now old new → JoinsKind pair_lines ended query limit before now old new
 joins_lines {ended} {query} {limit} joins = joins_saying joins joins.grown joins.written (λ l r l_follows r_follows.
     writes_lines ended query (in_front joins.left_bytes l) (in_front joins.right_bytes r) limit joins.grown
     (joins.text l r l_follows r_follows))
@@ -205,14 +205,14 @@ joins_lines {ended} {query} {limit} joins = joins_saying joins joins.grown joins
 
 -- A stream failed: where both are open, the events end in its missing read, and the whole text of these events was
 -- written; else nothing was written.
-record FailsStream (kind : TextKind) (of : Role) (query : Parts) (limit : ℕ) (names : Names) (call : Call) : Type 0 where
+record FailsStream (kind : TextKind) (of : Role) (query : QueryParts) (limit : ℕ) (names : Names) (call : Call) : Type 0 where
   pub side : Side
   pub is : of ≡ role_of side
   pub fails : Fails of call.before call.now
   pub unopened : ¬ (AreOpen call.now) → Appends call.old call.new []
   pub opened : AreOpen call.now → WritesAll kind (λ ending. ending ≡ unread side) query limit names call
 
-abbrev CauseUnder : TextKind → Result (Unit {0}) Note → Parts → ℕ → Names → Call → Type 0
+abbrev CauseUnder : TextKind → Result (Unit {0}) Note → QueryParts → ℕ → Names → Call → Type 0
 CauseUnder kind (Ok done) query limit names call = WritesWhole kind query limit names call
 CauseUnder kind (Err (note.BadRecord side at found)) query limit names call =
     WritesAll kind (λ ending. ending ≡ bad side at found) query limit names call
@@ -225,7 +225,7 @@ CauseUnder kind (Err other) query limit names call = ⊥
 
 -- ---- the outcome
 
-module _ (kind : TextKind) (query : Parts) (limit : ℕ) (names : Names) (under : List ℕ → Option (List ℕ)) (before mid now : Roles) (old new : Option (List ℕ)) (faults faults' : ℕ) where
+module _ (kind : TextKind) (query : QueryParts) (limit : ℕ) (names : Names) (under : List ℕ → Option (List ℕ)) (before mid now : Roles) (old new : Option (List ℕ)) (faults faults' : ℕ) where
   -- What a join says of the streams of this call.
   record Found (ended : Outcome) (left_failed right_failed left_ended right_ended : Bool) (grown : List ℕ) : Type 0 where
     pub of_left : Stream
@@ -349,7 +349,7 @@ module _ (kind : TextKind) (query : Parts) (limit : ℕ) (names : Names) (under 
 
   -- ---- the order
 
-  module _ (source : Source) (accepts : Accepts source query this) where
+  module _ (source : QuerySource) (accepts : AcceptsQuery source query this) where
     order_cause : (end : Result (Unit {0}) Note) → CauseUnder kind end query limit names this → JoinCause kind source names limit this end
     unfolding this
     order_cause (Ok done) cause = (query, accepts, cause)
@@ -366,7 +366,7 @@ module _ (kind : TextKind) (query : Parts) (limit : ℕ) (names : Names) (under 
     order_cause (Err note.Usage) cause = absurd cause
     order_cause (Err (note.BadQuery found)) cause = absurd cause
 
-  module _ (source : Source) (ready : IsReady query source names under before mid) where
+  module _ (source : QuerySource) (ready : IsReady query source names under before mid) where
     pub query_stays : (ended : Outcome) → JoinsKind kind ended query limit mid now old new → IsQueryOf source query under (before role.Query) (now role.Query)
     query_stays ended joins = subst (λ (s : RoleState). IsQueryOf source query under (before role.Query) s) (sym (joins.others role.Query (λ e. cc) (λ e. cc))) ready.accepted
 
@@ -386,7 +386,7 @@ module _ (kind : TextKind) (query : Parts) (limit : ℕ) (names : Names) (under 
     joins_as ended joins counts =
         let found = found_by ended ready.opened joins in
         let came = caused ended joins.left_failed joins.right_failed joins.left_ended joins.right_ended joins.grown joins.written found joins.ends in
-        let accepts : Accepts source query this = query_stays ended joins in
+        let accepts : AcceptsQuery source query this = query_stays ended joins in
         join_runs kind source names limit (call under before now old new faults faults') (end_of limit ended) (order_cause source accepts (end_of limit ended) came.0) (counts_sink ended counts)
         joins.grown joins.written (inr (query, accepts, came.1))
         (record {

@@ -9,13 +9,13 @@ use Rattle.hj_base.specs.declared.numbers.Side.TheVariants.{Left, Right}
 use Rattle.hj_base.specs.declared.numbers.Window.TheVariants.{Rows}
 use Rattle.hj_base.specs.Lcg.{next, drawn}
 use Rattle.hj_event.specs.Arrivals.{Arrival, Arrivals, arrivals_of, clean, left_among, merge, right_only, then_arrivals}
-use Rattle.hj_event.specs.Events.{Numbered, Silence, no_silence, silence_at, quiet_side, silence_behind, quiet_event, all_events_of, events_at, expiries, none_live, number_from, up_to}
+use Rattle.hj_event.specs.Events.{NumberedEvents, Silence, no_silence, silence_at, quiet_side, silence_behind, quiet_event, all_events_of, events_at, expiries, none_live, number_from, up_to}
 use Rattle.hj_event.specs.Rows.{rows_of, clean as rows_clean}
 use Rattle.hj_event.specs.Rows as event_rows
 use Rattle.hj_gen.specs.Streams.{draws_of, right_seed, rows_of as made_rows, stream_of}
 use Rattle.hj_msg.specs.declared.event.Event.TheVariants.{Arrive}
-use Rattle.hj_query.specs.Keyed.{IsKeyed, keyed_columns}
-use Rattle.hj_query.specs.Parts.{Parts}
+use Rattle.hj_query.specs.Keyed.{IsEquiQuery, keyed_columns}
+use Rattle.hj_query.specs.QueryParts.{QueryParts}
 use Rattle.hj_value.specs.declared.column.Column.{Column}
 use Rattle.hj_value.specs.declared.field.Field.{Field}
 use Rattle.hj_value.specs.Row.{time_of}
@@ -137,14 +137,14 @@ three_a_row window quiet at live silence (arrival ∷ rows) has =
     let others = three_a_row window quiet (at + length events) came.live silent rows has in
     omega (arith, first, last, told_one, here, behind, all, others)
 
-within : (limit : ℕ) (all : Numbered) → length all.events ≤ limit → up_to limit all ≡ all
+within : (limit : ℕ) (all : NumberedEvents) → length all.events ≤ limit → up_to limit all ≡ all
 within limit all few = rw (le-ltb limit (length all.events) few) refl
 
 few_enough : (events arrivals rows : ℕ) → events ≤ 3 * arrivals → arrivals ≡ rows + rows → rows ≤ 100000 → events ≤ 4294967295
 few_enough events arrivals rows three sum few = omega (arith, three, sum, few)
 
 -- The events of both streams end with them.
-pub ends_clean : (recipe : Recipe) (query : Parts) → recipe.rows ≤ 100000 → 0 < recipe.keys → recipe.keys ≤ 2 ^ 32 → IsKeyed recipe.window query → (join_made recipe query most_events).ending ≡ clean
+pub ends_clean : (recipe : Recipe) (query : QueryParts) → recipe.rows ≤ 100000 → 0 < recipe.keys → recipe.keys ≤ 2 ^ 32 → IsEquiQuery recipe.window query → (join_made recipe query most_events).ending ≡ clean
 unfolding most_events
 ends_clean recipe query few some few_keys keyed =
     let left = rows_of-stream recipe.rows recipe.keys recipe.seed few some few_keys in
@@ -157,4 +157,4 @@ ends_clean recipe query few some few_keys keyed =
     let are : AreArrivals (recipe.rows + recipe.rows) arrivals = arrivals_from _ _ recipe.rows recipe.rows left_rows right_rows in
     let events = three_a_row recipe.window query.quiet 0 (none_live query) no_silence arrivals.rows (keyed.left_window, keyed.right_window) in
     let count : length arrivals.rows ≡ recipe.rows + recipe.rows = are.count in
-    ap (λ (all : Numbered). all.ending) (within 4294967295 (all_events_of query (left_stream recipe) (right_stream recipe)) (few_enough (length (all_events_of query (left_stream recipe) (right_stream recipe)).events) (length arrivals.rows) recipe.rows events count few)) ∙ are.ending
+    ap (λ (all : NumberedEvents). all.ending) (within 4294967295 (all_events_of query (left_stream recipe) (right_stream recipe)) (few_enough (length (all_events_of query (left_stream recipe) (right_stream recipe)).events) (length arrivals.rows) recipe.rows events count few)) ∙ are.ending

@@ -17,7 +17,7 @@ use Rattle.csv.specs.declared.parser.State.{State}
 use Rattle.csv.specs.declared.parser.State.TheVariants as st
 use Rattle.hj_event.specs.Rows.{Rows, put_row, row_at, rows_from, rows_in, rows_of, most_in_stream, then_rows, in_time, with_time, clean as rows_clean}
 use Rattle.hj_event.proofs.OrderLemmas.{as_read}
-use Rattle.hj_gen.specs.Streams.{Row, row_line}
+use Rattle.hj_gen.specs.Streams.{DrawnRow, row_line}
 use Rattle.hj_lex.proofs.Fronts.{int_of-digits}
 use Rattle.hj_lex.specs.Tokens.{is_digits}
 use Rattle.hj_query.specs.Keyed.{keyed_columns}
@@ -33,7 +33,7 @@ use Rattle.hj_words.proofs.NumberWord.{digits, list_all-digits}
 use Rattle.hj_opening.specs.Generating.{whole}
 
 -- The times of rows don't fall, from this one on, and all numbers are small.
-abbrev pub AreMade : ℕ → List Row → Type 0
+abbrev pub AreMade : ℕ → List DrawnRow → Type 0
 AreMade from [] = Unit {0}
 AreMade from (row ∷ rows) = (from ≤ row.time) × (row.time < 2 ^ 32) × (row.key < 2 ^ 32) × AreMade row.time rows
 
@@ -126,7 +126,7 @@ length-texts : (time key : List ℕ) → length (line_of time key) ≡ length ti
 length-texts time key =
     ap length (line_is time key) ∙ length-append (time ++ 44 ∷ key) (10 ∷ []) ∙ ap (λ n. n + 1) (length-append time (44 ∷ key)) ∙ omega arith
 
-module _ (row : Row) (time : row.time < 2 ^ 32) (key : row.key < 2 ^ 32) where
+module _ (row : DrawnRow) (time : row.time < 2 ^ 32) (key : row.key < 2 ^ 32) where
   line_piece : IsPiece (row_line row)
   line_piece = piece_of_texts (decimal row.time) (decimal row.key) (are_digits row.time time) (are_digits row.key key)
 
@@ -135,19 +135,19 @@ module _ (row : Row) (time : row.time < 2 ^ 32) (key : row.key < 2 ^ 32) where
 
 -- ---- the pieces of lines
 
-split-lines : (from : ℕ) (rows : List Row) → AreMade from rows → split false (flat_map row_line rows) ≡ record { pieces = map row_line rows; rest = [] }
+split-lines : (from : ℕ) (rows : List DrawnRow) → AreMade from rows → split false (flat_map row_line rows) ≡ record { pieces = map row_line rows; rest = [] }
 split-lines from [] made = refl
 split-lines from (row ∷ rows) made =
     split-piece (row_line row) (flat_map row_line rows) (line_piece row made.1 made.2)
     ∙ ap (λ (cut : Split). with_piece (row_line row) cut) (split-lines row.time rows made.3)
 
-short_pieces : (from : ℕ) (rows : List Row) → AreMade from rows → up_to_too_long (map row_line rows) (ended pieces_clean) ≡ record { pieces = map row_line rows; ending = pieces_clean }
+short_pieces : (from : ℕ) (rows : List DrawnRow) → AreMade from rows → up_to_too_long (map row_line rows) (ended pieces_clean) ≡ record { pieces = map row_line rows; ending = pieces_clean }
 short_pieces from [] made = refl
 short_pieces from (row ∷ rows) made =
     let short : length (row_line row) ≤ 65536 = omega (arith, line_short row made.1 made.2) in
     rw (le-ltb 65536 (length (row_line row)) short) (ap (λ (others : Pieces). then_pieces (row_line row) others) (short_pieces row.time rows made.3))
 
-pub length-lines : (from : ℕ) (rows : List Row) → AreMade from rows → length (flat_map row_line rows) ≤ 22 * length rows
+pub length-lines : (from : ℕ) (rows : List DrawnRow) → AreMade from rows → length (flat_map row_line rows) ≤ 22 * length rows
 length-lines from [] made = omega arith
 length-lines from (row ∷ rows) made =
     let line = line_short row made.1 made.2 in
@@ -158,7 +158,7 @@ length-lines from (row ∷ rows) made =
 no_last : (limit : ℕ) (bytes : List ℕ) → length bytes ≤ limit → last_pieces limit (whole bytes) [] ≡ ended pieces_clean
 no_last limit bytes fits = rw (le-ltb limit (length bytes) fits) refl
 
-pieces-lines : (limit from : ℕ) (rows : List Row) → AreMade from rows → length (flat_map row_line rows) ≤ limit → pieces_of limit (whole (flat_map row_line rows)) ≡ record { pieces = map row_line rows; ending = pieces_clean }
+pieces-lines : (limit from : ℕ) (rows : List DrawnRow) → AreMade from rows → length (flat_map row_line rows) ≤ limit → pieces_of limit (whole (flat_map row_line rows)) ≡ record { pieces = map row_line rows; ending = pieces_clean }
 pieces-lines limit from rows made fits =
     let bytes = flat_map row_line rows in
     ap (λ (xs : List ℕ). up_to_too_long (split false xs).pieces (last_pieces limit (whole bytes) (split false xs).rest)) (take_all limit bytes fits)
@@ -223,21 +223,21 @@ record_of-texts time key some_time t some_key k =
     ∙ ap only_record (reads_record time (44 ∷ (key ++ 10 ∷ [])) some_time t ∙ next_field time (key ++ 10 ∷ []) [] some_time t)
     ∙ last_field key (time ∷ []) some_key k
 
-record_of-line : (row : Row) → row.time < 2 ^ 32 → row.key < 2 ^ 32 → record_of (row_line row) ≡ Ok (Some (decimal row.time ∷ decimal row.key ∷ []))
+record_of-line : (row : DrawnRow) → row.time < 2 ^ 32 → row.key < 2 ^ 32 → record_of (row_line row) ≡ Ok (Some (decimal row.time ∷ decimal row.key ∷ []))
 record_of-line row time key =
     record_of-texts (decimal row.time) (decimal row.key) (some_digits row.time time) (are_digits row.time time) (some_digits row.key key) (are_digits row.key key)
 
 -- ---- the rows of lines
 
-pub fields_of : Row → List Field
+pub fields_of : DrawnRow → List Field
 fields_of row = field.Int (pos row.time) ∷ field.Int (pos row.key) ∷ []
 
-row_of-line : (row : Row) → row.time < 2 ^ 32 → row.key < 2 ^ 32 → row_of keyed_columns (decimal row.time ∷ decimal row.key ∷ []) ≡ Ok (fields_of row)
+row_of-line : (row : DrawnRow) → row.time < 2 ^ 32 → row.key < 2 ^ 32 → row_of keyed_columns (decimal row.time ∷ decimal row.key ∷ []) ≡ Ok (fields_of row)
 unfolding fields_of
 row_of-line row time key =
     ap₂ (λ a b. put_value (int_field 1 a) (put_value (int_field 2 b) (Ok []))) (int_of-decimal row.time time) (int_of-decimal row.key key)
 
-row_at-line : (before : Option ℤ) (row : Row) → row.time < 2 ^ 32 → row.key < 2 ^ 32 → row_at keyed_columns 0 before (row_line row) ≡ in_time 0 before (fields_of row)
+row_at-line : (before : Option ℤ) (row : DrawnRow) → row.time < 2 ^ 32 → row.key < 2 ^ 32 → row_at keyed_columns 0 before (row_line row) ≡ in_time 0 before (fields_of row)
 row_at-line before row time key = rw (record_of-line row time key) (rw (row_of-line row time key) refl)
 
 -- the time before isn't above this one
@@ -248,16 +248,16 @@ IsNoLater (Some before) from = before ≡ pos from
 not_below : (time from : ℕ) → from ≤ time → int_lt (pos time) (pos from -ℤ pos 0) ≡ false
 not_below time from later = grind (arith, ints)
 
-in_time-made : (before : Option ℤ) (from : ℕ) (row : Row) → IsNoLater before from → from ≤ row.time → in_time 0 before (fields_of row) ≡ Ok (Some (fields_of row))
+in_time-made : (before : Option ℤ) (from : ℕ) (row : DrawnRow) → IsNoLater before from → from ≤ row.time → in_time 0 before (fields_of row) ≡ Ok (Some (fields_of row))
 unfolding fields_of
 in_time-made None from row no_later later = refl
 in_time-made (Some before) from row no_later later = rw (no_later) (rw (not_below row.time from later) refl)
 
-with_time-made : (before : Option ℤ) (from : ℕ) (row : Row) → IsNoLater before from → from ≤ row.time → with_time before (pos row.time) ≡ pos row.time
+with_time-made : (before : Option ℤ) (from : ℕ) (row : DrawnRow) → IsNoLater before from → from ≤ row.time → with_time before (pos row.time) ≡ pos row.time
 with_time-made None from row no_later later = refl
 with_time-made (Some before) from row no_later later = rw (no_later) (rw (le-ltb row.time from later) refl)
 
-rows_from-lines : (record_no : ℕ) (before : Option ℤ) (from : ℕ) (rows : List Row) → IsNoLater before from → AreMade from rows → rows_from keyed_columns 0 record_no before (map row_line rows) pieces_clean ≡ record { rows = map fields_of rows; ending = rows_clean }
+rows_from-lines : (record_no : ℕ) (before : Option ℤ) (from : ℕ) (rows : List DrawnRow) → IsNoLater before from → AreMade from rows → rows_from keyed_columns 0 record_no before (map row_line rows) pieces_clean ≡ record { rows = map fields_of rows; ending = rows_clean }
 unfolding fields_of
 rows_from-lines record_no before from [] no_later made = refl
 rows_from-lines record_no before from (row ∷ rows) no_later made =
@@ -266,7 +266,7 @@ rows_from-lines record_no before from (row ∷ rows) no_later made =
     ∙ ap (λ (time : ℤ). then_rows (fields_of row) (rows_from keyed_columns 0 (record_no + 1) (Some time) (map row_line rows) pieces_clean)) (with_time-made before from row no_later made.0)
     ∙ ap (λ (others : Rows). then_rows (fields_of row) others) (rows_from-lines (record_no + 1) (Some (pos row.time)) row.time rows refl made.3)
 
-pub rows_of-lines : (rows : List Row) → AreMade 0 rows → 22 * length rows ≤ 2 ^ 62 → rows_of keyed_columns 0 (whole (flat_map row_line rows)) ≡ record { rows = map fields_of rows; ending = rows_clean }
+pub rows_of-lines : (rows : List DrawnRow) → AreMade 0 rows → 22 * length rows ≤ 2 ^ 62 → rows_of keyed_columns 0 (whole (flat_map row_line rows)) ≡ record { rows = map fields_of rows; ending = rows_clean }
 rows_of-lines rows made few =
     as_read keyed_columns 1 None (pieces_of most_in_stream (whole (flat_map row_line rows)))
     ∙ ap (λ (cut : Pieces). rows_in keyed_columns 0 1 None cut) (pieces-lines most_in_stream 0 rows made (omega (arith, length-lines 0 rows made, few)))

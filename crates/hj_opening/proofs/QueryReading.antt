@@ -7,20 +7,20 @@ use Rattle.hj_base.specs.declared.outside.Role.{Role}
 use Rattle.hj_base.specs.Counts.{Rose}
 use Rattle.hj_base.specs.Journals.{IsPrefix}
 use Rattle.hj_base.specs.Outside.{RoleState, Phase, ChangesOnly, at_end, opened, unbegun}
-use Rattle.hj_query.specs.Parts.{Parts}
-use Rattle.hj_query.specs.Texts.{IsFirst, Spells, Unless}
+use Rattle.hj_query.specs.QueryParts.{QueryParts}
+use Rattle.hj_query.specs.Texts.{IsFirstQueryFault, Spells, Unless}
 use Rattle.hj_query.specs.declared.fault.QueryFault.{QueryFault}
 use Rattle.hj_query.specs.declared.fault.QueryFault.TheVariants as faults
 use Rattle.hj_notes.specs.declared.note.Note.{Note}
 use Rattle.hj_notes.specs.declared.note.Note.TheVariants as why
-use Rattle.hj_opening.specs.Opening.{GetsQuery, IsOpened, IsRead, IsReadPast, Opens, Parses, ReadsText, refusal_of}
+use Rattle.hj_opening.specs.Opening.{GetsQuery, IsOpened, ReadsToEnd, IsReadPast, Opens, Parses, ReadsText, refusal_of}
 use Rattle.hj_opening.specs.Queries.{IsQueryRead, IsReadTooFar, IsReadWhole}
-use Rattle.hj_opening.specs.Streams.{IsBegunUnder, StandsFor}
+use Rattle.hj_opening.specs.Streams.{IsBegunUnder, StandsUnder}
 use Rattle.hj_opening.specs.Words.{named}
 
 -- ---- what a fault says of the text
 
-refuses : (text : List ℕ) (found : QueryFault) → Unless found (IsFirst text) → Parses (Err (refusal_of found)) text
+refuses : (text : List ℕ) (found : QueryFault) → Unless found (IsFirstQueryFault text) → Parses (Err (refusal_of found)) text
 refuses text faults.Memory first = tt
 refuses text (faults.Lex lex) first = first (λ e. cc)
 refuses text (faults.Expected wanted place) first = first (λ e. cc)
@@ -35,12 +35,12 @@ refuses text (faults.TooDeep place) first = first (λ e. cc)
 refuses text (faults.TooManyColumns place) first = first (λ e. cc)
 refuses text faults.TooLong first = first (λ e. cc)
 
-pub refuses_text : (text : List ℕ) (found : QueryFault) (note : Note) → note ≡ refusal_of found → Unless found (IsFirst text) → Parses (Err note) text
+pub refuses_text : (text : List ℕ) (found : QueryFault) (note : Note) → note ≡ refusal_of found → Unless found (IsFirstQueryFault text) → Parses (Err note) text
 refuses_text text found note e first = subst (λ (n : Note). Parses (Err n) text) (sym e) (refuses text found first)
 
 -- ---- bytes that came
 
-pub stands : (told left : Option (List ℕ)) (bytes : List ℕ) → Consumes told left bytes → IsAtEnd left → StandsFor told bytes
+pub stands : (told left : Option (List ℕ)) (bytes : List ℕ) → Consumes told left bytes → IsAtEnd left → StandsUnder told bytes
 stands None left bytes c e = tt
 stands (Some xs) None bytes c e = absurd c
 stands (Some xs) (Some ys) bytes c e = c ∙ ap (λ (z : List ℕ). bytes ++ z) e ∙ append-nil bytes
@@ -99,7 +99,7 @@ module _ (asked : Role) (name : List ℕ) (under : List ℕ → Option (List ℕ
     unread why.Sink reads = absurd reads
     unread (why.TooManyEvents limit) reads = absurd reads
 
-    whole : (text : List ℕ) → IsRead text (mid asked) (now asked) → IsReadWhole text name (under name) (before asked) (now asked)
+    whole : (text : List ℕ) → ReadsToEnd text (mid asked) (now asked) → IsReadWhole text name (under name) (before asked) (now asked)
     whole text read = record {
       stands = stands (under name) (now asked).left text (came (under name) (mid asked).left (now asked).left text ready.left read.came) read.nothing_left;
       ended = (read.phase ∙ ap at_end ready.phase, read.nothing_left);
@@ -114,7 +114,7 @@ module _ (asked : Role) (name : List ℕ) (under : List ℕ → Option (List ℕ
       faults = read.faults ∙ ready.faults;
     }
 
-    query_read : (text : List ℕ) → IsRead text (mid asked) (now asked) ⊎ IsReadPast text (mid asked) (now asked)
+    query_read : (text : List ℕ) → ReadsToEnd text (mid asked) (now asked) ⊎ IsReadPast text (mid asked) (now asked)
         → IsQueryRead text name (under name) (before asked) (now asked)
     query_read text reads = elim reads [ inl read ↦ inl (whole text read) | inr past ↦ inr (too_far text past) ]
 
@@ -125,12 +125,12 @@ module _ (asked : Role) (name : List ℕ) (under : List ℕ → Option (List ℕ
     faults_read text read = elim read [ inl all ↦ all.faults | inr far ↦ far.faults ]
 
     -- a text that was read too far spells nothing
-    whole_spells : (text : List ℕ) (query : Parts) → IsQueryRead text name (under name) (before asked) (now asked) → Spells text query
+    whole_spells : (text : List ℕ) (query : QueryParts) → IsQueryRead text name (under name) (before asked) (now asked) → Spells text query
         → IsReadWhole text name (under name) (before asked) (now asked)
     whole_spells text query read spelled = elim read [ inl all ↦ all | inr far ↦ absurd (omega (arith, far.size, spelled.short)) ]
 
     -- the text was read
-    gets : (got : Result Parts Note) (text : List ℕ) → IsQueryRead text name (under name) (before asked) (now asked) → Parses got text → GetsQuery got asked (named name) under before now
+    gets : (got : Result QueryParts Note) (text : List ℕ) → IsQueryRead text name (under name) (before asked) (now asked) → Parses got text → GetsQuery got asked (named name) under before now
     gets (Ok query) text read parses = record {
       cause = (record { text = text; read = whole_spells text query read parses; spelled = parses }, faults_read text read);
       begun = begun_read text read;
@@ -148,6 +148,6 @@ module _ (asked : Role) (name : List ℕ) (under : List ℕ → Option (List ℕ
     gets (Err why.Sink) text read parses = absurd parses
     gets (Err (why.TooManyEvents limit)) text read parses = absurd parses
 
-    pub gets_query : (got : Result Parts Note) (text seen : List ℕ) → seen ≡ text → IsRead text (mid asked) (now asked) ⊎ IsReadPast text (mid asked) (now asked) → Parses got seen
+    pub gets_query : (got : Result QueryParts Note) (text seen : List ℕ) → seen ≡ text → ReadsToEnd text (mid asked) (now asked) ⊎ IsReadPast text (mid asked) (now asked) → Parses got seen
         → GetsQuery got asked (named name) under before now
     gets_query got text seen same reads parses = gets got text (query_read text reads) (subst (λ (t : List ℕ). Parses got t) same parses)

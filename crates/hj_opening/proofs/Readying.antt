@@ -8,7 +8,7 @@ use Rattle.hj_base.specs.declared.outside.Role.{Role}
 use Rattle.hj_base.specs.declared.outside.Role.TheVariants as role
 use Rattle.hj_base.specs.Counts.{Rose}
 use Rattle.hj_base.specs.Outside.{RoleState, ChangesOnly, IsOpen, opened, role_of, unbegun}
-use Rattle.hj_query.specs.Parts.{Parts}
+use Rattle.hj_query.specs.QueryParts.{QueryParts}
 use Rattle.hj_notes.specs.declared.note.Note.{Note}
 use Rattle.hj_notes.specs.declared.note.Note.TheVariants as why
 use Rattle.hj_opening.specs.Calls.{call}
@@ -18,13 +18,13 @@ use Rattle.hj_opening.specs.Ready.{EndsEarly, IsReady}
 use Rattle.hj_opening.specs.Run.{RunsOrder}
 use Rattle.hj_opening.specs.Serve.{AreOpen, BeginsInOrder, BeginsSource, IsJoinRole}
 use Rattle.hj_opening.specs.Streams.{Fails, IsBegunUnder}
-use Rattle.hj_opening.specs.Words.{Names, Order, Source, TextKind, join_streams}
+use Rattle.hj_opening.specs.Words.{Names, Order, QuerySource, TextKind, join_streams}
 use Rattle.hj_opening.proofs.Endings.{CountsSink, JoinCause, NoOther, join_others, join_runs}
 use Rattle.hj_opening.proofs.Phases.{Roles, begun-opened, begun-refused, begun-unbegun, fails_as, not_open-refused, not_open-unbegun, open-opened}
 use Rattle.hj_opening.proofs.RunningOrders.{join_refused}
 
 -- a side's role is one of a join's
-pub reads_side : (source : Source) (of : Role) (side : Side) → of ≡ role_of side → IsJoinRole source of
+pub reads_side : (source : QuerySource) (of : Role) (side : Side) → of ≡ role_of side → IsJoinRole source of
 reads_side source of side.Left e = subst (λ (r : Role). IsJoinRole source r) (sym e) tt
 reads_side source of side.Right e = subst (λ (r : Role). IsJoinRole source r) (sym e) tt
 
@@ -47,7 +47,7 @@ alone_unfailed : (before now : Roles) → ChangesOnly role.Query before now → 
 alone_unfailed before now others query =
     unfailed_by before now (λ of no_query no_left no_right. others of no_query) query (ap (λ (s : RoleState). s.faults) (others role.Left (λ e. cc))) (ap (λ (s : RoleState). s.faults) (others role.Right (λ e. cc)))
 
-module _ (kind : TextKind) (source : Source) (names : Names) (limit : ℕ) (under : List ℕ → Option (List ℕ)) (before : Roles) (unbegun_before : (of : Role) → (before of).phase ≡ unbegun) where
+module _ (kind : TextKind) (source : QuerySource) (names : Names) (limit : ℕ) (under : List ℕ → Option (List ℕ)) (before : Roles) (unbegun_before : (of : Role) → (before of).phase ≡ unbegun) where
   abbrev this_join : Order
   this_join = join_streams kind source names limit
 
@@ -83,7 +83,7 @@ module _ (kind : TextKind) (source : Source) (names : Names) (limit : ℕ) (unde
 
   -- ---- the query was got
 
-  module _ (asked : Roles) (query : Parts) (gets : GetsQuery (Ok query) role.Query source under before asked) where
+  module _ (asked : Roles) (query : QueryParts) (gets : GetsQuery (Ok query) role.Query source under before asked) where
     left_asked : asked role.Left ≡ before role.Left
     left_asked = gets.others role.Left (λ e. cc)
 

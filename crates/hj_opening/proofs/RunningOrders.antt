@@ -9,7 +9,7 @@ use Rattle.hj_base.specs.Counts.{Rose}
 use Rattle.hj_base.specs.Journals.{IsPrefix}
 use Rattle.hj_base.specs.Outside.{RoleState, ChangesOnly, IsOpen, unbegun}
 use Rattle.hj_query.specs.Canonical.{canonical}
-use Rattle.hj_query.specs.Parts.{Parts}
+use Rattle.hj_query.specs.QueryParts.{QueryParts}
 use Rattle.hj_notes.specs.declared.note.Note.{Note}
 use Rattle.hj_notes.specs.declared.note.Note.TheVariants as why
 use Rattle.hj_opening.specs.Calls.{Call, call}
@@ -18,9 +18,9 @@ use Rattle.hj_opening.specs.Opening.{GetsQuery, QueryCause}
 use Rattle.hj_opening.specs.Queries.{IsRefused}
 use Rattle.hj_opening.specs.Run.{RunsOrder}
 use Rattle.hj_opening.specs.Keeping.{IsQueryAlone}
-use Rattle.hj_opening.specs.Serve.{IsJoinRole, IsRead}
+use Rattle.hj_opening.specs.Serve.{IsJoinRole, IsNamedQuery}
 use Rattle.hj_opening.specs.Streams.{Fails}
-use Rattle.hj_opening.specs.Words.{Names, Source, TextKind, check_query, join_streams, keyed, named}
+use Rattle.hj_opening.specs.Words.{Names, QuerySource, TextKind, check_query, join_streams, keyed, named}
 use Rattle.hj_opening.proofs.Endings.{CheckCause, CountsSink, End, JoinCause, check_runs, join_others, join_runs}
 use Rattle.hj_opening.proofs.Phases.{Roles, begun-unbegun}
 use Rattle.hj_opening.proofs.Prefixes.{begins_all}
@@ -33,15 +33,15 @@ not_open state e o = subst IsOpen e o
 query_role-fails : (failed : Role) (before now : Roles) → failed ≡ role.Query → Rose (before role.Query).faults (now role.Query).faults → Fails failed before now
 query_role-fails failed before now e rose = subst (λ (r : Role). Fails r before now) (sym e) rose
 
-is_read : (source : Source) (name : List ℕ) → source ≡ named name → IsRead source
+is_read : (source : QuerySource) (name : List ℕ) → source ≡ named name → IsNamedQuery source
 is_read (keyed rows) name e = absurd cc
 is_read (named given) name e = tt
 
 -- the role of a query that is read under a name is one of a join's
-reads_query : (source : Source) (name : List ℕ) (of : Role) → source ≡ named name → of ≡ role.Query → IsJoinRole source of
+reads_query : (source : QuerySource) (name : List ℕ) (of : Role) → source ≡ named name → of ≡ role.Query → IsJoinRole source of
 reads_query source name of e is = subst (λ (r : Role). IsJoinRole source r) (sym is) (is_read source name e)
 
-name_of : Source → List ℕ
+name_of : QuerySource → List ℕ
 name_of (keyed rows) = []
 name_of (named name) = name
 
@@ -57,7 +57,7 @@ module _ (under : List ℕ → Option (List ℕ)) (before now : Roles) (told : O
   this = call under before now told told faults faults
 
   -- such an ending is no fault of the sink
-  no_fault : (note : Note) (source : Source) → QueryCause (Err note) role.Query source under (before role.Query) (now role.Query) → CountsSink (Err note) faults faults
+  no_fault : (note : Note) (source : QuerySource) → QueryCause (Err note) role.Query source under (before role.Query) (now role.Query) → CountsSink (Err note) faults faults
   no_fault (why.BadQuery found) source cause = refl
   no_fault (why.Source failed) source cause = refl
   no_fault why.Memory source cause = refl
@@ -67,7 +67,7 @@ module _ (under : List ℕ → Option (List ℕ)) (before now : Roles) (told : O
   no_fault (why.TooManyEvents limit) source cause = absurd cause
 
   module _ (alone : IsQueryAlone now) where
-    join_cause : (kind : TextKind) (source : Source) (names : Names) (limit : ℕ) (note : Note) → QueryCause (Err note) role.Query source under (before role.Query) (now role.Query) → JoinCause kind source names limit this (Err note)
+    join_cause : (kind : TextKind) (source : QuerySource) (names : Names) (limit : ℕ) (note : Note) → QueryCause (Err note) role.Query source under (before role.Query) (now role.Query) → JoinCause kind source names limit this (Err note)
     join_cause kind source names limit (why.BadQuery found) cause = record {
       name = cause.0;
       named_so = cause.1;
@@ -100,7 +100,7 @@ module _ (under : List ℕ → Option (List ℕ)) (before now : Roles) (told : O
 
   module _ (unbegun_before : (of : Role) → (before of).phase ≡ unbegun) where
     -- a join
-    pub join_refused : (kind : TextKind) (source : Source) (names : Names) (limit : ℕ) (note : Note) → GetsQuery (Err note) role.Query source under before now
+    pub join_refused : (kind : TextKind) (source : QuerySource) (names : Names) (limit : ℕ) (note : Note) → GetsQuery (Err note) role.Query source under before now
         → RunsOrder (Err note) (join_streams kind source names limit) (call under before now told told faults faults)
     join_refused kind source names limit note gets =
         let alone : IsQueryAlone now = λ of other. stays_unbegun before now of other gets.others (unbegun_before of) in
@@ -125,7 +125,7 @@ module _ (under : List ℕ → Option (List ℕ)) (before now : Roles) (told : O
 
 -- ---- a check that got its query
 
-module _ (name : List ℕ) (under : List ℕ → Option (List ℕ)) (before now : Roles) (unbegun_before : (of : Role) → (before of).phase ≡ unbegun) (query : Parts) (gets : GetsQuery (Ok query) role.Query (named name) under before now) where
+module _ (name : List ℕ) (under : List ℕ → Option (List ℕ)) (before now : Roles) (unbegun_before : (of : Role) → (before of).phase ≡ unbegun) (query : QueryParts) (gets : GetsQuery (Ok query) role.Query (named name) under before now) where
   abbrev ended_so : Option (List ℕ) → Option (List ℕ) → ℕ → ℕ → Call
   ended_so old new faults faults' = call under before now old new faults faults'
 

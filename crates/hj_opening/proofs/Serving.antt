@@ -25,7 +25,7 @@ use Rattle.hj_opening.specs.Keeping as keeping
 use Rattle.hj_opening.specs.Serve as says
 use Rattle.hj_opening.specs.TwoJoins.{BeginsTwice}
 use Rattle.hj_opening.specs.Verifying.{BeginsCheck}
-use Rattle.hj_opening.specs.Words.{CheckedNames, Names, Order, Source, TwiceNames, check_query, check_trace, join_streams, join_twice, keyed, named, sum_up}
+use Rattle.hj_opening.specs.Words.{CheckedNames, Names, Order, QuerySource, TwiceNames, check_query, check_trace, join_streams, join_twice, keyed, named, sum_up}
 use Rattle.hj_opening.proofs.Endings.{End, check_runs, gen_runs, join_runs}
 use Rattle.hj_opening.proofs.Kept.{kept}
 use Rattle.hj_opening.proofs.Phases.{Roles, begun-unbegun}
@@ -90,11 +90,11 @@ module _ (under : List ℕ → Option (List ℕ)) (before : Roles) (old : Option
   abbrev untouched : Call
   untouched = as_call under before before old old faults faults
 
-  begins_source : (source : Source) → BeginsSource source (before role.Query).phase
+  begins_source : (source : QuerySource) → BeginsSource source (before role.Query).phase
   begins_source (keyed rows) = unbegun_before role.Query
   begins_source (named name) = begun-unbegun name (before role.Query).phase (unbegun_before role.Query)
 
-  begins_none : (source : Source) (names : Names) → BeginsInOrder source names untouched
+  begins_none : (source : QuerySource) (names : Names) → BeginsInOrder source names untouched
   begins_none source names = record {
     query = begins_source source;
     left = begun-unbegun names.left (before role.Left).phase (unbegun_before role.Left);

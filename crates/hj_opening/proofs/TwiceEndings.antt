@@ -12,7 +12,7 @@ use Rattle.hj_notes.specs.declared.twice_note.TwiceNote.TheVariants as note
 use Rattle.hj_notes.specs.TwiceText.{status_of_twice, text_of_twice}
 use Rattle.hj_relay.specs.Rows.{IsTooLong}
 use Rattle.hj_opening.specs.Calls.{Call}
-use Rattle.hj_opening.specs.Keeping.{Ends, NothingFails, RefusesQuery}
+use Rattle.hj_opening.specs.Keeping.{EndsCommand, NothingFails, RefusesQuery}
 use Rattle.hj_opening.specs.Keeping as keeping
 use Rattle.hj_opening.specs.RunTwice.{RunsTwice}
 use Rattle.hj_opening.specs.TwoJoins.{BeginsSecond, BeginsTwice, EndsInFirst, EndsTwice, FailsJoins, IsTwiceDecided, IsTwiceRole, RefusesSecond, RefusesShape, WritesAllThree, WritesSecond}
@@ -48,7 +48,7 @@ module _ (names : TwiceNames) (limit : ℕ) (call : Call) where
   TwiceCause (Err (note.BadSecondRecord side.Left at found)) = IsTooLong found × WritesSecond (bad side.Left at found) names limit call
   TwiceCause (Err (note.BadSecondRecord side.Right at found)) = WritesSecond (bad side.Right at found) names limit call
 
-  twice_ends : (ended : TwiceEnd) → TwiceCause ended → CountsSinkTwice ended call.faults_before call.faults_now → Ends (EndsTwice names limit call) (status_of_twice ended) (text_of_twice ended) call
+  twice_ends : (ended : TwiceEnd) → TwiceCause ended → CountsSinkTwice ended call.faults_before call.faults_now → EndsCommand (EndsTwice names limit call) (status_of_twice ended) (text_of_twice ended) call
   twice_ends (Ok done) cause counts = keeping.own (says.joined refl refl cause)
   twice_ends (Err (note.Common why.Usage)) cause counts = absurd cause
   twice_ends (Err (note.Common (why.BadQuery found))) cause counts = keeping.own (says.bad_query found refl refl cause)

@@ -12,9 +12,9 @@ use Rattle.hj_event.specs.Events.{events_of}
 use Rattle.hj_event.specs.Roles.{IsReadOn}
 use Rattle.hj_event.specs.Sides.{in_front}
 use Rattle.hj_record.specs.Pieces.{Stream}
-use Rattle.hj_relay.specs.declared.ending.Twice.{Twice}
-use Rattle.hj_relay.specs.declared.ending.Twice.TheVariants as twice
-use Rattle.hj_relay.specs.Twice.{AreEnded, CountsFault, FailsTwice, JoinsTwice, WritesTwice, second_result}
+use Rattle.hj_relay.specs.declared.ending.TwiceOutcome.{TwiceOutcome}
+use Rattle.hj_relay.specs.declared.ending.TwiceOutcome.TheVariants as twice
+use Rattle.hj_relay.specs.Twice.{AreEnded, CountsTwiceFault, FailsTwice, JoinsTwice, WritesTwice, second_result}
 use Rattle.hj_stream.specs.declared.outcome.Outcome.TheVariants as outcome
 use Rattle.hj_opening.specs.declared.twice.TwoQueries.{TwoQueries}
 use Rattle.hj_opening.specs.Calls.{Call, call}
@@ -59,7 +59,7 @@ module _ (queries : TwoQueries) (names : TwiceNames) (limit : ℕ) (under : List
   this = call under before now old new faults faults'
 
   -- What two joins say of the streams of this call.
-  record Found (ended : Twice) (left_failed right_failed third_failed left_ended right_ended third_ended : Bool) (grown : List ℕ) : Type 0 where
+  record Found (ended : TwiceOutcome) (left_failed right_failed third_failed left_ended right_ended third_ended : Bool) (grown : List ℕ) : Type 0 where
     pub left : Stream
     pub right : Stream
     pub third : Stream
@@ -70,7 +70,7 @@ module _ (queries : TwoQueries) (names : TwiceNames) (limit : ℕ) (under : List
     pub failed : FailsTwice ended left_failed right_failed third_failed
     pub written : Appends old new grown
 
-  module _ (ended : Twice) (lf rf tf le re te : Bool) (grown : List ℕ) (found : Found ended lf rf tf le re te grown) where
+  module _ (ended : TwiceOutcome) (lf rf tf le re te : Bool) (grown : List ℕ) (found : Found ended lf rf tf le re te grown) where
     abbrev first_ending : Ending
     first_ending = (events_of queries.first found.left found.right limit).ending
 
@@ -145,10 +145,10 @@ module _ (queries : TwoQueries) (names : TwiceNames) (limit : ℕ) (under : List
     fails_role of has fails ends = record { has = has; fails = fails; unopened = λ no. absurd (no all_open); opened = λ are. ends }
 
   -- the cause of the ending, and what was written
-  abbrev Caused : Twice → List ℕ → Type 0
+  abbrev Caused : TwiceOutcome → List ℕ → Type 0
   Caused ended grown = TwiceCause names limit this (end_of_twice limit ended) × ((grown ≡ []) ⊎ BeginsSecond grown names limit this)
 
-  caused : (ended : Twice) (lf rf tf le re te : Bool) (grown : List ℕ) (third_before third_now : RoleState) → Found ended lf rf tf le re te grown → AreEnded ended le re te third_before third_now → Caused ended grown
+  caused : (ended : TwiceOutcome) (lf rf tf le re te : Bool) (grown : List ℕ) (third_before third_now : RoleState) → Found ended lf rf tf le re te grown → AreEnded ended le re te third_before third_now → Caused ended grown
   unfolding this
   caused (twice.Done events more) lf rf tf le re te grown s n f ends =
       let all = f.text.1.0 in (
@@ -159,10 +159,10 @@ module _ (queries : TwoQueries) (names : TwiceNames) (limit : ℕ) (under : List
   caused (twice.First (outcome.Bad of at why)) lf rf tf le re te grown s n f ends =
       (stops (twice.First (outcome.Bad of at why)) lf rf tf le re te grown f (bad of at why) f.text.0 f.text.1, inl f.text.0)
   caused (twice.First (outcome.SourceFault role.Left)) lf rf tf le re te grown s n f ends =
-      let ended : Twice = twice.First (outcome.SourceFault role.Left) in
+      let ended : TwiceOutcome = twice.First (outcome.SourceFault role.Left) in
       (fails_role ended lf rf tf le re te grown f role.Left tt (f.of_left.fails f.failed.0.0) (inl (side.Left, refl, stops ended lf rf tf le re te grown f (unread side.Left) f.text.0 f.text.1)), inl f.text.0)
   caused (twice.First (outcome.SourceFault role.Right)) lf rf tf le re te grown s n f ends =
-      let ended : Twice = twice.First (outcome.SourceFault role.Right) in
+      let ended : TwiceOutcome = twice.First (outcome.SourceFault role.Right) in
       (fails_role ended lf rf tf le re te grown f role.Right tt (f.of_right.fails f.failed.0.1) (inl (side.Right, refl, stops ended lf rf tf le re te grown f (unread side.Right) f.text.0 f.text.1)), inl f.text.0)
   caused (twice.First (outcome.SourceFault role.Query)) lf rf tf le re te grown s n f ends = absurd f.text.1
   caused (twice.First (outcome.SourceFault role.SecondQuery)) lf rf tf le re te grown s n f ends = absurd f.text.1
@@ -175,13 +175,13 @@ module _ (queries : TwoQueries) (names : TwiceNames) (limit : ℕ) (under : List
   caused (twice.First outcome.Memory) lf rf tf le re te grown s n f ends = (tt, inl f.text.0)
   caused (twice.Second (outcome.Done events)) lf rf tf le re te grown s n f ends = absurd f.text.1
   caused (twice.Second (outcome.Bad side.Left at why)) lf rf tf le re te grown s n f ends =
-      let ended : Twice = twice.Second (outcome.Bad side.Left at why) in
+      let ended : TwiceOutcome = twice.Second (outcome.Bad side.Left at why) in
       ((f.text.1.0, writes ended lf rf tf le re te grown f (bad side.Left at why) f.text.0 f.text.1.1 f.text.1.2), inr (begins_whole ended lf rf tf le re te grown f f.text.1.1))
   caused (twice.Second (outcome.Bad side.Right at why)) lf rf tf le re te grown s n f ends =
-      let ended : Twice = twice.Second (outcome.Bad side.Right at why) in
+      let ended : TwiceOutcome = twice.Second (outcome.Bad side.Right at why) in
       (writes ended lf rf tf le re te grown f (bad side.Right at why) f.text.0 f.text.1.0 f.text.1.1, inr (begins_whole ended lf rf tf le re te grown f f.text.1.0))
   caused (twice.Second (outcome.SourceFault role.Third)) lf rf tf le re te grown s n f ends =
-      let ended : Twice = twice.Second (outcome.SourceFault role.Third) in (
+      let ended : TwiceOutcome = twice.Second (outcome.SourceFault role.Third) in (
         fails_role ended lf rf tf le re te grown f role.Third tt (f.of_third.fails f.failed.2) (inr (refl, writes ended lf rf tf le re te grown f (unread side.Right) f.text.0 f.text.1.0 f.text.1.1)),
         inr (begins_whole ended lf rf tf le re te grown f f.text.1.0),
       )
@@ -193,11 +193,11 @@ module _ (queries : TwoQueries) (names : TwiceNames) (limit : ℕ) (under : List
   caused (twice.Second (outcome.SourceFault role.Output)) lf rf tf le re te grown s n f ends = absurd f.text.1
   caused (twice.Second outcome.SinkFault) lf rf tf le re te grown s n f ends = (tt, inr (begins (twice.Second outcome.SinkFault) lf rf tf le re te grown f f.text.1))
   caused (twice.Second outcome.TooMany) lf rf tf le re te grown s n f ends =
-      let ended : Twice = twice.Second outcome.TooMany in
+      let ended : TwiceOutcome = twice.Second outcome.TooMany in
       ((refl, inr (writes ended lf rf tf le re te grown f too_many f.text.0 f.text.1.0 f.text.1.1)), inr (begins_whole ended lf rf tf le re te grown f f.text.1.0))
   caused (twice.Second outcome.Memory) lf rf tf le re te grown s n f ends = (tt, inr (begins (twice.Second outcome.Memory) lf rf tf le re te grown f f.text.1))
 
-  counts_sink : (ended : Twice) (grown : List ℕ) (left right third : Stream) → WritesTwice ended grown queries.first queries.second limit left right third → CountsFault ended faults faults' → CountsSinkTwice (end_of_twice limit ended) faults faults'
+  counts_sink : (ended : TwiceOutcome) (grown : List ℕ) (left right third : Stream) → WritesTwice ended grown queries.first queries.second limit left right third → CountsTwiceFault ended faults faults' → CountsSinkTwice (end_of_twice limit ended) faults faults'
   counts_sink (twice.Done events more) grown l r t w counts = counts
   counts_sink (twice.First (outcome.Done events)) grown l r t w counts = counts
   counts_sink (twice.First (outcome.Bad of at why)) grown l r t w counts = counts
@@ -215,7 +215,7 @@ module _ (queries : TwoQueries) (names : TwiceNames) (limit : ℕ) (under : List
 -- ---- the order
 
 module _ (queries : TwoQueries) (names : TwiceNames) (limit : ℕ) (under : List ℕ → Option (List ℕ)) (before mid now : Roles) (old new : Option (List ℕ)) (faults faults' : ℕ)
-    (ready : IsTwiceReady queries names under before mid) (ended : Twice) (joins : JoinsTwice ended queries.first queries.second limit mid now old new) where
+    (ready : IsTwiceReady queries names under before mid) (ended : TwiceOutcome) (joins : JoinsTwice ended queries.first queries.second limit mid now old new) where
   first_stays : now role.Query ≡ mid role.Query
   first_stays = joins.others role.Query (λ e. cc) (λ e. cc) (λ e. cc)
 
@@ -271,7 +271,7 @@ module _ (queries : TwoQueries) (names : TwiceNames) (limit : ℕ) (under : List
         right_open = λ begun. open-opened names.streams.right joins.right_ended (now role.Right).phase found.of_right.phase;
       }
 
-  joins_as : CountsFault ended faults faults' → RunsTwice (end_of_twice limit ended) names limit (call under before now old new faults faults')
+  joins_as : CountsTwiceFault ended faults faults' → RunsTwice (end_of_twice limit ended) names limit (call under before now old new faults faults')
   unfolding this
   joins_as counts =
       let found = found_in (fails_or_none before now) in
@@ -280,5 +280,5 @@ module _ (queries : TwoQueries) (names : TwiceNames) (limit : ℕ) (under : List
       (counts_sink queries names limit under before now old new faults faults' accepted_now ended joins.grown found.left found.right found.third found.text counts)
       joins.grown joins.written came.1 begins_all_roles none_else
 
-  pub joins_twice : (end : TwiceEnd) → end ≡ end_of_twice limit ended → CountsFault ended faults faults' → RunsTwice end names limit (call under before now old new faults faults')
+  pub joins_twice : (end : TwiceEnd) → end ≡ end_of_twice limit ended → CountsTwiceFault ended faults faults' → RunsTwice end names limit (call under before now old new faults faults')
   joins_twice end e counts = subst (λ (r : TwiceEnd). RunsTwice r names limit (call under before now old new faults faults')) (sym e) (joins_as counts)

@@ -8,7 +8,7 @@ use Rattle.hj_base.specs.declared.outside.Role.TheVariants as role
 use Rattle.hj_base.specs.Counts.{Rose}
 use Rattle.hj_base.specs.Outside.{RoleState, unbegun}
 use Rattle.hj_query.specs.declared.fault.QueryFault.{QueryFault}
-use Rattle.hj_query.specs.Parts.{Parts}
+use Rattle.hj_query.specs.QueryParts.{QueryParts}
 use Rattle.hj_notes.specs.declared.note.Note.{Note}
 use Rattle.hj_notes.specs.declared.note.Note.TheVariants as why
 use Rattle.hj_notes.specs.declared.twice_note.TwiceNote.{TwiceNote}
@@ -107,7 +107,7 @@ module _ (names : TwiceNames) (limit : ℕ) (under : Under) (before : Roles) (un
 
   -- ---- the first query was got
 
-  module _ (mid : Roles) (first : Parts) (gets : GetsQuery (Ok first) role.Query (named names.query) under before mid) (told_after : Option (List ℕ)) (same : told_after ≡ under names.second) (now : Roles)
+  module _ (mid : Roles) (first : QueryParts) (gets : GetsQuery (Ok first) role.Query (named names.query) under before mid) (told_after : Option (List ℕ)) (same : told_after ≡ under names.second) (now : Roles)
       (keeps_others : (of : Role) → of ≢ role.SecondQuery → now of ≡ mid of) (second_begun : IsBegunUnder names.second (now role.SecondQuery).phase) where
     query_stays : now role.Query ≡ mid role.Query
     query_stays = keeps_others role.Query (λ e. cc)
@@ -170,7 +170,8 @@ module _ (names : TwiceNames) (limit : ℕ) (under : Under) (before : Roles) (un
     second_wants_memory = ends_early now (note.Common why.Memory) (λ told faults. tt) (λ faults. refl) begins_second none_second
 
     -- and the second one was too
-    module _ (second : Parts) (accepted : IsAccepted second names.second told_after (mid role.SecondQuery) (now role.SecondQuery)) where
+    module _ (second : QueryParts)
+        (accepted : IsAccepted second names.second told_after (mid role.SecondQuery) (now role.SecondQuery)) where
       accepts_second : AcceptsSecond second names under before now
       accepts_second =
           subst (λ (told : Option (List ℕ)). IsAccepted second names.second told (before role.SecondQuery) (now role.SecondQuery)) same
@@ -190,7 +191,7 @@ module _ (names : TwiceNames) (limit : ℕ) (under : Under) (before : Roles) (un
         others = stay;
       }
 
-  module _ (mid : Roles) (first : Parts) (gets : GetsQuery (Ok first) role.Query (named names.query) under before mid) (after : Under) (same : after names.second ≡ under names.second) (now : Roles) where
+  module _ (mid : Roles) (first : QueryParts) (gets : GetsQuery (Ok first) role.Query (named names.query) under before mid) (after : Under) (same : after names.second ≡ under names.second) (now : Roles) where
     second_unread : (found : TwiceNote) → GetsSecond (Err found) names.second after mid now → EndsTwiceEarly found names limit under before now
     second_unread (note.BadSecondQuery found) got = second_refused mid first gets (after names.second) same now got.others got.begun found got.cause
     second_unread (note.Common (why.Source failed)) got = second_failed mid first gets (after names.second) same now got.others got.begun failed got.cause.0 got.cause.1
@@ -205,17 +206,17 @@ module _ (names : TwiceNames) (limit : ℕ) (under : Under) (before : Roles) (un
 
 -- ---- the second query is read under its name
 
-module _ (first : Parts) (name : List ℕ) (names : TwiceNames) (limit : ℕ) (under : Under) (before : Roles) (told : Under) (mid : Roles) (behind : GoesBehind first name names under before told mid) (now : Roles) where
+module _ (first : QueryParts) (name : List ℕ) (names : TwiceNames) (limit : ℕ) (under : Under) (before : Roles) (told : Under) (mid : Roles) (behind : GoesBehind first name names under before told mid) (now : Roles) where
   told_so : told names.second ≡ under names.second
   told_so = subst (λ (n : List ℕ). told n ≡ under n) (sym behind.second) behind.told_as
 
-  got_so : (got : Result Parts TwiceNote) → GetsSecond got name told mid now → GetsSecond got names.second told mid now
+  got_so : (got : Result QueryParts TwiceNote) → GetsSecond got name told mid now → GetsSecond got names.second told mid now
   got_so got gets = subst (λ (n : List ℕ). GetsSecond got n told mid now) (sym behind.second) gets
 
   pub unread_behind : (found : TwiceNote) → GetsSecond (Err found) name told mid now → EndsTwiceEarly found names limit under before now
   unread_behind found got = second_unread names limit under before behind.none mid first behind.gets told told_so now found (got_so (Err found) got)
 
-  module _ (second : Parts) (got : GetsSecond (Ok second) name told mid now) where
+  module _ (second : QueryParts) (got : GetsSecond (Ok second) name told mid now) where
     abbrev has : GetsSecond (Ok second) names.second told mid now
     has = got_so (Ok second) got
 

@@ -11,20 +11,20 @@ use Rattle.hj_event.specs.Arrivals.{Ending, bad, clean, too_many}
 use Rattle.hj_notes.specs.declared.note.Note.{Note}
 use Rattle.hj_notes.specs.declared.note.Note.TheVariants as why
 use Rattle.hj_notes.specs.NoteText.{note_text, status_of}
-use Rattle.hj_query.specs.Parts.{Parts}
+use Rattle.hj_query.specs.QueryParts.{QueryParts}
 use Rattle.hj_opening.specs.Calls.{Call, call}
 use Rattle.hj_opening.specs.Opening.{IsOpened, Opens}
 use Rattle.hj_opening.specs.Queries.{IsAccepted}
 use Rattle.hj_opening.specs.Ready.{EndsEarly, IsReady}
 use Rattle.hj_opening.specs.ReadyToCheck.{IsReadyToCheck}
-use Rattle.hj_opening.specs.Keeping.{Ends, NothingFails, RefusesQuery, status_of_ending}
+use Rattle.hj_opening.specs.Keeping.{EndsCommand, NothingFails, RefusesQuery, status_of_ending}
 use Rattle.hj_opening.specs.Keeping as keeping
 use Rattle.hj_opening.specs.Serve.{AreOpen, EndsJoin, IsJoinRole, RefusesNamed, ServesJoin}
 use Rattle.hj_opening.specs.Serve as says
 use Rattle.hj_opening.specs.Streams.{Fails, IsBegunUnder}
 use Rattle.hj_opening.specs.Verifying.{BeginsCheck, EndsVerify, FindsNone, IsCheckDecided, IsCheckRole, ServesVerify}
 use Rattle.hj_opening.specs.Verifying as tells
-use Rattle.hj_opening.specs.Words.{Chain, CheckedNames, TextKind, join_streams, named}
+use Rattle.hj_opening.specs.Words.{ChainShape, CheckedNames, TextKind, join_streams, named}
 use Rattle.hj_opening.proofs.Kept.{decides, kept}
 use Rattle.hj_opening.proofs.Phases.{Roles, begun-opened, begun-refused, begun-unbegun, fails_as, open-opened}
 use Rattle.hj_opening.proofs.RunningOrders.{same_name}
@@ -49,9 +49,9 @@ check_role name role.Third has = absurd has
 check_role name role.Trace has = tt
 check_role name role.Output has = tt
 
-module _ (chain : Chain) (name : List ℕ) (names : CheckedNames) (limit : ℕ) (call : Call) where
+module _ (chain : ChainShape) (name : List ℕ) (names : CheckedNames) (limit : ℕ) (call : Call) where
   abbrev pub EndsCheckOf : ℕ → List ℕ → Type 0
-  EndsCheckOf status note = Ends (EndsVerify chain name names limit call) status note call
+  EndsCheckOf status note = EndsCommand (EndsVerify chain name names limit call) status note call
 
   by_ending : (status : ℕ) (ending : Ending) → status ≡ status_of_ending ending → FindsNone (λ e. e ≡ ending) chain name names limit call → FindsNone (λ e. status ≡ status_of_ending e) chain name names limit call
   by_ending status ending is finds = record {
@@ -95,7 +95,7 @@ module _ (chain : Chain) (name : List ℕ) (names : CheckedNames) (limit : ℕ) 
     no_fault : status ≢ 5
     no_fault is = not_early status 5 call.now early is (λ e. omega (arith, e)) (λ e. omega (arith, e)) (λ e. omega (arith, e))
 
-    ends_early : Ends (EndsJoin kind (named name) names.streams limit call) status note call → EndsCheckOf status note
+    ends_early : EndsCommand (EndsJoin kind (named name) names.streams limit call) status note call → EndsCheckOf status note
     ends_early (keeping.own how) = keeping.own (own_early how)
     ends_early (keeping.failed_sink is told rose) = absurd (no_fault is)
     ends_early (keeping.memory is told) = keeping.memory is told
@@ -126,7 +126,7 @@ module _ (chain : Chain) (name : List ℕ) (names : CheckedNames) (limit : ℕ) 
         (λ of no. serves.keeps.others of (λ has. no (check_role name of has)))
         (failing_early unfailed)
 
-module _ (kind : TextKind) (chain : Chain) (name : List ℕ) (names : CheckedNames) (limit : ℕ) (under : List ℕ → Option (List ℕ)) (before : Roles) where
+module _ (kind : TextKind) (chain : ChainShape) (name : List ℕ) (names : CheckedNames) (limit : ℕ) (under : List ℕ → Option (List ℕ)) (before : Roles) where
   abbrev EndsNow : Note → Roles → Type 0
   EndsNow note now = (told : Option (List ℕ)) (faults : ℕ) → ServesVerify chain name names limit (status_of note) (note_text note) (call under before now told told faults faults)
 
@@ -138,7 +138,7 @@ module _ (kind : TextKind) (chain : Chain) (name : List ℕ) (names : CheckedNam
 
   -- ---- both streams are open
 
-  module _ (asked : Roles) (query : Parts) (ready : IsReady query (named name) names.streams under before asked) where
+  module _ (asked : Roles) (query : QueryParts) (ready : IsReady query (named name) names.streams under before asked) where
     module _ (now : Roles) (stays : (of : Role) → of ≢ role.Trace → of ≢ role.Output → now of ≡ asked of) where
       accepted : IsAccepted query name (under name) (before role.Query) (now role.Query)
       accepted = subst (λ (s : RoleState). IsAccepted query name (under name) (before role.Query) s) (sym (stays role.Query (λ e. cc) (λ e. cc))) ready.accepted

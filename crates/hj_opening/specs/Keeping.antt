@@ -13,16 +13,16 @@ use Rattle.hj_opening.specs.Queries.{IsRefused}
 use Rattle.hj_opening.specs.Streams.{NoneFails}
 
 -- Why a command ends: by one of its own endings, or because the output failed, or because memory ran out.
-pub data Ends (EndsSo : ℕ → List ℕ → Type 0) (status : ℕ) (note : List ℕ) (call : Call) : Type 0 where
-  own : EndsSo status note → Ends EndsSo status note call
-  failed_sink : status ≡ 5 → note ≡ sink_note → Rose call.faults_before call.faults_now → Ends EndsSo status note call
-  memory : status ≡ 6 → note ≡ memory_note → Ends EndsSo status note call
+pub data EndsCommand (EndsSo : ℕ → List ℕ → Type 0) (status : ℕ) (note : List ℕ) (call : Call) : Type 0 where
+  own : EndsSo status note → EndsCommand EndsSo status note call
+  failed_sink : status ≡ 5 → note ≡ sink_note → Rose call.faults_before call.faults_now → EndsCommand EndsSo status note call
+  memory : status ≡ 6 → note ≡ memory_note → EndsCommand EndsSo status note call
 
 -- A command with these endings, with these beginnings of its text, and with these roles.
-pub record Keeps (EndsSo : ℕ → List ℕ → Type 0) (IsFront : List ℕ → Type 0) (Reads : Role → Type 0)
+pub record KeepsPromise (EndsSo : ℕ → List ℕ → Type 0) (IsFront : List ℕ → Type 0) (Reads : Role → Type 0)
     (status : ℕ) (note : List ℕ) (call : Call) : Type 0 where
   -- The status and the note have a cause.
-  pub ends : Ends EndsSo status note call
+  pub ends : EndsCommand EndsSo status note call
   -- Whatever the status, nothing was written, or a front of the text.
   pub grown : List ℕ
   pub written : Appends call.old call.new grown

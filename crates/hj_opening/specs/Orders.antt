@@ -2,11 +2,11 @@
 use Rattle.hj_base.specs.declared.numbers.ChainSize.{ChainSize}
 use Rattle.hj_opening.specs.declared.check_order.CheckOrder.{CheckOrder}
 use Rattle.hj_opening.specs.declared.source.JoinOrder.{JoinOrder}
-use Rattle.hj_opening.specs.declared.source.Source.{Source}
-use Rattle.hj_opening.specs.declared.source.Source.TheVariants as source
+use Rattle.hj_opening.specs.declared.source.QuerySource.{QuerySource}
+use Rattle.hj_opening.specs.declared.source.QuerySource.TheVariants as source
 use Rattle.hj_opening.specs.Words as words
 
-abbrev pub source_seen : Source → words.Source
+abbrev pub source_seen : QuerySource → words.QuerySource
 source_seen (source.Keyed keyed) = words.keyed keyed.rows
 source_seen (source.Named name) = words.named name.now
 
@@ -17,7 +17,7 @@ names_seen join = record { left = join.left.now; right = join.right.now }
 abbrev pub join_seen : words.TextKind → JoinOrder → words.Order
 join_seen kind join = words.join_streams kind (source_seen join.source) (names_seen join) join.limit
 
-abbrev pub chain_seen : ChainSize → words.Chain
+abbrev pub chain_seen : ChainSize → words.ChainShape
 chain_seen size = record { cores = size.cores; flight = size.flight }
 
 abbrev pub checked_names_seen : CheckOrder → words.CheckedNames

@@ -5,7 +5,7 @@ use Rattle.std.specs.declared.result.Result.{Result}
 use Rattle.hj_base.specs.declared.outside.Role.{Role}
 use Rattle.hj_base.specs.declared.outside.Role.TheVariants as role
 use Rattle.hj_base.specs.Outside.{RoleState, unbegun}
-use Rattle.hj_query.specs.Parts.{Parts}
+use Rattle.hj_query.specs.QueryParts.{QueryParts}
 use Rattle.hj_notes.specs.declared.note.Note.{Note}
 use Rattle.hj_opening.specs.Calls.{call}
 use Rattle.hj_notes.specs.NoteText.{status_of}
@@ -13,10 +13,10 @@ use Rattle.hj_opening.specs.Opening.{AreOpened}
 use Rattle.hj_opening.specs.Queries.{IsQueryOf}
 use Rattle.hj_opening.specs.Run.{RunsOrder}
 use Rattle.hj_opening.specs.Serve.{AreOpen, BeginsSource, IsJoinRole}
-use Rattle.hj_opening.specs.Words.{Names, Order, Source, check_query, check_trace, join_streams, join_twice, sum_up}
+use Rattle.hj_opening.specs.Words.{Names, Order, QuerySource, check_query, check_trace, join_streams, join_twice, sum_up}
 
 -- The query of a join was got, and both its streams are open; nothing was read of them, and nothing failed.
-pub record IsReady (query : Parts) (source : Source) (names : Names) (under : List ℕ → Option (List ℕ)) (before now : Role → RoleState) : Type 0 where
+pub record IsReady (query : QueryParts) (source : QuerySource) (names : Names) (under : List ℕ → Option (List ℕ)) (before now : Role → RoleState) : Type 0 where
   pub accepted : IsQueryOf source query under (before role.Query) (now role.Query)
   pub unfailed : (of : Role) → (now of).faults ≡ (before of).faults
   pub begun : BeginsSource source (now role.Query).phase
@@ -31,7 +31,7 @@ pub record EndsEarly (note : Note) (order : Order) (under : List ℕ → Option 
   -- and where the query is refused, nothing failed
   pub unfailed : status_of note ≡ 2 → (of : Role) → (now of).faults ≡ (before of).faults
 
-abbrev pub MakesReady : Result Parts Note → Order → (List ℕ → Option (List ℕ)) → (Role → RoleState) → (Role → RoleState) → Type 0
+abbrev pub MakesReady : Result QueryParts Note → Order → (List ℕ → Option (List ℕ)) → (Role → RoleState) → (Role → RoleState) → Type 0
 MakesReady (Ok query) (join_streams kind source names limit) under before now = IsReady query source names under before now
 MakesReady (Ok query) (check_trace chain name names limit) under before now = ⊥
 MakesReady (Ok query) (check_query name) under before now = ⊥

@@ -5,7 +5,7 @@ use Rattle.std.specs.declared.result.Result.{Result}
 use Rattle.hj_base.specs.declared.outside.Role.{Role}
 use Rattle.hj_base.specs.declared.outside.Role.TheVariants as role
 use Rattle.hj_base.specs.Outside.{RoleState, unbegun}
-use Rattle.hj_query.specs.Parts.{Parts}
+use Rattle.hj_query.specs.QueryParts.{QueryParts}
 use Rattle.hj_notes.specs.declared.note.Note.{Note}
 use Rattle.hj_notes.specs.NoteText.{note_text, status_of}
 use Rattle.hj_notes.specs.declared.verify_note.VerifyNote.{VerifyNote}
@@ -16,10 +16,10 @@ use Rattle.hj_opening.specs.Queries.{IsAccepted}
 use Rattle.hj_opening.specs.Serve.{ServesOrder}
 use Rattle.hj_opening.specs.Streams.{IsBegunUnder}
 use Rattle.hj_opening.specs.Verifying.{IsCheckRole}
-use Rattle.hj_opening.specs.Words.{Chain, CheckedNames, Order, check_trace}
+use Rattle.hj_opening.specs.Words.{ChainShape, CheckedNames, Order, check_trace}
 
 -- The query was accepted, and the streams, the trace and the output are open; nothing was read of them, and nothing failed.
-pub record IsReadyToCheck (query : Parts) (name : List ℕ) (names : CheckedNames) (under : List ℕ → Option (List ℕ))
+pub record IsReadyToCheck (query : QueryParts) (name : List ℕ) (names : CheckedNames) (under : List ℕ → Option (List ℕ))
     (before now : Role → RoleState) : Type 0 where
   pub accepted : IsAccepted query name (under name) (before role.Query) (now role.Query)
   pub begun : IsBegunUnder name (now role.Query).phase
@@ -35,7 +35,7 @@ abbrev pub RunsVerify : Result (Unit {0}) VerifyNote → Order → Call → Type
 RunsVerify ended order call = ServesOrder (Some order) (status_of_verify ended) (text_of_verify ended) call
 
 -- Getting ready for a check: all is there; or the check ends with this note, whatever the output is, and nothing is written to it.
-abbrev pub MakesReadyToCheck : Result Parts Note → Chain → List ℕ → CheckedNames → ℕ → (List ℕ → Option (List ℕ))
+abbrev pub MakesReadyToCheck : Result QueryParts Note → ChainShape → List ℕ → CheckedNames → ℕ → (List ℕ → Option (List ℕ))
     → (Role → RoleState) → (Role → RoleState) → Type 0
 MakesReadyToCheck (Ok query) chain name names limit under before now = IsReadyToCheck query name names under before now
 MakesReadyToCheck (Err note) chain name names limit under before now =

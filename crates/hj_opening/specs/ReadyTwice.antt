@@ -10,7 +10,7 @@ use Rattle.hj_notes.specs.declared.note.Note.{Note}
 use Rattle.hj_notes.specs.declared.note.Note.TheVariants as why
 use Rattle.hj_notes.specs.declared.twice_note.TwiceNote.{TwiceNote}
 use Rattle.hj_notes.specs.declared.twice_note.TwiceNote.TheVariants as note
-use Rattle.hj_query.specs.Parts.{Parts}
+use Rattle.hj_query.specs.QueryParts.{QueryParts}
 use Rattle.hj_opening.specs.declared.twice.TwoQueries.{TwoQueries}
 use Rattle.hj_opening.specs.Calls.{call}
 use Rattle.hj_opening.specs.Opening.{GetsQuery, IsOpened}
@@ -26,7 +26,7 @@ second_note (why.BadQuery found) = note.BadSecondQuery found
 second_note other = note.Common other
 
 -- The second query, or why there is none.
-abbrev pub SecondCause : Result Parts TwiceNote → List ℕ → Option (List ℕ) → RoleState → RoleState → Type 0
+abbrev pub SecondCause : Result QueryParts TwiceNote → List ℕ → Option (List ℕ) → RoleState → RoleState → Type 0
 SecondCause (Ok query) name told before now = IsAccepted query name told before now × (now.faults ≡ before.faults)
 SecondCause (Err (note.BadSecondQuery found)) name told before now = IsRefused found name told before now
 SecondCause (Err (note.Common (why.Source failed))) name told before now = (failed ≡ role.SecondQuery) × Rose before.faults now.faults
@@ -34,14 +34,14 @@ SecondCause (Err (note.Common why.Memory)) name told before now = Unit {0}
 SecondCause (Err other) name told before now = ⊥
 
 -- Getting the second query under a name.
-pub record GetsSecond (got : Result Parts TwiceNote) (name : List ℕ) (under : List ℕ → Option (List ℕ))
+pub record GetsSecond (got : Result QueryParts TwiceNote) (name : List ℕ) (under : List ℕ → Option (List ℕ))
     (before now : Role → RoleState) : Type 0 where
   pub cause : SecondCause got name (under name) (before role.SecondQuery) (now role.SecondQuery)
   pub begun : IsBegunUnder name (now role.SecondQuery).phase
   pub others : ChangesOnly role.SecondQuery before now
 
 -- The first query was got from these roles on, and the second one is read under this name behind it.
-pub record GoesBehind (first : Parts) (name : List ℕ) (names : TwiceNames) (under : List ℕ → Option (List ℕ))
+pub record GoesBehind (first : QueryParts) (name : List ℕ) (names : TwiceNames) (under : List ℕ → Option (List ℕ))
     (before : Role → RoleState) (told : List ℕ → Option (List ℕ)) (now : Role → RoleState) : Type 0 where
   pub second : names.second ≡ name
   pub none : NoneBegun before

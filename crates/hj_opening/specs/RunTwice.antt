@@ -5,8 +5,8 @@ use Rattle.hj_notes.specs.declared.note.Note.{Note}
 use Rattle.hj_notes.specs.declared.twice_note.TwiceNote.{TwiceNote}
 use Rattle.hj_notes.specs.declared.twice_note.TwiceNote.TheVariants as note
 use Rattle.hj_notes.specs.TwiceText.{status_of_twice, text_of_twice}
-use Rattle.hj_relay.specs.declared.ending.Twice.{Twice}
-use Rattle.hj_relay.specs.declared.ending.Twice.TheVariants as twice
+use Rattle.hj_relay.specs.declared.ending.TwiceOutcome.{TwiceOutcome}
+use Rattle.hj_relay.specs.declared.ending.TwiceOutcome.TheVariants as twice
 use Rattle.hj_stream.specs.declared.outcome.Outcome.{Outcome}
 use Rattle.hj_stream.specs.declared.outcome.Outcome.TheVariants as outcome
 use Rattle.hj_opening.specs.declared.twice.TwiceOrder.{TwiceOrder}
@@ -34,7 +34,7 @@ end_of_second limit (outcome.Bad side at found) = Err (note.BadSecondRecord side
 end_of_second limit ended = common (end_of limit ended)
 
 -- The ending of a run whose two joins ended so.
-abbrev pub end_of_twice : ℕ → Twice → Result (Unit {0}) TwiceNote
+abbrev pub end_of_twice : ℕ → TwiceOutcome → Result (Unit {0}) TwiceNote
 end_of_twice limit (twice.Done first second) = Ok tt
 end_of_twice limit (twice.First ended) = common (end_of limit ended)
 end_of_twice limit (twice.Second ended) = end_of_second limit ended

@@ -16,8 +16,8 @@ IsBegunUnder name (opened given ended) = given ≡ name
 IsBegunUnder name (refused given) = given ≡ name
 
 -- These bytes stand under a name, where that is told.
-abbrev pub StandsFor : Option (List ℕ) → List ℕ → Type 0
-StandsFor told bytes = IfSome told (λ known. known ≡ bytes)
+abbrev pub StandsUnder : Option (List ℕ) → List ℕ → Type 0
+StandsUnder told bytes = IfSome told (λ known. known ≡ bytes)
 
 -- A role was read to its end.
 abbrev pub IsReadToEnd : List ℕ → RoleState → Type 0
@@ -39,7 +39,7 @@ has_ended (refused name) = false
 
 -- All bytes that stand under a name.
 pub record IsWholeStream (told : Option (List ℕ)) (stream : Stream) : Type 0 where
-  pub bytes : StandsFor told stream.bytes
+  pub bytes : StandsUnder told stream.bytes
   pub whole : stream.whole ≡ true
 
 -- The bytes of a role that were read; whole where the role has answered its end, and else cut off behind them.

@@ -15,14 +15,14 @@ use Rattle.hj_event.specs.Events.{events_of}
 use Rattle.hj_notes.specs.Notes.{events_note, query_note, record_note, refused_note, role_name, source_note, stream_note}
 use Rattle.hj_notes.specs.TwiceText.{second_name, shape_note}
 use Rattle.hj_query.specs.declared.fault.QueryFault.{QueryFault}
-use Rattle.hj_query.specs.Parts.{Parts}
+use Rattle.hj_query.specs.QueryParts.{QueryParts}
 use Rattle.hj_record.specs.Pieces.{Stream}
 use Rattle.hj_relay.specs.Fits.{Fits}
 use Rattle.hj_relay.specs.Rows.{IsTooLong}
 use Rattle.hj_relay.specs.Twice.{second_result}
 use Rattle.hj_stream.specs.JoinText.{JoinResult}
 use Rattle.hj_opening.specs.Calls.{Call}
-use Rattle.hj_opening.specs.Keeping.{Keeps, NothingFails, RefusesQuery, status_of_ending}
+use Rattle.hj_opening.specs.Keeping.{KeepsPromise, NothingFails, RefusesQuery, status_of_ending}
 use Rattle.hj_opening.specs.Queries.{IsAccepted, IsRefused}
 use Rattle.hj_opening.specs.Streams.{AreStreams, Fails, IsBegunUnder, IsReadToEnd, IsStream}
 use Rattle.hj_opening.specs.Words.{TwiceNames}
@@ -47,15 +47,15 @@ AreQueriesAlone now = (of : Role) → of ≢ role.Query → of ≢ role.SecondQu
 
 -- ---- The queries, by the bytes under their names and by what became of their roles.
 
-abbrev pub AcceptsFirst : Parts → TwiceNames → (List ℕ → Option (List ℕ)) → (Role → RoleState) → (Role → RoleState) → Type 0
+abbrev pub AcceptsFirst : QueryParts → TwiceNames → (List ℕ → Option (List ℕ)) → (Role → RoleState) → (Role → RoleState) → Type 0
 AcceptsFirst first names under before now = IsAccepted first names.query (under names.query) (before role.Query) (now role.Query)
 
-abbrev pub AcceptsSecond : Parts → TwiceNames → (List ℕ → Option (List ℕ)) → (Role → RoleState) → (Role → RoleState) → Type 0
+abbrev pub AcceptsSecond : QueryParts → TwiceNames → (List ℕ → Option (List ℕ)) → (Role → RoleState) → (Role → RoleState) → Type 0
 AcceptsSecond second names under before now =
     IsAccepted second names.second (under names.second) (before role.SecondQuery) (now role.SecondQuery)
 
 -- Both queries are accepted, and the second one can read the pairs of the first join.
-pub record AcceptsBoth (first second : Parts) (names : TwiceNames) (under : List ℕ → Option (List ℕ))
+pub record AcceptsBoth (first second : QueryParts) (names : TwiceNames) (under : List ℕ → Option (List ℕ))
     (before now : Role → RoleState) : Type 0 where
   pub of_first : AcceptsFirst first names under before now
   pub of_second : AcceptsSecond second names under before now
@@ -63,7 +63,7 @@ pub record AcceptsBoth (first second : Parts) (names : TwiceNames) (under : List
 
 -- The first query was accepted, and the second one refused. No role but theirs was begun, and nothing written.
 pub record RefusesSecond (found : QueryFault) (names : TwiceNames) (call : Call) : Type 0 where
-  pub first : Parts
+  pub first : QueryParts
   pub accepted : AcceptsFirst first names call.under call.before call.now
   pub refused : IsRefused found names.second (call.under names.second) (call.before role.SecondQuery) (call.now role.SecondQuery)
   pub alone : AreQueriesAlone call.now
@@ -72,8 +72,8 @@ pub record RefusesSecond (found : QueryFault) (names : TwiceNames) (call : Call)
 -- Both queries were accepted, but the second one can't read the pairs of the first join. No role but theirs was begun, and nothing
 -- written.
 pub record RefusesShape (names : TwiceNames) (call : Call) : Type 0 where
-  pub first : Parts
-  pub second : Parts
+  pub first : QueryParts
+  pub second : QueryParts
   pub of_first : AcceptsFirst first names call.under call.before call.now
   pub of_second : AcceptsSecond second names call.under call.before call.now
   pub unfit : ¬ (Fits first second)
@@ -84,8 +84,8 @@ pub record RefusesShape (names : TwiceNames) (call : Call) : Type 0 where
 
 -- Both queries of a call are accepted; these are the streams of its first join.
 pub record FirstJoin (names : TwiceNames) (call : Call) : Type 0 where
-  pub first : Parts
-  pub second : Parts
+  pub first : QueryParts
+  pub second : QueryParts
   pub accepted : AcceptsBoth first second names call.under call.before call.now
   pub left : Stream
   pub right : Stream
@@ -177,9 +177,9 @@ pub record BeginsTwice (names : TwiceNames) (under : List ℕ → Option (List �
   pub left : IsBegunUnder names.streams.left (now role.Left).phase
   pub right : IsBegunUnder names.streams.right (now role.Right).phase
   pub third : IsBegunUnder names.third (now role.Third).phase
-  pub first_accepted : (now role.SecondQuery).phase ≢ unbegun → (first : Parts) × AcceptsFirst first names under before now
+  pub first_accepted : (now role.SecondQuery).phase ≢ unbegun → (first : QueryParts) × AcceptsFirst first names under before now
   pub both_accepted : (now role.Left).phase ≢ unbegun
-      → (first : Parts) × ((second : Parts) × AcceptsBoth first second names under before now)
+      → (first : QueryParts) × ((second : QueryParts) × AcceptsBoth first second names under before now)
   pub left_open : (now role.Right).phase ≢ unbegun → IsOpen (now role.Left).phase
   pub right_open : (now role.Third).phase ≢ unbegun → IsOpen (now role.Right).phase
 
@@ -195,7 +195,7 @@ pub data IsTwiceDecided (names : TwiceNames) (limit : ℕ) (call : Call) (status
       → WritesSecond ending names limit call → IsTwiceDecided names limit call status
 
 pub record ServesTwice (names : TwiceNames) (limit : ℕ) (status : ℕ) (note : List ℕ) (call : Call) : Type 0 where
-  pub keeps : Keeps (EndsTwice names limit call) (λ grown. BeginsSecond grown names limit call) IsTwiceRole status note call
+  pub keeps : KeepsPromise (EndsTwice names limit call) (λ grown. BeginsSecond grown names limit call) IsTwiceRole status note call
   pub roles : BeginsTwice names call.under call.before call.now
   -- Where nothing fails, the queries and the endings of the events decide the status, or memory ran out.
   pub complete : NothingFails call → (status ≡ 6) ⊎ IsTwiceDecided names limit call status

@@ -12,9 +12,9 @@ unfoldable pub most_events : ℕ
 most_events = 4294967295
 
 -- Where the query of a join comes from: it is that of `equi W`, or it is read under a name.
-pub data Source : Type 0 where
-  keyed : (rows : ℕ) → Source
-  named : (name : List ℕ) → Source
+pub data QuerySource : Type 0 where
+  keyed : (rows : ℕ) → QuerySource
+  named : (name : List ℕ) → QuerySource
 
 -- the names of the two streams of a join
 pub record Names : Type 0 where
@@ -22,7 +22,7 @@ pub record Names : Type 0 where
   pub right : List ℕ
 
 -- A chain: how many cores it has, and how many events are under way in it at most.
-pub record Chain : Type 0 where
+pub record ChainShape : Type 0 where
   pub cores : ℕ
   pub flight : ℕ
 
@@ -55,7 +55,7 @@ pub data TextKind : Type 0 where
   -- the pairs as the cores meet them, and marks between them that tell up to which number all have come
   raw_items : TextKind
   -- the line of each step of such a chain, in the order of this rule
-  step_lines : Chain → Chooser → TextKind
+  step_lines : ChainShape → Chooser → TextKind
 
 -- the two streams that `gen N KEYS SEED W` makes and joins: so many rows each, with so many keys, by the draws of a seed,
 -- over windows of so many rows
@@ -71,8 +71,8 @@ pub record Recipe : Type 0 where
 -- `gen N KEYS SEED W` sums up the join of two streams that it makes. `twice QUERY LEFT RIGHT
 -- QUERY THIRD` joins the pairs of a first join with a third stream, with so many events at most in each of both joins.
 pub data Order : Type 0 where
-  join_streams : TextKind → Source → Names → (limit : ℕ) → Order
-  check_trace : Chain → (name : List ℕ) → CheckedNames → (limit : ℕ) → Order
+  join_streams : TextKind → QuerySource → Names → (limit : ℕ) → Order
+  check_trace : ChainShape → (name : List ℕ) → CheckedNames → (limit : ℕ) → Order
   check_query : (name : List ℕ) → Order
   sum_up : Recipe → Order
   join_twice : TwiceNames → (limit : ℕ) → Order

@@ -6,7 +6,7 @@ ghost use Rattle.hj_opening.specs.Opening.{GetsQuery, Opens, Parses, ReadsText, 
 ghost use Rattle.hj_opening.specs.Orders.{source_seen};
 ghost use Rattle.hj_opening.specs.Words.{named};
 
-use crate::source::Source;
+use crate::source::QuerySource;
 use hj_base::{Got, Opened, Outside, Role};
 use hj_notes::Note;
 use hj_query::{MOST_BYTES, Query, QueryFault, equi, parse};
@@ -22,7 +22,7 @@ const TOO_MANY: usize = MOST_BYTES + 1;
 /// none: its stream, its text, or memory.
 pub fn query_of<O: Outside>(
     alloc: Global,
-    source: Source<'_>,
+    source: QuerySource<'_>,
     outside: &mut O,
 ) -> Result<Query, Note>
     requires { NoneBegun (O.state outside.old) }
@@ -30,8 +30,8 @@ pub fn query_of<O: Outside>(
     ensures names { NamesStay (O.under outside.old) (O.under outside.new) }
 {
     match source {
-        Source::Keyed(keyed) => Ok(equi(alloc, keyed.rows)?),
-        Source::Named(name) => read_query(alloc, Role::Query, name, outside),
+        QuerySource::Keyed(keyed) => Ok(equi(alloc, keyed.rows)?),
+        QuerySource::Named(name) => read_query(alloc, Role::Query, name, outside),
     }
 }
 

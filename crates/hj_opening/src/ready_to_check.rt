@@ -6,7 +6,7 @@ ghost use Rattle.hj_opening.specs.ReadyToCheck.{MakesReadyToCheck};
 use crate::check_order::CheckOrder;
 use crate::query::open;
 use crate::ready::make_ready;
-use crate::source::{JoinOrder, Source};
+use crate::source::{JoinOrder, QuerySource};
 use hj_base::{Outside, Role};
 use hj_notes::Note;
 use hj_query::Query;
@@ -25,7 +25,7 @@ pub fn make_ready_to_check<O: Outside>(
     ensures names { NamesStay (O.under outside.old) (O.under outside.new) }
 {
     let join = JoinOrder {
-        source: Source::Named(check.query),
+        source: QuerySource::Named(check.query),
         left: check.left,
         right: check.right,
         limit: check.limit,

@@ -1,10 +1,10 @@
-use crate::keyed::Keyed;
+use crate::keyed::EquiWindow;
 
 /// Where the query of a join comes from.
 #[derive(Clone, Copy, Debug)]
-pub enum Source<'a> {
+pub enum QuerySource<'a> {
     /// `equi W`: rows of equal keys, over windows of that many rows.
-    Keyed(Keyed),
+    Keyed(EquiWindow),
     /// `join QUERY`: the text under this name.
     Named(&'a str),
 }
@@ -12,7 +12,7 @@ pub enum Source<'a> {
 /// The order of a join, apart from how it is run.
 #[derive(Clone, Copy, Debug)]
 pub struct JoinOrder<'a> {
-    pub source: Source<'a>,
+    pub source: QuerySource<'a>,
     /// The name of the left stream.
     pub left: &'a str,
     /// The name of the right stream.

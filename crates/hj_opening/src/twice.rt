@@ -12,7 +12,7 @@ use crate::query::{open, read_query};
 use hj_base::{Outside, Role};
 use hj_notes::{Note, TwiceNote};
 use hj_query::Query;
-use hj_relay::{Twice, fits};
+use hj_relay::{TwiceOutcome, fits};
 use hj_stream::Outcome;
 use std::alloc::Global;
 
@@ -118,13 +118,13 @@ fn second_note(note: Note) -> TwiceNote
 }
 
 /// Gives the ending of a run whose two joins ended so. `limit` is how many events each of them numbers at most.
-pub fn end_of_twice(limit: u64, ended: Twice) -> Result<(), TwiceNote>
+pub fn end_of_twice(limit: u64, ended: TwiceOutcome) -> Result<(), TwiceNote>
     ensures { result ≡ end_of_twice limit ended }
 {
     match ended {
-        Twice::Done { .. } => Ok(()),
-        Twice::First(outcome) => common(end_of(limit, outcome)),
-        Twice::Second(outcome) => end_of_second(limit, outcome),
+        TwiceOutcome::Done { .. } => Ok(()),
+        TwiceOutcome::First(outcome) => common(end_of(limit, outcome)),
+        TwiceOutcome::Second(outcome) => end_of_second(limit, outcome),
     }
 }
 

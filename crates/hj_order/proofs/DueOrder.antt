@@ -10,7 +10,7 @@ use Rattle.hj_msg.specs.declared.event.Pair.{Pair}
 use Rattle.hj_msg.specs.Valid.{later, earlier}
 use Rattle.hj_msg.specs.Emission.{comes_before, is_within}
 use Rattle.hj_msg.specs.Punctuation.{Mark, up_to, all}
-use Rattle.hj_order.specs.declared.kept.Kept.{Kept}
+use Rattle.hj_order.specs.declared.kept.KeptPair.{KeptPair}
 use Rattle.hj_order.specs.Due.{due_cmp, pairs_in}
 
 -- two numbers and then two others, compared the one way and the other
@@ -24,10 +24,10 @@ compared a b c d h = by (nat_lt b a) (nat_eq b a) (nat_lt d c) refl refl refl
     by false true false p q r = rw (p, q, r) refl
 
 module _ {P : Type 0} where
-  not_before : (x y : Kept P) → lt_by_cmp due_cmp x y ≡ false → comes_before y.pair x.pair ≡ false
+  not_before : (x y : KeptPair P) → lt_by_cmp due_cmp x y ≡ false → comes_before y.pair x.pair ≡ false
   not_before x y h = compared (later x.pair) (later y.pair) (earlier x.pair) (earlier y.pair) h
 
-  pub none_before : (x : Kept P) (xs : List (Kept P)) → IsUpperBound due_cmp x xs → All (λ other. comes_before other x.pair ≡ false) (pairs_in xs)
+  pub none_before : (x : KeptPair P) (xs : List (KeptPair P)) → IsUpperBound due_cmp x xs → All (λ other. comes_before other x.pair ≡ false) (pairs_in xs)
   none_before x [] bound = All-nil (λ other. comes_before other x.pair ≡ false)
   none_before x (y ∷ ys) bound = All-cons (λ other. comes_before other x.pair ≡ false) y.pair (pairs_in ys) (not_before x y bound.0) (none_before x ys bound.1)
 
@@ -40,12 +40,12 @@ module _ {P : Type 0} where
   none_within mark p qs before past = All-weaker (λ other. comes_before other p ≡ false) (λ other. is_within (Some mark) (later other) ≡ false) (λ q h. later_past mark p q h past) qs before
 
   -- the first pair is one of them
-  pub first_is : (x : Kept P) (xs : List (Kept P)) → 0 < length xs → x ≡ get_or xs 0 x → (Q : Pair P → Type 0) → All Q (pairs_in xs) → Q x.pair
+  pub first_is : (x : KeptPair P) (xs : List (KeptPair P)) → 0 < length xs → x ≡ get_or xs 0 x → (Q : Pair P → Type 0) → All Q (pairs_in xs) → Q x.pair
   first_is x [] some is Q each = absurd (omega (arith, some))
   first_is x (y ∷ ys) some is Q each = subst (λ k. Q k.pair) (sym is) (each 0 y.pair (omega arith))
 
   -- one pair more goes from a list into a heap
-  pub one_more : (whole rest : List (Pair P)) (old new : List (Kept P)) (kept : Kept P) → IsPermutation whole (pairs_in old ++ kept.pair ∷ rest) → IsPermutation (kept ∷ old) new → IsPermutation whole (pairs_in new ++ rest)
+  pub one_more : (whole rest : List (Pair P)) (old new : List (KeptPair P)) (kept : KeptPair P) → IsPermutation whole (pairs_in old ++ kept.pair ∷ rest) → IsPermutation (kept ∷ old) new → IsPermutation whole (pairs_in new ++ rest)
   one_more whole rest old new kept is pushes =
       IsPermutation-trans whole (pairs_in old ++ kept.pair ∷ rest) (pairs_in new ++ rest) is
       (IsPermutation-trans (pairs_in old ++ kept.pair ∷ rest) (pairs_in (kept ∷ old) ++ rest) (pairs_in new ++ rest) (IsPermutation-middle (pairs_in old) kept.pair rest)

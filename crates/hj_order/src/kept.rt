@@ -10,11 +10,11 @@ use std::cmp::Ordering;
 
 /// A pair that was met. It is the greater the sooner it is due: by the later number, then by the earlier one.
 #[derive(Debug, Drop)]
-pub struct Kept<P> {
+pub struct KeptPair<P> {
     pub(crate) pair: Pair<P>,
 }
 
-impl<P> Kept<P> {
+impl<P> KeptPair<P> {
     /// Returns the number of the row that came later.
     pub(crate) fn later(&self) -> u64
         ensures { result ≡ later self.now.pair }
@@ -39,7 +39,7 @@ impl<P> Kept<P> {
     }
 }
 
-impl<P> Ord for Kept<P> {
+impl<P> Ord for KeptPair<P> {
     ghost use Rattle.hj_order.specs.Due.{due_cmp};
 
     ghost cmp = { due_cmp };
@@ -56,7 +56,7 @@ impl<P> Ord for Kept<P> {
     }
 }
 
-impl<P> PartialOrd for Kept<P> {
+impl<P> PartialOrd for KeptPair<P> {
     ghost use Rattle.hj_order.specs.Due.{due_cmp};
 
     ghost partial_cmp = { as_partial_cmp due_cmp };
@@ -68,7 +68,7 @@ impl<P> PartialOrd for Kept<P> {
     }
 }
 
-impl<P> PartialEq for Kept<P> {
+impl<P> PartialEq for KeptPair<P> {
     ghost use Rattle.hj_order.specs.Due.{due_cmp};
 
     ghost eq = { eq_by_cmp due_cmp };
@@ -80,6 +80,6 @@ impl<P> PartialEq for Kept<P> {
     }
 }
 
-impl<P> Eq for Kept<P> {
+impl<P> Eq for KeptPair<P> {
     ghost laws = { Prim.search (comparing, rules) };
 }

@@ -9,7 +9,7 @@ ghost use Rattle.hj_collect.specs.Marks.{meaning};
 ghost use Rattle.hj_order.specs.Due.{due_cmp, pairs_in, AreInOrder, NoneBefore, NoneSooner};
 ghost use Rattle.hj_order.specs.Giving.{GivesDue, Releases};
 
-use crate::kept::Kept;
+use crate::kept::KeptPair;
 use hj_base::{Memory, Share};
 use hj_collect::{Collector, Mark};
 use hj_msg::{Drain, Drained, Pair, Report};
@@ -21,9 +21,9 @@ use std::marker::Model;
 #[derive(Debug, Drop)]
 pub struct Ordered<P> {
     /// Those that came late: one that is due later had come before.
-    late: BinaryHeap<Kept<P>>,
+    late: BinaryHeap<KeptPair<P>>,
     /// All others, each due no sooner than those ahead of it.
-    in_order: VecDeque<Kept<P>>,
+    in_order: VecDeque<KeptPair<P>>,
     /// No later number of them all is below this one, so that a mark that is below it lets none out.
     soonest: u64,
     /// Where the pairs of a report that has several are made, so that each report takes the same room. Empty between calls.
@@ -187,7 +187,7 @@ impl<P: Share + Drop> Ordered<P> {
     {
         self.late.reserve(1)?;
         self.in_order.reserve(1)?;
-        put(&mut self.late, &mut self.in_order, Kept { pair });
+        put(&mut self.late, &mut self.in_order, KeptPair { pair });
         self.soonest = soonest_of(&self.late, &self.in_order);
         Ok(())
     }
@@ -207,8 +207,8 @@ fn has_pairs<P>(report: &Report<P>) -> bool
 /// Makes the pairs of a report in a list that is empty, and room for all of them among those that are kept. After an error a part of
 /// them may be in the list.
 fn make_pairs<P: Share + Drop>(
-    late: &mut BinaryHeap<Kept<P>>,
-    in_order: &mut VecDeque<Kept<P>>,
+    late: &mut BinaryHeap<KeptPair<P>>,
+    in_order: &mut VecDeque<KeptPair<P>>,
     made: &mut Vec<Pair<P>>,
     collector: &Collector,
     report: &Report<P>,
@@ -229,8 +229,8 @@ fn make_pairs<P: Share + Drop>(
 /// Puts the pairs of a list where they belong, the first one first, where there is room for all of them in both. The list is empty then.
 #[inline(always)]
 fn put_all<P: Drop>(
-    late: &mut BinaryHeap<Kept<P>>,
-    in_order: &mut VecDeque<Kept<P>>,
+    late: &mut BinaryHeap<KeptPair<P>>,
+    in_order: &mut VecDeque<KeptPair<P>>,
     pairs: &mut Vec<Pair<P>>,
 )
     requires late_room { heap_len late.old + vec_len pairs.old ≤ heap_capacity late.old }
@@ -242,13 +242,17 @@ fn put_all<P: Drop>(
 {
     pairs.reverse();
     while let Some(pair) = pairs.pop() {
-        put(late, in_order, Kept { pair });
+        put(late, in_order, KeptPair { pair });
     }
 }
 
 /// Puts a pair behind those that are in order if it is due no sooner than the last one, or else among those that came late.
 #[inline(always)]
-fn put<P: Drop>(late: &mut BinaryHeap<Kept<P>>, in_order: &mut VecDeque<Kept<P>>, kept: Kept<P>)
+fn put<P: Drop>(
+    late: &mut BinaryHeap<KeptPair<P>>,
+    in_order: &mut VecDeque<KeptPair<P>>,
+    kept: KeptPair<P>,
+)
     requires late_room { heap_len late.old < heap_capacity late.old }
     requires room { deque_len in_order.old < deque_capacity in_order.old }
     ensures put { IsPermutation (kept ∷ (heap_items late.old ++ in_order.old.items)) (heap_items late.new ++ in_order.new.items) }
@@ -266,7 +270,7 @@ fn put<P: Drop>(late: &mut BinaryHeap<Kept<P>>, in_order: &mut VecDeque<Kept<P>>
 
 /// Returns whether a pair is due no sooner than the last one.
 #[inline(always)]
-fn is_in_order<P>(in_order: &VecDeque<Kept<P>>, kept: &Kept<P>) -> bool
+fn is_in_order<P>(in_order: &VecDeque<KeptPair<P>>, kept: &KeptPair<P>) -> bool
     ensures { result ≡ true → AreInOrder in_order.now.items → AreInOrder (in_order.now.items ++ kept.now ∷ []) }
 {
     match in_order.back() {
@@ -277,12 +281,12 @@ fn is_in_order<P>(in_order: &VecDeque<Kept<P>>, kept: &Kept<P>) -> bool
 
 /// Returns whether one that came late is due before the first of the others.
 #[inline(always)]
-fn is_late_first<P>(late: &BinaryHeap<Kept<P>>, in_order: &VecDeque<Kept<P>>) -> bool
+fn is_late_first<P>(late: &BinaryHeap<KeptPair<P>>, in_order: &VecDeque<KeptPair<P>>) -> bool
     requires late { IsHeap due_cmp (heap_items late.now) }
     requires order { AreInOrder in_order.now.items }
-    ensures late { result ≡ true → (one : Kept P) → slice_get (heap_items late.now) 0 ≡ Some one → NoneBefore one.pair in_order.now.items }
+    ensures late { result ≡ true → (one : KeptPair P) → slice_get (heap_items late.now) 0 ≡ Some one → NoneBefore one.pair in_order.now.items }
     ensures some { result ≡ true → 0 < heap_len late.now }
-    ensures first { result ≡ false → (one : Kept P) → slice_get in_order.now.items 0 ≡ Some one → NoneBefore one.pair (heap_items late.now) }
+    ensures first { result ≡ false → (one : KeptPair P) → slice_get in_order.now.items 0 ≡ Some one → NoneBefore one.pair (heap_items late.now) }
     ensures none { result ≡ false → deque_len in_order.now ≡ 0 → heap_len late.now ≡ 0 }
 {
     let Some(one) = late.peek() else {
@@ -296,7 +300,7 @@ fn is_late_first<P>(late: &BinaryHeap<Kept<P>>, in_order: &VecDeque<Kept<P>>) ->
 
 /// Returns a number below which is no later number of the pairs that are kept.
 #[inline(always)]
-fn soonest_of<P>(late: &BinaryHeap<Kept<P>>, in_order: &VecDeque<Kept<P>>) -> u64
+fn soonest_of<P>(late: &BinaryHeap<KeptPair<P>>, in_order: &VecDeque<KeptPair<P>>) -> u64
     requires late { IsHeap due_cmp (heap_items late.now) }
     requires order { AreInOrder in_order.now.items }
     ensures { NoneSooner result (heap_items late.now ++ in_order.now.items) }
@@ -307,7 +311,7 @@ fn soonest_of<P>(late: &BinaryHeap<Kept<P>>, in_order: &VecDeque<Kept<P>>) -> u6
 
 /// Returns a number below which is no later number of the pairs that came late.
 #[inline(always)]
-fn soonest_late<P>(late: &BinaryHeap<Kept<P>>) -> u64
+fn soonest_late<P>(late: &BinaryHeap<KeptPair<P>>) -> u64
     requires { IsHeap due_cmp (heap_items late.now) }
     ensures { NoneSooner result (heap_items late.now) }
 {
@@ -319,7 +323,7 @@ fn soonest_late<P>(late: &BinaryHeap<Kept<P>>) -> u64
 
 /// Returns a number below which is no later number of the pairs that are in order.
 #[inline(always)]
-fn soonest_in_order<P>(in_order: &VecDeque<Kept<P>>) -> u64
+fn soonest_in_order<P>(in_order: &VecDeque<KeptPair<P>>) -> u64
     requires { AreInOrder in_order.now.items }
     ensures { NoneSooner result in_order.now.items }
 {
@@ -331,7 +335,7 @@ fn soonest_in_order<P>(in_order: &VecDeque<Kept<P>>) -> u64
 
 /// Removes the first pair of those that came late, if it is within the mark.
 #[inline(never)]
-fn release_late<P: Drop>(late: &mut BinaryHeap<Kept<P>>, up_to: Mark) -> Option<Pair<P>>
+fn release_late<P: Drop>(late: &mut BinaryHeap<KeptPair<P>>, up_to: Mark) -> Option<Pair<P>>
     requires late { IsHeap due_cmp (heap_items late.old) }
     ensures kept { IfSome result (λ pair. IsPermutation (heap_items late.old) (record { pair = pair } ∷ heap_items late.new)) }
     ensures top { IfSome result (λ pair. slice_get (heap_items late.old) 0 ≡ Some (record { pair = pair })) }

@@ -14,10 +14,10 @@ pub record AppendsFront (bytes : List ℕ) (old new : Option (List ℕ)) : Type 
   pub front : IsPrefix grown bytes
 
 -- What a sink that tells its bytes has, by how the sending of these bytes went.
-abbrev pub Sends : Sent → List ℕ → Option (List ℕ) → Option (List ℕ) → Type 0
-Sends sent.Whole bytes old new = Appends old new bytes
-Sends sent.Failed bytes old new = AppendsFront bytes old new
-Sends sent.Memory bytes old new = AppendsFront bytes old new
+abbrev pub SendsPiece : Sent → List ℕ → Option (List ℕ) → Option (List ℕ) → Type 0
+SendsPiece sent.Whole bytes old new = Appends old new bytes
+SendsPiece sent.Failed bytes old new = AppendsFront bytes old new
+SendsPiece sent.Memory bytes old new = AppendsFront bytes old new
 
 -- A fault is answered only where the sink's count of faults rose.
 abbrev pub CountsFaults : Sent → ℕ → ℕ → Type 0

@@ -1,4 +1,4 @@
-ghost use Rattle.hj_output.specs.Output.{Sends, CountsFaults, CountsRefusals};
+ghost use Rattle.hj_output.specs.Output.{SendsPiece, CountsFaults, CountsRefusals};
 
 use hj_base::{Put, Sink};
 
@@ -15,7 +15,7 @@ pub enum Sent {
 
 /// Offers a piece to a sink in one write, and the rest again where the sink took less.
 pub fn put_all<K: Sink>(out: &mut K, piece: &[u8]) -> Sent
-    ensures sends { Sends result piece.now (K.told out.old) (K.told out.new) }
+    ensures sends { SendsPiece result piece.now (K.told out.old) (K.told out.new) }
     ensures faults { CountsFaults result (K.faults out.old) (K.faults out.new) }
     ensures refusals { CountsRefusals result (K.refusals out.old) (K.refusals out.new) }
 {

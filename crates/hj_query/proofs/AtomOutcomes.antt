@@ -14,7 +14,7 @@ use Rattle.hj_query.specs.declared.sum.Sum.{Sum}
 use Rattle.hj_value.specs.declared.column.Column.{Column}
 use Rattle.hj_query.specs.Faults.{FaultsAtom, LacksComparison, compared_types, distant_sum, distant_types, left_sum, no_comparison, no_distance, no_of, right_sum}
 use Rattle.hj_query.specs.Grammar.{EndsSum, IsAtom, IsSum, can_compare, can_subtract, compared, distant, op_sign}
-use Rattle.hj_query.specs.Lexemes.{Lexeme, behind, next_is, place, IsNext, IsSign, IsWord}
+use Rattle.hj_query.specs.Lexemes.{Lexeme, behind, next_is, place, IsNextToken, IsSign, IsWord}
 use Rattle.hj_query.proofs.Lists.{next_shorter}
 use Rattle.hj_query.proofs.Outcomes.{IsOne, Outcome, fault, one_by, read}
 use Rattle.hj_query.proofs.Sequences.{Behind, Faults, Follows, Passes, behind_one, faults_one, follows_one, front, front_by, front_is, passes_one, tested, true_false}
@@ -56,14 +56,15 @@ Joins (by_op op) here = next_is kinds.Sign (op_sign op) here ≡ true
 Joins by_within here = next_is kinds.Name (codes "within") here ≡ true
 Joins by_nothing here = Unit {0}
 
-op_tested : (op : Op) (bytes : List ℕ) (here : List Lexeme) (other : Joint) → IsNext kinds.Sign bytes here (behind here) → Joins other here
+op_tested : (op : Op) (bytes : List ℕ) (here : List Lexeme) (other : Joint) → IsNextToken kinds.Sign bytes here (behind here)
+    → Joins other here
     → Joins (cond (bytes_eq bytes (op_sign op)) (by_op op) other) here
 op_tested op bytes here other n j = tested Joins kinds.Sign (op_sign op) bytes here (by_op op) other n (λ h. h) j
 
 joins : (here : List Lexeme) → Joins (joint_of here) here
 joins = front_by choose_joint by_nothing Joins tt some
   where
-    some : (kind : TokenKind) (bytes : List ℕ) (here : List Lexeme) → IsNext kind bytes here (behind here) → Joins (choose_joint kind bytes) here
+    some : (kind : TokenKind) (bytes : List ℕ) (here : List Lexeme) → IsNextToken kind bytes here (behind here) → Joins (choose_joint kind bytes) here
     some kinds.Name bytes here n = tested Joins kinds.Name (codes "within") bytes here by_within by_nothing n (λ h. h) tt
     some kinds.Number bytes here n = tt
     some kinds.Text bytes here n = tt

@@ -14,14 +14,14 @@ use Rattle.hj_query.specs.declared.pred.Op.TheVariants as ops
 use Rattle.hj_query.specs.declared.pred.Pred.{Pred, Compare, Within}
 use Rattle.hj_query.specs.declared.sum.Sum.{Sum}
 use Rattle.hj_query.specs.Grammar.{AreSuited, EndsSum, IsAtom, can_compare, can_subtract, compared, distant, op_sign}
-use Rattle.hj_query.specs.Lexemes.{Lexeme, IsNext, IsSign, IsWord, is_same_kind, next_is}
+use Rattle.hj_query.specs.Lexemes.{Lexeme, IsNextToken, IsSign, IsWord, is_same_kind, next_is}
 use Rattle.hj_query.proofs.Lists.{same_kind}
 use Rattle.hj_query.proofs.Pieces.{Anything, EndsToken, Spaced, Spelled, blank_before, blank_behind, is_break, spaced_spelled, spelled_as, spelled_then, word_spelled}
 use Rattle.hj_query.proofs.Suited.{SuitedNext, next_suited}
 use Rattle.hj_query.proofs.Terms.{SpelledSum, SuitedNumber, SumTold, number_spelled, number_suited, sum_told}
 
 -- The next token is no other.
-other_next : (kind other : TokenKind) (word bytes : List ℕ) (here rest : List Lexeme) → IsNext kind word here rest → (is_same_kind kind other && bytes_eq word bytes) ≡ false → next_is other bytes here ≡ false
+other_next : (kind other : TokenKind) (word bytes : List ℕ) (here rest : List Lexeme) → IsNextToken kind word here rest → (is_same_kind kind other && bytes_eq word bytes) ≡ false → next_is other bytes here ≡ false
 unfolding next_is
 other_next kind other word bytes [] rest n e = refl
 other_next kind other word bytes (first ∷ others) rest n e =

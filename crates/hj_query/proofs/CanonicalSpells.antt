@@ -4,9 +4,9 @@ use Rattle.std.proofs.lemmas.List.{append-nil}
 use Rattle.hj_lex.specs.declared.token.TokenKind.TheVariants as kinds
 use Rattle.hj_query.specs.declared.setting.Setting.TheVariants as settings
 use Rattle.hj_query.specs.Canonical.{canonical, line_end, pred_text, schema_text, setting_line, window_text}
-use Rattle.hj_query.specs.Grammar.{AreSuited, IsQuery, IsReadable, IsSchema, IsSetting, IsWindow, columns_of, of_lines}
+use Rattle.hj_query.specs.Grammar.{AreSuited, IsQuery, IsSpelled, IsSchema, IsSetting, IsWindow, columns_of, of_lines}
 use Rattle.hj_query.specs.Lexemes.{Lexeme, lexeme, next_is}
-use Rattle.hj_query.specs.Parts.{Parts}
+use Rattle.hj_query.specs.QueryParts.{QueryParts}
 use Rattle.hj_query.specs.Texts.{Spells, most_bytes}
 use Rattle.hj_query.proofs.Conditions.{IsLast, condition_line, condition_spelled}
 use Rattle.hj_query.proofs.Lines.{LacksSetting, condition_lacks, quiet_lacks, schema_line, schema_told, setting_told, window_line, window_told}
@@ -14,7 +14,7 @@ use Rattle.hj_query.proofs.Pieces.{Anything, HasFront, Spelled, Told, spelled_as
 use Rattle.hj_query.proofs.Spelling.{IsCut, Reads, at_end, text_cut}
 
 -- the lines of a query
-abbrev lines : Parts → List ℕ
+abbrev lines : QueryParts → List ℕ
 lines query =
     schema_line (codes "left") query.left.columns
     ++ (schema_line (codes "right") query.right.columns
@@ -29,12 +29,12 @@ grouped : (left schema end right other window span back time slack quiet on pred
     ≡ (left ++ schema ++ end) ++ ((right ++ other ++ end) ++ ((window ++ span ++ end) ++ ((back ++ time ++ end) ++ (slack ++ (quiet ++ (on ++ pred ++ end))))))
 grouped left schema end right other window span back time slack quiet on pred = simp append_assoc
 
-canonical_lines : (query : Parts) → canonical query ≡ lines query
+canonical_lines : (query : QueryParts) → canonical query ≡ lines query
 canonical_lines query =
     grouped (codes "left ") (schema_text query.left.columns) line_end (codes "right ") (schema_text query.right.columns) (codes "window left ") (window_text query.left_window)
     (codes "window right ") (window_text query.right_window) (setting_line settings.Slack query.slack) (setting_line settings.Quiet query.quiet) (codes "on ") (pred_text (columns_of query) query.pred)
 
-lines_spelled : (query : Parts) (here : List Lexeme) → AreSuited here → IsQuery here query → Spelled IsLast (λ here rest. IsQuery here query) (lines query)
+lines_spelled : (query : QueryParts) (here : List Lexeme) → AreSuited here → IsQuery here query → Spelled IsLast (λ here rest. IsQuery here query) (lines query)
 lines_spelled query here s (of_lines right_word left_span right_span slack quiet condition left right left_window right_window late silent pred) =
     let first : Told Anything (λ here rest. IsSchema (codes "left") here query.left.columns rest) (schema_line (codes "left") query.left.columns) right_word =
     schema_told (codes "left") here query.left.columns right_word refl s left in
@@ -62,19 +62,19 @@ nothing_behind : (at : ℕ) → IsLast [] (lexeme at kinds.Sign [] ∷ [])
 unfolding next_is
 nothing_behind at = record { ends = record { no_plus = refl; no_minus = refl }; last = refl }
 
-spells_whole : (text : List ℕ) (query : Parts) → length text ≤ most_bytes → Spelled IsLast (λ here rest. IsQuery here query) text → Spells text query
+spells_whole : (text : List ℕ) (query : QueryParts) → length text ≤ most_bytes → Spelled IsLast (λ here rest. IsQuery here query) text → Spells text query
 spells_whole text query short spelled =
     let front : HasFront (λ here rest. IsQuery here query) 0 (text ++ []) (lexeme (0 + length text) kinds.Sign [] ∷ []) =
     spelled.read 0 [] _ (nothing_behind (0 + length text)) (at_end (0 + length text)) in
     let cut : IsCut text 0 front.here = text_cut text front.here (subst (λ bytes. Reads 0 bytes front.here) (append-nil text) front.reads) in
     record { short = short; tokens = cut.tokens; cut = cut.cut; parsed = subst (λ (here : List Lexeme). IsQuery here query) cut.same front.stands }
 
-pub canonical_spells : (query : Parts) → IsReadable query → length (canonical query) ≤ most_bytes → Spells (canonical query) query
+pub canonical_spells : (query : QueryParts) → IsSpelled query → length (canonical query) ≤ most_bytes → Spells (canonical query) query
 canonical_spells query h short =
     spells_whole (canonical query) query short
     (subst (λ text. Spelled IsLast (λ here rest. IsQuery here query) text) (sym (canonical_lines query)) (lines_spelled query h.0 h.1 h.2))
 
 -- the same of a text that was written
-pub written_spells : (text : List ℕ) (query : Parts) → text ≡ canonical query → IsReadable query → length text ≤ most_bytes → Spells text query
+pub written_spells : (text : List ℕ) (query : QueryParts) → text ≡ canonical query → IsSpelled query → length text ≤ most_bytes → Spells text query
 written_spells text query e h short =
     subst (λ bytes. Spells bytes query) (sym e) (canonical_spells query h (subst (λ bytes. length bytes ≤ most_bytes) e short))

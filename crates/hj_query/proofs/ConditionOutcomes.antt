@@ -9,7 +9,7 @@ use Rattle.hj_query.specs.declared.pred.Pred.{Pred}
 use Rattle.hj_value.specs.declared.column.Column.{Column}
 use Rattle.hj_query.specs.Faults.{EndsPred, FaultsCondition, in_pred, no_end, no_on}
 use Rattle.hj_query.specs.Grammar.{IsCondition, of_pred}
-use Rattle.hj_query.specs.Lexemes.{Lexeme, behind, next_is, place, IsNext}
+use Rattle.hj_query.specs.Lexemes.{Lexeme, behind, next_is, place, IsNextToken}
 use Rattle.hj_query.specs.Same.{IsSame}
 use Rattle.hj_query.proofs.Outcomes.{IsOne, Outcome, fault, fault_same, one_by, one_same, read, read_fault, read_same}
 use Rattle.hj_query.proofs.PredOutcomes.{PredGives, pred_one}
@@ -19,7 +19,7 @@ use Rattle.hj_query.proofs.TokenOutcomes.{AreSuited, WordGives, next_other_kind,
 
 -- no `and` and no `or` stands at the end
 end_ends : (last : List Lexeme) → next_is kinds.Sign [] last ≡ true → EndsPred last
-end_ends last e = let n : IsNext kinds.Sign [] last (behind last) = record { found = e; left = refl } in
+end_ends last e = let n : IsNextToken kinds.Sign [] last (behind last) = record { found = e; left = refl } in
     record { no_and = next_other_kind _ kinds.Name _ (codes "and") last (behind last) n refl; no_or = next_other_kind _ kinds.Name _ (codes "or") last (behind last) n refl }
 
 module _ (columns : Side → List Column) where

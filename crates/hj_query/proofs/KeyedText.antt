@@ -18,7 +18,7 @@ use Rattle.hj_lex.specs.Tokens.{is_digits, is_name, number_end, number_value}
 use Rattle.hj_lex.specs.declared.token.TokenKind.TheVariants as kinds
 use Rattle.hj_query.specs.declared.setting.Setting.{Setting}
 use Rattle.hj_query.specs.declared.setting.Setting.TheVariants as settings
-use Rattle.hj_query.specs.Grammar.{AreSuited, EndsSum, IsCondition, IsReadable, IsSchema, IsSetting, IsSum, IsWindow, absent, by_rows, compared, enclosed, further, is_int_sum, is_text_at, lone, most_rows, named, of_atom, of_column, of_conj, of_lines, of_pred, of_term, of_unary, place_of_name, side_word, spanned}
+use Rattle.hj_query.specs.Grammar.{AreSuited, EndsSum, IsCondition, IsSpelled, IsSchema, IsSetting, IsSum, IsWindow, absent, by_rows, compared, enclosed, further, is_int_sum, is_text_at, lone, most_rows, named, of_atom, of_column, of_conj, of_lines, of_pred, of_term, of_unary, place_of_name, side_word, spanned}
 use Rattle.hj_query.specs.Keyed.{keyed_columns}
 use Rattle.hj_query.specs.Lexemes.{IsNumber, IsSign, IsWord, Lexeme, behind, lexeme, next_is}
 use Rattle.hj_query.specs.Sides.{by_side}
@@ -178,7 +178,7 @@ condition_suited : AreSuited condition_line
 condition_suited = (refl, (refl, (tt, (refl, (tt, (refl, (tt, (refl, (tt, tt)))))))))
 
 pub keyed_readable : (left right : Schema) (rows : ℕ) (parts more : List SignedTerm) → 1 ≤ rows → rows ≤ most_rows → left.columns ≡ keyed_columns → right.columns ≡ keyed_columns → parts ≡ [] → more ≡ []
-    → IsReadable (record {
+    → IsSpelled (record {
       left = left;
       right = right;
       left_window = windows.Rows rows;

@@ -7,8 +7,8 @@ use Rattle.std.proofs.lemmas.Slice.Eq.{bytes_eq-Decides}
 use Rattle.hj_lex.specs.declared.token.Token.{Token}
 use Rattle.hj_lex.specs.declared.token.TokenKind.{TokenKind}
 use Rattle.hj_lex.specs.declared.token.TokenKind.TheVariants as kinds
-use Rattle.hj_lex.specs.Tokens.{Cuts, IsToken, IsTokenOf}
-use Rattle.hj_query.specs.Lexemes.{Lexeme, behind, end_of, is_same_kind, lexeme, lexeme_of, lexemes, next_has, next_is, place, IsNext, Suits}
+use Rattle.hj_lex.specs.Tokens.{CutsTokens, IsToken, IsTokenOf}
+use Rattle.hj_query.specs.Lexemes.{Lexeme, behind, end_of, is_same_kind, lexeme, lexeme_of, lexemes, next_has, next_is, place, IsNextToken, SuitsKind}
 
 some_is : {A : Type 0} (x y : A) → Some x ≡ Some y → x ≡ y
 some_is x y e = cc
@@ -42,12 +42,12 @@ peek_end text tokens at here e le g =
     h ∙ ap (λ (rest : List Lexeme). end_of text ∷ rest) (sym (behind_is here _ _ h))
 
 -- each token of a text is one
-pub token_at : (text : List ℕ) (from : ℕ) (tokens : List Token) (at : ℕ) (token : Token) → Cuts text from tokens None → Some token ≡ slice_get tokens at → IsTokenOf text token
+pub token_at : (text : List ℕ) (from : ℕ) (tokens : List Token) (at : ℕ) (token : Token) → CutsTokens text from tokens None → Some token ≡ slice_get tokens at → IsTokenOf text token
 token_at text from [] at token cut e = absurd cc
 token_at text from (first ∷ tokens) zero token cut e = subst (IsTokenOf text) (sym (some_is token first e)) cut.1
 token_at text from (first ∷ tokens) (suc at) token cut e = token_at text first.to tokens at token cut.2 e
 
-pub suits : (kind : TokenKind) (bytes rest : List ℕ) → IsToken kind bytes rest → Suits kind bytes
+pub suits : (kind : TokenKind) (bytes rest : List ℕ) → IsToken kind bytes rest → SuitsKind kind bytes
 suits kinds.Name bytes rest t = t.0
 suits kinds.Number bytes rest t = t.0
 suits kinds.Text bytes rest t = t.0
@@ -136,7 +136,7 @@ word_no_end word here h = has_no_end kinds.Name here refl (is_has kinds.Name wor
 
 -- the token that was looked at was taken
 pub taken : (wanted : TokenKind) (here rest : List Lexeme) (at : ℕ) (kind : TokenKind) (bytes : List ℕ) → here ≡ lexeme at kind bytes ∷ behind here
-    → is_same_kind kind wanted ≡ true → rest ≡ behind here → IsNext wanted bytes here rest
+    → is_same_kind kind wanted ≡ true → rest ≡ behind here → IsNextToken wanted bytes here rest
 taken wanted here rest at kind bytes e k r = record {
   found = next_is_at wanted bytes here at kind bytes e ∙ ap (λ b. b && bytes_eq bytes bytes) k ∙ bytes_same bytes;
   left = r;
@@ -178,12 +178,13 @@ unfolding behind
 behind_shorter [] h = absurd (omega arith)
 behind_shorter (next ∷ rest) h = omega arith
 
-pub next_shorter : (kind : TokenKind) (bytes : List ℕ) (here rest : List Lexeme) → IsNext kind bytes here rest → length rest < length here
+pub next_shorter : (kind : TokenKind) (bytes : List ℕ) (here rest : List Lexeme) → IsNextToken kind bytes here rest
+    → length rest < length here
 unfolding next_is
 next_shorter kind bytes [] rest n = absurd (false≢true n.found)
 next_shorter kind bytes (next ∷ more) rest n = omega (arith, ap length n.left, behind_shorter (next ∷ more) (omega arith))
 
 -- each token has a byte of its own
-pub tokens_fit : (text : List ℕ) (from : ℕ) (tokens : List Token) → Cuts text from tokens None → from + length tokens ≤ length text
+pub tokens_fit : (text : List ℕ) (from : ℕ) (tokens : List Token) → CutsTokens text from tokens None → from + length tokens ≤ length text
 tokens_fit text from [] cut = omega (arith, cut.0)
 tokens_fit text from (first ∷ tokens) cut = omega (arith, cut.0.0, cut.1.0, tokens_fit text first.to tokens cut.2)

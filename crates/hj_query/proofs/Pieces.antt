@@ -6,7 +6,7 @@ use Rattle.hj_lex.specs.declared.token.TokenKind.{TokenKind}
 use Rattle.hj_lex.specs.declared.token.TokenKind.TheVariants as kinds
 use Rattle.hj_lex.specs.Tokens.{IsToken, begins, is_blank, is_name, is_quote, is_sign, is_word, quoted}
 use Rattle.hj_query.specs.Grammar.{AreSuited}
-use Rattle.hj_query.specs.Lexemes.{Lexeme, IsNext, IsSign, IsText, IsWord, Suits, behind, lexeme, next_is}
+use Rattle.hj_query.specs.Lexemes.{Lexeme, IsNextToken, IsSign, IsText, IsWord, SuitsKind, behind, lexeme, next_is}
 use Rattle.hj_query.proofs.Lists.{bytes_same, kind_same}
 use Rattle.hj_query.proofs.Spelling.{Reads, blank, token}
 
@@ -72,7 +72,7 @@ blank_behind {Behind} {More} {Stands} byte text is fits spelled = record {
       record { here = front.here; reads = subst (λ bytes. Reads at bytes front.here) (sym (append_assoc text (byte ∷ []) more)) front.reads; stands = front.stands };
 }
 
-next_found : (at : ℕ) (kind : TokenKind) (bytes : List ℕ) (rest : List Lexeme) → IsNext kind bytes (lexeme at kind bytes ∷ rest) rest
+next_found : (at : ℕ) (kind : TokenKind) (bytes : List ℕ) (rest : List Lexeme) → IsNextToken kind bytes (lexeme at kind bytes ∷ rest) rest
 unfolding next_is behind
 next_found at kind bytes rest = record {
   found = ap (λ b. b && bytes_eq bytes bytes) (kind_same kind) ∙ bytes_same bytes;
@@ -81,7 +81,7 @@ next_found at kind bytes rest = record {
 
 -- one token
 pub token_spelled : (Behind : List ℕ → List Lexeme → Type 0) (kind : TokenKind) (word : List ℕ) → 0 < length word
-    → ((more : List ℕ) (rest : List Lexeme) → Behind more rest → IsToken kind word more) → Spelled Behind (IsNext kind word) word
+    → ((more : List ℕ) (rest : List Lexeme) → Behind more rest → IsToken kind word more) → Spelled Behind (IsNextToken kind word) word
 token_spelled Behind kind word some form = record {
   read = λ at more rest h r. record {
     here = lexeme at kind word ∷ rest;
@@ -124,7 +124,7 @@ name_spelled word h = token_spelled EndsToken kinds.Name word (some_name word h)
 pub word_spelled : (word : List ℕ) → is_name word ≡ true → Spelled Anything (IsWord word) (word ++ 32 ∷ [])
 word_spelled word h = blank_behind 32 word refl (λ more rest b. refl) (name_spelled word h)
 
-pub text_spelled : (value : List ℕ) → Suits kinds.Text (quoted value) → Spelled EndsToken (IsText value) (quoted value)
+pub text_spelled : (value : List ℕ) → SuitsKind kinds.Text (quoted value) → Spelled EndsToken (IsText value) (quoted value)
 text_spelled value s = token_spelled EndsToken kinds.Text (quoted value) (omega arith) (λ more rest b. (s, no_quote more b))
 
 -- a sign with which no other begins

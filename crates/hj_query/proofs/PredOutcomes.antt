@@ -12,7 +12,7 @@ use Rattle.hj_query.specs.declared.pred.Pred.{Pred}
 use Rattle.hj_value.specs.declared.column.Column.{Column}
 use Rattle.hj_query.specs.Faults.{EndsPred, FaultsConj, FaultsPred, FaultsUnary, deep_not, deep_parens, first_conj, first_unary, in_atom, in_not, in_parens, next_conj, next_unary, unclosed_parens}
 use Rattle.hj_query.specs.Grammar.{IsAtom, IsConj, IsPred, IsUnary, most_depth, of_and, of_atom, of_conj, of_not, of_or, of_parens, of_unary}
-use Rattle.hj_query.specs.Lexemes.{Lexeme, behind, next_is, place, IsNext, IsSign, IsWord, LacksSign, LacksWord}
+use Rattle.hj_query.specs.Lexemes.{Lexeme, behind, next_is, place, IsNextToken, IsSign, IsWord, LacksSign, LacksWord}
 use Rattle.hj_query.proofs.AtomOutcomes.{AtomGives, atom_front, atom_one, atom_rest, atom_shorter}
 use Rattle.hj_query.proofs.Chains.{ChainGives, IsChain, chain_one, further, lone}
 use Rattle.hj_query.proofs.Lists.{next_shorter}
@@ -25,7 +25,7 @@ use Rattle.hj_query.proofs.TokenOutcomes.{AreSuited, SignGives, next_other, next
 abbrev Leaves : List Lexeme → List Lexeme → Type 0
 Leaves here rest = (length rest < length here) × (AreSuited here → AreSuited rest)
 
-next_leaves : (kind : TokenKind) (bytes : List ℕ) (here rest : List Lexeme) → IsNext kind bytes here rest → Leaves here rest
+next_leaves : (kind : TokenKind) (bytes : List ℕ) (here rest : List Lexeme) → IsNextToken kind bytes here rest → Leaves here rest
 next_leaves kind bytes here rest n = (next_shorter kind bytes here rest n, λ suited. suited_rest kind bytes here rest n suited)
 
 leaves_then : (here next rest : List Lexeme) → Leaves here next → Leaves next rest → Leaves here rest
@@ -65,7 +65,8 @@ Chosen by_atom here = Unit {0}
 chosen : (here : List Lexeme) → Chosen (choice_of here) here
 chosen = front_by choose by_atom Chosen tt some
   where
-    some : (kind : TokenKind) (bytes : List ℕ) (here : List Lexeme) → IsNext kind bytes here (behind here) → Chosen (choose kind bytes) here
+    some : (kind : TokenKind) (bytes : List ℕ) (here : List Lexeme) → IsNextToken kind bytes here (behind here)
+        → Chosen (choose kind bytes) here
     some kinds.Name bytes here n = tested Chosen kinds.Name (codes "not") bytes here by_not by_atom n (λ h. h) tt
     some kinds.Number bytes here n = tt
     some kinds.Text bytes here n = tt

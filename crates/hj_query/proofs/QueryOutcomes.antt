@@ -5,7 +5,7 @@ use Rattle.hj_query.specs.declared.pred.Pred.{Pred}
 use Rattle.hj_query.specs.Faults.{FaultsCondition, FaultsQuery, in_condition, in_left_window, in_quiet, in_right_window, in_slack, left_schema, right_schema}
 use Rattle.hj_query.specs.Grammar.{IsCondition, IsQuery, columns_of, of_lines}
 use Rattle.hj_query.specs.Lexemes.{Lexeme}
-use Rattle.hj_query.specs.Parts.{Parts}
+use Rattle.hj_query.specs.QueryParts.{QueryParts}
 use Rattle.hj_query.specs.Same.{IsSameQuery}
 use Rattle.hj_query.specs.Sides.{by_side}
 use Rattle.hj_query.proofs.ConditionOutcomes.{condition_both, condition_fault, condition_same, condition_some}
@@ -16,7 +16,7 @@ use Rattle.hj_query.proofs.TokenOutcomes.{AreSuited}
 
 -- A query is what stands before its condition, and the condition.
 
-abbrev head_in : Parts → Head
+abbrev head_in : QueryParts → Head
 head_in query = head query.left.columns query.right.columns query.left_window query.right_window query.slack query.quiet
 
 abbrev IsCondition-behind : Head → List Lexeme → Pred → Type 0
@@ -25,13 +25,13 @@ IsCondition-behind found condition pred = IsCondition (by_side found.left found.
 abbrev FaultsCondition-behind : Head → List Lexeme → QueryFault → Type 0
 FaultsCondition-behind found condition f = FaultsCondition (by_side found.left found.right) condition f
 
-abbrev HasParts : List Lexeme → Parts → Type 0
+abbrev HasParts : List Lexeme → QueryParts → Type 0
 HasParts here query = (condition : List Lexeme) × IsHead here (head_in query) condition × IsCondition (columns_of query) condition query.pred
 
 abbrev HasFault : List Lexeme → QueryFault → Type 0
 HasFault here f = FaultsHead here f ⊎ ((found : Head) × ((condition : List Lexeme) × IsHead here found condition × FaultsCondition-behind found condition f))
 
-parts_of : (here : List Lexeme) (query : Parts) → IsQuery here query → HasParts here query
+parts_of : (here : List Lexeme) (query : QueryParts) → IsQuery here query → HasParts here query
 parts_of here query (of_lines word span next slack quiet condition s t w v a b c) = (condition, of_head word span next slack quiet s t w v a b, c)
 
 fault_of : (here : List Lexeme) (f : QueryFault) → FaultsQuery here f → HasFault here f
@@ -60,7 +60,7 @@ condition_faults : (here condition : List Lexeme) (found : Head) (f : QueryFault
 condition_faults here condition found f (of_head word span next slack quiet s t w v a b) h =
     in_condition found.left found.right found.left_window found.right_window found.slack found.quiet word span next slack quiet condition s t w v a b h
 
-query_of : (here condition : List Lexeme) (found : Head) (pred : Pred) → IsHead here found condition → IsCondition-behind found condition pred → (query : Parts) × IsQuery here query
+query_of : (here condition : List Lexeme) (found : Head) (pred : Pred) → IsHead here found condition → IsCondition-behind found condition pred → (query : QueryParts) × IsQuery here query
 query_of here condition found pred (of_head word span next slack quiet s t w v a b) c = (
   record {
     left = schema_of found.left (schema_fit _ here found.left word s);
@@ -77,7 +77,7 @@ query_of here condition found pred (of_head word span next slack quiet s t w v a
 -- A query, or a fault.
 
 abbrev Reads : List Lexeme → Type 0
-Reads here = ((query : Parts) × IsQuery here query) ⊎ ((f : QueryFault) × FaultsQuery here f)
+Reads here = ((query : QueryParts) × IsQuery here query) ⊎ ((f : QueryFault) × FaultsQuery here f)
 
 behind_head : (here condition : List Lexeme) (found : Head) → IsHead here found condition
     → ((pred : Pred) × IsCondition-behind found condition pred) ⊎ ((f : QueryFault) × FaultsCondition-behind found condition f) → Reads here
@@ -89,7 +89,8 @@ from_head here suited (read found condition) h =
     behind_head here condition found h (condition_some (by_side found.left found.right) condition (head_suited here condition found h suited))
 from_head here suited (fault f) h = inr (f, head_fault here f h)
 
-pub query_some : (here : List Lexeme) → AreSuited here → ((query : Parts) × IsQuery here query) ⊎ ((f : QueryFault) × FaultsQuery here f)
+pub query_some : (here : List Lexeme) → AreSuited here
+    → ((query : QueryParts) × IsQuery here query) ⊎ ((f : QueryFault) × FaultsQuery here f)
 query_some here suited = from_head here suited (head_one here).value (head_one here).gives
 
 -- Two readings.
@@ -107,7 +108,7 @@ not_both_heads here condition found f a b = read_fault found condition f (one_sa
 moved : (P : Head → List Lexeme → Type 0) (found other : Head) (condition last : List Lexeme) → (other ≡ found) × (last ≡ condition) → P other last → P found condition
 moved P found other condition last e p = subst (λ here. P found here) e.1 (subst (λ (h : Head). P h last) e.0 p)
 
-same_parts : (here : List Lexeme) (query other : Parts) → AreSuited here → HasParts here query → HasParts here other → IsSameQuery query other
+same_parts : (here : List Lexeme) (query other : QueryParts) → AreSuited here → HasParts here query → HasParts here other → IsSameQuery query other
 same_parts here query other suited (condition, a, c) (last, b, d) =
     let e = same_head here condition last (head_in query) (head_in other) a b in
     record {
@@ -129,17 +130,17 @@ same_fault here f g suited (inr (found, (condition, a, c))) (inr (other, (last, 
     condition_fault (by_side found.left found.right) condition (head_suited here condition found a suited) f g c
     (moved (λ h here. FaultsCondition-behind h here g) found other condition last (same_head here condition last found other a b) d)
 
-not_both : (here : List Lexeme) (query : Parts) (f : QueryFault) → AreSuited here → HasParts here query → HasFault here f → ⊥
+not_both : (here : List Lexeme) (query : QueryParts) (f : QueryFault) → AreSuited here → HasParts here query → HasFault here f → ⊥
 not_both here query f suited (condition, a, c) (inl b) = not_both_heads here condition (head_in query) f a b
 not_both here query f suited (condition, a, c) (inr (other, (last, b, d))) =
     condition_both (columns_of query) condition (head_suited here condition (head_in query) a suited) query.pred f c
     (moved (λ h here. FaultsCondition-behind h here f) (head_in query) other condition last (same_head here condition last (head_in query) other a b) d)
 
-pub query_same : (here : List Lexeme) → AreSuited here → (query other : Parts) → IsQuery here query → IsQuery here other → IsSameQuery query other
+pub query_same : (here : List Lexeme) → AreSuited here → (query other : QueryParts) → IsQuery here query → IsQuery here other → IsSameQuery query other
 query_same here suited query other a b = same_parts here query other suited (parts_of here query a) (parts_of here other b)
 
 pub query_fault : (here : List Lexeme) → AreSuited here → (f g : QueryFault) → FaultsQuery here f → FaultsQuery here g → g ≡ f
 query_fault here suited f g a b = same_fault here f g suited (fault_of here f a) (fault_of here g b)
 
-pub query_both : (here : List Lexeme) → AreSuited here → (query : Parts) (f : QueryFault) → IsQuery here query → FaultsQuery here f → ⊥
+pub query_both : (here : List Lexeme) → AreSuited here → (query : QueryParts) (f : QueryFault) → IsQuery here query → FaultsQuery here f → ⊥
 query_both here suited query f a b = not_both here query f suited (parts_of here query a) (fault_of here f b)

@@ -5,7 +5,7 @@ use Rattle.std.proofs.lemmas.Bool.{false≢true}
 use Rattle.std.proofs.lemmas.Slice.Eq.{bytes_eq-Decides}
 use Rattle.hj_lex.specs.declared.token.TokenKind.{TokenKind}
 use Rattle.hj_query.specs.declared.fault.QueryFault.{QueryFault}
-use Rattle.hj_query.specs.Lexemes.{Lexeme, behind, next_is, IsNext}
+use Rattle.hj_query.specs.Lexemes.{Lexeme, behind, next_is, IsNextToken}
 use Rattle.hj_query.proofs.Lists.{bytes_same, kind_same}
 use Rattle.hj_query.proofs.Outcomes.{IsOne, Outcome, Then, fault, one_by, one_then, read}
 use Rattle.hj_query.proofs.TokenOutcomes.{next_same}
@@ -96,12 +96,12 @@ module _ {A B : Type 0} (First : Outcome A → Type 0) (Second : A → List Lexe
 -- Behind a token that comes.
 
 abbrev pub Behind : {A : Type 0} → TokenKind → List ℕ → List Lexeme → (List Lexeme → Outcome A → Type 0) → Outcome A → Type 0
-Behind kind bytes here Next o = (next : List Lexeme) × IsNext kind bytes here next × Next next o
+Behind kind bytes here Next o = (next : List Lexeme) × IsNextToken kind bytes here next × Next next o
 
 pub behind_one : {A : Type 0} (kind : TokenKind) (bytes : List ℕ) (here : List Lexeme) (Next : List Lexeme → Outcome A → Type 0) → next_is kind bytes here ≡ true
-    → ((next : List Lexeme) → IsNext kind bytes here next → IsOne (Next next)) → IsOne (Behind kind bytes here Next)
+    → ((next : List Lexeme) → IsNextToken kind bytes here next → IsOne (Next next)) → IsOne (Behind kind bytes here Next)
 behind_one kind bytes here Next e next =
-    let n : IsNext kind bytes here (behind here) = record { found = e; left = refl } in
+    let n : IsNextToken kind bytes here (behind here) = record { found = e; left = refl } in
     let one = next (behind here) n in
     record { value = one.value; gives = (behind here, n, one.gives); only = λ other h. one.only other (subst (λ r. Next r other) h.1.left h.2) }
 
@@ -134,7 +134,7 @@ first_found next rest = ap (λ b. b && bytes_eq next.bytes next.bytes) (kind_sam
 
 -- what holds of each choice that a token leads to
 pub front_by : {I : Type 0} (choose : TokenKind → List ℕ → I) (otherwise : I) (Holds : I → List Lexeme → Type 0) → Holds otherwise []
-    → ((kind : TokenKind) (bytes : List ℕ) (here : List Lexeme) → IsNext kind bytes here (behind here) → Holds (choose kind bytes) here)
+    → ((kind : TokenKind) (bytes : List ℕ) (here : List Lexeme) → IsNextToken kind bytes here (behind here) → Holds (choose kind bytes) here)
     → (here : List Lexeme) → Holds (front choose otherwise here) here
 unfolding front behind
 front_by choose otherwise Holds none some [] = none
@@ -144,7 +144,7 @@ same_bytes : (a b : List ℕ) → bytes_eq a b ≡ true → a ≡ b
 same_bytes a b h = (bytes_eq-Decides a b).0 h
 
 -- bytes that are tested for lead to their choice, or to another
-pub tested : {I : Type 0} (Holds : I → List Lexeme → Type 0) (kind : TokenKind) (word bytes : List ℕ) (here : List Lexeme) (some other : I) → IsNext kind bytes here (behind here)
+pub tested : {I : Type 0} (Holds : I → List Lexeme → Type 0) (kind : TokenKind) (word bytes : List ℕ) (here : List Lexeme) (some other : I) → IsNextToken kind bytes here (behind here)
     → (next_is kind word here ≡ true → Holds some here) → Holds other here → Holds (cond (bytes_eq bytes word) some other) here
 tested Holds kind word bytes here some other n found lacks = decided (bytes_eq bytes word) refl
   where

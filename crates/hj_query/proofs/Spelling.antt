@@ -7,7 +7,7 @@ use Rattle.hj_lex.proofs.Spelling.{spells_end, spells_token, token_behind}
 use Rattle.hj_lex.specs.declared.token.Token.{Token}
 use Rattle.hj_lex.specs.declared.token.TokenKind.{TokenKind}
 use Rattle.hj_lex.specs.declared.token.TokenKind.TheVariants as kinds
-use Rattle.hj_lex.specs.Tokens.{Cuts, IsToken, bytes_of, is_blank}
+use Rattle.hj_lex.specs.Tokens.{CutsTokens, IsToken, bytes_of, is_blank}
 use Rattle.hj_query.specs.Lexemes.{Lexeme, lexeme, lexeme_of, lexemes}
 
 -- The bytes that stand from a place on are these tokens.
@@ -20,7 +20,7 @@ pub data Reads : ℕ → List ℕ → List Lexeme → Type 0 where
 -- From a place on the text is cut into these tokens.
 pub record IsCut (text : List ℕ) (from : ℕ) (here : List Lexeme) : Type 0 where
   pub tokens : List Token
-  pub cut : Cuts text from tokens None
+  pub cut : CutsTokens text from tokens None
   pub same : here ≡ lexemes text tokens
 
 -- the bytes of a token behind blanks

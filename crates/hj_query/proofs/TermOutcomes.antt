@@ -15,7 +15,7 @@ use Rattle.hj_query.specs.declared.sum.Term.TheVariants as terms
 use Rattle.hj_value.specs.declared.column.Column.{Column}
 use Rattle.hj_query.specs.Faults.{FaultsTerm, LacksTerm, no_column_name, no_digits, no_dot, no_term, unknown}
 use Rattle.hj_query.specs.Grammar.{IsTerm, of_column, of_negative, of_number, of_text, place_of_name, side_word}
-use Rattle.hj_query.specs.Lexemes.{Lexeme, behind, next_has, next_is, place, IsNext, IsNumber, IsText, IsWord}
+use Rattle.hj_query.specs.Lexemes.{Lexeme, behind, next_has, next_is, place, IsNextToken, IsNumber, IsText, IsWord}
 use Rattle.hj_query.proofs.Lists.{next_shorter, is_has}
 use Rattle.hj_query.proofs.Outcomes.{IsOne, Outcome, fault, one_by, read}
 use Rattle.hj_query.proofs.Sequences.{Behind, Faults, Follows, Is, behind_one, faults_one, follows_one, front, front_by, front_is, is_one, tested, true_false}
@@ -63,7 +63,7 @@ Begins by_nothing here = Unit {0}
 begins : (here : List Lexeme) → Begins (begin_of here) here
 begins = front_by choose_begin by_nothing Begins tt some
   where
-    some : (kind : TokenKind) (bytes : List ℕ) (here : List Lexeme) → IsNext kind bytes here (behind here) → Begins (choose_begin kind bytes) here
+    some : (kind : TokenKind) (bytes : List ℕ) (here : List Lexeme) → IsNextToken kind bytes here (behind here) → Begins (choose_begin kind bytes) here
     some kinds.Name bytes here n =
         tested Begins kinds.Name (codes "l") bytes here (by_side sides.Left) _ n (λ h. h) (tested Begins kinds.Name (codes "r") bytes here (by_side sides.Right) by_nothing n (λ h. h) tt)
     some kinds.Number bytes here n = is_has kinds.Number bytes here n.found
@@ -157,8 +157,8 @@ same_text value other here rest more t u =
     let same : quoted other ≡ quoted value = (next_same kinds.Text kinds.Text (quoted value) (quoted other) here t.found u.found).1 in
     same_value other value (same_doubled (quoted other) other value refl same)
 
-text_found : (bytes value : List ℕ) (here : List Lexeme) → bytes ≡ quoted value → IsNext kinds.Text bytes here (behind here) → IsText value here (behind here)
-text_found bytes value here e n = subst (λ b. IsNext kinds.Text b here (behind here)) e n
+text_found : (bytes value : List ℕ) (here : List Lexeme) → bytes ≡ quoted value → IsNextToken kinds.Text bytes here (behind here) → IsText value here (behind here)
+text_found bytes value here e n = subst (λ b. IsNextToken kinds.Text b here (behind here)) e n
 
 quoted_one : (here : List Lexeme) → next_has kinds.Text here ≡ true → AreSuited here → IsOne (QuotedGives here)
 quoted_one here h suited =

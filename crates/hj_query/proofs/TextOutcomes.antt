@@ -10,17 +10,17 @@ use Rattle.hj_query.specs.declared.fault.QueryFault.TheVariants as faults
 use Rattle.hj_query.specs.Faults.{FaultsQuery}
 use Rattle.hj_query.specs.Grammar.{IsQuery}
 use Rattle.hj_query.specs.Lexemes.{lexemes}
-use Rattle.hj_query.specs.Parts.{Parts}
+use Rattle.hj_query.specs.QueryParts.{QueryParts}
 use Rattle.hj_query.specs.Readings.{HasOneReading, HasReading}
 use Rattle.hj_query.specs.Same.{IsSameQuery}
-use Rattle.hj_query.specs.Texts.{IsFirst, Spells, Unless, grammar, long, most_bytes, token}
+use Rattle.hj_query.specs.Texts.{IsFirstQueryFault, Spells, Unless, grammar, long, most_bytes, token}
 use Rattle.hj_query.proofs.QueryOutcomes.{query_both, query_fault, query_same, query_some}
 use Rattle.hj_query.proofs.TokenOutcomes.{suited_tokens}
 
 -- A text has a reading.
 
 with_query : (text : List ℕ) (tokens : List Token) → length text ≤ most_bytes → AreTokens text tokens
-    → ((query : Parts) × IsQuery (lexemes text tokens) query) ⊎ ((fault : QueryFault) × FaultsQuery (lexemes text tokens) fault) → HasReading text
+    → ((query : QueryParts) × IsQuery (lexemes text tokens) query) ⊎ ((fault : QueryFault) × FaultsQuery (lexemes text tokens) fault) → HasReading text
 with_query text tokens le cut (inl q) = inl (q.0, record { short = le; tokens = tokens; cut = cut; parsed = q.1 })
 with_query text tokens le cut (inr f) = inr (f.0, grammar tokens le cut f.1)
 
@@ -46,12 +46,12 @@ no_token_fault text tokens found a b = (has_one_reading text).2 tokens found a b
 not_long : (text : List ℕ) → most_bytes < length text → length text ≤ most_bytes → ⊥
 not_long text gt le = omega (arith, gt, le)
 
-pub one_query : (text : List ℕ) (query other : Parts) → Spells text query → Spells text other → IsSameQuery query other
+pub one_query : (text : List ℕ) (query other : QueryParts) → Spells text query → Spells text other → IsSameQuery query other
 one_query text query other a b =
     query_same (lexemes text a.tokens) (suited_tokens text 0 a.tokens a.cut) query other a.parsed
     (subst (λ (tokens : List Token). IsQuery (lexemes text tokens) other) (same_tokens text a.tokens b.tokens a.cut b.cut) b.parsed)
 
-pub one_fault : (text : List ℕ) (fault other : QueryFault) → IsFirst text fault → IsFirst text other → other ≡ fault
+pub one_fault : (text : List ℕ) (fault other : QueryFault) → IsFirstQueryFault text fault → IsFirstQueryFault text other → other ≡ fault
 one_fault text fault other (long gt e) (long lt f) = f ∙ sym e
 one_fault text fault other (long gt e) (token found le first f) = absurd (not_long text gt le)
 one_fault text fault other (long gt e) (grammar tokens le cut f) = absurd (not_long text gt le)
@@ -64,7 +64,7 @@ one_fault text fault other (grammar tokens le cut f) (grammar others l more g) =
     query_fault (lexemes text tokens) (suited_tokens text 0 tokens cut) fault other f
     (subst (λ (ts : List Token). FaultsQuery (lexemes text ts) other) (same_tokens text tokens others cut more) g)
 
-pub not_both : (text : List ℕ) (query : Parts) (fault : QueryFault) → Spells text query → IsFirst text fault → ⊥
+pub not_both : (text : List ℕ) (query : QueryParts) (fault : QueryFault) → Spells text query → IsFirstQueryFault text fault → ⊥
 not_both text query fault a (long gt e) = not_long text gt a.short
 not_both text query fault a (token found le first e) = no_token_fault text a.tokens found a.cut first
 not_both text query fault a (grammar others le more f) =
@@ -91,8 +91,9 @@ memory_or_not (faults.TooManyColumns at) = inr (λ e. cc)
 memory_or_not faults.TooLong = inr (λ e. cc)
 memory_or_not faults.Memory = inl refl
 
-pub gives_query : (text : List ℕ) (r : Result Parts QueryFault) → MatchResult r (Spells text) (λ fault. Unless fault (IsFirst text))
-    → (query : Parts) → Spells text query → MatchResult r (IsSameQuery query) (λ fault. fault ≡ faults.Memory)
+pub gives_query : (text : List ℕ) (r : Result QueryParts QueryFault)
+    → MatchResult r (Spells text) (λ fault. Unless fault (IsFirstQueryFault text))
+    → (query : QueryParts) → Spells text query → MatchResult r (IsSameQuery query) (λ fault. fault ≡ faults.Memory)
 gives_query text (Ok found) h query s = one_query text query found s h
 gives_query text (Err f) h query s = decide (memory_or_not f)
   where
@@ -100,12 +101,13 @@ gives_query text (Err f) h query s = decide (memory_or_not f)
     decide (inl e) = e
     decide (inr other) = absurd (not_both text query f s (h other))
 
-fault_given : (text : List ℕ) (r : Result Parts QueryFault) (f found : QueryFault) → r ≡ Err f → Unless f (IsFirst text) → IsFirst text found
+fault_given : (text : List ℕ) (r : Result QueryParts QueryFault) (f found : QueryFault) → r ≡ Err f → Unless f (IsFirstQueryFault text) → IsFirstQueryFault text found
     → (f ≡ faults.Memory) ⊎ (f ≢ faults.Memory) → (r ≡ Err found) ⊎ (r ≡ Err faults.Memory)
 fault_given text r f found e h first (inl memory) = inr (e ∙ ap (λ (x : QueryFault). Err x) memory)
 fault_given text r f found e h first (inr other) = inl (e ∙ ap (λ (x : QueryFault). Err x) (one_fault text found f first (h other)))
 
-pub gives_fault : (text : List ℕ) (r : Result Parts QueryFault) → MatchResult r (Spells text) (λ fault. Unless fault (IsFirst text))
-    → (found : QueryFault) → IsFirst text found → (r ≡ Err found) ⊎ (r ≡ Err faults.Memory)
+pub gives_fault : (text : List ℕ) (r : Result QueryParts QueryFault)
+    → MatchResult r (Spells text) (λ fault. Unless fault (IsFirstQueryFault text))
+    → (found : QueryFault) → IsFirstQueryFault text found → (r ≡ Err found) ⊎ (r ≡ Err faults.Memory)
 gives_fault text (Ok query) h found first = absurd (not_both text query found h first)
 gives_fault text (Err f) h found first = fault_given text (Err f) f found refl h first (memory_or_not f)

@@ -11,7 +11,7 @@ use Rattle.hj_query.specs.declared.fault.QueryFault.TheVariants as faults
 use Rattle.hj_query.specs.declared.fault.Wanted.{Wanted}
 use Rattle.hj_query.specs.Faults.{IsExpected}
 pub use Rattle.hj_query.specs.Grammar.{AreSuited}
-use Rattle.hj_query.specs.Lexemes.{Lexeme, behind, is_same_kind, next_has, next_is, place, IsNext, IsNumber, IsSign, IsWord, LacksKind, LacksSign, LacksWord}
+use Rattle.hj_query.specs.Lexemes.{Lexeme, behind, is_same_kind, next_has, next_is, place, IsNextToken, IsNumber, IsSign, IsWord, LacksKind, LacksSign, LacksWord}
 use Rattle.hj_query.proofs.Lists.{bytes_same, is_has, kind_same, same_kind}
 use Rattle.hj_query.proofs.Outcomes.{IsOne, Outcome, fault, read}
 pub use Rattle.hj_query.proofs.Suited.{suited_next, suited_rest, suited_tokens}
@@ -22,7 +22,7 @@ true_false : (b : Bool) → b ≡ true → b ≡ false → ⊥
 true_false b t f = false≢true (sym f ∙ t)
 
 -- nor does its kind
-pub is_not_lacking_kind : (kind : TokenKind) (bytes : List ℕ) (here rest : List Lexeme) → IsNext kind bytes here rest → next_has kind here ≡ false → ⊥
+pub is_not_lacking_kind : (kind : TokenKind) (bytes : List ℕ) (here rest : List Lexeme) → IsNextToken kind bytes here rest → next_has kind here ≡ false → ⊥
 is_not_lacking_kind kind bytes here rest n h = true_false _ (is_has kind bytes here n.found) h
 
 same_bytes : (a b : List ℕ) → bytes_eq a b ≡ true → a ≡ b
@@ -50,17 +50,17 @@ not_true true h = absurd (h refl)
 not_true false h = refl
 
 -- a token with other bytes doesn't come
-pub next_other : (kind : TokenKind) (bytes more : List ℕ) (here rest : List Lexeme) → IsNext kind bytes here rest → bytes_eq more bytes ≡ false → next_is kind more here ≡ false
+pub next_other : (kind : TokenKind) (bytes more : List ℕ) (here rest : List Lexeme) → IsNextToken kind bytes here rest → bytes_eq more bytes ≡ false → next_is kind more here ≡ false
 next_other kind bytes more here rest n h = not_true _ (λ g.
     true_false _ (ap (λ b. bytes_eq b bytes) (next_same kind kind bytes more here n.found g).1 ∙ bytes_same bytes) h)
 
 -- a token of another kind doesn't come
-pub next_other_kind : (kind other : TokenKind) (bytes more : List ℕ) (here rest : List Lexeme) → IsNext kind bytes here rest → is_same_kind other kind ≡ false → next_is other more here ≡ false
+pub next_other_kind : (kind other : TokenKind) (bytes more : List ℕ) (here rest : List Lexeme) → IsNextToken kind bytes here rest → is_same_kind other kind ≡ false → next_is other more here ≡ false
 next_other_kind kind other bytes more here rest n h = not_true _ (λ g.
     true_false _ (ap (λ (k : TokenKind). is_same_kind k kind) (next_same kind other bytes more here n.found g).0 ∙ kind_same kind) h)
 
 -- a next token of a kind has some bytes
-pub has_bytes : (kind : TokenKind) (here : List Lexeme) → next_has kind here ≡ true → (bytes : List ℕ) × IsNext kind bytes here (behind here)
+pub has_bytes : (kind : TokenKind) (here : List Lexeme) → next_has kind here ≡ true → (bytes : List ℕ) × IsNextToken kind bytes here (behind here)
 unfolding next_has next_is
 has_bytes kind [] h = absurd (false≢true h)
 has_bytes kind (next ∷ rest) h = (next.bytes, record { found = ap (λ b. b && bytes_eq next.bytes next.bytes) h ∙ bytes_same next.bytes; left = refl })
@@ -68,7 +68,7 @@ has_bytes kind (next ∷ rest) h = (next.bytes, record { found = ap (λ b. b && 
 -- A given token, or the fault that it doesn't come.
 
 abbrev pub TokenGives : TokenKind → List ℕ → Wanted → List Lexeme → Outcome (Unit {0}) → Type 0
-TokenGives kind bytes wanted here (read token rest) = IsNext kind bytes here rest
+TokenGives kind bytes wanted here (read token rest) = IsNextToken kind bytes here rest
 TokenGives kind bytes wanted here (fault found) = (next_is kind bytes here ≡ false) × IsExpected wanted here found
 
 token_decided : (kind : TokenKind) (bytes : List ℕ) (wanted : Wanted) (here : List Lexeme) (b : Bool) → next_is kind bytes here ≡ b → IsOne (TokenGives kind bytes wanted here)
@@ -105,7 +105,7 @@ sign_one sign wanted here = token_one kinds.Sign sign wanted here
 -- A token of a given kind with its bytes, or the fault that none comes.
 
 abbrev pub KindGives : TokenKind → Wanted → List Lexeme → Outcome (List ℕ) → Type 0
-KindGives kind wanted here (read bytes rest) = IsNext kind bytes here rest
+KindGives kind wanted here (read bytes rest) = IsNextToken kind bytes here rest
 KindGives kind wanted here (fault found) = LacksKind kind here × IsExpected wanted here found
 
 kind_decided : (kind : TokenKind) (wanted : Wanted) (here : List Lexeme) (b : Bool) → next_has kind here ≡ b → IsOne (KindGives kind wanted here)
@@ -113,7 +113,7 @@ kind_decided kind wanted here true e =
     let p = has_bytes kind here e in
     record { value = read p.0 (behind here); gives = p.1; only = only p.0 p.1 }
   where
-    only : (bytes : List ℕ) → IsNext kind bytes here (behind here) → (other : Outcome (List ℕ)) → KindGives kind wanted here other → other ≡ read bytes (behind here)
+    only : (bytes : List ℕ) → IsNextToken kind bytes here (behind here) → (other : Outcome (List ℕ)) → KindGives kind wanted here other → other ≡ read bytes (behind here)
     only bytes n (read more rest) h =
         ap (λ (r : List Lexeme). read more r) h.left ∙ ap (λ (b : List ℕ). read b (behind here)) (next_same kind kind bytes more here n.found h.found).1
     only bytes n (fault found) h = absurd (true_false _ e h.0)

@@ -2,22 +2,23 @@
 use Rattle.std.proofs.Common.{◌≡◌, ℕ, List, [], ◌∷◌, ◌++◌, sym, ap, ◌∙◌, append_assoc, append-nil}
 use Rattle.hj_base.specs.declared.numbers.Side.{Side}
 use Rattle.hj_value.specs.declared.column.Column.{Column}
-use Rattle.hj_query.specs.declared.canonical.nodes.Piece.{Piece}
+use Rattle.hj_query.specs.declared.canonical.nodes.UnwrittenPiece.{UnwrittenPiece}
 use Rattle.hj_query.specs.Unwritten.{piece_text, unwritten}
 
 module _ (columns : Side → List Column) where
-  unwritten_append : (pieces more : List Piece) → unwritten columns (pieces ++ more) ≡ unwritten columns more ++ unwritten columns pieces
+  unwritten_append : (pieces more : List UnwrittenPiece)
+      → unwritten columns (pieces ++ more) ≡ unwritten columns more ++ unwritten columns pieces
   unwritten_append [] more = sym (append-nil (unwritten columns more))
   unwritten_append (piece ∷ pieces) more =
       ap (λ text. text ++ piece_text columns piece) (unwritten_append pieces more)
       ∙ append_assoc (unwritten columns more) (unwritten columns pieces) (piece_text columns piece)
 
   -- the last piece is written first
-  pub unwritten_last : (pieces : List Piece) (piece : Piece) → unwritten columns (pieces ++ piece ∷ []) ≡ piece_text columns piece ++ unwritten columns pieces
+  pub unwritten_last : (pieces : List UnwrittenPiece) (piece : UnwrittenPiece) → unwritten columns (pieces ++ piece ∷ []) ≡ piece_text columns piece ++ unwritten columns pieces
   unwritten_last pieces piece = unwritten_append pieces (piece ∷ [])
 
   -- three pieces, of which the first to be written is put on last
-  pub three_more : (todo one two three : List Piece) (right joint left : Piece) (text first middle last : List ℕ)
+  pub three_more : (todo one two three : List UnwrittenPiece) (right joint left : UnwrittenPiece) (text first middle last : List ℕ)
       → one ≡ todo ++ right ∷ [] → two ≡ one ++ joint ∷ [] → three ≡ two ++ left ∷ []
       → piece_text columns left ≡ first → piece_text columns joint ≡ middle → piece_text columns right ≡ last
       → text ++ unwritten columns three ≡ (text ++ ((first ++ middle) ++ last)) ++ unwritten columns todo
@@ -30,7 +31,7 @@ module _ (columns : Side → List Column) where
       ap (λ rest. text ++ rest) whole ∙ flat
 
   -- one piece, behind bytes that were written
-  pub one_more : (todo one : List Piece) (piece : Piece) (text here front last : List ℕ)
+  pub one_more : (todo one : List UnwrittenPiece) (piece : UnwrittenPiece) (text here front last : List ℕ)
       → here ≡ text ++ front → one ≡ todo ++ piece ∷ [] → piece_text columns piece ≡ last
       → here ++ unwritten columns one ≡ (text ++ (front ++ last)) ++ unwritten columns todo
   one_more todo one piece text here front last d e is_last =
@@ -40,7 +41,7 @@ module _ (columns : Side → List Column) where
       whole ∙ flat
 
   -- two pieces, behind bytes that were written
-  pub two_more : (todo one two : List Piece) (behind piece : Piece) (text here front middle last : List ℕ)
+  pub two_more : (todo one two : List UnwrittenPiece) (behind piece : UnwrittenPiece) (text here front middle last : List ℕ)
       → here ≡ text ++ front → one ≡ todo ++ behind ∷ [] → two ≡ one ++ piece ∷ []
       → piece_text columns piece ≡ middle → piece_text columns behind ≡ last
       → here ++ unwritten columns two ≡ (text ++ ((front ++ middle) ++ last)) ++ unwritten columns todo
@@ -52,7 +53,7 @@ module _ (columns : Side → List Column) where
       whole ∙ flat
 
   -- the last piece was written, or its front
-  pub piece_taken : (todo rest : List Piece) (piece : Piece) (text next whole : List ℕ)
+  pub piece_taken : (todo rest : List UnwrittenPiece) (piece : UnwrittenPiece) (text next whole : List ℕ)
       → todo ≡ rest ++ piece ∷ [] → next ≡ (text ++ piece_text columns piece) ++ unwritten columns rest
       → text ++ unwritten columns todo ≡ whole → next ≡ whole
   piece_taken todo rest piece text next whole e is_next h =

@@ -17,7 +17,7 @@ use Rattle.hj_query.specs.declared.sum.Sum.{Sum}
 use Rattle.hj_query.specs.declared.sum.Term.{Term}
 use Rattle.hj_query.specs.declared.sum.Term.TheVariants as terms
 use Rattle.hj_query.specs.Grammar.{columns_of, kind_word, op_sign, part_sign, setting_word, side_word}
-use Rattle.hj_query.specs.Parts.{Parts}
+use Rattle.hj_query.specs.QueryParts.{QueryParts}
 
 -- a name and its type
 abbrev pub column_text : Column → List ℕ
@@ -83,14 +83,14 @@ pred_text columns (Within distance left right) =
     sum_text columns left ++ codes " within " ++ decimal distance ++ codes " of " ++ sum_text columns right
 
 -- the lines of the two streams
-abbrev pub streams_text : Parts → List ℕ
+abbrev pub streams_text : QueryParts → List ℕ
 streams_text query =
     codes "left " ++ schema_text query.left.columns ++ line_end
     ++ codes "right " ++ schema_text query.right.columns ++ line_end
     ++ codes "window left " ++ window_text query.left_window ++ line_end
     ++ codes "window right " ++ window_text query.right_window ++ line_end
 
-abbrev pub canonical : Parts → List ℕ
+abbrev pub canonical : QueryParts → List ℕ
 canonical query =
     streams_text query
     ++ setting_line settings.Slack query.slack

@@ -21,8 +21,8 @@ use Rattle.hj_query.specs.declared.setting.Setting.TheVariants as settings
 use Rattle.hj_query.specs.declared.sum.Term.{Term}
 use Rattle.hj_query.specs.declared.sum.Term.TheVariants as terms
 use Rattle.hj_query.specs.declared.sum.Sum.{Sum}
-use Rattle.hj_query.specs.Lexemes.{Lexeme, next_is, IsNumber, IsWord, IsSign, IsText, LacksSign, LacksWord, Suits}
-use Rattle.hj_query.specs.Parts.{Parts}
+use Rattle.hj_query.specs.Lexemes.{Lexeme, next_is, IsNumber, IsWord, IsSign, IsText, LacksSign, LacksWord, SuitsKind}
+use Rattle.hj_query.specs.QueryParts.{QueryParts}
 use Rattle.hj_query.specs.Sides.{by_side}
 
 -- Schemas.
@@ -221,11 +221,11 @@ pub data IsCondition (columns : Side → List Column) (here : List Lexeme) (pred
       → IsWord (codes "on") here first → IsPred columns 0 first pred last → IsTrue (next_is kinds.Sign [] last) → IsCondition columns here pred
 
 -- the columns of each side of a query
-abbrev pub columns_of : Parts → Side → List Column
+abbrev pub columns_of : QueryParts → Side → List Column
 columns_of query = by_side query.left.columns query.right.columns
 
 -- a whole query
-pub data IsQuery (here : List Lexeme) (query : Parts) : Type 0 where
+pub data IsQuery (here : List Lexeme) (query : QueryParts) : Type 0 where
   of_lines : (right_word left_span right_span slack quiet condition : List Lexeme)
       → IsSchema (codes "left") here query.left.columns right_word
       → IsSchema (codes "right") right_word query.right.columns left_span
@@ -239,8 +239,8 @@ pub data IsQuery (here : List Lexeme) (query : Parts) : Type 0 where
 -- each token has bytes of its kind
 abbrev pub AreSuited : List Lexeme → Type 0
 AreSuited [] = Unit {0}
-AreSuited (lexeme ∷ rest) = Suits lexeme.kind lexeme.bytes × AreSuited rest
+AreSuited (lexeme ∷ rest) = SuitsKind lexeme.kind lexeme.bytes × AreSuited rest
 
 -- some tokens read as this query
-abbrev pub IsReadable : Parts → Type 0
-IsReadable query = (here : List Lexeme) × AreSuited here × IsQuery here query
+abbrev pub IsSpelled : QueryParts → Type 0
+IsSpelled query = (here : List Lexeme) × AreSuited here × IsQuery here query

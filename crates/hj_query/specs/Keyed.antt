@@ -7,14 +7,14 @@ use Rattle.hj_value.specs.declared.column.ColumnType.TheVariants as types
 use Rattle.hj_query.specs.declared.pred.Op.TheVariants as ops
 use Rattle.hj_query.specs.declared.pred.Pred.{Compare}
 use Rattle.hj_query.specs.declared.sum.Term.TheVariants as terms
-use Rattle.hj_query.specs.Parts.{Parts}
+use Rattle.hj_query.specs.QueryParts.{QueryParts}
 
 -- `ts int, key int`
 abbrev pub keyed_columns : List Column
 keyed_columns = record { name = codes "ts"; kind = types.Int } ∷ record { name = codes "key"; kind = types.Int } ∷ []
 
 -- `left (ts int, key int) right (ts int, key int) window left rows W window right rows W on l.key = r.key`
-pub record IsKeyed (rows : ℕ) (query : Parts) : Type 0 where
+pub record IsEquiQuery (rows : ℕ) (query : QueryParts) : Type 0 where
   pub left : query.left.columns ≡ keyed_columns
   pub right : query.right.columns ≡ keyed_columns
   pub left_window : query.left_window ≡ windows.Rows rows

@@ -32,11 +32,11 @@ is_same_kind kinds.Sign kinds.Sign = true
 is_same_kind _ _ = false
 
 -- the bytes are those of a token of this kind
-abbrev pub Suits : TokenKind → List ℕ → Type 0
-Suits kinds.Name bytes = IsTrue (is_name bytes)
-Suits kinds.Number bytes = IsTrue (is_digits bytes) × (number_value bytes < number_end)
-Suits kinds.Text bytes = (value : List ℕ) × (bytes ≡ quoted value) × IsUtf8 (doubled value)
-Suits kinds.Sign bytes = Unit {0}
+abbrev pub SuitsKind : TokenKind → List ℕ → Type 0
+SuitsKind kinds.Name bytes = IsTrue (is_name bytes)
+SuitsKind kinds.Number bytes = IsTrue (is_digits bytes) × (number_value bytes < number_end)
+SuitsKind kinds.Text bytes = (value : List ℕ) × (bytes ≡ quoted value) × IsUtf8 (doubled value)
+SuitsKind kinds.Sign bytes = Unit {0}
 
 -- Where reading goes on.
 
@@ -61,7 +61,7 @@ next_is kind bytes [] = false
 next_is kind bytes (lexeme ∷ rest) = is_same_kind lexeme.kind kind && bytes_eq lexeme.bytes bytes
 
 -- such a token is the next, and what stands behind it is rest
-pub record IsNext (kind : TokenKind) (bytes : List ℕ) (here rest : List Lexeme) : Type 0 where
+pub record IsNextToken (kind : TokenKind) (bytes : List ℕ) (here rest : List Lexeme) : Type 0 where
   pub found : IsTrue (next_is kind bytes here)
   pub left : rest ≡ behind here
 
@@ -69,17 +69,17 @@ pub record IsNext (kind : TokenKind) (bytes : List ℕ) (here rest : List Lexeme
 pub record IsNumber (value : ℕ) (here rest : List Lexeme) : Type 0 where
   pub bytes : List ℕ
   pub stands_for : value ≡ number_value bytes
-  pub found : IsNext kinds.Number bytes here rest
+  pub found : IsNextToken kinds.Number bytes here rest
 
 abbrev pub IsWord : List ℕ → List Lexeme → List Lexeme → Type 0
-IsWord word here rest = IsNext kinds.Name word here rest
+IsWord word here rest = IsNextToken kinds.Name word here rest
 
 abbrev pub IsSign : List ℕ → List Lexeme → List Lexeme → Type 0
-IsSign sign here rest = IsNext kinds.Sign sign here rest
+IsSign sign here rest = IsNextToken kinds.Sign sign here rest
 
 -- a text that stands for a value
 abbrev pub IsText : List ℕ → List Lexeme → List Lexeme → Type 0
-IsText value here rest = IsNext kinds.Text (quoted value) here rest
+IsText value here rest = IsNextToken kinds.Text (quoted value) here rest
 
 -- the next token is something else
 abbrev pub LacksWord : List ℕ → List Lexeme → Type 0

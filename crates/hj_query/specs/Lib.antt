@@ -1,6 +1,6 @@
 pub mod Lexemes
 pub mod Sides
-pub mod Parts
+pub mod QueryParts
 pub mod Grammar
 pub mod Faults
 pub mod Texts

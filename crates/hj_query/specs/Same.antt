@@ -1,7 +1,7 @@
 -- Queries that say the same.
 use Rattle.std.specs.Prelude.{◌≡◌}
 use Rattle.hj_query.specs.declared.pred.Pred.{Pred, Or', And', Not', Compare, Within}
-use Rattle.hj_query.specs.Parts.{Parts}
+use Rattle.hj_query.specs.QueryParts.{QueryParts}
 
 -- the same condition, wherever its operands lie
 abbrev pub IsSame : Pred → Pred → Type 0
@@ -13,7 +13,7 @@ IsSame (Within distance left right) (Within span other more) = (span ≡ distanc
 IsSame _ _ = ⊥
 
 -- the same columns, windows, settings and condition
-pub record IsSameQuery (query other : Parts) : Type 0 where
+pub record IsSameQuery (query other : QueryParts) : Type 0 where
   pub left : other.left.columns ≡ query.left.columns
   pub right : other.right.columns ≡ query.right.columns
   pub left_window : other.left_window ≡ query.left_window

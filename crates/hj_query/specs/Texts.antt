@@ -8,23 +8,23 @@ use Rattle.hj_query.specs.declared.fault.QueryFault.TheVariants as faults
 use Rattle.hj_query.specs.Lexemes.{lexemes}
 use Rattle.hj_query.specs.Grammar.{IsQuery}
 use Rattle.hj_query.specs.Faults.{FaultsQuery}
-use Rattle.hj_query.specs.Parts.{Parts}
+use Rattle.hj_query.specs.QueryParts.{QueryParts}
 
 abbrev pub most_bytes : ℕ
 most_bytes = 65536
 
 -- the text spells this query
-pub record Spells (text : List ℕ) (query : Parts) : Type 0 where
+pub record Spells (text : List ℕ) (query : QueryParts) : Type 0 where
   pub short : length text ≤ most_bytes
   pub tokens : List Token
   pub cut : AreTokens text tokens
   pub parsed : IsQuery (lexemes text tokens) query
 
 -- The first fault of a text. Its length is looked at first, then its tokens, then the grammar.
-pub data IsFirst (text : List ℕ) (fault : QueryFault) : Type 0 where
-  long : most_bytes < length text → fault ≡ faults.TooLong → IsFirst text fault
-  token : (found : LexFault) → length text ≤ most_bytes → IsFirstFault text found → fault ≡ faults.Lex found → IsFirst text fault
-  grammar : (tokens : List Token) → length text ≤ most_bytes → AreTokens text tokens → FaultsQuery (lexemes text tokens) fault → IsFirst text fault
+pub data IsFirstQueryFault (text : List ℕ) (fault : QueryFault) : Type 0 where
+  long : most_bytes < length text → fault ≡ faults.TooLong → IsFirstQueryFault text fault
+  token : (found : LexFault) → length text ≤ most_bytes → IsFirstFault text found → fault ≡ faults.Lex found → IsFirstQueryFault text fault
+  grammar : (tokens : List Token) → length text ≤ most_bytes → AreTokens text tokens → FaultsQuery (lexemes text tokens) fault → IsFirstQueryFault text fault
 
 -- Unless memory runs out, the fault is one that has this property.
 abbrev pub Unless : QueryFault → (QueryFault → Type 0) → Type 0

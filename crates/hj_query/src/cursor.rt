@@ -4,7 +4,7 @@ ghost use Rattle.hj_lex.specs.Tokens.{bytes_of, AreTokens};
 ghost use Rattle.hj_lex.specs.declared.token.TokenKind.TheVariants as kinds;
 ghost use Rattle.hj_query.specs.declared.fault.Wanted.TheVariants as wants;
 ghost use Rattle.hj_query.specs.Faults.{IsExpected};
-ghost use Rattle.hj_query.specs.Lexemes.{behind, is_same_kind, lexeme, lexemes, next_has, next_is, place, IsNext, IsNumber, IsSign, IsText, IsWord, LacksKind, LacksSign, LacksWord, Suits};
+ghost use Rattle.hj_query.specs.Lexemes.{behind, is_same_kind, lexeme, lexemes, next_has, next_is, place, IsNextToken, IsNumber, IsSign, IsText, IsWord, LacksKind, LacksSign, LacksWord, SuitsKind};
 ghost use Rattle.hj_query.specs.Texts.{Unless};
 
 use crate::{QueryFault, Wanted};
@@ -57,7 +57,7 @@ impl<'a> Cursor<'a> {
     /// Returns the next token, or the end of the text.
     fn peek(&self) -> Lexeme<'a>
         ensures next { self.now ≡ lexeme result.place result.kind result.bytes.now ∷ behind self.now }
-        ensures suits { Suits result.kind result.bytes.now }
+        ensures suits { SuitsKind result.kind result.bytes.now }
     {
         match self.tokens.get(self.at) {
             Some(token) => Lexeme {
@@ -161,7 +161,7 @@ impl<'a> Cursor<'a> {
         requires { is_same_kind kind kinds.Sign ≡ false }
         ensures shorter { OnOk result (length self.new < length self.old) }
         ensures read { MatchResult result
-            (λ bytes. IsNext kind bytes.now self.old self.new × Suits kind bytes.now)
+            (λ bytes. IsNextToken kind bytes.now self.old self.new × SuitsKind kind bytes.now)
             (λ fault. LacksKind kind self.old × IsExpected wanted self.old fault) }
     {
         let next = self.peek();

@@ -1,7 +1,7 @@
 ghost use Rattle.std.specs.Prelude.{◌≡◌, ◌≤◌, IfOk};
 ghost use Rattle.hj_value.specs.declared.column.ColumnType.TheVariants as types;
 ghost use Rattle.hj_query.specs.Grammar.{most_rows};
-ghost use Rattle.hj_query.specs.Keyed.{keyed_columns, IsKeyed};
+ghost use Rattle.hj_query.specs.Keyed.{keyed_columns, IsEquiQuery};
 
 use crate::schemas::Schemas;
 use crate::{FurtherTerms, Op, Pred, Query, Sum, Term};
@@ -15,7 +15,7 @@ use std::alloc::Global;
 pub fn equi(alloc: Global, rows: u32) -> Result<Query, Memory>
     requires some { 1 ≤ rows }
     requires few { rows ≤ most_rows }
-    ensures { IfOk result (IsKeyed rows) }
+    ensures { IfOk result (IsEquiQuery rows) }
 {
     let schemas = Schemas {
         left: keyed_schema(alloc)?,

@@ -1,5 +1,5 @@
 ghost use Rattle.std.specs.Prelude.{◌≡◌, ◌≤◌};
-ghost use Rattle.hj_query.specs.Grammar.{IsReadable, most_quiet, most_slack};
+ghost use Rattle.hj_query.specs.Grammar.{IsSpelled, most_quiet, most_slack};
 ghost use Rattle.hj_query.specs.Sides.{by_side};
 
 use crate::Pred;
@@ -21,12 +21,12 @@ pub struct Query {
 }
 
 impl Model for Query {
-    ghost use Rattle.hj_query.specs.Grammar.{IsReadable};
-    ghost use Rattle.hj_query.specs.Parts.{Parts};
+    ghost use Rattle.hj_query.specs.Grammar.{IsSpelled};
+    ghost use Rattle.hj_query.specs.QueryParts.{QueryParts};
     ghost use Rattle.hj_query.specs.contracts.pred.Pred as e;
     ghost use Rattle.std.specs.Coded.{codes};
 
-    ghost Value = { Parts };
+    ghost Value = { QueryParts };
 
     ghost coded = { Prim.hlevel (codes, e.the_row.coded) };
 
@@ -40,7 +40,7 @@ impl Model for Query {
       pred = q.pred;
     } };
 
-    ghost invariant = { λ q. IsReadable (record {
+    ghost invariant = { λ q. IsSpelled (record {
       left = q.schemas.left;
       right = q.schemas.right;
       left_window = q.left_window;
@@ -61,7 +61,7 @@ impl Query {
         quiet: u32,
         pred: Pred,
     ) -> Self
-        requires { IsReadable (record {
+        requires { IsSpelled (record {
           left = schemas.left;
           right = schemas.right;
           left_window = left_window;
@@ -129,7 +129,7 @@ impl Query {
     /// has a place in the schema of its side, and the types of both sides of a comparison agree.
     pub fn pred(&self) -> &Pred
         ensures pred { result.now ≡ self.now.pred }
-        ensures readable { IsReadable self.now }
+        ensures readable { IsSpelled self.now }
     {
         &self.pred
     }

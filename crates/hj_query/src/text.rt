@@ -1,7 +1,7 @@
 ghost use Rattle.std.specs.Prelude.{◌≡◌, ◌⊎◌, MatchResult};
-ghost use Rattle.hj_query.specs.Parts.{Parts};
+ghost use Rattle.hj_query.specs.QueryParts.{QueryParts};
 ghost use Rattle.hj_query.specs.Same.{IsSameQuery};
-ghost use Rattle.hj_query.specs.Texts.{IsFirst, Spells, Unless};
+ghost use Rattle.hj_query.specs.Texts.{IsFirstQueryFault, Spells, Unless};
 ghost use Rattle.hj_query.specs.declared.fault.QueryFault.{QueryFault};
 
 use crate::condition::condition;
@@ -24,12 +24,12 @@ pub const MOST_BYTES: usize = 65_536;
 /// where memory ran out. The grammar is this project's own: `IsQuery` states it, and `FaultsQuery` the first fault of
 /// each other text.
 pub fn parse(alloc: Global, text: &[u8]) -> Result<Query, QueryFault>
-    ensures reads { MatchResult result (Spells text.now) (λ fault. Unless fault (IsFirst text.now)) }
+    ensures reads { MatchResult result (Spells text.now) (λ fault. Unless fault (IsFirstQueryFault text.now)) }
 
     // A query comes exactly where the text spells it, and each fault exactly where it is the first.
-    ensures query { (query : Parts) → Spells text.now query
+    ensures query { (query : QueryParts) → Spells text.now query
         → MatchResult result (IsSameQuery query) (λ fault. fault ≡ QueryFault.Memory) }
-    ensures fault { (found : QueryFault) → IsFirst text.now found
+    ensures fault { (found : QueryFault) → IsFirstQueryFault text.now found
         → (result ≡ Err found) ⊎ (result ≡ Err QueryFault.Memory) }
 {
     query(alloc, text)
@@ -37,7 +37,7 @@ pub fn parse(alloc: Global, text: &[u8]) -> Result<Query, QueryFault>
 
 /// Reads a query, up to the end of the text.
 fn query(alloc: Global, text: &[u8]) -> Result<Query, QueryFault>
-    ensures { MatchResult result (Spells text.now) (λ fault. Unless fault (IsFirst text.now)) }
+    ensures { MatchResult result (Spells text.now) (λ fault. Unless fault (IsFirstQueryFault text.now)) }
 {
     if text.len() > MOST_BYTES {
         return Err(QueryFault::TooLong);

@@ -28,7 +28,7 @@ use Rattle.hj_msg.proofs.OnlyMatches.{met_only_matches}
 use Rattle.hj_msg.proofs.WithinPunctuation.{met_within}
 use Rattle.hj_collect.specs.Marks.{is_same}
 use Rattle.hj_order.proofs.Emissions.{met-permutation}
-use Rattle.hj_raw.specs.Items.{Item, Taken, joined, marked, mark_behind, items_behind, items_of_report, lists_of, raw_items, with_taken}
+use Rattle.hj_raw.specs.Items.{Item, TakenReport, joined, marked, mark_behind, items_behind, items_of_report, lists_of, raw_items, with_taken}
 use Rattle.hj_raw.specs.Telling.{AreTakenOf, IsBelow, TellsAll, TellsMatches, is_pair_of}
 use Rattle.hj_raw.proofs.Behind.{one_behind}
 
@@ -74,7 +74,7 @@ module _ {P : Type 0} where
       by true = refl
       by false = refl
 
-  joined_in-report : (lists : List (List (Report P))) (one : Taken P) → joined_in (items_of_report lists one) ≡ pairs_of one.report
+  joined_in-report : (lists : List (List (Report P))) (one : TakenReport P) → joined_in (items_of_report lists one) ≡ pairs_of one.report
   joined_in-report lists one =
       joined_in-append (map joined (pairs_of one.report)) (mark_behind (punctuation lists) (punctuation (with_taken lists one)))
       ∙ ap₂ (λ xs ys. xs ++ ys) (joined_in-pairs (pairs_of one.report)) (joined_in-mark (punctuation lists) (punctuation (with_taken lists one))) ∙ append-nil (pairs_of one.report)
@@ -107,14 +107,14 @@ module _ {P : Type 0} where
 
   -- ---- reports, one after another
 
-  length-with : (lists : List (List (Report P))) (one : Taken P) → length (with_taken lists one) ≡ length lists
+  length-with : (lists : List (List (Report P))) (one : TakenReport P) → length (with_taken lists one) ≡ length lists
   length-with lists one = length-set lists one.core (get_or lists one.core [] ++ one.report ∷ [])
 
-  length-all : (lists : List (List (Report P))) (taken : List (Taken P)) → length (fold with_taken lists taken) ≡ length lists
+  length-all : (lists : List (List (Report P))) (taken : List (TakenReport P)) → length (fold with_taken lists taken) ≡ length lists
   length-all lists [] = refl
   length-all lists (first ∷ later) = length-all (with_taken lists first) later ∙ length-with lists first
 
-  begins-one : (lists : List (List (Report P))) (one : Taken P) → one.core < length lists → (k : ℕ) → IsPrefix (get_or lists k []) (get_or (with_taken lists one) k [])
+  begins-one : (lists : List (List (Report P))) (one : TakenReport P) → one.core < length lists → (k : ℕ) → IsPrefix (get_or lists k []) (get_or (with_taken lists one) k [])
   begins-one lists one low k = elim (eqb_tells k one.core) [
     | inl w ↦
         record {
@@ -124,14 +124,14 @@ module _ {P : Type 0} where
     | inr w ↦ record { rest = []; is = get_or-set_other lists one.core k (get_or lists one.core [] ++ one.report ∷ []) [] w.1 ∙ sym (append-nil (get_or lists k [])) }
   ]
 
-  begins-all : (lists : List (List (Report P))) (taken : List (Taken P)) → ((one : Taken P) → Contains taken one → one.core < length lists) → (k : ℕ) → IsPrefix (get_or lists k []) (get_or (fold with_taken lists taken) k [])
+  begins-all : (lists : List (List (Report P))) (taken : List (TakenReport P)) → ((one : TakenReport P) → Contains taken one → one.core < length lists) → (k : ℕ) → IsPrefix (get_or lists k []) (get_or (fold with_taken lists taken) k [])
   begins-all lists [] known k = record { rest = []; is = sym (append-nil (get_or lists k [])) }
   begins-all lists (first ∷ later) known k =
       prefix-both (get_or lists k []) (get_or (with_taken lists first) k []) (get_or (fold with_taken (with_taken lists first) later) k []) (begins-one lists first (known first (Contains-head first later)) k)
       (begins-all (with_taken lists first) later (λ one h. omega (arith, known one (Contains-cons first one later h), length-with lists first)) k)
 
   -- the pairs among the items are those that were met
-  met-all : (lists : List (List (Report P))) (taken : List (Taken P)) → ((one : Taken P) → Contains taken one → one.core < length lists) → IsPermutation (met lists ++ joined_in (items_behind lists taken)) (met (fold with_taken lists taken))
+  met-all : (lists : List (List (Report P))) (taken : List (TakenReport P)) → ((one : TakenReport P) → Contains taken one → one.core < length lists) → IsPermutation (met lists ++ joined_in (items_behind lists taken)) (met (fold with_taken lists taken))
   met-all lists [] known = subst (λ (l : List (Pair P)). IsPermutation l (met lists)) (sym (append-nil (met lists))) (IsPermutation-refl (met lists))
   met-all lists (first ∷ later) known =
       let longer = with_taken lists first in
@@ -188,17 +188,18 @@ module _ {P : Type 0} where
       by false is e = let one = alone front e in record { first = one.0; last = one.1; is = ap (λ (m : Mark). Some m) one.2; rose = ap (λ (m : Mark). is_same before (Some m)) (sym one.2) ∙ is }
 
   -- the report behind which a mark stands
-  record StandsBehind (lists : List (List (Report P))) (taken : List (Taken P)) (front back : List (Item P)) (mark : Mark) : Type 0 where
-    early : List (Taken P)
-    one : Taken P
-    late : List (Taken P)
+  record StandsBehind (lists : List (List (Report P))) (taken : List (TakenReport P)) (front back : List (Item P))
+      (mark : Mark) : Type 0 where
+    early : List (TakenReport P)
+    one : TakenReport P
+    late : List (TakenReport P)
     parts : taken ≡ early ++ one ∷ late
     now : punctuation (with_taken (fold with_taken lists early) one) ≡ Some mark
     rose : is_same (punctuation (fold with_taken lists early)) (Some mark) ≡ false
     before : front ≡ items_behind lists early ++ map joined (pairs_of one.report)
     behind : back ≡ items_behind (with_taken (fold with_taken lists early) one) late
 
-  find_mark : (lists : List (List (Report P))) (taken : List (Taken P)) (front back : List (Item P)) (mark : Mark) → items_behind lists taken ≡ front ++ marked mark ∷ back → StandsBehind lists taken front back mark
+  find_mark : (lists : List (List (Report P))) (taken : List (TakenReport P)) (front back : List (Item P)) (mark : Mark) → items_behind lists taken ≡ front ++ marked mark ∷ back → StandsBehind lists taken front back mark
   find_mark lists [] front back mark e = absurd (not_empty front back (marked mark) e)
   find_mark lists (first ∷ later) front back mark e = elim (split own (own_mark ++ rest) front back (marked mark) (sym (append_assoc own own_mark rest) ∙ e)) [
     | inl w ↦ absurd (no_mark w.0 w.1)
@@ -246,7 +247,7 @@ module _ {P : Type 0} where
             early = first ∷ there.early;
             one = there.one;
             late = there.late;
-            parts = ap (λ (l : List (Taken P)). first ∷ l) there.parts;
+            parts = ap (λ (l : List (TakenReport P)). first ∷ l) there.parts;
             now = there.now;
             rose = there.rose;
             before = front_is ∙ ap (λ l. own ++ l) mid_is ∙ sym (append_assoc own own_mark next) ∙ ap (λ l. (own ++ own_mark) ++ l) there.before ∙ sym (append_assoc (own ++ own_mark) inner pairs);
@@ -286,7 +287,7 @@ none-told P (suc cores) some = lesser-none (None ∷ flat_map (λ (reports : Lis
 
 module _ {P : Type 0} where
   -- where the punctuation came to be past every number, that mark stands
-  reaches_all : (lists : List (List (Report P))) (taken : List (Taken P)) → is_same (punctuation lists) (Some all) ≡ false → punctuation (fold with_taken lists taken) ≡ Some all
+  reaches_all : (lists : List (List (Report P))) (taken : List (TakenReport P)) → is_same (punctuation lists) (Some all) ≡ false → punctuation (fold with_taken lists taken) ≡ Some all
       → (front : List (Item P)) × (back : List (Item P)) × (items_behind lists taken ≡ front ++ marked all ∷ back)
   reaches_all lists [] not_yet is = absurd (true≢false (sym (ap (λ mark. is_same mark (Some all)) is) ∙ not_yet))
   reaches_all lists (first ∷ later) not_yet is = by (reaches_all (with_taken lists first) later) (is_same (punctuation (with_taken lists first)) (Some all)) refl
@@ -312,36 +313,37 @@ module _ {P : Type 0} where
           let found = deeper e is in
           (items_of_report lists first ++ found.0, found.1, ap (λ l. items_of_report lists first ++ l) found.2 ∙ sym (append_assoc (items_of_report lists first) found.0 (marked all ∷ found.1)))
 
-  module _ (run : Run P) (is : IsRun run) (taken : List (Taken P)) (are : AreTakenOf run taken) where
+  module _ (run : Run P) (is : IsRun run) (taken : List (TakenReport P)) (are : AreTakenOf run taken) where
     abbrev cores : ℕ
     cores = run.cores
 
     abbrev items : List (Item P)
     items = raw_items cores taken
 
-    known-front : (early late : List (Taken P)) → taken ≡ early ++ late → (one : Taken P) → Contains early one → one.core < cores
-    known-front early late parts one h = are.known one (subst (λ (l : List (Taken P)). Contains l one) (sym parts) (Contains-append_left early late one h))
+    known-front : (early late : List (TakenReport P)) → taken ≡ early ++ late → (one : TakenReport P) → Contains early one
+        → one.core < cores
+    known-front early late parts one h = are.known one (subst (λ (l : List (TakenReport P)). Contains l one) (sym parts) (Contains-append_left early late one h))
 
-    known-back : (early late : List (Taken P)) → taken ≡ early ++ late → (one : Taken P) → Contains late one → one.core < cores
-    known-back early late parts one h = are.known one (subst (λ (l : List (Taken P)). Contains l one) (sym parts) (Contains-append_right early late one h))
+    known-back : (early late : List (TakenReport P)) → taken ≡ early ++ late → (one : TakenReport P) → Contains late one → one.core < cores
+    known-back early late parts one h = are.known one (subst (λ (l : List (TakenReport P)). Contains l one) (sym parts) (Contains-append_right early late one h))
 
-    many : (early : List (Taken P)) → length (lists_of cores early) ≡ cores
+    many : (early : List (TakenReport P)) → length (lists_of cores early) ≡ cores
     many early = length-all (replicate cores []) early ∙ length-replicate cores []
 
     -- the reports that were taken first are of the run too
-    each-begins : (early late : List (Taken P)) → taken ≡ early ++ late → (k : ℕ) → IsPrefix (get_or (lists_of cores early) k []) (get_or (lists_of cores taken) k [])
+    each-begins : (early late : List (TakenReport P)) → taken ≡ early ++ late → (k : ℕ) → IsPrefix (get_or (lists_of cores early) k []) (get_or (lists_of cores taken) k [])
     each-begins early late parts k =
         let all_lists : fold with_taken (lists_of cores early) late ≡ lists_of cores taken = sym (fold-append with_taken (replicate cores []) early late) ∙ ap (lists_of cores) (sym parts) in
         subst (λ (lists : List (List (Report P))). IsPrefix (get_or (lists_of cores early) k []) (get_or lists k [])) all_lists
         (begins-all (lists_of cores early) late (λ one h. omega (arith, known-back early late parts one h, many early)) k)
 
-    front-of_run : (early late : List (Taken P)) → taken ≡ early ++ late → AreReportsOf run (lists_of cores early)
+    front-of_run : (early late : List (TakenReport P)) → taken ≡ early ++ late → AreReportsOf run (lists_of cores early)
     front-of_run early late parts = record {
       one_each = many early;
       prefixes = λ k low. prefix-both (get_or (lists_of cores early) k []) (get_or (lists_of cores taken) k []) (puts (run.queue k).sender) (each-begins early late parts k) (are.of_run.prefixes k low);
     }
 
-    later-of_run : (early mid late : List (Taken P)) → taken ≡ (early ++ mid) ++ late → AreLater run (lists_of cores early) (lists_of cores (early ++ mid))
+    later-of_run : (early mid late : List (TakenReport P)) → taken ≡ (early ++ mid) ++ late → AreLater run (lists_of cores early) (lists_of cores (early ++ mid))
     later-of_run early mid late parts =
         let early_parts : taken ≡ early ++ (mid ++ late) = parts ∙ append_assoc early mid late in
         record {
@@ -353,7 +355,7 @@ module _ {P : Type 0} where
         }
 
     -- the pairs among the items of the first ones are those that were met
-    met-items : (early late : List (Taken P)) → taken ≡ early ++ late → IsPermutation (joined_in (raw_items cores early)) (met (lists_of cores early))
+    met-items : (early late : List (TakenReport P)) → taken ≡ early ++ late → IsPermutation (joined_in (raw_items cores early)) (met (lists_of cores early))
     met-items early late parts =
         subst (λ (l : List (Pair P)). IsPermutation (l ++ joined_in (raw_items cores early)) (met (lists_of cores early))) (none_met cores)
         (met-all (replicate cores []) early (λ one h. omega (arith, known-front early late parts one h, many [])))
@@ -421,7 +423,7 @@ module _ {P : Type 0} where
         let lists_two : lists_of cores to_two ≡ with_taken (fold with_taken (with_taken (lists_of cores one.early) one.one) two.early) two.one =
         fold-append with_taken (replicate cores []) to_mid (two.one ∷ []) ∙ ap (λ (lists : List (List (Report P))). with_taken lists two.one) lists_mid in
         let parts_two : taken ≡ to_two ++ two.late =
-        one.parts ∙ sym (append_assoc one.early (one.one ∷ []) one.late) ∙ ap (λ (l : List (Taken P)). to_one ++ l) two.parts ∙ sym (append_assoc to_one two.early (two.one ∷ two.late))
+        one.parts ∙ sym (append_assoc one.early (one.one ∷ []) one.late) ∙ ap (λ (l : List (TakenReport P)). to_one ++ l) two.parts ∙ sym (append_assoc to_one two.early (two.one ∷ two.late))
         ∙ sym (append_assoc to_mid (two.one ∷ []) two.late) in
         let parts_mid : taken ≡ to_mid ++ (two.one ∷ two.late) = parts_two ∙ append_assoc to_mid (two.one ∷ []) two.late in
         let mid = punctuation (lists_of cores to_mid) in

@@ -14,17 +14,17 @@ pub data Item (P : Type 0) : Type 0 where
   marked : Mark → Item P
 
 -- a report that was taken of the core at a place, under the number of a turn
-pub record Taken (P : Type 0) : Type 0 where
+pub record TakenReport (P : Type 0) : Type 0 where
   pub turn : ℕ
   pub core : ℕ
   pub report : Report P
 
 -- the reports of each core, with one more
-abbrev pub with_taken : {P : Type 0} → List (List (Report P)) → Taken P → List (List (Report P))
+abbrev pub with_taken : {P : Type 0} → List (List (Report P)) → TakenReport P → List (List (Report P))
 with_taken lists taken = with_report taken.core taken.report lists
 
 -- the reports of each of so many cores, of those that were taken
-abbrev pub lists_of : {P : Type 0} → ℕ → List (Taken P) → List (List (Report P))
+abbrev pub lists_of : {P : Type 0} → ℕ → List (TakenReport P) → List (List (Report P))
 lists_of cores taken = fold with_taken (replicate cores []) taken
 
 -- the mark behind a report: the punctuation, where there is one that differs from that before the report
@@ -33,14 +33,14 @@ mark_behind before None = []
 mark_behind before (Some now) = if is_same before (Some now) then [] else marked now ∷ []
 
 -- The items of a report, behind those whose lists these are: its pairs, and then the mark.
-abbrev pub items_of_report : {P : Type 0} → List (List (Report P)) → Taken P → List (Item P)
+abbrev pub items_of_report : {P : Type 0} → List (List (Report P)) → TakenReport P → List (Item P)
 items_of_report lists taken = map joined (pairs_of taken.report) ++ mark_behind (punctuation lists) (punctuation (with_taken lists taken))
 
 -- the items of reports, one report after another, behind those whose lists these are
-abbrev pub items_behind : {P : Type 0} → List (List (Report P)) → List (Taken P) → List (Item P)
+abbrev pub items_behind : {P : Type 0} → List (List (Report P)) → List (TakenReport P) → List (Item P)
 items_behind lists [] = []
 items_behind lists (first ∷ later) = items_of_report lists first ++ items_behind (with_taken lists first) later
 
 -- The raw items of the reports that were taken of so many cores.
-abbrev pub raw_items : {P : Type 0} → ℕ → List (Taken P) → List (Item P)
+abbrev pub raw_items : {P : Type 0} → ℕ → List (TakenReport P) → List (Item P)
 raw_items cores taken = items_behind (replicate cores []) taken

@@ -3,4 +3,4 @@ pub mod Ending
 pub mod Items
 pub mod Telling
 pub mod Text
-pub mod Waiting
+pub mod WaitingItems

@@ -9,11 +9,11 @@ use Rattle.hj_msg.specs.Met.{AreReportsOf}
 use Rattle.hj_msg.specs.Punctuation.{Mark, up_to, all}
 use Rattle.hj_msg.specs.Run.{Run}
 use Rattle.hj_msg.specs.Valid.{IsMatch, later}
-use Rattle.hj_raw.specs.Items.{Item, Taken, joined, marked, lists_of}
+use Rattle.hj_raw.specs.Items.{Item, TakenReport, joined, marked, lists_of}
 
 -- These reports were taken of the cores of a run: those of each core are the first ones that it reported.
-pub record AreTakenOf {P : Type 0} (run : Run P) (taken : List (Taken P)) : Type 0 where
-  pub known : (one : Taken P) → Contains taken one → one.core < run.cores
+pub record AreTakenOf {P : Type 0} (run : Run P) (taken : List (TakenReport P)) : Type 0 where
+  pub known : (one : TakenReport P) → Contains taken one → one.core < run.cores
   pub of_run : AreReportsOf run (lists_of run.cores taken)
 
 -- whether an item is a pair of the rows of these numbers

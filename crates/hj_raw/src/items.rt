@@ -3,7 +3,7 @@ ghost use Rattle.hj_msg.specs.Met.{pairs_of};
 ghost use Rattle.hj_collect.specs.Collector.{least_mark};
 ghost use Rattle.hj_collect.specs.Marks.{is_same, meaning_of};
 ghost use Rattle.hj_raw.specs.Items.{joined, mark_behind};
-ghost use Rattle.hj_raw.specs.Waiting.{item_of, items_of, nothing_waits, with_report};
+ghost use Rattle.hj_raw.specs.WaitingItems.{item_of, items_of, nothing_waits, with_report};
 
 use crate::RawItem;
 use hj_base::{Memory, Share};
@@ -22,9 +22,9 @@ pub struct RawItems<P> {
 
 impl<P> Model for RawItems<P> {
     ghost use Rattle.hj_collect.specs.Marks.{meaning_of};
-    ghost use Rattle.hj_raw.specs.Waiting.{Waiting, items_of};
+    ghost use Rattle.hj_raw.specs.WaitingItems.{WaitingItems, items_of};
 
-    ghost Value = { Waiting P };
+    ghost Value = { WaitingItems P };
 
     ghost view = { λ raw. record { items = items_of raw.items.items; mark = meaning_of raw.mark } };
 }

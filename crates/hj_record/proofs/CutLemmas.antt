@@ -5,7 +5,7 @@ use Rattle.hj_record.specs.declared.cutter.Cut.{Cut}
 use Rattle.hj_record.specs.declared.cutter.Cut.TheVariants as cut
 use Rattle.hj_record.specs.declared.cutter.Fed.TheVariants as fed
 use Rattle.hj_record.specs.Pieces.{IsUnended, pieces_of, ended, then_pieces, unread}
-use Rattle.hj_record.specs.Cutter.{Cutting, Fits, pieces_from}
+use Rattle.hj_record.specs.Cutter.{Cutting, FitsLimits, pieces_from}
 use Rattle.hj_record.specs.Cuts.{CutsNext, CutsFrom, Cuts, LeadsBy, with_piece}
 use Rattle.hj_record.proofs.Leads.{leads_from_takes}
 use Rattle.hj_record.proofs.Streams.{pieces_of-cut_off}
@@ -14,7 +14,7 @@ pub cuts_from_next : (answer : Cut) (bytes : List ℕ) (old new : Cutting) → o
 cuts_from_next answer bytes old new none cuts = subst (λ f. CutsFrom f answer bytes old new) (sym none) cuts
 
 -- a piece that goes on, where the stream was cut off
-cut_off : (new : Cutting) → IsUnended new.piece → Fits new → pieces_from new [] false ≡ ended unread
+cut_off : (new : Cutting) → IsUnended new.piece → FitsLimits new → pieces_from new [] false ≡ ended unread
 cut_off new none fits =
     ap (λ x. pieces_of new.room (record { bytes = x; whole = false })) (append-nil new.piece)
     ∙ pieces_of-cut_off new.room new.piece none fits.0 fits.1

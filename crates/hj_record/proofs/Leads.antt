@@ -8,11 +8,11 @@ use Rattle.hj_record.specs.declared.fault.PieceFault.TheVariants as fault
 use Rattle.hj_record.specs.declared.cutter.Fed.{Fed}
 use Rattle.hj_record.specs.declared.cutter.Fed.TheVariants as fed
 use Rattle.hj_record.specs.Pieces.{Pieces, IsUnended, IsPiece, quotes, pieces_of, ended, then_pieces, clean, bad, most_in_piece}
-use Rattle.hj_record.specs.Cutter.{Cutting, Takes, Leads, Closes, LeadsAtEnd, Fits, IsOver, IsOverWithin, pieces_from, cleared}
+use Rattle.hj_record.specs.Cutter.{Cutting, Takes, Leads, Closes, LeadsAtEnd, FitsLimits, IsOneTooMany, IsOverWithin, pieces_from, cleared}
 use Rattle.hj_record.proofs.Streams.{pieces_of-piece, pieces_of-stream_long, pieces_of-too_long, pieces_of-end}
 
 -- a byte too many behind a front that goes on
-over_leads : (found : PieceFault) (room : ℕ) (front : List ℕ) (b : ℕ) (bytes : List ℕ) (whole : Bool) → IsUnended front → IsOver found front room → pieces_of room (record { bytes = front ++ b ∷ bytes; whole = whole }) ≡ ended (bad found)
+over_leads : (found : PieceFault) (room : ℕ) (front : List ℕ) (b : ℕ) (bytes : List ℕ) (whole : Bool) → IsUnended front → IsOneTooMany found front room → pieces_of room (record { bytes = front ++ b ∷ bytes; whole = whole }) ≡ ended (bad found)
 over_leads found room front b bytes whole none (inl over) =
     pieces_of-stream_long room front b bytes whole none over.2 over.1 ∙ ap (λ f. ended (bad f)) (sym over.0)
 over_leads found room front b bytes whole none (inr over) =
@@ -57,13 +57,13 @@ leads_from_takes (fed.Bad found) bytes old new (_, inr over) = inr (over_within_
 abbrev at_end : ℕ → ℕ → List ℕ → Pieces
 at_end size odd piece = cond (size == 0) (ended clean) (cond (odd == 1) (ended (bad fault.OpenQuote)) (then_pieces piece (ended clean)))
 
-ends_as : (old : Cutting) → IsUnended old.piece → Fits old → pieces_from old [] true ≡ at_end (length old.piece) (quotes old.piece % 2) old.piece
+ends_as : (old : Cutting) → IsUnended old.piece → FitsLimits old → pieces_from old [] true ≡ at_end (length old.piece) (quotes old.piece % 2) old.piece
 ends_as old none fits =
     ap (λ x. pieces_of old.room (record { bytes = x; whole = true })) (append-nil old.piece)
     ∙ pieces_of-end old.room old.piece none fits.0 fits.1
 
 -- What the end closes says how the pieces of the whole stream end.
-pub leads_from_closes : (answer : Fed) (old new : Cutting) → IsUnended old.piece → Fits old → Closes answer old new → LeadsAtEnd answer old new
+pub leads_from_closes : (answer : Fed) (old new : Cutting) → IsUnended old.piece → FitsLimits old → Closes answer old new → LeadsAtEnd answer old new
 leads_from_closes fed.More old new none fits closes =
     ends_as old none fits ∙ ap (λ p. at_end (length p) (quotes p % 2) p) closes.0
 leads_from_closes (fed.Piece used) old new none fits closes =

@@ -8,8 +8,8 @@ use Rattle.csv.specs.Machine.{step, next_record}
 use Rattle.csv.specs.Reading.{default_config}
 use Rattle.csv.specs.declared.parser.State.TheVariants as st
 use Rattle.csv.specs.declared.parser.Action.TheVariants as act
-use Rattle.hj_record.specs.declared.plain.Taken.{Taken}
-use Rattle.hj_record.specs.declared.plain.Taken.TheVariants as taken
+use Rattle.hj_record.specs.declared.plain.TakenField.{TakenField}
+use Rattle.hj_record.specs.declared.plain.TakenField.TheVariants as taken
 use Rattle.hj_record.specs.Records.{only_record, record_in}
 use Rattle.hj_record.specs.Plain.{reads, BeginsWithField, IsBare, IsNoQuote, IsNextQuote, IsLineEnd, StandsBehind, TakesField}
 
@@ -105,7 +105,7 @@ line_end_bare text (inr (inr both)) = rw both refl
 -- ---- a field with what stands behind it
 
 -- The bytes behind so many, read on with this field at hand.
-takes_at : (t : Taken) (size : ℕ) (text field : List ℕ) (fields : List (List ℕ)) → (BeginsBare (drop size text) → reads st.StartField fields [] text ≡ reads st.InField fields field (drop size text)) → StandsBehind t size text → TakesField t text fields (fields ++ field ∷ [])
+takes_at : (t : TakenField) (size : ℕ) (text field : List ℕ) (fields : List (List ℕ)) → (BeginsBare (drop size text) → reads st.StartField fields [] text ≡ reads st.InField fields field (drop size text)) → StandsBehind t size text → TakesField t text fields (fields ++ field ∷ [])
 takes_at (taken.Next used) size text field fields same behind = (
   omega arith,
   behind.1,
@@ -116,7 +116,7 @@ takes_at taken.Last size text field fields same behind =
 takes_at taken.NotPlain size text field fields same behind = tt
 
 -- A bare field in front.
-pub takes_bare : (t : Taken) (size : ℕ) (text : List ℕ) (fields : List (List ℕ)) → All IsBare (take size text) → StandsBehind t size text → TakesField t text fields (fields ++ take size text ∷ [])
+pub takes_bare : (t : TakenField) (size : ℕ) (text : List ℕ) (fields : List (List ℕ)) → All IsBare (take size text) → StandsBehind t size text → TakesField t text fields (fields ++ take size text ∷ [])
 takes_bare t size text fields all behind =
     takes_at t size text (take size text) fields (λ begins.
     ap (reads st.StartField fields []) (sym (take-append-drop size text))
@@ -173,7 +173,7 @@ second_quote fields field text quote next before lt second is_next =
     }
 
 -- A closing quote.
-pub takes_quoted : (t : Taken) (fields : List (List ℕ)) (field text : List ℕ) (quote : ℕ) → AtQuote fields field text quote → StandsBehind t (quote + 1) text → TakesField t text fields (fields ++ field ∷ [])
+pub takes_quoted : (t : TakenField) (fields : List (List ℕ)) (field text : List ℕ) (quote : ℕ) → AtQuote fields field text quote → StandsBehind t (quote + 1) text → TakesField t text fields (fields ++ field ∷ [])
 takes_quoted t fields field text quote at behind =
     takes_at t (quote + 1) text field fields (λ begins.
     at.same ∙ ap (reads st.InQuoted fields field) (drop_more text quote 0 at.within ∙ ap (λ b. b ∷ drop (quote + 1) text) at.quote_there)
@@ -195,7 +195,7 @@ line_end_none text (inr (inl line_feed)) = rw line_feed refl
 line_end_none text (inr (inr both)) = rw both refl
 
 -- The record's last field, taken from a place on, makes the record whole.
-pub last_taken : (text : List ℕ) (at : ℕ) (before fields : List (List ℕ)) (t : Taken) → t ≡ taken.Last → BeginsWithField text → reads st.StartField [] [] text ≡ reads st.StartField before [] (drop at text) → TakesField t (take (length text - at) (drop at text)) before fields → record_in text ≡ Ok (Some fields)
+pub last_taken : (text : List ℕ) (at : ℕ) (before fields : List (List ℕ)) (t : TakenField) → t ≡ taken.Last → BeginsWithField text → reads st.StartField [] [] text ≡ reads st.StartField before [] (drop at text) → TakesField t (take (length text - at) (drop at text)) before fields → record_in text ≡ Ok (Some fields)
 last_taken text at before fields t is begins same takes =
     let last = subst (λ x. TakesField x (take (length text - at) (drop at text)) before fields) is takes in
     let rest = take_all (length text - at) (drop at text) (omega (arith, length-drop at text)) in

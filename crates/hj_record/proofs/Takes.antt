@@ -7,7 +7,7 @@ use Rattle.hj_record.specs.declared.cutter.Fed.TheVariants as fed
 use Rattle.hj_record.specs.declared.cutter.LineEnd.TheVariants as line_end
 use Rattle.hj_record.specs.LineEnd.{Finds, EndsWithin}
 use Rattle.hj_record.specs.Pieces.{IsUnended, IsPiece, quotes, most_in_piece}
-use Rattle.hj_record.specs.Cutter.{Cutting, Takes, Fits, IsOver}
+use Rattle.hj_record.specs.Cutter.{Cutting, Takes, FitsLimits, IsOneTooMany}
 use Rattle.hj_record.specs.CutterFields.{IsSound}
 use Rattle.hj_record.specs.Cuts.{Lends, with_piece}
 use Rattle.hj_record.proofs.Splits.{IsUnended-append, IsPiece-append, parity_behind, outside_behind_end}
@@ -54,7 +54,7 @@ module _ (old : Cutting) (inside : Bool) (bytes : List ℕ) (n : ℕ) (sound : I
         omega (arith, within, found.0.0),
         is,
         subst (λ (v : Cutting). IsPiece v.piece) (sym is) piece,
-        subst (λ (v : Cutting). Fits v) (sym is) (omega (arith, within, found.0.0, sound.within_piece, sound.within_room), omega (arith, within, found.0.0, sound.within_piece, sound.within_room)),
+        subst (λ (v : Cutting). FitsLimits v) (sym is) (omega (arith, within, found.0.0, sound.within_piece, sound.within_room), omega (arith, within, found.0.0, sound.within_piece, sound.within_room)),
       )
 
   -- a piece that lies whole in front of the portion, where none of it came before
@@ -75,10 +75,10 @@ module _ (old : Cutting) (inside : Bool) (bytes : List ℕ) (n : ℕ) (sound : I
       let size = length-append old.piece bytes in (
         is ∙ ap (λ (w : Bool). record old { piece = old.piece ++ bytes; whole = w }) (sym going),
         subst (λ (v : Cutting). IsUnended v.piece) (sym is) (goes_on after found all),
-        subst (λ (v : Cutting). Fits v) (sym is) (omega (arith, sound.within_piece, sound.within_room), omega (arith, sound.within_piece, sound.within_room)),
+        subst (λ (v : Cutting). FitsLimits v) (sym is) (omega (arith, sound.within_piece, sound.within_room), omega (arith, sound.within_piece, sound.within_room)),
       )
 
-  takes_over : (after : Bool) (too : PieceFault) (new : Cutting) → Finds (line_end.Beyond after) inside (take n bytes) → n < length bytes → IsOver too (old.piece ++ take n bytes) old.room → new ≡ record old { fault = Some too } → Takes (fed.Bad too) bytes old new
+  takes_over : (after : Bool) (too : PieceFault) (new : Cutting) → Finds (line_end.Beyond after) inside (take n bytes) → n < length bytes → IsOneTooMany too (old.piece ++ take n bytes) old.room → new ≡ record old { fault = Some too } → Takes (fed.Bad too) bytes old new
   takes_over after too new found short over is =
       (is, inr (n, short, goes_on_within after found, over))
 

@@ -25,30 +25,30 @@ abbrev pub cleared : Cutting → Cutting
 cleared cutting = record cutting { room = cutting.room - length cutting.piece; piece = []; whole = false }
 
 -- The bytes that came so far are within both limits.
-abbrev pub Fits : Cutting → Type 0
-Fits cutting = (length cutting.piece ≤ most_in_piece) × (length cutting.piece ≤ cutting.room)
+abbrev pub FitsLimits : Cutting → Type 0
+FitsLimits cutting = (length cutting.piece ≤ most_in_piece) × (length cutting.piece ≤ cutting.room)
 
 -- The next byte is one more than the stream may have, or else one more than a piece may.
-abbrev pub IsOver : PieceFault → List ℕ → ℕ → Type 0
-IsOver found piece room = ((found ≡ fault.StreamLong) × (length piece ≡ room) × (length piece ≤ most_in_piece)) ⊎ ((found ≡ fault.TooLong) × (length piece ≡ most_in_piece) × (length piece < room))
+abbrev pub IsOneTooMany : PieceFault → List ℕ → ℕ → Type 0
+IsOneTooMany found piece room = ((found ≡ fault.StreamLong) × (length piece ≡ room) × (length piece ≤ most_in_piece)) ⊎ ((found ≡ fault.TooLong) × (length piece ≡ most_in_piece) × (length piece < room))
 
 -- The fault of some byte of this portion: all before it go on with the piece, and it is one too many.
 abbrev pub IsOverWithin : PieceFault → List ℕ → Cutting → Type 0
-IsOverWithin found bytes cutting = (at : ℕ) × (at < length bytes) × IsUnended (cutting.piece ++ take at bytes) × IsOver found (cutting.piece ++ take at bytes) cutting.room
+IsOverWithin found bytes cutting = (at : ℕ) × (at < length bytes) × IsUnended (cutting.piece ++ take at bytes) × IsOneTooMany found (cutting.piece ++ take at bytes) cutting.room
 
 -- From a fault on, the same fault is answered, and nothing changes.
-abbrev pub Stays : PieceFault → Fed → Cutting → Cutting → Type 0
-Stays found answer old new = (answer ≡ fed.Bad found) × (new ≡ old)
+abbrev pub StaysFailed : PieceFault → Fed → Cutting → Cutting → Type 0
+StaysFailed found answer old new = (answer ≡ fed.Bad found) × (new ≡ old)
 
 -- Taking a portion of bytes.
 abbrev pub Takes : Fed → List ℕ → Cutting → Cutting → Type 0
-Takes fed.More bytes old new = (new ≡ record old { piece = old.piece ++ bytes }) × IsUnended new.piece × Fits new
-Takes (fed.Piece used) bytes old new = (0 < used) × (used ≤ length bytes) × (new ≡ record old { piece = old.piece ++ take used bytes; whole = true }) × IsPiece new.piece × Fits new
+Takes fed.More bytes old new = (new ≡ record old { piece = old.piece ++ bytes }) × IsUnended new.piece × FitsLimits new
+Takes (fed.Piece used) bytes old new = (0 < used) × (used ≤ length bytes) × (new ≡ record old { piece = old.piece ++ take used bytes; whole = true }) × IsPiece new.piece × FitsLimits new
 Takes (fed.Bad found) bytes old new = (new ≡ record old { fault = Some found }) × ((found ≡ fault.Memory) ⊎ IsOverWithin found bytes old)
 
 abbrev pub FeedsFrom : Option PieceFault → Fed → List ℕ → Cutting → Cutting → Type 0
 FeedsFrom None answer bytes old new = Takes answer bytes old new
-FeedsFrom (Some found) answer bytes old new = Stays found answer old new
+FeedsFrom (Some found) answer bytes old new = StaysFailed found answer old new
 
 abbrev pub Feeds : Fed → List ℕ → Cutting → Cutting → Type 0
 Feeds answer bytes old new = FeedsFrom old.fault answer bytes old new
@@ -61,10 +61,10 @@ Closes (fed.Bad found) old new = (found ≡ fault.OpenQuote) × (quotes old.piec
 
 abbrev pub EndsFrom : Option PieceFault → Fed → Cutting → Cutting → Type 0
 EndsFrom None answer old new = Closes answer old new
-EndsFrom (Some found) answer old new = Stays found answer old new
+EndsFrom (Some found) answer old new = StaysFailed found answer old new
 
-abbrev pub Ends : Fed → Cutting → Cutting → Type 0
-Ends answer old new = EndsFrom old.fault answer old new
+abbrev pub EndsStream : Fed → Cutting → Cutting → Type 0
+EndsStream answer old new = EndsFrom old.fault answer old new
 
 -- The pieces of a stream of which these bytes are still to come.
 abbrev pub pieces_from : Cutting → List ℕ → Bool → Pieces

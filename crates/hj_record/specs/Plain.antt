@@ -8,10 +8,10 @@ use Rattle.csv.specs.declared.parser.State.{State}
 use Rattle.csv.specs.declared.parser.State.TheVariants as st
 use Rattle.hj_record.specs.declared.fault.PieceFault.{PieceFault}
 use Rattle.hj_record.specs.declared.fault.PieceFault.TheVariants as fault
-use Rattle.hj_record.specs.declared.plain.Plain.{Plain}
-use Rattle.hj_record.specs.declared.plain.Plain.TheVariants as plain
-use Rattle.hj_record.specs.declared.plain.Taken.{Taken}
-use Rattle.hj_record.specs.declared.plain.Taken.TheVariants as taken
+use Rattle.hj_record.specs.declared.plain.PlainRecord.{PlainRecord}
+use Rattle.hj_record.specs.declared.plain.PlainRecord.TheVariants as plain
+use Rattle.hj_record.specs.declared.plain.TakenField.{TakenField}
+use Rattle.hj_record.specs.declared.plain.TakenField.TheVariants as taken
 use Rattle.hj_record.specs.Records.{only_record, record_in}
 
 -- What is read from a state on, with these fields before and this one at hand.
@@ -47,26 +47,26 @@ BeginsWithField [] = ⊥
 BeginsWithField (b ∷ bs) = ((b == 13) || (b == 10)) ≡ false
 
 -- What stands behind the first bytes of a text: a comma, which is one more of those taken, or the line's end.
-abbrev pub StandsBehind : Taken → ℕ → List ℕ → Type 0
+abbrev pub StandsBehind : TakenField → ℕ → List ℕ → Type 0
 StandsBehind (taken.Next used) size text = (used ≡ size + 1) × (used ≤ length text) × (drop size text ≡ 44 ∷ drop used text)
 StandsBehind taken.Last size text = IsLineEnd (drop size text)
 StandsBehind taken.NotPlain size text = Unit {0}
 
 -- A field taken from the front of a text: reading goes on behind it, or it was the record's last.
-abbrev pub TakesField : Taken → List ℕ → List (List ℕ) → List (List ℕ) → Type 0
+abbrev pub TakesField : TakenField → List ℕ → List (List ℕ) → List (List ℕ) → Type 0
 TakesField (taken.Next used) text old new =
     (0 < used) × (used ≤ length text) × (reads st.StartField old [] text ≡ reads st.StartField new [] (drop used text))
 TakesField taken.Last text old new = only_record (reads st.StartField old [] text) ≡ Ok (Some new)
 TakesField taken.NotPlain text old new = Unit {0}
 
 -- A text cut whole is read so.
-abbrev pub CutsPlain : Plain → List ℕ → List (List ℕ) → Type 0
+abbrev pub CutsPlain : PlainRecord → List ℕ → List (List ℕ) → Type 0
 CutsPlain plain.Record text fields = record_in text ≡ Ok (Some fields)
 CutsPlain plain.NoRecord text fields = record_in text ≡ Ok None
 CutsPlain plain.NotPlain text fields = Unit {0}
 
 -- What reading a text answers from which the marks are taken.
-abbrev pub ReadsText : Result Bool PieceFault → List (List ℕ) → List ℕ → Type 0
-ReadsText (Ok true) fields text = record_in text ≡ Ok (Some fields)
-ReadsText (Ok false) fields text = record_in text ≡ Ok None
-ReadsText (Err found) fields text = (found ≡ fault.Memory) ⊎ (record_in text ≡ Err found)
+abbrev pub ReadsPieceText : Result Bool PieceFault → List (List ℕ) → List ℕ → Type 0
+ReadsPieceText (Ok true) fields text = record_in text ≡ Ok (Some fields)
+ReadsPieceText (Ok false) fields text = record_in text ≡ Ok None
+ReadsPieceText (Err found) fields text = (found ≡ fault.Memory) ⊎ (record_in text ≡ Err found)

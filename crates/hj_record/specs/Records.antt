@@ -34,10 +34,10 @@ abbrev pub record_of : List ℕ → Result (Option (List (List ℕ))) PieceFault
 record_of piece = record_in (without_marks piece)
 
 -- What reading a piece answers: its record, unless memory ran out.
-abbrev pub Answers : Result (Option (List (List ℕ))) PieceFault → List ℕ → Type 0
-Answers (Ok found) piece = record_of piece ≡ Ok found
-Answers (Err fault.Memory) piece = Unit {0}
-Answers (Err found) piece = record_of piece ≡ Err found
+abbrev pub AnswersPiece : Result (Option (List (List ℕ))) PieceFault → List ℕ → Type 0
+AnswersPiece (Ok found) piece = record_of piece ≡ Ok found
+AnswersPiece (Err fault.Memory) piece = Unit {0}
+AnswersPiece (Err found) piece = record_of piece ≡ Err found
 
 -- What reading a piece into fields answers: whether it holds a record, whose fields they are then.
 abbrev pub ReadsInto : Result Bool PieceFault → List (List ℕ) → List ℕ → Type 0

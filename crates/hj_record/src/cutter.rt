@@ -1,5 +1,5 @@
 ghost use Rattle.std.specs.Prelude.{◌≡◌, ◌<◌, ◌≤◌, ◌-◌, ◌%◌, ◌++◌, ◌==◌, ◌↔◌, IsTrue, false, List, ℕ, length, take, min, OnOk, OnErr};
-ghost use Rattle.hj_record.specs.Cutter.{fresh, cleared, Feeds, Ends, Leads, LeadsAtEnd, Takes, Fits};
+ghost use Rattle.hj_record.specs.Cutter.{fresh, cleared, Feeds, EndsStream, Leads, LeadsAtEnd, Takes, FitsLimits};
 ghost use Rattle.hj_record.specs.Cuts.{Cuts, LeadsBy};
 ghost use Rattle.hj_record.specs.declared.cutter.Cut.TheVariants as cuts;
 ghost use Rattle.hj_record.specs.Line.{most_in_next};
@@ -157,7 +157,7 @@ impl Cutter {
     /// Goes past a piece at the start of a portion, of which it is known that it has this many bytes. The cutter is ready for the
     /// next one, as after an answer `Lent`.
     #[inline(always)]
-    pub fn pass(&mut self, used: usize)
+    pub fn skip_piece(&mut self, used: usize)
         requires going { self.old.whole ≡ false }
         requires some { 0 < used }
         requires within { used ≤ most_in_next self.old }
@@ -187,7 +187,7 @@ impl Cutter {
     /// Ends the stream: the rest is a piece, or there is none, or it ends inside quotes.
     pub fn end(&mut self) -> Fed
         requires { self.old.whole ≡ false }
-        ensures ends { Ends result self.old self.new }
+        ensures ends { EndsStream result self.old self.new }
         ensures leads { self.old.fault ≡ None → LeadsAtEnd result self.old self.new }
     {
         if let Some(fault) = self.fault {
@@ -250,7 +250,7 @@ impl Cutter {
     /// Appends bytes to the piece, which then ends inside quotes or outside, and may have its end. An error changes
     /// nothing.
     fn append(&mut self, bytes: &[u8], inside: bool, whole: bool) -> Result<(), AllocError>
-        requires fits { Fits (record self.old { piece = self.old.piece ++ bytes.now }) }
+        requires fits { FitsLimits (record self.old { piece = self.old.piece ++ bytes.now }) }
         requires parity { inside ≡ (quotes (self.old.piece ++ bytes.now) % 2 == 1) }
         requires unended { whole ≡ false → IsUnended (self.old.piece ++ bytes.now) }
         ensures ok { OnOk result

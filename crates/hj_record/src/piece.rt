@@ -1,10 +1,10 @@
 ghost use Rattle.std.specs.Prelude.{◌≡◌, ◌≢◌, ◌≤◌, [], true, length, OnOk};
 ghost use Rattle.csv.specs.Reading.{strip_bom};
 ghost use Rattle.csv.specs.Records.{fields_of};
-ghost use Rattle.hj_record.specs.Plain.{ReadsText};
-ghost use Rattle.hj_record.specs.Records.{Answers, ReadsInto, without_marks};
+ghost use Rattle.hj_record.specs.Plain.{ReadsPieceText};
+ghost use Rattle.hj_record.specs.Records.{AnswersPiece, ReadsInto, without_marks};
 
-use crate::plain::{Plain, cut_plain};
+use crate::plain::{PlainRecord, cut_plain};
 use crate::{Fields, PieceFault};
 use csv::{ByteRecord, ReaderBuilder};
 use hj_base::Memory;
@@ -13,7 +13,7 @@ use std::alloc::Global;
 /// Reads the record of a piece of at most 65,536 bytes: its fields, or None if it holds no record.
 pub fn read_piece(alloc: Global, piece: &[u8]) -> Result<Option<Fields>, PieceFault>
     requires { length piece.now ≤ 65536 }
-    ensures { Answers result piece.now }
+    ensures { AnswersPiece result piece.now }
 {
     let mut fields = Fields::new(alloc);
     if read_piece_into(piece, &mut fields)? {
@@ -52,13 +52,13 @@ fn without_marks(mut piece: &[u8]) -> &[u8]
 /// Reads the record of a text that begins with no mark, in the plain form or by `csv`.
 fn read_text(text: &[u8], fields: &mut Fields) -> Result<bool, PieceFault>
     requires { strip_bom text.now ≡ text.now }
-    ensures { ReadsText result fields.new text.now }
+    ensures { ReadsPieceText result fields.new text.now }
 {
     fields.clear();
     match cut_plain(text, fields)? {
-        Plain::Record => Ok(true),
-        Plain::NoRecord => Ok(false),
-        Plain::NotPlain => {
+        PlainRecord::Record => Ok(true),
+        PlainRecord::NoRecord => Ok(false),
+        PlainRecord::NotPlain => {
             fields.clear();
             read_by_csv(text, fields)
         }
@@ -70,7 +70,7 @@ fn read_text(text: &[u8], fields: &mut Fields) -> Result<bool, PieceFault>
 fn read_by_csv(text: &[u8], fields: &mut Fields) -> Result<bool, PieceFault>
     requires marks { strip_bom text.now ≡ text.now }
     requires empty { fields.old ≡ [] }
-    ensures { ReadsText result fields.new text.now }
+    ensures { ReadsPieceText result fields.new text.now }
 {
     let alloc = fields.allocator();
     let mut reader = ReaderBuilder::new()

@@ -7,7 +7,7 @@ use hj_base::Memory;
 
 /// What a text in the plain form of RFC 4180 holds.
 #[derive(Clone, Copy)]
-pub(crate) enum Plain {
+pub(crate) enum PlainRecord {
     Record,
     NoRecord,
     /// The text has another form, and nothing is said of its record.
@@ -16,7 +16,7 @@ pub(crate) enum Plain {
 
 /// A field taken from the start of a text.
 #[derive(Clone, Copy)]
-enum Taken {
+enum TakenField {
     /// The next field stands after this many bytes, of which the last is a comma.
     Next(usize),
     /// It is the record's last.
@@ -26,21 +26,21 @@ enum Taken {
 
 /// Cuts a text in the plain form of RFC 4180 into its fields: each in quotes, or without quote, comma and line end;
 /// after the last of them LF, CR LF or nothing. It fills `fields`, which are empty before.
-pub(crate) fn cut_plain(text: &[u8], fields: &mut Fields) -> Result<Plain, Memory>
+pub(crate) fn cut_plain(text: &[u8], fields: &mut Fields) -> Result<PlainRecord, Memory>
     requires { fields.old ≡ [] }
     ensures { IfOk result (λ found. CutsPlain found text.now fields.new) }
 {
     if is_line_end(text) {
-        return Ok(Plain::NoRecord);
+        return Ok(PlainRecord::NoRecord);
     }
     if begins_with_line_end(text) {
-        return Ok(Plain::NotPlain);
+        return Ok(PlainRecord::NotPlain);
     }
     cut_line(text, fields)
 }
 
 /// Cuts a text that doesn't begin with the end of a line.
-fn cut_line(text: &[u8], fields: &mut Fields) -> Result<Plain, Memory>
+fn cut_line(text: &[u8], fields: &mut Fields) -> Result<PlainRecord, Memory>
     requires field { BeginsWithField text.now }
     requires empty { fields.old ≡ [] }
     ensures { IfOk result (λ found. CutsPlain found text.now fields.new) }
@@ -48,15 +48,15 @@ fn cut_line(text: &[u8], fields: &mut Fields) -> Result<Plain, Memory>
     let mut at = 0;
     loop {
         match take_field(&text[at..], fields)? {
-            Taken::Next(used) => at += used,
-            Taken::Last => return Ok(Plain::Record),
-            Taken::NotPlain => return Ok(Plain::NotPlain),
+            TakenField::Next(used) => at += used,
+            TakenField::Last => return Ok(PlainRecord::Record),
+            TakenField::NotPlain => return Ok(PlainRecord::NotPlain),
         }
     }
 }
 
 /// Takes a field from the start of a text, and appends it to those before.
-fn take_field(text: &[u8], fields: &mut Fields) -> Result<Taken, Memory>
+fn take_field(text: &[u8], fields: &mut Fields) -> Result<TakenField, Memory>
     ensures { IfOk result (λ taken. TakesField taken text.now fields.old fields.new) }
 {
     match text {
@@ -66,7 +66,7 @@ fn take_field(text: &[u8], fields: &mut Fields) -> Result<Taken, Memory>
 }
 
 /// Takes a field without quotes.
-fn take_bare(text: &[u8], fields: &mut Fields) -> Result<Taken, Memory>
+fn take_bare(text: &[u8], fields: &mut Fields) -> Result<TakenField, Memory>
     ensures { IfOk result (λ taken. TakesField taken text.now fields.old fields.new) }
 {
     let size = bare_size(text);
@@ -75,17 +75,17 @@ fn take_bare(text: &[u8], fields: &mut Fields) -> Result<Taken, Memory>
 }
 
 /// Takes a field in quotes. Of two quotes inside, the second is the field's.
-fn take_quoted(text: &[u8], fields: &mut Fields) -> Result<Taken, Memory>
+fn take_quoted(text: &[u8], fields: &mut Fields) -> Result<TakenField, Memory>
     requires { slice_get text.now 0 ≡ Some 34 }
     ensures { IfOk result (λ taken. TakesField taken text.now fields.old fields.new) }
 {
     let Some(mut quote) = quote_from(text, 1) else {
-        return Ok(Taken::NotPlain);
+        return Ok(TakenField::NotPlain);
     };
     fields.push(&text[1..quote])?;
     while quote + 1 < text.len() && text[quote + 1] == QUOTE {
         let Some(next) = quote_from(text, quote + 2) else {
-            return Ok(Taken::NotPlain);
+            return Ok(TakenField::NotPlain);
         };
         fields.extend_last(&text[quote + 1..next])?;
         quote = next;
@@ -162,14 +162,14 @@ fn quote_of_few(text: &[u8], from: usize) -> Option<usize>
 }
 
 /// Tells what stands after a field that takes `size` bytes.
-fn behind(text: &[u8], size: usize) -> Taken
+fn behind(text: &[u8], size: usize) -> TakenField
     requires { size ≤ length text.now }
     ensures { StandsBehind result size text.now }
 {
     match &text[size..] {
-        [COMMA, ..] => Taken::Next(size + 1),
-        rest if is_line_end(rest) => Taken::Last,
-        _ => Taken::NotPlain,
+        [COMMA, ..] => TakenField::Next(size + 1),
+        rest if is_line_end(rest) => TakenField::Last,
+        _ => TakenField::NotPlain,
     }
 }
 

@@ -9,11 +9,11 @@ use Rattle.hj_value.specs.declared.field.Field.{Field}
 use Rattle.hj_value.specs.Row.{time_of}
 use Rattle.hj_msg.specs.declared.event.Event.{Event}
 use Rattle.hj_msg.specs.declared.event.Event.TheVariants.{Arrive, Expire, Quiet}
-use Rattle.hj_query.specs.Parts.{Parts}
+use Rattle.hj_query.specs.QueryParts.{QueryParts}
 use Rattle.hj_record.specs.Pieces.{Stream}
 use Rattle.hj_window.specs.LiveRows.{Arrived, LiveRow, LiveRows, arrive}
 use Rattle.hj_event.specs.Arrivals.{Arrival, Arrivals, arrivals_of, left_among, merge, right_only, stop_or, then_arrivals, too_many}
-use Rattle.hj_event.specs.Events.{Numbered, Silence, all_events_of, events_at, events_of, expiries, no_silence, none_live, number_from, quiet_event, quiet_side, silence_at, silence_behind}
+use Rattle.hj_event.specs.Events.{NumberedEvents, Silence, all_events_of, events_at, events_of, expiries, no_silence, none_live, number_from, quiet_event, quiet_side, silence_at, silence_behind}
 use Rattle.hj_event.specs.Rows.{RowsEnd, bad as rows_bad, clean as rows_clean, rows_of, unread as rows_unread}
 use Rattle.hj_relay.specs.Fits.{kinds}
 use Rattle.hj_relay.proofs.FieldKinds.{AreOfKinds}
@@ -120,19 +120,19 @@ module _ (P Q : List Field → Type 0) where
   first_timely (suc n) from (Expire at side of ∷ events) h = first_timely n from events h
   first_timely (suc n) from (Quiet at side ∷ events) h = first_timely n from events h
 
-  up_to_timely : (limit : ℕ) (all : Numbered) (over : Bool) → Come-timely None all.events → Come-timely None (cond {A = Numbered} over (record { events = take limit all.events; ending = too_many }) all).events
+  up_to_timely : (limit : ℕ) (all : NumberedEvents) (over : Bool) → Come-timely None all.events → Come-timely None (cond {A = NumberedEvents} over (record { events = take limit all.events; ending = too_many }) all).events
   up_to_timely limit all true h = first_timely limit None all.events h
   up_to_timely limit all false h = h
 
 -- a row of these columns' kinds
-abbrev pub IsLeft : Parts → List Field → Type 0
+abbrev pub IsLeft : QueryParts → List Field → Type 0
 IsLeft query row = AreOfKinds (kinds query.left.columns) row
 
-abbrev pub IsRight : Parts → List Field → Type 0
+abbrev pub IsRight : QueryParts → List Field → Type 0
 IsRight query row = AreOfKinds (kinds query.right.columns) row
 
 -- The events of two streams.
-pub events_are_timely : (query : Parts) (left right : Stream) (limit : ℕ) → Come-timely (IsLeft query) (IsRight query) None (events_of query left right limit).events
+pub events_are_timely : (query : QueryParts) (left right : Stream) (limit : ℕ) → Come-timely (IsLeft query) (IsRight query) None (events_of query left right limit).events
 events_are_timely query left right limit =
     let all = all_events_of query left right in
     let left_rows = rows_of query.left.columns query.slack left in

@@ -4,11 +4,11 @@ use Rattle.std.specs.Prelude.{int_le}
 use Rattle.hj_base.specs.declared.numbers.Side.TheVariants.{Left, Right}
 use Rattle.hj_value.specs.declared.field.Field.{Field}
 use Rattle.hj_value.specs.Row.{time_of}
-use Rattle.hj_query.specs.Parts.{Parts}
+use Rattle.hj_query.specs.QueryParts.{QueryParts}
 use Rattle.hj_record.specs.Pieces.{Stream}
 use Rattle.hj_event.specs.declared.fault.RecordFault.{RecordFault}
 use Rattle.hj_event.specs.Arrivals.{Arrivals, bad, left_among, merge, right_only, stop_or, then_arrivals, too_many}
-use Rattle.hj_event.specs.Events.{Numbered, all_events_of, events_of}
+use Rattle.hj_event.specs.Events.{NumberedEvents, all_events_of, events_of}
 use Rattle.hj_event.specs.Rows.{RowsEnd, bad as rows_bad, clean as rows_clean, rows_of, unread as rows_unread}
 
 module _ (at : ℕ) (found : RecordFault) where
@@ -44,11 +44,11 @@ module _ (at : ℕ) (found : RecordFault) where
   merged [] left_end right right_end e = left_stop left_end (right_only right right_end) (right_alone right right_end) e
   merged (row ∷ rows) left_end right right_end e = among row (λ others. merge rows left_end others right_end) right right_end left_end (λ others e. merged rows left_end others right_end e) e
 
-  up_to_same : (limit : ℕ) (all : Numbered) (over : Bool) → (cond {A = Numbered} over (record { events = take limit all.events; ending = too_many }) all).ending ≡ bad Left at found → all.ending ≡ bad Left at found
+  up_to_same : (limit : ℕ) (all : NumberedEvents) (over : Bool) → (cond {A = NumberedEvents} over (record { events = take limit all.events; ending = too_many }) all).ending ≡ bad Left at found → all.ending ≡ bad Left at found
   up_to_same limit all true e = cc
   up_to_same limit all false e = e
 
-  pub left_rows_end : (query : Parts) (left right : Stream) (limit : ℕ) → (events_of query left right limit).ending ≡ bad Left at found → (rows_of query.left.columns query.slack left).ending ≡ rows_bad at found
+  pub left_rows_end : (query : QueryParts) (left right : Stream) (limit : ℕ) → (events_of query left right limit).ending ≡ bad Left at found → (rows_of query.left.columns query.slack left).ending ≡ rows_bad at found
   left_rows_end query left right limit e =
       let all = all_events_of query left right in
       let left_rows = rows_of query.left.columns query.slack left in

@@ -13,7 +13,7 @@ use Rattle.hj_msg.specs.declared.event.Event.TheVariants.{Arrive, Expire, Quiet}
 use Rattle.hj_msg.specs.declared.event.Pair.{Pair}
 use Rattle.hj_msg.specs.Event.{NumbersFrom}
 use Rattle.hj_msg.specs.Kang.{Held, Windows, after, kang_from, listed, no_rows, pair, without}
-use Rattle.hj_query.specs.Parts.{Parts}
+use Rattle.hj_query.specs.QueryParts.{QueryParts}
 use Rattle.hj_record.specs.Pieces.{Stream}
 use Rattle.hj_eval.specs.Holds.{holds}
 use Rattle.hj_event.specs.Events.{events_of}
@@ -127,10 +127,10 @@ module _ (P Q : List Field → Type 0) where
       at_most (time_at one) (time_at other) (later_one (time_at one) between behind other rest.1.3)
 
 -- The pairs of the join of two streams.
-pub pairs_are_timely : (query : Parts) (left right : Stream) (limit : ℕ) → Joined-timely (IsLeft query) (IsRight query) None (relay_pairs query left right limit)
+pub pairs_are_timely : (query : QueryParts) (left right : Stream) (limit : ℕ) → Joined-timely (IsLeft query) (IsRight query) None (relay_pairs query left right limit)
 pairs_are_timely query left right limit =
     joined (IsLeft query) (IsRight query) (holds query) 0 None no_rows (events_of query left right limit).events (are_well_formed query left right limit).numbered
     (events_are_timely query left right limit) (record { left = tt; right = tt })
 
-pub times_never_fall : (query : Parts) (left right : Stream) (limit : ℕ) → TimesNeverFall (relay_pairs query left right limit)
+pub times_never_fall : (query : QueryParts) (left right : Stream) (limit : ℕ) → TimesNeverFall (relay_pairs query left right limit)
 times_never_fall query left right limit = never_fall (IsLeft query) (IsRight query) (relay_pairs query left right limit) (pairs_are_timely query left right limit)

@@ -23,7 +23,7 @@ use Rattle.hj_value.specs.Number.{fits_i64}
 use Rattle.hj_value.specs.Row.{time_of}
 use Rattle.hj_value.specs.Schema.{is_int, starts_with_time}
 use Rattle.hj_msg.specs.declared.event.Pair.{Pair}
-use Rattle.hj_query.specs.Parts.{Parts}
+use Rattle.hj_query.specs.QueryParts.{QueryParts}
 use Rattle.hj_record.specs.declared.fault.PieceFault.{PieceFault}
 use Rattle.hj_record.specs.declared.fault.PieceFault.TheVariants as fault
 use Rattle.hj_record.specs.Pieces.{IsPiece, Pieces, PiecesEnd, Split, Stream, bad as pieces_bad, clean as pieces_clean, ended, last_pieces, most_in_piece, pieces_of, put_front, put_piece, split, then_pieces, up_to_too_long}
@@ -153,7 +153,7 @@ with_time_is : (greatest : Option ℤ) (time : ℤ) → IsNotBefore greatest tim
 with_time_is None time late = refl
 with_time_is (Some greatest) time late = ap (λ (t : Bool). cond t greatest time) late
 
-module _ (first second : Parts) (fits : Fits first second) where
+module _ (first second : QueryParts) (fits : Fits first second) where
   abbrev Timely : Option ℤ → Pairs → Type 0
   Timely from pairs = Joined-timely (IsLeft first) (IsRight first) from pairs
 
@@ -301,7 +301,7 @@ front_pairs (line ∷ lines) (one ∷ pairs) h =
 
 -- ---- the whole relay
 
-module _ (first second : Parts) (fits : Fits first second) where
+module _ (first second : QueryParts) (fits : Fits first second) where
   -- an ending of the pieces of a relay: well, or because the stream or a line is too long
   abbrev IsEnding : PiecesEnd → Pairs → Pairs → Type 0
   IsEnding pieces_clean front pairs = front ≡ pairs
@@ -431,11 +431,11 @@ module _ (first second : Parts) (fits : Fits first second) where
   each_back from (one ∷ pairs) timely = (one_back one timely.0 timely.1, each_back (Some (time_at one)) pairs timely.3)
 
 -- Each line of a relay reads back.
-pub lines_read_back : (first second : Parts) → Fits first second → (left right : Stream) (limit : ℕ) → All (ReadsBack second) (relay_pairs first left right limit)
+pub lines_read_back : (first second : QueryParts) → Fits first second → (left right : Stream) (limit : ℕ) → All (ReadsBack second) (relay_pairs first left right limit)
 lines_read_back first second fits left right limit =
     each-all (ReadsBack second) (relay_pairs first left right limit) (each_back first second fits None (relay_pairs first left right limit) (pairs_are_timely first left right limit))
 
 -- A relay reads back.
-pub relay_read_back : (first second : Parts) → Fits first second → (left right : Stream) (limit : ℕ)
+pub relay_read_back : (first second : QueryParts) → Fits first second → (left right : Stream) (limit : ℕ)
     → AreReadBack (relay_pairs first left right limit) (rows_of second.left.columns second.slack (whole (relay first left right limit)))
 relay_read_back first second fits left right limit = pairs_back first second fits (relay_pairs first left right limit) (pairs_are_timely first left right limit)

@@ -6,7 +6,7 @@ use Rattle.hj_value.specs.declared.field.Field.{Field}
 use Rattle.hj_value.specs.Row.{time_of}
 use Rattle.hj_msg.specs.declared.event.Pair.{Pair}
 use Rattle.hj_msg.specs.Kang.{kang}
-use Rattle.hj_query.specs.Parts.{Parts}
+use Rattle.hj_query.specs.QueryParts.{QueryParts}
 use Rattle.hj_record.specs.Pieces.{Stream}
 use Rattle.hj_eval.specs.Holds.{holds}
 use Rattle.hj_event.specs.Events.{events_of}
@@ -21,15 +21,15 @@ abbrev pub relay_line : Line
 relay_line pair = signed_decimal (time_of (later_row pair)) ++ comma ∷ pair_line pair
 
 -- the join of two streams under a query, with the relay as its text
-abbrev pub relay_result : Parts → Stream → Stream → ℕ → JoinResult
+abbrev pub relay_result : QueryParts → Stream → Stream → ℕ → JoinResult
 relay_result query left right limit = joined_by relay_line query left right limit
 
 -- The relay of two streams.
-abbrev pub relay : Parts → Stream → Stream → ℕ → List ℕ
+abbrev pub relay : QueryParts → Stream → Stream → ℕ → List ℕ
 relay query left right limit = (relay_result query left right limit).text
 
 -- the pairs that it has a line for
-abbrev pub relay_pairs : Parts → Stream → Stream → ℕ → List (Pair (List Field))
+abbrev pub relay_pairs : QueryParts → Stream → Stream → ℕ → List (Pair (List Field))
 relay_pairs query left right limit = kang (holds query) (events_of query left right limit).events
 
 -- a stream of these bytes, to its end

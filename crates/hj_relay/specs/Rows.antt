@@ -5,7 +5,7 @@ use Rattle.hj_value.specs.declared.field.Field.{Field}
 use Rattle.hj_value.specs.declared.field.Field.TheVariants.{Int}
 use Rattle.hj_value.specs.Row.{time_of}
 use Rattle.hj_msg.specs.declared.event.Pair.{Pair}
-use Rattle.hj_query.specs.Parts.{Parts}
+use Rattle.hj_query.specs.QueryParts.{QueryParts}
 use Rattle.hj_record.specs.declared.fault.PieceFault.TheVariants as fault
 use Rattle.hj_record.specs.Pieces.{most_in_piece}
 use Rattle.hj_event.specs.declared.fault.RecordFault.{RecordFault}
@@ -27,7 +27,7 @@ TimesNeverFall pairs = (before between behind : List (Pair (List Field))) (one o
     → pairs ≡ before ++ one ∷ (between ++ other ∷ behind) → int_le (time_at one) (time_at other) ≡ true
 
 -- The line of a pair, unless it is too long for a record, is read by the left columns of a query as the pair's row.
-abbrev pub ReadsBack : Parts → Pair (List Field) → Type 0
+abbrev pub ReadsBack : QueryParts → Pair (List Field) → Type 0
 ReadsBack query pair = length (relay_line pair) ≤ most_in_piece
     → rows_of query.left.columns query.slack (whole (relay_line pair)) ≡ record { rows = relay_row pair ∷ []; ending = clean }
 

@@ -7,7 +7,7 @@ use Rattle.hj_base.specs.declared.outside.Role.{Role}
 use Rattle.hj_base.specs.declared.outside.Role.TheVariants as role
 use Rattle.hj_base.specs.Outside.{RoleState}
 use Rattle.hj_base.specs.Journals.{IsPrefix}
-use Rattle.hj_query.specs.Parts.{Parts}
+use Rattle.hj_query.specs.QueryParts.{QueryParts}
 use Rattle.hj_record.specs.Pieces.{Stream}
 use Rattle.hj_event.specs.Arrivals.{clean, bad, unread, too_many}
 use Rattle.hj_event.specs.Roles.{IsReadOn}
@@ -16,13 +16,13 @@ use Rattle.hj_stream.specs.declared.outcome.Outcome.{Outcome}
 use Rattle.hj_stream.specs.declared.outcome.Outcome.TheVariants as outcome
 use Rattle.hj_stream.specs.JoinText.{JoinResult, join_result}
 use Rattle.hj_stream.specs.Joining.{CountsSinkFault, FailsOn, WritesText}
-use Rattle.hj_relay.specs.declared.ending.Twice.{Twice}
-use Rattle.hj_relay.specs.declared.ending.Twice.TheVariants as twice
+use Rattle.hj_relay.specs.declared.ending.TwiceOutcome.{TwiceOutcome}
+use Rattle.hj_relay.specs.declared.ending.TwiceOutcome.TheVariants as twice
 use Rattle.hj_relay.specs.Relay.{relay, relay_result, whole}
 use Rattle.hj_relay.specs.Rows.{IsTooLong}
 
 -- How two joins ended, of which the first had so many events and the second ended so: a read that failed was one of the third stream.
-abbrev pub twice_behind : ℕ → Outcome → Twice
+abbrev pub twice_behind : ℕ → Outcome → TwiceOutcome
 twice_behind first (outcome.Done events) = twice.Done first events
 twice_behind first (outcome.SourceFault of) = twice.Second (outcome.SourceFault role.Third)
 twice_behind first ended = twice.Second ended
@@ -48,11 +48,11 @@ EndsSecond outcome.Memory written joined = IsPrefix written joined.text
 EndsSecond ended written joined = ⊥
 
 -- the join of a relay with a third stream
-abbrev pub second_result : Parts → Parts → ℕ → Stream → Stream → Stream → JoinResult
+abbrev pub second_result : QueryParts → QueryParts → ℕ → Stream → Stream → Stream → JoinResult
 second_result first second limit left right third = join_result second (whole (relay first left right limit)) third limit
 
 -- What was written, by how the two joins of these streams ended.
-abbrev pub WritesTwice : Twice → List ℕ → Parts → Parts → ℕ → Stream → Stream → Stream → Type 0
+abbrev pub WritesTwice : TwiceOutcome → List ℕ → QueryParts → QueryParts → ℕ → Stream → Stream → Stream → Type 0
 WritesTwice (twice.Done events second_events) written first second limit left right third =
     WritesText (outcome.Done events) (relay first left right limit) (relay_result first left right limit)
     × WritesText (outcome.Done second_events) written (second_result first second limit left right third)
@@ -69,14 +69,14 @@ FailsSecond outcome.SinkFault third = Unit {0}
 FailsSecond outcome.Memory third = Unit {0}
 FailsSecond ended third = third ≡ false
 
-abbrev pub FailsTwice : Twice → Bool → Bool → Bool → Type 0
+abbrev pub FailsTwice : TwiceOutcome → Bool → Bool → Bool → Type 0
 FailsTwice (twice.Done events second_events) left right third = (left ≡ false) × (right ≡ false) × (third ≡ false)
 FailsTwice (twice.First ended) left right third = FailsOn ended left right × (third ≡ false)
 FailsTwice (twice.Second ended) left right third = (left ≡ false) × (right ≡ false) × FailsSecond ended third
 
 -- The first join's streams were read to their ends where a second one was made, the third one where that is done. Of the third one
 -- nothing was read where no second join was made.
-abbrev pub AreEnded : Twice → Bool → Bool → Bool → (before now : RoleState) → Type 0
+abbrev pub AreEnded : TwiceOutcome → Bool → Bool → Bool → (before now : RoleState) → Type 0
 AreEnded (twice.Done events second_events) left right third before now = (left ≡ true) × (right ≡ true) × (third ≡ true)
 AreEnded (twice.First ended) left right third before now = now ≡ before
 AreEnded (twice.Second ended) left right third before now = (left ≡ true) × (right ≡ true)
@@ -87,7 +87,7 @@ ChangesThree before now = (of : Role) → of ≢ role.Left → of ≢ role.Right
 
 -- Two joins in a row: these bytes of three streams were read, this text was written, and whatever comes after the bytes, it is the text
 -- that the ending says. Nothing comes after a read that answered the end, and after a failed one the stream is cut off.
-pub record JoinsTwice (ended : Twice) (first second : Parts) (limit : ℕ) (before now : Role → RoleState) (old new : Option (List ℕ)) : Type 0 where
+pub record JoinsTwice (ended : TwiceOutcome) (first second : QueryParts) (limit : ℕ) (before now : Role → RoleState) (old new : Option (List ℕ)) : Type 0 where
   pub left_bytes : List ℕ
   pub right_bytes : List ℕ
   pub third_bytes : List ℕ
@@ -109,7 +109,7 @@ pub record JoinsTwice (ended : Twice) (first second : Parts) (limit : ℕ) (befo
   pub ends : AreEnded ended left_ended right_ended third_ended (before role.Third) (now role.Third)
 
 -- The sink's count of faults rose where the second join's outcome is its fault, and nowhere else.
-abbrev pub CountsFault : Twice → ℕ → ℕ → Type 0
-CountsFault (twice.Done events second_events) old new = new ≡ old
-CountsFault (twice.First ended) old new = new ≡ old
-CountsFault (twice.Second ended) old new = CountsSinkFault ended old new
+abbrev pub CountsTwiceFault : TwiceOutcome → ℕ → ℕ → Type 0
+CountsTwiceFault (twice.Done events second_events) old new = new ≡ old
+CountsTwiceFault (twice.First ended) old new = new ≡ old
+CountsTwiceFault (twice.Second ended) old new = CountsSinkFault ended old new

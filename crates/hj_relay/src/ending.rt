@@ -2,7 +2,7 @@ use hj_stream::Outcome;
 
 /// Says how two joins in a row ended.
 #[derive(Clone, Copy, Debug, PartialEq, Eq)]
-pub enum Twice {
+pub enum TwiceOutcome {
     /// All three streams ended, and every line was written. The numbers are those of the events of the first and of the second join.
     Done { first: u64, second: u64 },
     /// The first join ended so, which is neither Done nor SinkFault. No second one was made, and nothing was written.

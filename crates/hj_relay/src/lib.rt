@@ -6,7 +6,7 @@ mod laws;
 mod line;
 mod shape;
 
-pub use ending::Twice;
+pub use ending::TwiceOutcome;
 pub use laws::{relay_lines_read_back, relay_reads_back, relay_times_never_fall};
 pub use line::RelayLine;
 pub use shape::fits;

@@ -9,12 +9,12 @@ use Rattle.hj_base.specs.declared.outside.Role.TheVariants as role
 use Rattle.hj_base.specs.Outside.{RoleState}
 use Rattle.hj_record.specs.Pieces.{Stream}
 use Rattle.hj_msg.specs.declared.event.Event.{Event}
-use Rattle.hj_query.specs.Parts.{Parts}
+use Rattle.hj_query.specs.QueryParts.{QueryParts}
 use Rattle.hj_event.specs.declared.merger.Next.{Next}
 use Rattle.hj_event.specs.declared.merger.Next.TheVariants as next
 use Rattle.hj_event.specs.Arrivals.{Ending, clean, bad, unread, too_many}
 use Rattle.hj_event.specs.Calls.{GivesAll, then_events}
-use Rattle.hj_event.specs.Events.{Numbered, events_of}
+use Rattle.hj_event.specs.Events.{NumberedEvents, events_of}
 use Rattle.hj_event.specs.Merger.{events_from, fails_next}
 use Rattle.hj_event.specs.Numbering.{no_event}
 use Rattle.hj_event.specs.Sides.{in_front, Follows}
@@ -33,7 +33,7 @@ abbrev Events : Type 0
 Events = List (Event (List Field))
 
 -- How events end, and how many they are, by an outcome.
-abbrev pub EndsSo : Outcome → Numbered → Type 0
+abbrev pub EndsSo : Outcome → NumberedEvents → Type 0
 EndsSo (outcome.Done events) all = (all.ending ≡ clean) × (length all.events ≡ events)
 EndsSo (outcome.Bad side at found) all = all.ending ≡ bad side at found
 EndsSo (outcome.SourceFault role.Query) all = ⊥
@@ -48,12 +48,12 @@ EndsSo outcome.TooMany all = all.ending ≡ too_many
 EndsSo outcome.Memory all = Unit {0}
 
 -- the events are these, and others that may come
-pub record Goes (ended : Option Outcome) (events : Events) (all : Numbered) : Type 0 where
+pub record Goes (ended : Option Outcome) (events : Events) (all : NumberedEvents) : Type 0 where
   pub more : Events
   pub may : MayCome ended more
   pub are : all.events ≡ events ++ more
 
-pub record Taken (query : Parts) (limit : ℕ) (before now : Role → RoleState) (ended : Option Outcome) (events : Events) : Type 0 where
+pub record Taken (query : QueryParts) (limit : ℕ) (before now : Role → RoleState) (ended : Option Outcome) (events : Events) : Type 0 where
   pub left : ReadOf (before role.Left) (now role.Left)
   pub right : ReadOf (before role.Right) (now role.Right)
   pub one : (left.failed && right.failed) ≡ false
@@ -65,26 +65,27 @@ pub record Taken (query : Parts) (limit : ℕ) (before now : Role → RoleState)
   pub right_tells : (right.failed ≡ true) ↔ (ended ≡ Some (outcome.SourceFault role.Right))
   pub so : (made : Outcome) → ended ≡ Some made → (l r : Stream) → Follows left.failed left.ended l → Follows right.failed right.ended r → EndsSo made (events_of query (in_front left.bytes l) (in_front right.bytes r) limit)
 
-ended_so : (last : Next) (events : Events) (all : Numbered) → GivesAll last events all → EndsSo (ended_by (length events) last) all
+ended_so : (last : Next) (events : Events) (all : NumberedEvents) → GivesAll last events all → EndsSo (ended_by (length events) last) all
 ended_so (next.Event event) events all gives = tt
-ended_so next.Done events all gives = (ap (λ (n : Numbered). n.ending) gives, ap (λ (n : Numbered). length n.events) gives ∙ ap length (append-nil events))
-ended_so (next.Bad side at why) events all gives = ap (λ (n : Numbered). n.ending) gives
-ended_so (next.Failed Left) events all gives = ap (λ (n : Numbered). n.ending) gives
-ended_so (next.Failed Right) events all gives = ap (λ (n : Numbered). n.ending) gives
-ended_so next.TooMany events all gives = ap (λ (n : Numbered). n.ending) gives
+ended_so next.Done events all gives = (ap (λ (n : NumberedEvents). n.ending) gives, ap (λ (n : NumberedEvents). length n.events) gives ∙ ap length (append-nil events))
+ended_so (next.Bad side at why) events all gives = ap (λ (n : NumberedEvents). n.ending) gives
+ended_so (next.Failed Left) events all gives = ap (λ (n : NumberedEvents). n.ending) gives
+ended_so (next.Failed Right) events all gives = ap (λ (n : NumberedEvents). n.ending) gives
+ended_so next.TooMany events all gives = ap (λ (n : NumberedEvents). n.ending) gives
 ended_so next.Memory events all gives = tt
 
-none_left : (events : Events) (all : Numbered) (ending : Ending) → all ≡ then_events events (no_event ending) → all.events ≡ events ++ []
-none_left events all ending is = ap (λ (n : Numbered). n.events) is
+none_left : (events : Events) (all : NumberedEvents) (ending : Ending) → all ≡ then_events events (no_event ending)
+    → all.events ≡ events ++ []
+none_left events all ending is = ap (λ (n : NumberedEvents). n.events) is
 
-goes_so : (last : Next) (events : Events) (all others : Numbered) → all ≡ then_events events others → GivesAll last events all → Goes (Some (ended_by (length events) last)) events all
-goes_so (next.Event event) events all others is gives = record { more = others.events; may = tt; are = ap (λ (n : Numbered). n.events) is }
+goes_so : (last : Next) (events : Events) (all others : NumberedEvents) → all ≡ then_events events others → GivesAll last events all → Goes (Some (ended_by (length events) last)) events all
+goes_so (next.Event event) events all others is gives = record { more = others.events; may = tt; are = ap (λ (n : NumberedEvents). n.events) is }
 goes_so next.Done events all others is gives = record { more = []; may = refl; are = none_left events all clean gives }
 goes_so (next.Bad side at why) events all others is gives = record { more = []; may = refl; are = none_left events all (bad side at why) gives }
 goes_so (next.Failed Left) events all others is gives = record { more = []; may = refl; are = none_left events all (unread Left) gives }
 goes_so (next.Failed Right) events all others is gives = record { more = []; may = refl; are = none_left events all (unread Right) gives }
 goes_so next.TooMany events all others is gives = record { more = []; may = refl; are = none_left events all too_many gives }
-goes_so next.Memory events all others is gives = record { more = others.events; may = tt; are = ap (λ (n : Numbered). n.events) is }
+goes_so next.Memory events all others is gives = record { more = others.events; may = tt; are = ap (λ (n : NumberedEvents). n.events) is }
 
 same_made : (o made : Outcome) → Some o ≡ Some made → o ≡ made
 same_made o made is = cc
@@ -108,14 +109,14 @@ tells_right count (next.Failed Right) = (λ e. refl, λ e. refl)
 tells_right count next.TooMany = (λ e. absurd (true≢false (sym e)), λ e. absurd (let wrong : Some (outcome.TooMany) ≡ Some (outcome.SourceFault role.Right) = e in cc))
 tells_right count next.Memory = (λ e. absurd (true≢false (sym e)), λ e. absurd (let wrong : Some (outcome.Memory) ≡ Some (outcome.SourceFault role.Right) = e in cc))
 
-pub taken : (ended : Option Outcome) (query : Parts) (limit : ℕ) (before : Role → RoleState) (events : Events) (now : Feeding) → Fed ended query limit before events now → Taken query limit before now.roles ended events
+pub taken : (ended : Option Outcome) (query : QueryParts) (limit : ℕ) (before : Role → RoleState) (events : Events) (now : Feeding) → Fed ended query limit before events now → Taken query limit before now.roles ended events
 taken None query limit before events now fed =
     let reads = fed.reads in
     record {
       left = record { bytes = reads.left_bytes; failed = false; ended = now.merger.sides.left.reading.ended; read = reads.left };
       right = record { bytes = reads.right_bytes; failed = false; ended = now.merger.sides.right.reading.ended; read = reads.right };
       one = refl;
-      goes = λ l r left right. record { more = (events_from now.merger l r).events; may = tt; are = ap (λ (n : Numbered). n.events) (reads.given l r left right) };
+      goes = λ l r left right. record { more = (events_from now.merger l r).events; may = tt; are = ap (λ (n : NumberedEvents). n.events) (reads.given l r left right) };
       failed = λ made is. absurd (let e : None ≡ Some made = is in cc);
       ends = λ made is. absurd (let e : None ≡ Some made = is in cc);
       left_tells = (λ e. absurd (true≢false (sym e)), λ e. absurd (let wrong : None ≡ Some (outcome.SourceFault role.Left) = e in cc));

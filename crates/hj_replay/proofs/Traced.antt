@@ -11,9 +11,9 @@ use Rattle.hj_msg.specs.declared.event.Event.{Event}
 use Rattle.hj_msg.specs.declared.feed.Given.{Given}
 use Rattle.hj_msg.specs.Feed.{event_in, events_in}
 use Rattle.hj_chain.specs.declared.serial.Chooser.{Chooser}
-use Rattle.hj_query.specs.Parts.{Parts}
+use Rattle.hj_query.specs.QueryParts.{QueryParts}
 use Rattle.hj_eval.specs.Holds.{holds}
-use Rattle.hj_event.specs.Events.{Numbered, events_of}
+use Rattle.hj_event.specs.Events.{NumberedEvents, events_of}
 use Rattle.hj_event.specs.Roles.{IsInStep}
 use Rattle.hj_record.specs.Pieces.{Stream}
 use Rattle.hj_event.specs.Sides.{in_front, Follows, at_its_end, cut_off}
@@ -48,7 +48,7 @@ module _ {O : Type 0} {outside : OutsideGhosts O} where
         (sym (append_assoc (event_in (Some first)) (events_in lines.feed.answers) more)) (lines.text more may);
   }
 
-  module _ (query : Parts) (rule : Chooser) (n flight limit : ℕ) (from to : AlwaysReady O outside) (unasked : IsUnasked query limit from.feed) (old new : Option (List ℕ)) where
+  module _ (query : QueryParts) (rule : Chooser) (n flight limit : ℕ) (from to : AlwaysReady O outside) (unasked : IsUnasked query limit from.feed) (old new : Option (List ℕ)) where
     abbrev before : Role → RoleState
     before = with_streams (roles_of from) (roles_of from role.Left) (roles_of from role.Right)
 
@@ -69,7 +69,7 @@ module _ {O : Type 0} {outside : OutsideGhosts O} where
       pub known : Taken query limit before (seen (roles_of from) to).roles to.feed.ended events
       known = taken to.feed.ended query limit before events (seen (roles_of from) to) fed
 
-      all_steps : (made : Outcome) (text : List ℕ) (all : Numbered) → made ≢ outcome.Memory → EndsSo made all → IsTrace (holds query) rule n flight all.events text → WritesSteps made query n flight rule text all
+      all_steps : (made : Outcome) (text : List ℕ) (all : NumberedEvents) → made ≢ outcome.Memory → EndsSo made all → IsTrace (holds query) rule n flight all.events text → WritesSteps made query n flight rule text all
       all_steps (outcome.Done count) text all other so is = (so.0, so.1, is)
       all_steps (outcome.Bad side at found) text all other so is = (so, is)
       all_steps (outcome.SourceFault role.Query) text all other so is = so
@@ -90,7 +90,7 @@ module _ {O : Type 0} {outside : OutsideGhosts O} where
     broken_off : (answer : Sent) (made : Outcome) (run : WritesRun {O = O} {outside = outside} (holds query) rule n flight answer from to old new)
         → FailsOn made (known answer run).left.failed (known answer run).right.failed → AreEnded made (known answer run).left.ended (known answer run).right.ended
         → ((more : List (Event (List Field))) → MayCome to.feed.ended more → BeginsTrace (holds query) rule n flight (events_in run.feed.answers ++ more) run.grown)
-        → ((text : List ℕ) (all : Numbered) → BeginsTrace (holds query) rule n flight all.events text → WritesSteps made query n flight rule text all)
+        → ((text : List ℕ) (all : NumberedEvents) → BeginsTrace (holds query) rule n flight all.events text → WritesSteps made query n flight rule text all)
         → WritesTrace made query n flight rule limit (roles_of from) (roles_of to) old new
     broken_off answer made run failed ends begins steps =
         let so = known answer run in
@@ -147,7 +147,7 @@ follow_some true ended = (cut_off, refl)
 follow_some false true = (at_its_end, refl)
 follow_some false false = (at_its_end, tt)
 
-kept_faults : (made : Outcome) (all : Numbered) (old new : ℕ) → EndsSo made all → new ≡ old → CountsSinkFault made old new
+kept_faults : (made : Outcome) (all : NumberedEvents) (old new : ℕ) → EndsSo made all → new ≡ old → CountsSinkFault made old new
 kept_faults (outcome.Done events) all old new so same = same
 kept_faults (outcome.Bad side at found) all old new so same = same
 kept_faults (outcome.SourceFault of) all old new so same = same
@@ -155,7 +155,7 @@ kept_faults outcome.SinkFault all old new so same = absurd so
 kept_faults outcome.TooMany all old new so same = same
 kept_faults outcome.Memory all old new so same = same
 
-module _ {O : Type 0} {outside : OutsideGhosts O} (query : Parts) (rule : Chooser) (n flight limit : ℕ) (from to : AlwaysReady O outside) (unasked : IsUnasked query limit from.feed) (old new : Option (List ℕ)) where
+module _ {O : Type 0} {outside : OutsideGhosts O} (query : QueryParts) (rule : Chooser) (n flight limit : ℕ) (from to : AlwaysReady O outside) (unasked : IsUnasked query limit from.feed) (old new : Option (List ℕ)) where
   pub has_ended : (answer : Sent) → WritesRun {O = O} {outside = outside} (holds query) rule n flight answer from to old new → answer ≡ sent.Whole → to.feed.ended ≢ None
   has_ended sent.Whole run is = (run.text [] (may_none to.feed.ended)).0
   has_ended sent.Failed run is = absurd (let e : sent.Failed ≡ sent.Whole = is in cc)
@@ -171,7 +171,7 @@ module _ {O : Type 0} {outside : OutsideGhosts O} (query : Parts) (rule : Choose
   counts sent.Memory made run is before now same = subst (λ (o : Outcome). CountsSinkFault o before now) (sym is) same
 
 -- nothing was written
-pub traces_none : (query : Parts) (rule : Chooser) (n flight limit : ℕ) (now : Role → RoleState) (sink : Option (List ℕ)) → IsInStep false (now role.Left) → IsInStep false (now role.Right)
+pub traces_none : (query : QueryParts) (rule : Chooser) (n flight limit : ℕ) (now : Role → RoleState) (sink : Option (List ℕ)) → IsInStep false (now role.Left) → IsInStep false (now role.Right)
     → WritesTrace outcome.Memory query n flight rule limit now now sink sink
 traces_none query rule n flight limit now sink left right = record {
   left = record { bytes = []; failed = false; ended = false; read = not_read false (now role.Left) left };

@@ -23,7 +23,7 @@ use Rattle.hj_chain.proofs.OnlyCloses.{none_to_come}
 use Rattle.hj_chain.proofs.Stuck.{finished-sent, stuck_is_done}
 use Rattle.hj_output.specs.declared.output.Sent.{Sent}
 use Rattle.hj_output.specs.declared.output.Sent.TheVariants as sent
-use Rattle.hj_output.specs.Output.{AppendsFront, Sends}
+use Rattle.hj_output.specs.Output.{AppendsFront, SendsPiece}
 use Rattle.hj_stream.specs.declared.outcome.Outcome.{Outcome}
 use Rattle.hj_stream.specs.declared.outcome.Outcome.TheVariants as outcome
 use Rattle.hj_replay.specs.declared.ready.AlwaysReady.{AlwaysReady}
@@ -195,7 +195,7 @@ module _ {O : Type 0} {outside : OutsideGhosts O} (matches : List Field → List
         }
 
 -- what was written of a line that wasn't sent whole
-pub front_of : (last : Sent) (bytes : List ℕ) (old new : Option (List ℕ)) → last ≢ sent.Whole → Sends last bytes old new → AppendsFront bytes old new
+pub front_of : (last : Sent) (bytes : List ℕ) (old new : Option (List ℕ)) → last ≢ sent.Whole → SendsPiece last bytes old new → AppendsFront bytes old new
 front_of sent.Whole bytes old new apart sends = absurd (apart refl)
 front_of sent.Failed bytes old new apart sends = sends
 front_of sent.Memory bytes old new apart sends = sends

@@ -8,10 +8,10 @@ use Rattle.hj_base.specs.declared.outside.Role.TheVariants as role
 use Rattle.hj_base.specs.Outside.{RoleState, ChangesOnlyStreams}
 use Rattle.hj_record.specs.Pieces.{Stream}
 use Rattle.hj_chain.specs.declared.serial.Chooser.{Chooser}
-use Rattle.hj_query.specs.Parts.{Parts}
+use Rattle.hj_query.specs.QueryParts.{QueryParts}
 use Rattle.hj_eval.specs.Holds.{holds}
 use Rattle.hj_event.specs.Arrivals.{clean, bad, unread, too_many}
-use Rattle.hj_event.specs.Events.{Numbered, events_of}
+use Rattle.hj_event.specs.Events.{NumberedEvents, events_of}
 use Rattle.hj_event.specs.Roles.{IsReadOn}
 use Rattle.hj_event.specs.Sides.{in_front, Follows}
 use Rattle.hj_stream.specs.declared.outcome.Outcome.{Outcome}
@@ -28,7 +28,7 @@ pub record ReadOf (before now : RoleState) : Type 0 where
 
 -- What was written, by the outcome: the trace of the whole run over events that end so; or, where the sink failed or memory ran out,
 -- what begins a trace of it.
-abbrev pub WritesSteps : Outcome → Parts → (cores flight : ℕ) → Chooser → List ℕ → Numbered → Type 0
+abbrev pub WritesSteps : Outcome → QueryParts → (cores flight : ℕ) → Chooser → List ℕ → NumberedEvents → Type 0
 WritesSteps (outcome.Done events) query cores flight rule text all = (all.ending ≡ clean) × (length all.events ≡ events) × IsTrace (holds query) rule cores flight all.events text
 WritesSteps (outcome.Bad side at found) query cores flight rule text all = (all.ending ≡ bad side at found) × IsTrace (holds query) rule cores flight all.events text
 WritesSteps (outcome.SourceFault role.Query) query cores flight rule text all = ⊥
@@ -44,7 +44,8 @@ WritesSteps outcome.Memory query cores flight rule text all = BeginsTrace (holds
 
 -- A trace was written, on a chain of so many cores with at most so many events outstanding: these bytes of both streams were read,
 -- this text was written, and whatever comes after the bytes, it is what the outcome says of the streams' events.
-pub record WritesTrace (ended : Outcome) (query : Parts) (cores flight : ℕ) (rule : Chooser) (limit : ℕ) (before now : Role → RoleState)
+pub record WritesTrace (ended : Outcome) (query : QueryParts) (cores flight : ℕ) (rule : Chooser) (limit : ℕ)
+    (before now : Role → RoleState)
     (old new : Option (List ℕ)) : Type 0 where
   pub left : ReadOf (before role.Left) (now role.Left)
   pub right : ReadOf (before role.Right) (now role.Right)

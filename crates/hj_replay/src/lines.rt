@@ -8,7 +8,7 @@ ghost use Rattle.hj_chain.specs.Chain.{cause, empty_chain};
 ghost use Rattle.hj_chain.specs.Steps.{GoesWith, Steps, was_asked};
 ghost use Rattle.hj_eval.specs.Holds.{holds};
 ghost use Rattle.hj_output.specs.declared.output.Sent.TheVariants as sent;
-ghost use Rattle.hj_output.specs.Output.{CountsFaults, Sends};
+ghost use Rattle.hj_output.specs.Output.{CountsFaults, SendsPiece};
 ghost use Rattle.hj_stream.specs.declared.outcome.Outcome.TheVariants as outcome;
 ghost use Rattle.hj_trace.specs.Line.{line_text};
 ghost use Rattle.hj_replay.specs.Feeds.{Fed, gives, state_of};
@@ -66,7 +66,7 @@ fn write_line<'r, S: Store<SharedRow, QueryJoin<'r>> + Drop, O: Outside, K: Sink
     requires goes { GoesWith holds chain.old (state_of feed.old) }
     requires enabled { cause chain.old.state actor ≡ None }
     ensures feed { Fed feed.old feed.new }
-    ensures sends { Sends result (line_text (holds chain.old.join) chain.old.state actor) (K.told out.old) (K.told out.new) }
+    ensures sends { SendsPiece result (line_text (holds chain.old.join) chain.old.state actor) (K.told out.old) (K.told out.new) }
     ensures faults { CountsFaults result (K.faults out.old) (K.faults out.new) }
     ensures step { result ≡ sent.Whole
         → Steps gives (λ _. true) (holds chain.old.join) actor chain.old.state feed.old stepped.Did chain.new.state feed.new }

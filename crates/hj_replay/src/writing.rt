@@ -3,7 +3,7 @@ ghost use Rattle.hj_base.specs.Outside.{NamesStay};
 ghost use Rattle.hj_base.specs.declared.outside.Role.TheVariants as role;
 ghost use Rattle.hj_msg.specs.Feed.{IsFresh};
 ghost use Rattle.hj_eval.specs.Holds.{holds};
-ghost use Rattle.hj_event.specs.Merger.{IsNew};
+ghost use Rattle.hj_event.specs.Merger.{IsNewMerger};
 ghost use Rattle.hj_event.specs.Roles.{IsInStep};
 ghost use Rattle.hj_output.specs.declared.output.Sent.TheVariants as sending;
 ghost use Rattle.hj_output.specs.Output.{CountsFaults};
@@ -66,7 +66,7 @@ fn trace_merged<O: Outside, K: Sink>(
     outside: &mut O,
     out: &mut K,
 ) -> Outcome
-    requires merger { IsNew query.now limit merger.old }
+    requires merger { IsNewMerger query.now limit merger.old }
     requires left { IsInStep false (O.state outside.old role.Left) }
     requires right { IsInStep false (O.state outside.old role.Right) }
     ensures writes { WritesTrace result query.now plan.size.cores plan.size.flight plan.chooser limit

@@ -6,10 +6,10 @@ use Rattle.hj_msg.specs.Store.{joins}
 use Rattle.hj_rows.specs.declared.key_filter.KeyRange.{KeyRange}
 
 -- there is a range, and the key lies in it
-abbrev pub IsWithin : Option KeyRange → ℕ → Type 0
-IsWithin None key = ⊥
-IsWithin (Some range) key = (range.low ≤ key) × (key ≤ range.high)
+abbrev pub IsKeyWithin : Option KeyRange → ℕ → Type 0
+IsKeyWithin None key = ⊥
+IsKeyWithin (Some range) key = (range.low ≤ key) × (key ≤ range.high)
 
 -- Where rows match, the key of the one lies in the range of the other.
-abbrev pub Keeps : {P : Type 0} → (P → P → Bool) → (Side → P → ℕ) → (Side → P → Option KeyRange) → Type 0
-Keeps {P} matches key range = (side : Side) (row against : P) → joins matches side row against ≡ true → IsWithin (range side against) (key side row)
+abbrev pub KeepsKeys : {P : Type 0} → (P → P → Bool) → (Side → P → ℕ) → (Side → P → Option KeyRange) → Type 0
+KeepsKeys {P} matches key range = (side : Side) (row against : P) → joins matches side row against ≡ true → IsKeyWithin (range side against) (key side row)

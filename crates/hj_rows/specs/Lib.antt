@@ -1,4 +1,4 @@
 pub mod Keys
 pub mod ListStore
-pub mod Numbered
+pub mod NumberedRows
 pub mod Places

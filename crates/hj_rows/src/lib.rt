@@ -8,5 +8,5 @@ mod place;
 
 pub use key_filter::{KeyFilter, KeyRange};
 pub use list_store::{ListStore, is_joined, joining_row, partners_of, probe_sorted};
-pub use numbered::Numbered;
+pub use numbered::NumberedRows;
 pub use place::RestingRow;

@@ -2,10 +2,10 @@ ghost use Rattle.std.specs.Prelude.{◌≡◌, ◌<◌, [], map, IfOk};
 ghost use Rattle.std.specs.Option.{option_copied};
 ghost use Rattle.hj_msg.specs.Store.{joins, settled_matches};
 ghost use Rattle.hj_rows.specs.ListStore.{resting_rows};
-ghost use Rattle.hj_rows.specs.Numbered.{room_in, rows_in};
+ghost use Rattle.hj_rows.specs.NumberedRows.{room_in, rows_in};
 ghost use Rattle.hj_rows.specs.Places.{joining, partner_of};
 
-use crate::numbered::Numbered;
+use crate::numbered::NumberedRows;
 use crate::place::RestingRow;
 use hj_base::{EventNo, Memory, Share, Side};
 use hj_msg::{Join, Partner, Partners, Store};
@@ -16,7 +16,7 @@ use std::collections::BTreeMap;
 #[derive(Drop)]
 pub struct ListStore<P> {
     alloc: Global,
-    rows: Numbered<P>,
+    rows: NumberedRows<P>,
 }
 
 impl<P> ListStore<P> {
@@ -26,7 +26,7 @@ impl<P> ListStore<P> {
     {
         ListStore {
             alloc,
-            rows: Numbered::new(alloc),
+            rows: NumberedRows::new(alloc),
         }
     }
 }
@@ -78,7 +78,7 @@ impl<P: Share + Drop, J: Join<P>> Store<P, J> for ListStore<P> {
 #[cold]
 pub fn probe_sorted<P: Share + Drop, J: Join<P>>(
     alloc: Global,
-    rows: &Numbered<P>,
+    rows: &NumberedRows<P>,
     side: Side,
     against: &P,
     join: &J,
@@ -91,7 +91,7 @@ pub fn probe_sorted<P: Share + Drop, J: Join<P>>(
 /// Finds the settled rows of `side` that join with `against`, a row of the other side, by their numbers.
 fn sorted_rows<P: Share + Drop, J: Join<P>>(
     alloc: Global,
-    rows: &Numbered<P>,
+    rows: &NumberedRows<P>,
     side: Side,
     against: &P,
     join: &J,

@@ -1,7 +1,7 @@
 ghost use Rattle.std.specs.Prelude.{◌≡◌, ◌≤◌, ◌<◌, ◌+◌, ◌^◌, [], ◌∷◌, ◌++◌, Some, nat_eq, is_some, length, OnOk, IfSome, option_map};
 ghost use Rattle.indexmap.specs.IndexMap.{get, spare, insert_entry, shift_remove_entry, IsUnique};
 ghost use Rattle.hj_msg.specs.Store.{AreDistinct, holds, with_entry, with_settled, without_entry};
-ghost use Rattle.hj_rows.specs.Numbered.{places_in, room_in, rows_in};
+ghost use Rattle.hj_rows.specs.NumberedRows.{places_in, room_in, rows_in};
 ghost use Rattle.hj_rows.specs.Places.{entry_at, row_at, rows_of, StayInPlace};
 
 use crate::place::{RestingRow, settle_place, taken_place, was_empty};
@@ -13,20 +13,20 @@ use std::alloc::Global;
 ///
 /// A removal leaves an empty place; all empty places are swept out at once when they are a third of all.
 #[derive(Drop)]
-pub struct Numbered<P> {
+pub struct NumberedRows<P> {
     /// The place of each number.
     pub places: IndexMap<u64, Option<RestingRow<P>>>,
     /// How many places are empty.
     empty: usize,
 }
 
-impl<P> Numbered<P> {
+impl<P> NumberedRows<P> {
     /// Makes a list with no rows.
     pub fn new(alloc: Global) -> Self
         ensures rows { rows_in result ≡ [] }
         ensures places { places_in result ≡ [] }
     {
-        Numbered {
+        NumberedRows {
             places: IndexMap::new(alloc),
             empty: 0,
         }
@@ -51,7 +51,7 @@ impl<P> Numbered<P> {
     }
 }
 
-impl<P: Drop> Numbered<P> {
+impl<P: Drop> NumberedRows<P> {
     /// Makes room for a row under any number. The rows stay as they are, also where memory runs out.
     pub fn reserve(&mut self) -> Result<(), Memory>
         ensures rows { rows_in self.new ≡ rows_in self.old }

@@ -14,7 +14,7 @@ use Rattle.hj_record.specs.Records.{record_of}
 use Rattle.hj_record.proofs.Bare.{BeginsPlainly, IsWithinLine, ReadsAs, field_within, line_is_piece, line_reads, none_within, none_yet, one_more}
 use Rattle.hj_schema.specs.declared.fault.RowFault.{RowFault}
 use Rattle.hj_schema.specs.Rows.{put_value, value_of, values_from}
-use Rattle.hj_schema.specs.Lines.{IsDigit, IsLineOf, TakesField, TakesInt, TakesText}
+use Rattle.hj_schema.specs.Lines.{IsDigit, IsLineOf, TakesValue, TakesInt, TakesText}
 use Rattle.hj_schema.proofs.ReadRows.{row_of-counted, value_of-text}
 
 digit_begins : (b : ℕ) → IsDigit b → (((b == 13) || (b == 10)) ≡ false) × ((b == 0xEF) ≡ false)
@@ -65,7 +65,7 @@ none_read columns row bytes is = record {
   values = ap (λ (r : List Field). Ok r) (sym is);
 }
 
-module _ (columns : List Column) (column : ℕ) (row longer : List Field) (at : ℕ) (bytes : List ℕ) (value : Field) (size behind : ℕ) (so_far : ReadsUpTo columns column row at bytes) (takes : TakesField columns column value size behind (drop at bytes)) (pushed : longer ≡ row ++ value ∷ []) where
+module _ (columns : List Column) (column : ℕ) (row longer : List Field) (at : ℕ) (bytes : List ℕ) (value : Field) (size behind : ℕ) (so_far : ReadsUpTo columns column row at bytes) (takes : TakesValue columns column value size behind (drop at bytes)) (pushed : longer ≡ row ++ value ∷ []) where
   front : take (at + size) bytes ≡ take at bytes ++ (takes.standing ++ behind ∷ [])
   front = take-add at size bytes ∙ ap (λ (xs : List ℕ). take at bytes ++ xs) takes.are
 
@@ -127,7 +127,7 @@ takes_int value size behind bytes within all number there = record {
   number = number;
 }
 
-pub text_taken : (columns : List Column) (at : ℕ) (column : Column) (text : List ℕ) (size behind : ℕ) (bytes : List ℕ) → slice_get columns at ≡ Some column → column.kind ≡ kind.Text → TakesText text size behind bytes → TakesField columns at (field.Text text) size behind bytes
+pub text_taken : (columns : List Column) (at : ℕ) (column : Column) (text : List ℕ) (size behind : ℕ) (bytes : List ℕ) → slice_get columns at ≡ Some column → column.kind ≡ kind.Text → TakesText text size behind bytes → TakesValue columns at (field.Text text) size behind bytes
 text_taken columns at column text size behind bytes there is takes = record {
   column = column;
   there = there;

@@ -34,7 +34,7 @@ pub record TakesText (text : List ℕ) (size behind : ℕ) (bytes : List ℕ) : 
   pub utf8 : IsUtf8 text
 
 -- The value of the column at a place in front of some bytes: so many, its field as it stands in a line and this byte behind it.
-pub record TakesField (columns : List Column) (at : ℕ) (value : Field) (size behind : ℕ) (bytes : List ℕ) : Type 0 where
+pub record TakesValue (columns : List Column) (at : ℕ) (value : Field) (size behind : ℕ) (bytes : List ℕ) : Type 0 where
   pub column : Column
   pub there : slice_get columns at ≡ Some column
   pub within : size ≤ length bytes

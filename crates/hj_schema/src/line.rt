@@ -1,5 +1,5 @@
 ghost use Rattle.std.specs.Prelude.{◌≡◌, ◌<◌, [], true, length, slice_index, IfOk, IfSome};
-ghost use Rattle.hj_schema.specs.Lines.{IsDigit, IsLineOf, TakesField};
+ghost use Rattle.hj_schema.specs.Lines.{IsDigit, IsLineOf, TakesValue};
 
 use crate::numbers::take_int;
 use crate::texts::take_text;
@@ -45,7 +45,7 @@ fn take_field<'a>(
     bytes: &'a [u8],
     behind: u8,
 ) -> Option<(Field<'a>, usize)>
-    ensures { IfSome result (λ found. TakesField schema.now.columns column found.0 found.1 behind bytes.now) }
+    ensures { IfSome result (λ found. TakesValue schema.now.columns column found.0 found.1 behind bytes.now) }
 {
     let column = schema.columns.get(column)?;
     match column.kind {

@@ -14,7 +14,7 @@ use Rattle.hj_msg.specs.declared.partner.Partner.{Partner}
 use Rattle.hj_msg.specs.Drain.{AreKept, Drainage, TakesAll, pairs_in}
 use Rattle.hj_msg.specs.Met.{pair_of, pairs_of}
 use Rattle.hj_msg.specs.RunsJoin.{EndsJoin}
-use Rattle.hj_sequential.specs.Giving.{Gives}
+use Rattle.hj_sequential.specs.Giving.{GivesListed}
 
 abbrev pair_in : {P : Type 0} → Drainage P → Pair P
 pair_in one = one.pair
@@ -57,7 +57,7 @@ ends-both fin.Memory first later front back one other = (kept-both first later o
 
 module _ {P D : Type 0} (takes : D → Pair P → Drained → D → Type 0) where
   -- pairs are given behind others, which were kept
-  pub gives-both : (ended : Fin) (front back : List (Pair P)) (unfilled mid filled : D) → Gives takes front fin.Done unfilled mid → Gives takes back ended mid filled → Gives takes (front ++ back) ended unfilled filled
+  pub gives-both : (ended : Fin) (front back : List (Pair P)) (unfilled mid filled : D) → GivesListed takes front fin.Done unfilled mid → GivesListed takes back ended mid filled → GivesListed takes (front ++ back) ended unfilled filled
   gives-both ended front back unfilled mid filled first later = record {
     taken = first.taken ++ later.taken;
     drain = takes-both takes first.taken later.taken unfilled mid filled first.drain later.drain;
@@ -65,18 +65,19 @@ module _ {P D : Type 0} (takes : D → Pair P → Drained → D → Type 0) wher
   }
 
   -- none is given, of none that are to be given, or where memory runs out
-  pub gives_nothing : (unfilled : D) → Gives takes [] fin.Done unfilled unfilled
+  pub gives_nothing : (unfilled : D) → GivesListed takes [] fin.Done unfilled unfilled
   gives_nothing unfilled = record { taken = []; drain = refl; ends = (refl, refl, refl) }
 
-  pub gives_none : (pairs : List (Pair P)) (unfilled : D) → Gives takes pairs fin.Memory unfilled unfilled
+  pub gives_none : (pairs : List (Pair P)) (unfilled : D) → GivesListed takes pairs fin.Memory unfilled unfilled
   gives_none pairs unfilled = record { taken = []; drain = refl; ends = (refl, record { rest = pairs; is = refl }) }
 
   -- one is given and kept
-  pub gives_one : (pair : Pair P) (unfilled filled : D) → takes unfilled pair Kept filled → Gives takes (pair ∷ []) fin.Done unfilled filled
+  pub gives_one : (pair : Pair P) (unfilled filled : D) → takes unfilled pair Kept filled
+      → GivesListed takes (pair ∷ []) fin.Done unfilled filled
   gives_one pair unfilled filled took = record { taken = record { pair = pair; answer = Kept } ∷ []; drain = (filled, took, refl); ends = (refl, refl, refl) }
 
   -- one is given and refused
-  pub gives_refused : (pair : Pair P) (pairs : List (Pair P)) (unfilled filled : D) → takes unfilled pair Refused filled → Gives takes (pair ∷ pairs) fin.Refused unfilled filled
+  pub gives_refused : (pair : Pair P) (pairs : List (Pair P)) (unfilled filled : D) → takes unfilled pair Refused filled → GivesListed takes (pair ∷ pairs) fin.Refused unfilled filled
   gives_refused pair pairs unfilled filled took = record {
     taken = record { pair = pair; answer = Refused } ∷ [];
     drain = (filled, took, refl);
@@ -97,7 +98,7 @@ taken-one (y ∷ ys) (suc i) x e = ap (λ zs. y ∷ zs) (taken-one ys i x e)
 module _ {P D : Type 0} (takes : D → Pair P → Drained → D → Type 0) (side : Side) (at : EventNo) (row : P) (partners : List (Partner P)) (unfilled : D) where
   -- the pairs with the first partners were given, and kept
   abbrev pub GaveFirst : ℕ → D → Type 0
-  GaveFirst count filled = Gives takes (map (pair_of side at row) (take count partners)) fin.Done unfilled filled
+  GaveFirst count filled = GivesListed takes (map (pair_of side at row) (take count partners)) fin.Done unfilled filled
 
   module _ (count : ℕ) (filled : D) (gave : GaveFirst count filled) (partner : Partner P) (is : Some partner ≡ slice_get partners count) where
     pairs_cut : map (pair_of side at row) (take count partners) ++ pair_of side at row partner ∷ map (pair_of side at row) (drop (suc count) partners) ≡ pairs_of (Handled at side row partners)
@@ -106,16 +107,17 @@ module _ {P D : Type 0} (takes : D → Pair P → Drained → D → Type 0) (sid
         ∙ ap (λ (ps : List (Partner P)). map (pair_of side at row) ps) (sym (cut-at partners count partner (sym is)))
 
     -- memory runs out before the next one
-    pub gave-memory : Gives takes (pairs_of (Handled at side row partners)) fin.Memory unfilled filled
+    pub gave-memory : GivesListed takes (pairs_of (Handled at side row partners)) fin.Memory unfilled filled
     gave-memory =
-        subst (λ (pairs : List (Pair P)). Gives takes pairs fin.Memory unfilled filled) pairs_cut
+        subst (λ (pairs : List (Pair P)). GivesListed takes pairs fin.Memory unfilled filled) pairs_cut
         (gives-both takes fin.Memory _ _ unfilled filled filled gave (gives_none takes (pair_of side at row partner ∷ map (pair_of side at row) (drop (suc count) partners)) filled))
 
     module _ (pair : Pair P) (made : pair ≡ pair_of side at row partner) (more : D) where
       -- the next one is refused
-      pub gave-refused : takes filled pair Refused more → Gives takes (pairs_of (Handled at side row partners)) fin.Refused unfilled more
+      pub gave-refused : takes filled pair Refused more
+          → GivesListed takes (pairs_of (Handled at side row partners)) fin.Refused unfilled more
       gave-refused took =
-          subst (λ (pairs : List (Pair P)). Gives takes pairs fin.Refused unfilled more) pairs_cut
+          subst (λ (pairs : List (Pair P)). GivesListed takes pairs fin.Refused unfilled more) pairs_cut
           (gives-both takes fin.Refused _ _ unfilled filled more gave
           (gives_refused takes (pair_of side at row partner) (map (pair_of side at row) (drop (suc count) partners)) filled more (subst (λ (p : Pair P). takes filled p Refused more) made took)))
 
@@ -126,20 +128,20 @@ module _ {P D : Type 0} (takes : D → Pair P → Drained → D → Type 0) (sid
           let whole : map (pair_of side at row) (take count partners) ++ pair_of side at row partner ∷ [] ≡ map (pair_of side at row) (take (count + 1) partners) =
           sym (map-append (pair_of side at row) (take count partners) (partner ∷ []))
           ∙ ap (λ (ps : List (Partner P)). map (pair_of side at row) ps) (sym (ap (λ (n : ℕ). take n partners) next ∙ taken-one partners count partner (sym is))) in
-          subst (λ (pairs : List (Pair P)). Gives takes pairs fin.Done unfilled more) whole
+          subst (λ (pairs : List (Pair P)). GivesListed takes pairs fin.Done unfilled more) whole
           (gives-both takes fin.Done _ _ unfilled filled more gave (gives_one takes (pair_of side at row partner) filled more (subst (λ (p : Pair P). takes filled p Kept more) made took)))
 
   -- no partner is left
-  pub gave-all : (count : ℕ) (filled : D) → take count partners ≡ partners → GaveFirst count filled → Gives takes (pairs_of (Handled at side row partners)) fin.Done unfilled filled
+  pub gave-all : (count : ℕ) (filled : D) → take count partners ≡ partners → GaveFirst count filled → GivesListed takes (pairs_of (Handled at side row partners)) fin.Done unfilled filled
   gave-all count filled all gave =
-      subst (λ (pairs : List (Pair P)). Gives takes pairs fin.Done unfilled filled) (ap (λ (ps : List (Partner P)). map (pair_of side at row) ps) all) gave
+      subst (λ (pairs : List (Pair P)). GivesListed takes pairs fin.Done unfilled filled) (ap (λ (ps : List (Partner P)). map (pair_of side at row) ps) all) gave
 
 pub was_kept : (answer : Drained) → (answer ≡ Refused → ⊥) → answer ≡ Kept
 was_kept Kept other = refl
 was_kept Refused other = absurd (other refl)
 
 -- where all pairs were given, memory may run out behind them
-gives-still : {P D : Type 0} (takes : D → Pair P → Drained → D → Type 0) (pairs : List (Pair P)) (ended : Fin) (unfilled filled : D) → (ended ≡ fin.Refused → ⊥) → Gives takes pairs fin.Done unfilled filled → Gives takes pairs ended unfilled filled
+gives-still : {P D : Type 0} (takes : D → Pair P → Drained → D → Type 0) (pairs : List (Pair P)) (ended : Fin) (unfilled filled : D) → (ended ≡ fin.Refused → ⊥) → GivesListed takes pairs fin.Done unfilled filled → GivesListed takes pairs ended unfilled filled
 gives-still takes pairs fin.Done unfilled filled other gave = gave
 gives-still takes pairs fin.Refused unfilled filled other gave = absurd (other refl)
 gives-still takes pairs fin.Memory unfilled filled other gave = record {
@@ -150,7 +152,7 @@ gives-still takes pairs fin.Memory unfilled filled other gave = record {
 
 -- the pairs with the partners that were found were given, before memory ran out or not
 pub arrived : {P D : Type 0} (takes : D → Pair P → Drained → D → Type 0) (side : Side) (at : EventNo) (row : P) (found partners : List (Partner P)) (given ended : Fin) (unfilled filled : D) → found ≡ partners → given ≡ fin.Done → (ended ≡ fin.Refused → ⊥)
-    → Gives takes (pairs_of (Handled at side row found)) given unfilled filled → Gives takes (pairs_of (Handled at side row partners)) ended unfilled filled
+    → GivesListed takes (pairs_of (Handled at side row found)) given unfilled filled → GivesListed takes (pairs_of (Handled at side row partners)) ended unfilled filled
 arrived takes side at row found partners given ended unfilled filled same all other gave =
     gives-still takes (pairs_of (Handled at side row partners)) ended unfilled filled other
-    (subst₂ (λ (ps : List (Partner _)) (how : Fin). Gives takes (pairs_of (Handled at side row ps)) how unfilled filled) same all gave)
+    (subst₂ (λ (ps : List (Partner _)) (how : Fin). GivesListed takes (pairs_of (Handled at side row ps)) how unfilled filled) same all gave)

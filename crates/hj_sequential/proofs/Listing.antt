@@ -20,7 +20,7 @@ use Rattle.hj_msg.proofs.Joined.{windows_and_join}
 use Rattle.hj_msg.proofs.Members.{Contains-cons, Contains-head, Ranked, Ranked-filter, Ranked-map}
 use Rattle.hj_msg.proofs.Numbered.{front_is_well_formed, number-last}
 use Rattle.hj_msg.proofs.Windows.{AreWindows, IsWindow-below}
-use Rattle.hj_sequential.specs.Giving.{Gives}
+use Rattle.hj_sequential.specs.Giving.{GivesListed}
 use Rattle.hj_sequential.specs.Stores.{HoldWindows, at_rest}
 
 -- a list in order stays as it is when it is sorted
@@ -106,9 +106,9 @@ module _ {P S : Type 0} (rows : S → List (Resting P)) (matches : P → P → B
           ∙ ap (λ (partners : List (Partner P)). pairs_of (Handled at Left row partners)) (found matches Right row (windows_after before).right (windows_before matches before (Arrive at Left row) well).right.rising)
           ∙ map-map (λ (partner : Partner P). record { left_no = at; right_no = partner.no; left = row; right = partner.row }) as_partner (filter (λ held. matches row held.row) (windows_after before).right)
 
-      pub left_gives : {D : Type 0} (takes : D → Pair P → Drained → D → Type 0) (ended : Fin) (unfilled filled : D) → Gives takes (pairs_of (Handled at Left row (settled_matches matches Right row (rows right)))) ended unfilled filled
-          → Gives takes (listed matches (windows_after before) (Arrive at Left row)) ended unfilled filled
-      left_gives takes ended unfilled filled gives = subst (λ (pairs : List (Pair P)). Gives takes pairs ended unfilled filled) left_listed gives
+      pub left_gives : {D : Type 0} (takes : D → Pair P → Drained → D → Type 0) (ended : Fin) (unfilled filled : D) → GivesListed takes (pairs_of (Handled at Left row (settled_matches matches Right row (rows right)))) ended unfilled filled
+          → GivesListed takes (listed matches (windows_after before) (Arrive at Left row)) ended unfilled filled
+      left_gives takes ended unfilled filled gives = subst (λ (pairs : List (Pair P)). GivesListed takes pairs ended unfilled filled) left_listed gives
 
       pub left_holds : (new_left new_right : S) → rows new_left ≡ with_entry (record { no = at.0; row = row; settled = true }) (rows left) → new_right ≡ right
           → HoldWindows rows (after (windows_after before) (Arrive at Left row)) new_left new_right
@@ -130,9 +130,9 @@ module _ {P S : Type 0} (rows : S → List (Resting P)) (matches : P → P → B
           ∙ ap (λ (partners : List (Partner P)). pairs_of (Handled at Right row partners)) (found matches Left row (windows_after before).left (windows_before matches before (Arrive at Right row) well).left.rising)
           ∙ map-map (λ (partner : Partner P). record { left_no = partner.no; right_no = at; left = partner.row; right = row }) as_partner (filter (λ held. matches held.row row) (windows_after before).left)
 
-      pub right_gives : {D : Type 0} (takes : D → Pair P → Drained → D → Type 0) (ended : Fin) (unfilled filled : D) → Gives takes (pairs_of (Handled at Right row (settled_matches matches Left row (rows left)))) ended unfilled filled
-          → Gives takes (listed matches (windows_after before) (Arrive at Right row)) ended unfilled filled
-      right_gives takes ended unfilled filled gives = subst (λ (pairs : List (Pair P)). Gives takes pairs ended unfilled filled) right_listed gives
+      pub right_gives : {D : Type 0} (takes : D → Pair P → Drained → D → Type 0) (ended : Fin) (unfilled filled : D) → GivesListed takes (pairs_of (Handled at Right row (settled_matches matches Left row (rows left)))) ended unfilled filled
+          → GivesListed takes (listed matches (windows_after before) (Arrive at Right row)) ended unfilled filled
+      right_gives takes ended unfilled filled gives = subst (λ (pairs : List (Pair P)). GivesListed takes pairs ended unfilled filled) right_listed gives
 
       pub right_holds : (new_left new_right : S) → new_left ≡ left → rows new_right ≡ with_entry (record { no = at.0; row = row; settled = true }) (rows right)
           → HoldWindows rows (after (windows_after before) (Arrive at Right row)) new_left new_right

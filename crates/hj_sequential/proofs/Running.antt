@@ -17,7 +17,7 @@ use Rattle.hj_msg.specs.RunsJoin.{EndsJoin, RunsJoin}
 use Rattle.hj_msg.specs.Store.{Resting}
 use Rattle.hj_msg.proofs.Feeding.{numbering-push, well-nothing, well-push}
 use Rattle.hj_msg.proofs.Windows.{kang-push, windows_from-append}
-use Rattle.hj_sequential.specs.Giving.{Gives}
+use Rattle.hj_sequential.specs.Giving.{GivesListed}
 use Rattle.hj_sequential.specs.Stores.{HoldWindows}
 use Rattle.hj_sequential.proofs.GivenPairs.{gives-both, gives_nothing}
 
@@ -43,7 +43,7 @@ module _ {P F D : Type 0} (gives : F → Given P → F → Type 0) (state : F �
     pub answers : List (Given P)
     pub feed : GoesOverAnswers gives from answers to
     pub goes : GoesOnWith (events_in answers) (state to)
-    pub given : Gives takes (kang matches (events_in answers)) ended unfilled filled
+    pub given : GivesListed takes (kang matches (events_in answers)) ended unfilled filled
 
   -- where not all was done
   pub joined-early : (ended : Fin) (to : F) (filled : D) → (ended ≡ fin.Done → ⊥) → Joined ended to filled → RunsJoin gives state takes matches ended from to unfilled filled
@@ -86,20 +86,20 @@ module _ {P F D : Type 0} (gives : F → Given P → F → Type 0) (state : F �
 
       -- the event was handled: the pairs that it lists were given, by the same join
       abbrev pub Handled : (P → P → Bool) → Fin → Type 0
-      Handled own ended = (events : List (event.Event P)) → IsWellFormed (events ++ one ∷ []) → HoldWindows rows (windows_after events) left right → Gives takes (listed own (windows_after events) one) ended filled more
+      Handled own ended = (events : List (event.Event P)) → IsWellFormed (events ++ one ∷ []) → HoldWindows rows (windows_after events) left right → GivesListed takes (listed own (windows_after events) one) ended filled more
 
       -- one event more
       pub joined-more : (own : P → P → Bool) → own ≡ matches → (ended : Fin) → Handled own ended → Joined ended to more
       joined-more own is ended handled =
           let same = events-push running.joined.answers one in
-          let gave : Gives takes (listed matches (windows_after before) one) ended filled more =
-          subst (λ (by : P → P → Bool). Gives takes (listed by (windows_after before) one) ended filled more) is (handled before well running.holds) in
+          let gave : GivesListed takes (listed matches (windows_after before) one) ended filled more =
+          subst (λ (by : P → P → Bool). GivesListed takes (listed by (windows_after before) one) ended filled more) is (handled before well running.holds) in
           record {
             answers = running.joined.answers ++ Event one ∷ [];
             feed = answers-push gives running.joined.answers (Event one) from mid to running.joined.feed given;
             goes = subst (λ (events : List (event.Event P)). GoesOnWith events (state to)) (sym same)
                 (record { well_formed = well; numbering = numbering-push before one (state mid) (state to) running.joined.goes.numbering says });
-            given = subst (λ (pairs : List (Pair P)). Gives takes pairs ended unfilled more) (sym (kang-push matches before one) ∙ ap (λ (events : List (event.Event P)). kang matches events) (sym same))
+            given = subst (λ (pairs : List (Pair P)). GivesListed takes pairs ended unfilled more) (sym (kang-push matches before one) ∙ ap (λ (events : List (event.Event P)). kang matches events) (sym same))
                 (gives-both takes ended (kang matches before) (listed matches (windows_after before) one) unfilled filled more running.joined.given gave);
           }
 

@@ -1,6 +1,6 @@
 ghost use Rattle.hj_msg.specs.declared.message.Report.TheVariants.{Handled};
 ghost use Rattle.hj_msg.specs.Met.{pairs_of};
-ghost use Rattle.hj_sequential.specs.Giving.{Gives};
+ghost use Rattle.hj_sequential.specs.Giving.{GivesListed};
 
 use hj_base::{EventNo, Share, Side};
 use hj_msg::{Drain, Drained, Fin, Pair, Partners};
@@ -14,7 +14,7 @@ pub(crate) fn give<P: Share + Drop, D: Drain<P>>(
     partners: &Partners<P>,
     drain: &mut D,
 ) -> Fin
-    ensures { Gives D.takes (pairs_of (Handled no side row.now partners.now)) result drain.old drain.new }
+    ensures { GivesListed D.takes (pairs_of (Handled no side row.now partners.now)) result drain.old drain.new }
 {
     for at in 0..partners.len() {
         let Some(partner) = partners.get(at) else {

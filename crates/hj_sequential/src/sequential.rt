@@ -12,7 +12,7 @@ ghost use Rattle.hj_msg.specs.Kang.{Windows, after, listed, windows_after};
 ghost use Rattle.hj_msg.specs.Met.{pairs_of};
 ghost use Rattle.hj_msg.specs.RunsJoin.{RunsJoin};
 ghost use Rattle.hj_msg.specs.Store.{with_entry};
-ghost use Rattle.hj_sequential.specs.Giving.{Gives};
+ghost use Rattle.hj_sequential.specs.Giving.{GivesListed};
 ghost use Rattle.hj_sequential.specs.Stores.{HoldWindows, Suit};
 
 use crate::giving::give;
@@ -66,7 +66,7 @@ impl<J, S> SequentialJoin<J, S> {
         S: Store<P, J>,
         requires { Suit S.suits self.old.join self.old.left self.old.right }
         ensures gives { (before : List (Events P)) → IsWellFormed (before ++ event ∷ []) → HoldWindows S.entries (windows_after before) self.old.left self.old.right
-            → Gives D.takes (listed (J.predicate self.old.join) (windows_after before) event) result drain.old drain.new }
+            → GivesListed D.takes (listed (J.predicate self.old.join) (windows_after before) event) result drain.old drain.new }
         ensures holds { (before : List (Events P)) → IsWellFormed (before ++ event ∷ []) → HoldWindows S.entries (windows_after before) self.old.left self.old.right
             → result ≡ Done → HoldWindows S.entries (after (windows_after before) event) self.new.left self.new.right }
         ensures suits { Suit S.suits self.new.join self.new.left self.new.right }
@@ -127,7 +127,7 @@ fn arrives<P: Share + Drop, J: Join<P>, S: Store<P, J>, D: Drain<P>>(
     drain: &mut D,
 ) -> Fin
     ensures gives { (partners : List (Partner P)) → IfOk found (λ given. given ≡ partners)
-        → Gives D.takes (pairs_of (Handled no side row partners)) result drain.old drain.new }
+        → GivesListed D.takes (pairs_of (Handled no side row partners)) result drain.old drain.new }
     ensures keeps { result ≡ Done → S.entries store.new ≡ with_entry (record { no = no.0; row = row; settled = true }) (S.entries store.old) }
     ensures suits { (own : Sides) (join : J) → S.suits store.old own join → S.suits store.new own join }
 {

@@ -6,9 +6,9 @@ use Rattle.hj_base.specs.declared.outside.Role.{Role}
 use Rattle.hj_base.specs.declared.outside.Role.TheVariants as role
 use Rattle.hj_base.specs.Outside.{RoleState, opened, unbegun}
 use Rattle.hj_record.specs.Pieces.{Stream}
-use Rattle.hj_query.specs.Parts.{Parts}
+use Rattle.hj_query.specs.QueryParts.{QueryParts}
 use Rattle.hj_event.specs.Arrivals.{Ending, bad, clean, too_many}
-use Rattle.hj_event.specs.Events.{Numbered, events_of}
+use Rattle.hj_event.specs.Events.{NumberedEvents, events_of}
 use Rattle.hj_event.specs.Roles.{CountsFailure}
 use Rattle.hj_event.specs.Sides.{Follows, in_front}
 use Rattle.hj_stream.specs.declared.outcome.Outcome.TheVariants as outcome
@@ -26,7 +26,7 @@ use Rattle.hj_opening.specs.Streams.{Fails, IsBegunUnder}
 use Rattle.hj_opening.specs.Queries.{IsAccepted}
 use Rattle.hj_opening.specs.Verifying.{BeginsCheck, Checked, FindsNone, IsCheckRole, ServesVerify}
 use Rattle.hj_opening.specs.Verifying as tells
-use Rattle.hj_opening.specs.Words.{Chain, CheckedNames, check_trace}
+use Rattle.hj_opening.specs.Words.{ChainShape, CheckedNames, check_trace}
 use Rattle.hj_opening.proofs.Joined.{Behind, behind, fails_of, fails_or_none, phase_of}
 use Rattle.hj_opening.proofs.Phases.{Roles, begun-opened, open-opened}
 use Rattle.hj_opening.proofs.Verified.{EndsCheckOf, serves_verify}
@@ -48,7 +48,7 @@ check_role role.Third read = absurd read
 check_role role.Trace read = tt
 check_role role.Output read = tt
 
-module _ (chain : Chain) (name : List ℕ) (names : CheckedNames) (limit : ℕ) (under : List ℕ → Option (List ℕ)) (before mid now : Roles) (told : Option (List ℕ)) (faults : ℕ) (query : Parts)
+module _ (chain : ChainShape) (name : List ℕ) (names : CheckedNames) (limit : ℕ) (under : List ℕ → Option (List ℕ)) (before mid now : Roles) (told : Option (List ℕ)) (faults : ℕ) (query : QueryParts)
     (ready : IsReadyToCheck query name names under before mid) (judged : Verdict) (made : Verifies judged query chain.cores chain.flight limit mid now) where
   abbrev this : Call
   this = call under before now told told faults faults
@@ -79,7 +79,7 @@ module _ (chain : Chain) (name : List ℕ) (names : CheckedNames) (limit : ℕ) 
   abbrev output : Stream
   output = in_front made.output.bytes behind_output.rest
 
-  abbrev all : Numbered
+  abbrev all : NumberedEvents
   all = events_of query left right limit
 
   judges : Judges judged query chain.cores chain.flight all trace.bytes output.bytes

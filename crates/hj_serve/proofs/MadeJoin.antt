@@ -19,10 +19,10 @@ use Rattle.hj_event.specs.Roles.{IsReadOn}
 use Rattle.hj_event.specs.Sides.{Follows, in_front}
 use Rattle.hj_gen.specs.Streams.{right_seed, stream_of}
 use Rattle.hj_gen.specs.Summary.{summary_of}
-use Rattle.hj_query.specs.Keyed.{IsKeyed}
-use Rattle.hj_query.specs.Parts.{Parts}
+use Rattle.hj_query.specs.Keyed.{IsEquiQuery}
+use Rattle.hj_query.specs.QueryParts.{QueryParts}
 use Rattle.hj_record.specs.Pieces.{Stream}
-use Rattle.hj_serve.specs.Crew.{Crew, ShowsMade, made_roles}
+use Rattle.hj_serve.specs.Crew.{ThreadedChain, ShowsMade, made_roles}
 use Rattle.hj_serve.specs.Made.{JoinsHeld, unread_stream, unread_streams}
 use Rattle.hj_opening.specs.Generating.{IsSummary, join_made, left_stream, whole}
 use Rattle.hj_held.specs.Held.{HeldState, KeptState, TwoHeld, held_role, open_role}
@@ -42,7 +42,7 @@ module _ (bytes : List ℕ) (after : HeldState) (failed ended : Bool) (came : Li
   is_whole : in_front came (whole after.rest) ≡ whole bytes
   is_whole = ap whole (sym reads.came)
 
-module _ (ended : Outcome) (query : Parts) (limit : ℕ) (left right text : List ℕ) (after : TwoHeld)
+module _ (ended : Outcome) (query : QueryParts) (limit : ℕ) (left right text : List ℕ) (after : TwoHeld)
     (joins : Joins ended query limit (held_role (unread_streams left right)) (held_role after) (Some []) (Some text)) where
   text_of_whole : joins.left_failed ≡ false → joins.right_failed ≡ false → WritesText ended text (join_result query (whole left) (whole right) limit)
   text_of_whole left_unfailed right_unfailed =
@@ -68,7 +68,7 @@ IsDoneOrMemory other = ⊥
 
 -- ---- the join of streams that stand in memory, as it is seen
 
-pub held_joins : (query : Parts) (limit : ℕ) (left right : List ℕ) (crew : Crew) (before after : TwoHeld) (kept kept' : KeptState) → before ≡ unread_streams left right → kept ≡ record { text = []; refusals = 0 }
+pub held_joins : (query : QueryParts) (limit : ℕ) (left right : List ℕ) (crew : ThreadedChain) (before after : TwoHeld) (kept kept' : KeptState) → before ≡ unread_streams left right → kept ≡ record { text = []; refusals = 0 }
     → (ended : Outcome) (ran : Option (RanSeen (List Field)))
     → (joins : Joins ended query limit (held_role before) (held_role after) (Some kept.text) (Some kept'.text)) × IfSome ran (ShowsJoin joins crew.cores crew.flight)
     → IfNone ran (ended ≡ outcome.Memory) → CountsSinkFault ended 0 0 → JoinsHeld query limit left right crew ended kept'.text ran
@@ -80,7 +80,7 @@ held_joins query limit left right crew before after kept kept' is_before is_kept
 
 -- ---- the streams of a recipe
 
-module _ (recipe : Recipe) (query : Parts) (few : recipe.rows ≤ 100000) (some : 0 < recipe.keys) (few_keys : recipe.keys ≤ 2 ^ 32) (keyed : IsKeyed recipe.window query)
+module _ (recipe : Recipe) (query : QueryParts) (few : recipe.rows ≤ 100000) (some : 0 < recipe.keys) (few_keys : recipe.keys ≤ 2 ^ 32) (keyed : IsEquiQuery recipe.window query)
     (left right : List ℕ) (is_left : left ≡ stream_of recipe.rows recipe.keys recipe.seed) (is_right : right ≡ stream_of recipe.rows recipe.keys (right_seed recipe.seed)) where
   -- what is shown of the join of these streams holds of the join of those that are made, and the other way round
   made_from : (P : JoinResult → Type 0) → P (join_result query (whole left) (whole right) most_events) → P (join_made recipe query most_events)
@@ -127,7 +127,7 @@ module _ (recipe : Recipe) (query : Parts) (few : recipe.rows ≤ 100000) (some 
         }
 
     -- the run that made the join
-    module _ (crew : Crew) (events : ℕ) (ran : RanSeen (List Field)) where
+    module _ (crew : ThreadedChain) (events : ℕ) (ran : RanSeen (List Field)) where
       abbrev Shown : (Role → RoleState) → Type 0
       Shown from = (joins : Joins (outcome.Done events) query most_events from (held_role after) (Some []) (Some text)) × ShowsJoin joins crew.cores crew.flight ran
 
@@ -143,7 +143,7 @@ module _ (recipe : Recipe) (query : Parts) (few : recipe.rows ≤ 100000) (some 
 
   -- ---- the join that was made
 
-  module _ (crew : Crew) (ended : Outcome) (text : List ℕ) (ran : Option (RanSeen (List Field))) (held : JoinsHeld query most_events left right crew ended text ran) where
+  module _ (crew : ThreadedChain) (ended : Outcome) (text : List ℕ) (ran : Option (RanSeen (List Field))) (held : JoinsHeld query most_events left right crew ended text ran) where
     pub is_done : IsDoneOrMemory ended
     is_done = only held.after text ended held.joins held.faults
 

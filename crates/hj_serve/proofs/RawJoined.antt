@@ -9,7 +9,7 @@ use Rattle.hj_base.specs.Journals.{IsPrefix}
 use Rattle.hj_value.specs.declared.field.Field.{Field}
 use Rattle.hj_record.specs.Pieces.{Stream}
 use Rattle.hj_msg.specs.declared.event.Event.{Event}
-use Rattle.hj_query.specs.Parts.{Parts}
+use Rattle.hj_query.specs.QueryParts.{QueryParts}
 use Rattle.hj_eval.specs.Holds.{holds}
 use Rattle.hj_event.specs.Events.{events_of}
 use Rattle.hj_event.specs.Sides.{in_front}
@@ -37,7 +37,7 @@ untouched_out rest same (Some ran) both = tt
 
 -- ---- no item at all
 
-no_items : (query : Parts) → TellsMatches (holds query) [] []
+no_items : (query : QueryParts) → TellsMatches (holds query) [] []
 no_items query = record {
   only = λ pair found. absurd (none_below found.0 found.1);
   once = λ i j. omega arith;
@@ -53,7 +53,7 @@ no_items query = record {
     no_front [] mark back is = cc
     no_front (item ∷ front) mark back is = cc
 
-begins_nothing : (query : Parts) (events : List (Event (List Field))) → BeginsRawText query events []
+begins_nothing : (query : QueryParts) (events : List (Event (List Field))) → BeginsRawText query events []
 begins_nothing query events = record {
   first = [];
   are_first = record { rest = events; is = refl };
@@ -62,7 +62,7 @@ begins_nothing query events = record {
   begins = record { rest = []; is = refl };
 }
 
-module _ {ended : Outcome} {query : Parts} {limit : ℕ} {before now : Roles} {old new : Option (List ℕ)} (raw : JoinsRaw ended query limit before now old new) where
+module _ {ended : Outcome} {query : QueryParts} {limit : ℕ} {before now : Roles} {old new : Option (List ℕ)} (raw : JoinsRaw ended query limit before now old new) where
   abbrev made : JoinsTo (result_with raw.text) ended query limit before now old new
   made = raw.joins
 

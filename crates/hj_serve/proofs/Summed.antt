@@ -10,10 +10,10 @@ use Rattle.hj_value.specs.declared.field.Field.{Field}
 use Rattle.hj_crew.specs.Ran.{RanSeen}
 use Rattle.hj_output.specs.declared.output.Sent.{Sent}
 use Rattle.hj_output.specs.declared.output.Sent.TheVariants as sent
-use Rattle.hj_output.specs.Output.{CountsFaults, Sends}
+use Rattle.hj_output.specs.Output.{CountsFaults, SendsPiece}
 use Rattle.hj_notes.specs.declared.note.Note.TheVariants as why
 use Rattle.hj_opening.specs.Calls.{Call, call}
-use Rattle.hj_serve.specs.Crew.{CameToJoin, Crew, ShowsMade}
+use Rattle.hj_serve.specs.Crew.{CameToJoin, ThreadedChain, ShowsMade}
 use Rattle.hj_opening.specs.Generating.{IsSummary}
 use Rattle.hj_notes.specs.NoteText.{status_of_end}
 use Rattle.hj_serve.specs.OnCrew.{RunsOnCrew}
@@ -36,24 +36,24 @@ module _ (recipe : Recipe) (line : List ℕ) (summary : IsSummary line recipe mo
   runs : (ended : End) → GenCause recipe this ended → CountsSink ended faults faults' → (grown : List ℕ) → Appends old new grown → IsPrefix grown line → RunsOrder ended (sum_up recipe) this
   runs ended cause counts grown written front = gen_runs recipe this ended cause counts grown written (inr (record { line = line; summary = summary; begins = front })) (λ of. refl) none
 
-  runs_sent : (sending : Sent) → Sends sending line old new → CountsFaults sending faults faults' → RunsOrder (sent_end sending) (sum_up recipe) this
+  runs_sent : (sending : Sent) → SendsPiece sending line old new → CountsFaults sending faults faults' → RunsOrder (sent_end sending) (sum_up recipe) this
   runs_sent sent.Whole sends counts = runs (Ok tt) (record { line = line; summary = summary; written = sends }) counts line sends (begins_all line line refl)
   runs_sent sent.Failed sends counts = runs (Err why.Sink) tt counts.1 sends.grown sends.written sends.front
   runs_sent sent.Memory sends counts = runs (Err why.Memory) tt counts sends.grown sends.written sends.front
 
-  came : (crew : Crew) (sending : Sent) → CameToJoin (Some crew) (status_of_end (sent_end sending)) roles
+  came : (crew : ThreadedChain) (sending : Sent) → CameToJoin (Some crew) (status_of_end (sent_end sending)) roles
   came crew sent.Whole = record { threads = refl; words = λ e. omega (arith, e); query = λ e. omega (arith, e); streams = λ e. absurd (omega (arith, e)) }
   came crew sent.Failed = record { threads = refl; words = λ e. omega (arith, e); query = λ e. omega (arith, e); streams = λ e. absurd (omega (arith, e)) }
   came crew sent.Memory = record { threads = refl; words = λ e. omega (arith, e); query = λ e. omega (arith, e); streams = λ e. absurd (omega (arith, e)) }
 
-  pub summed_runs : (crew : Crew) (ran : RanSeen (List Field)) → ShowsMade crew recipe most_events ran → (sending : Sent) (end : End) → end ≡ sent_end sending → Sends sending line old new → CountsFaults sending faults faults'
+  pub summed_runs : (crew : ThreadedChain) (ran : RanSeen (List Field)) → ShowsMade crew recipe most_events ran → (sending : Sent) (end : End) → end ≡ sent_end sending → SendsPiece sending line old new → CountsFaults sending faults faults'
       → RunsOnCrew crew (record { end = end; ran = Some ran }) (sum_up recipe) this
   summed_runs crew ran shows sending end is sends counts =
       subst (λ (e : End). RunsOnCrew crew (record { end = e; ran = Some ran }) (sum_up recipe) this) (sym is)
       (record { runs = runs_sent sending sends counts; ran = λ other. ((λ some. came crew sending), (λ back. refl)); shows = shows })
 
 -- the line couldn't be made
-pub unmade_runs : (recipe : Recipe) (under : List ℕ → Option (List ℕ)) (roles : Roles) → ((of : Role) → (roles of).phase ≡ unbegun) → (told : Option (List ℕ)) (faults : ℕ) (crew : Crew)
+pub unmade_runs : (recipe : Recipe) (under : List ℕ → Option (List ℕ)) (roles : Roles) → ((of : Role) → (roles of).phase ≡ unbegun) → (told : Option (List ℕ)) (faults : ℕ) (crew : ThreadedChain)
     → RunsOnCrew crew (record { end = Err why.Memory; ran = None }) (sum_up recipe) (call under roles roles told told faults faults)
 unmade_runs recipe under roles none told faults crew = record {
   runs = gen_runs recipe (call under roles roles told told faults faults) (Err why.Memory) tt refl [] (Appends-nil told) (inl refl) (λ of. refl) none;

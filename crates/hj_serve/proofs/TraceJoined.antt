@@ -4,7 +4,7 @@ use Rattle.std.specs.declared.option.Option.{Option}
 use Rattle.hj_base.specs.declared.outside.Role.TheVariants as role
 use Rattle.hj_chain.specs.declared.serial.Chooser.{Chooser}
 use Rattle.hj_record.specs.Pieces.{Stream}
-use Rattle.hj_query.specs.Parts.{Parts}
+use Rattle.hj_query.specs.QueryParts.{QueryParts}
 use Rattle.hj_event.specs.Events.{events_of}
 use Rattle.hj_event.specs.Sides.{in_front}
 use Rattle.hj_stream.specs.declared.outcome.Outcome.{Outcome}
@@ -12,10 +12,10 @@ use Rattle.hj_stream.specs.declared.outcome.Outcome.TheVariants as outcome
 use Rattle.hj_replay.specs.Tracing.{WritesSteps, WritesTrace}
 use Rattle.hj_opening.specs.Joining.{JoinsKind}
 use Rattle.hj_opening.specs.Texts.{WritesKind}
-use Rattle.hj_opening.specs.Words.{Chain, step_lines}
+use Rattle.hj_opening.specs.Words.{ChainShape, step_lines}
 use Rattle.hj_opening.proofs.Phases.{Roles}
 
-module _ (query : Parts) (chain : Chain) (rule : Chooser) (limit : ℕ) where
+module _ (query : QueryParts) (chain : ChainShape) (rule : Chooser) (limit : ℕ) where
   writes_lines : (ended : Outcome) (left right : Stream) (grown : List ℕ) → WritesSteps ended query chain.cores chain.flight rule grown (events_of query left right limit) → WritesKind (step_lines chain rule) ended query left right limit grown
   writes_lines (outcome.Done events) left right grown w = (w.2, w.0)
   writes_lines (outcome.Bad of at why) left right grown w = (w.1, w.0)

@@ -3,5 +3,5 @@ pub mod Made
 pub mod OnCrew
 pub mod Orders
 pub mod Serial
-pub mod Turning
+pub mod OrderPlan
 pub mod Verdicts

@@ -6,19 +6,19 @@ use hj_value::SharedRow;
 
 /// How an order ended whose join threads make.
 #[derive(Drop)]
-pub struct Ended {
+pub struct OrderEnd {
     /// Well, or for the reason that the note gives.
     pub end: Result<(), Note>,
     /// The run of the threads, where the join was made.
     pub ran: Option<Ran<SharedRow>>,
 }
 
-impl Ended {
+impl OrderEnd {
     /// Ends an order before its join.
-    pub fn early(note: Note) -> Ended
+    pub fn early(note: Note) -> OrderEnd
         ensures { result ≡ record { end = Err note; ran = None } }
     {
-        Ended {
+        OrderEnd {
             end: Err(note),
             ran: None,
         }

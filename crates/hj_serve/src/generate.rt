@@ -8,10 +8,10 @@ ghost use Rattle.hj_opening.specs.Generating.{IsSummary};
 ghost use Rattle.hj_serve.specs.Made.{JoinsHeld};
 ghost use Rattle.hj_serve.specs.OnCrew.{RunsOnCrew};
 ghost use Rattle.hj_serve.specs.Orders.{recipe_seen};
-ghost use Rattle.hj_serve.specs.Turning.{crew_seen};
+ghost use Rattle.hj_serve.specs.OrderPlan.{crew_seen};
 ghost use Rattle.hj_opening.specs.Words.{most_events, sum_up};
 
-use crate::ended::Ended;
+use crate::ended::OrderEnd;
 use crate::plan::MOST_EVENTS;
 use crate::recipe::Recipe;
 use hj_base::{Bytes, Gate, Memory, Sink};
@@ -51,13 +51,13 @@ pub fn generate<T: Threads + Wait + Clock + Sync, K: Sink, G: Gate + Sync>(
     recipe: Recipe,
     plan: &CrewPlan<'_, T, G>,
     out: &mut K,
-) -> Ended
+) -> OrderEnd
     ensures { (under : List ℕ → Option (List ℕ)) (roles : Role → RoleState) → NoneBegun roles
         → RunsOnCrew (crew_seen plan.now.size) result (sum_up (recipe_seen recipe))
         (call under roles roles (K.told out.old) (K.told out.new) (K.faults out.old) (K.faults out.new)) }
 {
-    let Ok(Summary { line, ran }) = sum_up(alloc, recipe, plan) else {
-        return Ended {
+    let Ok(Summary { line, ran }) = join_summed(alloc, recipe, plan) else {
+        return OrderEnd {
             end: Err(Note::Memory),
             ran: None,
         };
@@ -67,14 +67,14 @@ pub fn generate<T: Threads + Wait + Clock + Sync, K: Sink, G: Gate + Sync>(
         Sent::Failed => Err(Note::Sink),
         Sent::Memory => Err(Note::Memory),
     };
-    Ended {
+    OrderEnd {
         end,
         ran: Some(ran),
     }
 }
 
 /// Joins the two streams of a recipe in memory, and sums their join up.
-fn sum_up<T: Threads + Wait + Clock + Sync, G: Gate + Sync>(
+fn join_summed<T: Threads + Wait + Clock + Sync, G: Gate + Sync>(
     alloc: Global,
     recipe: Recipe,
     plan: &CrewPlan<'_, T, G>,

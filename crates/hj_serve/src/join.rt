@@ -10,9 +10,9 @@ ghost use Rattle.hj_opening.specs.Run.{RunsOrder};
 ghost use Rattle.hj_opening.specs.Words.{pair_lines};
 ghost use Rattle.hj_serve.specs.Crew.{ShowsKind};
 ghost use Rattle.hj_serve.specs.OnCrew.{RunsOnCrew};
-ghost use Rattle.hj_serve.specs.Turning.{crew_seen, kind_of};
+ghost use Rattle.hj_serve.specs.OrderPlan.{crew_seen, kind_of};
 
-use crate::ended::Ended;
+use crate::ended::OrderEnd;
 use crate::plan::Writing;
 use hj_base::{Gate, Outside, Sink};
 use hj_crew::{CrewPlan, Ran};
@@ -54,7 +54,7 @@ pub fn join_on_threads<T: Threads + Wait + Clock + Sync, O: Outside, K: Sink, G:
     plan: &CrewPlan<'_, T, G>,
     outside: &mut O,
     out: &mut K,
-) -> Ended
+) -> OrderEnd
     requires { NoneBegun (O.state outside.old) }
     ensures { RunsOnCrew (crew_seen plan.now.size) result (join_seen (kind_of writing) join.entry)
         (call (O.under outside.old) (O.state outside.old) (O.state outside.new) (K.told out.old) (K.told out.new)
@@ -62,10 +62,10 @@ pub fn join_on_threads<T: Threads + Wait + Clock + Sync, O: Outside, K: Sink, G:
 {
     let query = match make_ready(alloc, join, outside) {
         Ok(query) => query,
-        Err(note) => return Ended::early(note),
+        Err(note) => return OrderEnd::early(note),
     };
     let (outcome, ran) = join_ready(alloc, &query, writing, plan, join.limit, outside, out);
-    Ended {
+    OrderEnd {
         end: end_of(join.limit, outcome),
         ran,
     }

@@ -3,8 +3,8 @@ ghost use Rattle.hj_words.specs.Orders.{most_rows};
 ghost use Rattle.hj_words.specs.Ranges.{AreNumbers, IsFrom, IsInRange};
 ghost use Rattle.hj_serve.specs.Crew.{crew_of, crew_with, threads_of, usual_crew};
 ghost use Rattle.hj_serve.specs.Serial.{serial_of, serial_with};
-ghost use Rattle.hj_serve.specs.Turning.{asked_turning, crew_seen, crew_turning, serial_turning, threads_turning};
-ghost use Rattle.hj_serve.specs.Turning.{crew_twice, serial_twice, threads_twice};
+ghost use Rattle.hj_serve.specs.OrderPlan.{asked_plan, crew_seen, crew_plan, serial_plan, threads_plan};
+ghost use Rattle.hj_serve.specs.OrderPlan.{crew_twice, serial_twice, threads_twice};
 ghost use Rattle.hj_opening.specs.Orders.{chain_seen, join_seen, source_seen};
 ghost use Rattle.hj_opening.specs.RunTwice.{twice_names};
 ghost use Rattle.hj_opening.specs.Words.{TextKind, chooser_of, join_streams, join_twice, keyed, most_events, named, pair_lines, raw_items, sum_up};
@@ -13,7 +13,7 @@ use crate::recipe::Recipe;
 use hj_base::{ChainSize, Name, Setup};
 use hj_chain::Chooser;
 use hj_crew::CrewSize;
-use hj_opening::{CheckOrder, JoinOrder, Keyed, Source, TwiceOrder};
+use hj_opening::{CheckOrder, EquiWindow, JoinOrder, QuerySource, TwiceOrder};
 use hj_replay::TracePlan;
 use hj_words::Order;
 
@@ -22,7 +22,7 @@ pub const MOST_EVENTS: u64 = 4_294_967_295;
 
 /// Who does what an order says, with the parts of it that they take.
 #[derive(Clone, Copy)]
-pub enum Turning<'a> {
+pub enum OrderPlan<'a> {
     /// The calling thread alone.
     Alone(AloneOrder<'a>),
     /// Threads turn the cores of a chain of this size, while the calling thread reads and writes.
@@ -80,20 +80,20 @@ pub enum TwicePlan {
     Threads(CrewSize),
 }
 
-impl<'a> Turning<'a> {
+impl<'a> OrderPlan<'a> {
     ghost use Rattle.hj_opening.specs.Words.{asked_by};
 
     /// Gives the one who does what an order says: threads for `equi`, `gen`, `raw` and a `join` with threads, and the calling thread
     /// for every other order but `twice`, whose plan says who makes its joins.
-    pub fn of(order: &'a Order) -> Turning<'a>
+    pub fn of(order: &'a Order) -> OrderPlan<'a>
         requires { IsInRange order.now }
-        ensures asked { asked_turning result ≡ asked_by order.now }
-        ensures crew { crew_turning result ≡ crew_of order.now }
-        ensures threads { threads_turning result ≡ threads_of order.now }
-        ensures serial { serial_turning result ≡ serial_of order.now }
+        ensures asked { asked_plan result ≡ asked_by order.now }
+        ensures crew { crew_plan result ≡ crew_of order.now }
+        ensures threads { threads_plan result ≡ threads_of order.now }
+        ensures serial { serial_plan result ≡ serial_of order.now }
     {
         match order {
-            Order::Equi { w, left, right } => equi_turning(*w, left, right),
+            Order::Equi { w, left, right } => equi_plan(*w, left, right),
             Order::Join {
                 setup,
                 limit,
@@ -101,14 +101,14 @@ impl<'a> Turning<'a> {
                 query,
                 left,
                 right,
-            } => join_turning(named_join(query, left, right, *limit), setup, *schedule),
+            } => join_plan(named_join(query, left, right, *limit), setup, *schedule),
             Order::Raw {
                 setup,
                 limit,
                 query,
                 left,
                 right,
-            } => raw_turning(named_join(query, left, right, *limit), setup),
+            } => raw_plan(named_join(query, left, right, *limit), setup),
             Order::Trace {
                 cores,
                 flight,
@@ -117,7 +117,7 @@ impl<'a> Turning<'a> {
                 query,
                 left,
                 right,
-            } => Turning::Trace(
+            } => OrderPlan::Trace(
                 named_join(query, left, right, *limit),
                 trace_plan(*cores, *flight, *schedule),
             ),
@@ -130,7 +130,7 @@ impl<'a> Turning<'a> {
                 right,
                 trace,
                 output,
-            } => Turning::Verify(CheckOrder {
+            } => OrderPlan::Verify(CheckOrder {
                 size: chain_size(*cores, *flight),
                 query: query.text(),
                 left: left.text(),
@@ -139,8 +139,8 @@ impl<'a> Turning<'a> {
                 output: output.text(),
                 limit: *limit,
             }),
-            Order::Check { query } => Turning::Alone(AloneOrder::Check(query.text())),
-            Order::Gen { n, keys, seed, w } => gen_turning(*n, *keys, *seed, *w),
+            Order::Check { query } => OrderPlan::Alone(AloneOrder::Check(query.text())),
+            Order::Gen { n, keys, seed, w } => gen_plan(*n, *keys, *seed, *w),
             Order::Twice {
                 setup,
                 limit,
@@ -150,7 +150,7 @@ impl<'a> Turning<'a> {
                 right,
                 second,
                 third,
-            } => Turning::Twice(
+            } => OrderPlan::Twice(
                 two_joins(query, left, right, second, third, *limit),
                 twice_plan(setup, *schedule),
             ),
@@ -159,46 +159,46 @@ impl<'a> Turning<'a> {
 }
 
 /// Gives the one who makes a join on equal keys, over windows of so many rows.
-fn equi_turning<'a>(w: u32, left: &'a Name, right: &'a Name) -> Turning<'a>
+fn equi_plan<'a>(w: u32, left: &'a Name, right: &'a Name) -> OrderPlan<'a>
     requires { IsFrom 1 most_rows w }
-    ensures asked { asked_turning result ≡ join_streams pair_lines (keyed w) (record { left = left.now; right = right.now }) most_events }
-    ensures crew { crew_turning result ≡ Some usual_crew }
-    ensures threads { threads_turning result ≡ 4 }
-    ensures serial { serial_turning result ≡ None }
+    ensures asked { asked_plan result ≡ join_streams pair_lines (keyed w) (record { left = left.now; right = right.now }) most_events }
+    ensures crew { crew_plan result ≡ Some usual_crew }
+    ensures threads { threads_plan result ≡ 4 }
+    ensures serial { serial_plan result ≡ None }
 {
-    let source = Source::Keyed(Keyed { rows: w });
+    let source = QuerySource::Keyed(EquiWindow { rows: w });
     let join = join_of(source, left, right, MOST_EVENTS);
-    Turning::Threads(ThreadsOrder::Join(join, Writing::InOrder), usual_size())
+    OrderPlan::Threads(ThreadsOrder::Join(join, Writing::InOrder), usual_size())
 }
 
 /// Gives the one who makes a join whose pairs are written as they are met, with these numbers.
-fn raw_turning<'a>(join: JoinOrder<'a>, setup: &Setup) -> Turning<'a>
+fn raw_plan<'a>(join: JoinOrder<'a>, setup: &Setup) -> OrderPlan<'a>
     requires cores { IsFrom 1 64 setup.now.cores }
     requires flight { IsFrom 1 256 setup.now.flight }
     requires threads { 1 ≤ setup.now.threads }
-    ensures asked { asked_turning result ≡ join_seen raw_items join.entry }
-    ensures crew { crew_turning result ≡ Some (record { cores = setup.now.cores; flight = setup.now.flight }) }
-    ensures threads { threads_turning result ≡ setup.now.threads }
-    ensures serial { serial_turning result ≡ None }
+    ensures asked { asked_plan result ≡ join_seen raw_items join.entry }
+    ensures crew { crew_plan result ≡ Some (record { cores = setup.now.cores; flight = setup.now.flight }) }
+    ensures threads { threads_plan result ≡ setup.now.threads }
+    ensures serial { serial_plan result ≡ None }
 {
-    Turning::Threads(ThreadsOrder::Join(join, Writing::AsMet), crew_size(setup))
+    OrderPlan::Threads(ThreadsOrder::Join(join, Writing::AsMet), crew_size(setup))
 }
 
 /// Gives the one who makes two streams of so many rows, and sums up their join.
-fn gen_turning<'a>(n: u32, keys: u32, seed: u64, w: u32) -> Turning<'a>
+fn gen_plan<'a>(n: u32, keys: u32, seed: u64, w: u32) -> OrderPlan<'a>
     requires { AreNumbers n keys w }
-    ensures asked { asked_turning result ≡ sum_up (record { rows = n; keys = keys; seed = seed; window = w }) }
-    ensures crew { crew_turning result ≡ Some usual_crew }
-    ensures threads { threads_turning result ≡ 4 }
-    ensures serial { serial_turning result ≡ None }
+    ensures asked { asked_plan result ≡ sum_up (record { rows = n; keys = keys; seed = seed; window = w }) }
+    ensures crew { crew_plan result ≡ Some usual_crew }
+    ensures threads { threads_plan result ≡ 4 }
+    ensures serial { serial_plan result ≡ None }
 {
     let recipe = Recipe {
         rows: n,
         keys,
         seed,
-        window: Keyed { rows: w },
+        window: EquiWindow { rows: w },
     };
-    Turning::Threads(ThreadsOrder::Gen(recipe), usual_size())
+    OrderPlan::Threads(ThreadsOrder::Gen(recipe), usual_size())
 }
 
 /// Gives the one who makes two joins in a row with these numbers: the calling thread where there are no threads.
@@ -219,18 +219,18 @@ fn twice_plan(setup: &Setup, schedule: Option<u64>) -> TwicePlan
 }
 
 /// Gives the one who makes a join with these numbers: the calling thread where there are no threads.
-fn join_turning<'a>(join: JoinOrder<'a>, setup: &Setup, schedule: Option<u64>) -> Turning<'a>
+fn join_plan<'a>(join: JoinOrder<'a>, setup: &Setup, schedule: Option<u64>) -> OrderPlan<'a>
     requires cores { IsFrom 1 64 setup.now.cores }
     requires flight { IsFrom 1 256 setup.now.flight }
-    ensures asked { asked_turning result ≡ join_seen pair_lines join.entry }
-    ensures crew { crew_turning result ≡ crew_with setup.now }
-    ensures threads { threads_turning result ≡ setup.now.threads }
-    ensures serial { serial_turning result ≡ serial_with setup.now schedule }
+    ensures asked { asked_plan result ≡ join_seen pair_lines join.entry }
+    ensures crew { crew_plan result ≡ crew_with setup.now }
+    ensures threads { threads_plan result ≡ setup.now.threads }
+    ensures serial { serial_plan result ≡ serial_with setup.now schedule }
 {
     if setup.threads > 0 {
-        return Turning::Threads(ThreadsOrder::Join(join, Writing::InOrder), crew_size(setup));
+        return OrderPlan::Threads(ThreadsOrder::Join(join, Writing::InOrder), crew_size(setup));
     }
-    Turning::Alone(AloneOrder::Join {
+    OrderPlan::Alone(AloneOrder::Join {
         join,
         size: chain_size(setup.cores, setup.flight),
         chooser: chooser(schedule),
@@ -278,11 +278,16 @@ fn chain_size(cores: u16, flight: u16) -> ChainSize
 fn named_join<'a>(query: &'a Name, left: &'a Name, right: &'a Name, limit: u64) -> JoinOrder<'a>
     ensures { (kind : TextKind) → join_seen kind result ≡ join_streams kind (named query.now) (record { left = left.now; right = right.now }) limit }
 {
-    join_of(Source::Named(query.text()), left, right, limit)
+    join_of(QuerySource::Named(query.text()), left, right, limit)
 }
 
 /// Gives the join of the streams under two names, by the query from this source, with this many events at most.
-fn join_of<'a>(source: Source<'a>, left: &'a Name, right: &'a Name, limit: u64) -> JoinOrder<'a>
+fn join_of<'a>(
+    source: QuerySource<'a>,
+    left: &'a Name,
+    right: &'a Name,
+    limit: u64,
+) -> JoinOrder<'a>
     ensures { (kind : TextKind) → join_seen kind result ≡ join_streams kind (source_seen source.entry) (record { left = left.now; right = right.now }) limit }
 {
     JoinOrder {

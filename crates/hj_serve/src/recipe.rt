@@ -1,6 +1,6 @@
 ghost use Rattle.std.specs.Prelude.{◌≤◌};
 
-use hj_opening::Keyed;
+use hj_opening::EquiWindow;
 
 /// The two streams that `gen N KEYS SEED W` makes and joins on equal keys.
 #[derive(Clone, Copy, Debug)]
@@ -12,7 +12,7 @@ pub struct Recipe {
     /// What determines the left stream; the next number determines the right one.
     pub seed: u64,
     /// The window of either side.
-    pub window: Keyed,
+    pub window: EquiWindow,
     ghost few_rows: { rows ≤ 100000 },
     ghost some_keys: { 1 ≤ keys },
     ghost few_keys: { keys ≤ 1000000000 },

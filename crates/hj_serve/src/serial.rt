@@ -3,7 +3,7 @@ ghost use Rattle.hj_base.specs.Outside.{NoneBegun};
 ghost use Rattle.hj_opening.specs.Calls.{call};
 ghost use Rattle.hj_opening.specs.Run.{RunsOrder};
 ghost use Rattle.hj_opening.specs.Serve.{Serves};
-ghost use Rattle.hj_serve.specs.Turning.{asked_alone};
+ghost use Rattle.hj_serve.specs.OrderPlan.{asked_alone};
 
 use crate::join::join_alone;
 use crate::plan::AloneOrder;

@@ -7,13 +7,13 @@ ghost use Rattle.hj_notes.specs.NoteText.{note_text, status_of};
 ghost use Rattle.hj_notes.specs.NoteWritten.{NoteWritten};
 ghost use Rattle.hj_serve.specs.OnCrew.{RunsOnCrew};
 ghost use Rattle.hj_opening.specs.Serve.{Serves};
-ghost use Rattle.hj_serve.specs.Turning.{asked_threads, crew_seen};
+ghost use Rattle.hj_serve.specs.OrderPlan.{asked_threads, crew_seen};
 ghost use Rattle.hj_opening.specs.Words.{asked_by, order_of};
 
-use crate::ended::Ended;
+use crate::ended::OrderEnd;
 use crate::generate::generate;
 use crate::join::join_on_threads;
-use crate::plan::{ThreadsOrder, Turning};
+use crate::plan::{OrderPlan, ThreadsOrder};
 use crate::serial::serve_serial;
 use crate::trace::{check_trace, trace_join};
 use crate::twice::{join_in_row, mode_of};
@@ -115,12 +115,12 @@ fn serve_order<T: Threads + Wait + Clock + Sync, O: Outside, K: Sink, N: Sink, G
         (call (O.under outside.old) (O.state outside.old) (O.state outside.new) (K.told out.old) (K.told out.new)
         (K.faults out.old) (K.faults out.new))) }
 {
-    match Turning::of(order) {
-        Turning::Alone(asked) => Served {
+    match OrderPlan::of(order) {
+        OrderPlan::Alone(asked) => Served {
             status: serve_serial(alloc, asked, outside, out, notes, parties.gate),
             ran: None,
         },
-        Turning::Threads(asked, size) => {
+        OrderPlan::Threads(asked, size) => {
             let plan = CrewPlan {
                 rt: parties.rt,
                 size,
@@ -134,15 +134,15 @@ fn serve_order<T: Threads + Wait + Clock + Sync, O: Outside, K: Sink, N: Sink, G
                 ran: ended.ran,
             }
         }
-        Turning::Trace(join, plan) => Served {
+        OrderPlan::Trace(join, plan) => Served {
             status: report(notes, trace_join(alloc, join, plan, outside, out)),
             ran: None,
         },
-        Turning::Verify(check) => Served {
+        OrderPlan::Verify(check) => Served {
             status: report(notes, check_trace(alloc, check, outside)),
             ran: None,
         },
-        Turning::Twice(joins, plan) => Served {
+        OrderPlan::Twice(joins, plan) => Served {
             status: report(
                 notes,
                 join_in_row(alloc, joins, &mode_of(plan, parties), outside, out),
@@ -159,7 +159,7 @@ fn run_on_threads<T: Threads + Wait + Clock + Sync, O: Outside, K: Sink, G: Gate
     plan: &CrewPlan<'_, T, G>,
     outside: &mut O,
     out: &mut K,
-) -> Ended
+) -> OrderEnd
     requires roles { NoneBegun (O.state outside.old) }
     ensures { RunsOnCrew (crew_seen plan.now.size) result (asked_threads order.entry)
         (call (O.under outside.old) (O.state outside.old) (O.state outside.new) (K.told out.old) (K.told out.new)

@@ -3,7 +3,7 @@ use Rattle.std.specs.Prelude.{◌≡◌, ℕ, List, [], All, length}
 use Rattle.hj_base.specs.declared.numbers.Side.{Side}
 use Rattle.hj_base.specs.declared.numbers.Side.TheVariants.{Left, Right}
 use Rattle.hj_msg.specs.Store.{Resting}
-use Rattle.hj_query.specs.Parts.{Parts}
+use Rattle.hj_query.specs.QueryParts.{QueryParts}
 use Rattle.hj_value.specs.declared.field.Field.{Field}
 use Rattle.hj_columns.specs.Store.{ColumnRows}
 use Rattle.hj_eval.specs.declared.filter.Filter.{Filter}
@@ -29,7 +29,7 @@ pub record AreReady {P J S : Type 0} (entries : S → List (Resting P)) (suits :
   pub right : AreReadyOn entries suits Right join cores stores.right.items
 
 -- Planned stores are ready for a chain of this many cores under a query, whatever their kind.
-abbrev pub AreReadyFor : Parts → ℕ → PlannedStores → Type 0
+abbrev pub AreReadyFor : QueryParts → ℕ → PlannedStores → Type 0
 AreReadyFor query cores (planned.Hash stores) =
     AreReady (λ store. store.rows) (λ store side join. JoinsEqual store.own store.other (holds join) side) query cores stores
 AreReadyFor query cores (planned.Ordered stores) =

@@ -11,7 +11,7 @@ use Rattle.hj_msg.specs.declared.fin.Fin.TheVariants as fin
 use Rattle.hj_msg.specs.Drain.{pairs_in}
 use Rattle.hj_msg.specs.Feed.{Answers, FeedState, events_in, numbering_of}
 use Rattle.hj_msg.specs.RunsJoin.{RunsJoin}
-use Rattle.hj_query.specs.Parts.{Parts}
+use Rattle.hj_query.specs.QueryParts.{QueryParts}
 use Rattle.hj_eval.specs.Holds.{holds}
 use Rattle.hj_stream.specs.declared.drain.LineDrain.{LineDrain}
 use Rattle.hj_stream.specs.declared.feed.EventFeed.{EventFeed}
@@ -19,7 +19,7 @@ use Rattle.hj_stream.specs.declared.line.PairLine.{Ghosts as LineGhosts}
 use Rattle.hj_stream.specs.declared.outcome.Outcome.{Outcome}
 use Rattle.hj_stream.specs.declared.outcome.Outcome.TheVariants as outcome
 use Rattle.hj_output.specs.declared.output.Sent.TheVariants as sent
-use Rattle.hj_stream.specs.Draining.{TakesLine}
+use Rattle.hj_stream.specs.Draining.{SendsLine}
 use Rattle.hj_stream.specs.Ending.{EndsAs}
 use Rattle.hj_stream.specs.Ends.{IsUnasked}
 use Rattle.hj_stream.specs.Feeding.{Feeding, Gives}
@@ -57,10 +57,10 @@ module _ {O K L : Type 0} (outside : OutsideGhosts O) (sink : SinkGhosts K) (lin
 
   abbrev takes : Drain → Pair (List Field) → Drained → Drain → Type 0
   takes old pair answer new = (new.out.ghost_name ≡ old.out.ghost_name) × (new.lines ≡ old.lines)
-      × TakesLine (line_by old pair) answer new.last (sink.told old.out.now) (sink.told new.out.now) (sink.faults old.out.now) (sink.faults new.out.now)
+      × SendsLine (line_by old pair) answer new.last (sink.told old.out.now) (sink.told new.out.now) (sink.faults old.out.now) (sink.faults new.out.now)
 
   -- The feed gave no event yet.
-  module _ (query : Parts) (limit : ℕ) (from : Feed) (unfilled : Drain) (unasked : IsUnasked query limit from) where
+  module _ (query : QueryParts) (limit : ℕ) (from : Feed) (unfilled : Drain) (unasked : IsUnasked query limit from) where
     abbrev line : Line
     line = line_by unfilled
 

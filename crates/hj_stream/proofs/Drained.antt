@@ -10,9 +10,9 @@ use Rattle.hj_msg.specs.declared.event.Pair.{Pair}
 use Rattle.hj_msg.specs.Drain.{Drainage, TakesAll, AreKept, pairs_in}
 use Rattle.hj_output.specs.declared.output.Sent.{Sent}
 use Rattle.hj_output.specs.declared.output.Sent.TheVariants as sent
-use Rattle.hj_stream.specs.Draining.{TakesLine, answer_by}
+use Rattle.hj_stream.specs.Draining.{SendsLine, answer_by}
 use Rattle.hj_stream.specs.JoinText.{Line, text_by}
-use Rattle.hj_output.specs.Output.{AppendsFront, CountsFaults, Sends}
+use Rattle.hj_output.specs.Output.{AppendsFront, CountsFaults, SendsPiece}
 
 -- What is seen of a drain: how its last line went, and what its sink tells and counts.
 pub record Draining : Type 0 where
@@ -36,21 +36,21 @@ pub record SendsFront (bytes : List ℕ) (old new : Draining) : Type 0 where
   pub faults : CountsFaults new.last old.faults new.faults
   pub refused : new.last ≢ sent.Whole
 
-pub front_sent : (last : Sent) (bytes : List ℕ) (old new : Option (List ℕ)) → last ≢ sent.Whole → Sends last bytes old new → AppendsFront bytes old new
+pub front_sent : (last : Sent) (bytes : List ℕ) (old new : Option (List ℕ)) → last ≢ sent.Whole → SendsPiece last bytes old new → AppendsFront bytes old new
 front_sent sent.Whole bytes old new apart sends = absurd (apart refl)
 front_sent sent.Failed bytes old new apart sends = sends
 front_sent sent.Memory bytes old new apart sends = sends
 
 -- ---- one line
 
-pub line_kept : (bytes : List ℕ) (answer : Drained) (old new : Draining) → TakesLine bytes answer new.last old.told new.told old.faults new.faults → answer ≡ Kept → Appends old.told new.told bytes × (new.faults ≡ old.faults)
+pub line_kept : (bytes : List ℕ) (answer : Drained) (old new : Draining) → SendsLine bytes answer new.last old.told new.told old.faults new.faults → answer ≡ Kept → Appends old.told new.told bytes × (new.faults ≡ old.faults)
 line_kept bytes answer old new taken is =
     let whole = kept_whole new.last (sym taken.answered ∙ is) in (
-      subst (λ (last : Sent). Sends last bytes old.told new.told) whole taken.sends,
+      subst (λ (last : Sent). SendsPiece last bytes old.told new.told) whole taken.sends,
       subst (λ (last : Sent). CountsFaults last old.faults new.faults) whole taken.faults,
     )
 
-pub line_refused : (bytes : List ℕ) (answer : Drained) (old new : Draining) → TakesLine bytes answer new.last old.told new.told old.faults new.faults → answer ≡ Refused → SendsFront (bytes ++ []) old new
+pub line_refused : (bytes : List ℕ) (answer : Drained) (old new : Draining) → SendsLine bytes answer new.last old.told new.told old.faults new.faults → answer ≡ Refused → SendsFront (bytes ++ []) old new
 line_refused bytes answer old new taken is =
     let apart = refused_apart new.last (sym taken.answered ∙ is) in
     record {
@@ -74,7 +74,7 @@ line_before bytes behind old between new first rest = record {
 -- ---- the lines of pairs
 
 module _ {D : Type 0} (takes : D → Pair (List Field) → Drained → D → Type 0) (line : D → Line) (view : D → Draining) (same : (old : D) (pair : Pair (List Field)) (answer : Drained) (new : D) → takes old pair answer new → line new ≡ line old)
-    (each : (old : D) (pair : Pair (List Field)) (answer : Drained) (new : D) → takes old pair answer new → TakesLine (line old pair) answer (view new).last (view old).told (view new).told (view old).faults (view new).faults) where
+    (each : (old : D) (pair : Pair (List Field)) (answer : Drained) (new : D) → takes old pair answer new → SendsLine (line old pair) answer (view new).last (view old).told (view new).told (view old).faults (view new).faults) where
   pub all_kept : (taken : List (Drainage (List Field))) (from to : D) → TakesAll takes from taken to → AreKept taken → Appends (view from).told (view to).told (text_by (line from) (pairs_in taken)) × ((view to).faults ≡ (view from).faults)
   all_kept [] from to all kept = subst (λ (d : D). Appends (view from).told (view d).told [] × ((view d).faults ≡ (view from).faults)) (sym all) (Appends-nil (view from).told, refl)
   all_kept (one ∷ later) from to all kept =

@@ -10,9 +10,9 @@ use Rattle.hj_msg.specs.declared.feed.Given.{Given}
 use Rattle.hj_msg.specs.declared.feed.Given.TheVariants.{Event, Stop}
 use Rattle.hj_msg.specs.Event.{IsWellFormed}
 use Rattle.hj_msg.specs.Feed.{GoesOverAnswers, event_in, events_in}
-use Rattle.hj_query.specs.Parts.{Parts}
+use Rattle.hj_query.specs.QueryParts.{QueryParts}
 use Rattle.hj_event.specs.declared.merger.Next.{Next}
-use Rattle.hj_event.specs.Merger.{Merging, IsNew, TakesNext}
+use Rattle.hj_event.specs.Merger.{Merging, IsNewMerger, TakesNext}
 use Rattle.hj_event.specs.Roles.{IsInStep}
 use Rattle.hj_stream.specs.declared.outcome.Outcome.{Outcome}
 use Rattle.hj_stream.specs.Feeding.{Feeding, Gives, GivesFrom, outcome_by}
@@ -22,12 +22,12 @@ abbrev Events : Type 0
 Events = List (event.Event (List Field))
 
 -- These events were given, and more may come.
-pub record IsOpen (query : Parts) (limit : ℕ) (before : Role → RoleState) (events : Events) (now : Feeding) : Type 0 where
+pub record IsOpen (query : QueryParts) (limit : ℕ) (before : Role → RoleState) (events : Events) (now : Feeding) : Type 0 where
   pub reads : Reads query limit events now.merger before now.roles
   pub counted : length events ≡ now.events
 
 -- These events were given, and then the merger said how they end.
-pub record HasEnded (outcome : Outcome) (query : Parts) (limit : ℕ) (before : Role → RoleState) (events : Events) (now : Feeding) : Type 0 where
+pub record HasEnded (outcome : Outcome) (query : QueryParts) (limit : ℕ) (before : Role → RoleState) (events : Events) (now : Feeding) : Type 0 where
   pub merger : Merging
   pub roles : Role → RoleState
   pub reads : Reads query limit events merger before roles
@@ -35,19 +35,19 @@ pub record HasEnded (outcome : Outcome) (query : Parts) (limit : ℕ) (before : 
   pub takes : TakesNext last merger now.merger roles now.roles
   pub made : outcome_by (length events) last ≡ Some outcome
 
-abbrev pub Fed : Option Outcome → Parts → ℕ → (Role → RoleState) → Events → Feeding → Type 0
+abbrev pub Fed : Option Outcome → QueryParts → ℕ → (Role → RoleState) → Events → Feeding → Type 0
 Fed None query limit before events now = IsOpen query limit before events now
 Fed (Some outcome) query limit before events now = HasEnded outcome query limit before events now
 
-pub fed_first : (query : Parts) (limit : ℕ) (now : Feeding) → now.ended ≡ None → now.events ≡ 0 → IsNew query limit now.merger → IsInStep false (now.roles role.Left) → IsInStep false (now.roles role.Right) → Fed now.ended query limit now.roles [] now
+pub fed_first : (query : QueryParts) (limit : ℕ) (now : Feeding) → now.ended ≡ None → now.events ≡ 0 → IsNewMerger query limit now.merger → IsInStep false (now.roles role.Left) → IsInStep false (now.roles role.Right) → Fed now.ended query limit now.roles [] now
 fed_first query limit now going none new left right =
     subst (λ (ended : Option Outcome). Fed ended query limit now.roles [] now) (sym going) (record { reads = reads_begin query limit now.merger now.roles new left right; counted = sym none })
 
-pub fed_well : (ended : Option Outcome) (query : Parts) (limit : ℕ) (before : Role → RoleState) (events : Events) (now : Feeding) → Fed ended query limit before events now → IsWellFormed events
+pub fed_well : (ended : Option Outcome) (query : QueryParts) (limit : ℕ) (before : Role → RoleState) (events : Events) (now : Feeding) → Fed ended query limit before events now → IsWellFormed events
 fed_well None query limit before events now fed = well_formed query limit events now.merger before now.roles fed.reads
 fed_well (Some outcome) query limit before events now fed = well_formed query limit events fed.merger before fed.roles fed.reads
 
-module _ (query : Parts) (limit : ℕ) (before : Role → RoleState) where
+module _ (query : QueryParts) (limit : ℕ) (before : Role → RoleState) where
   -- one answer more
   fed_from : (was : Option Outcome) (events : Events) (answer : Given (List Field)) (old new : Feeding) → old.ended ≡ was → Fed was query limit before events old → GivesFrom was answer old new → Fed new.ended query limit before (events ++ event_in (Some answer)) new
   fed_from None events (Event one) old new is fed gives =

@@ -7,10 +7,10 @@ use Rattle.hj_base.specs.declared.outside.Role.{Role}
 use Rattle.hj_base.specs.declared.outside.Role.TheVariants as role
 use Rattle.hj_base.specs.Outside.{RoleState}
 use Rattle.hj_msg.specs.declared.event.Event.{Event}
-use Rattle.hj_query.specs.Parts.{Parts}
+use Rattle.hj_query.specs.QueryParts.{QueryParts}
 use Rattle.hj_event.specs.declared.merger.Next.TheVariants as next
-use Rattle.hj_event.specs.Events.{Numbered}
-use Rattle.hj_event.specs.Merger.{Merging, IsNew, TakesNext, events_from}
+use Rattle.hj_event.specs.Events.{NumberedEvents}
+use Rattle.hj_event.specs.Merger.{Merging, IsNewMerger, TakesNext, events_from}
 use Rattle.hj_event.specs.Sides.{at_its_end, in_front}
 use Rattle.hj_event.proofs.CallLemmas.{follows_before}
 use Rattle.hj_event.proofs.Whole.{are_well_formed}
@@ -27,11 +27,11 @@ not_some None h = refl
 not_some (Some x) h = absurd (true≢false h)
 
 -- a new one does
-pub going_first : (query : Parts) (limit : ℕ) (merger : Merging) → IsNew query limit merger → IsGoingOn limit merger []
+pub going_first : (query : QueryParts) (limit : ℕ) (merger : Merging) → IsNewMerger query limit merger → IsGoingOn limit merger []
 going_first query limit merger new = record {
   going = ap is_none new.over;
   ahead = λ left right l_follows r_follows.
-      subst (λ (n : Numbered). MayComeBehind limit [] n.events) (sym (new.events left right))
+      subst (λ (n : NumberedEvents). MayComeBehind limit [] n.events) (sym (new.events left right))
       (record { numbered = may-come [] _ (are_well_formed query left right limit); few = omega (arith, events_within query left right limit) });
 }
 
@@ -41,7 +41,7 @@ module _ (limit : ℕ) (given : List (Event (List Field))) (event : Event (List 
   comes_first =
       let l = end_follows new.sides.left.reading.ended in
       let r = end_follows new.sides.right.reading.ended in
-      subst (λ (n : Numbered). MayComeBehind limit given n.events) (takes.leads at_its_end at_its_end l r)
+      subst (λ (n : NumberedEvents). MayComeBehind limit given n.events) (takes.leads at_its_end at_its_end l r)
       (on.ahead (in_front takes.left_bytes at_its_end) (in_front takes.right_bytes at_its_end)
       (follows_before false takes.left_bytes old.sides.left.reading.ended new.sides.left.reading.ended (before role.Left) (now role.Left) at_its_end takes.left l)
       (follows_before false takes.right_bytes old.sides.right.reading.ended new.sides.right.reading.ended (before role.Right) (now role.Right) at_its_end takes.right r))
@@ -52,7 +52,7 @@ module _ (limit : ℕ) (given : List (Event (List Field))) (event : Event (List 
     going = ap is_none takes.stays;
     ahead = λ left right l r.
         may-come-later limit given event (events_from new left right).events
-        (subst (λ (n : Numbered). MayComeBehind limit given n.events) (takes.leads left right l r)
+        (subst (λ (n : NumberedEvents). MayComeBehind limit given n.events) (takes.leads left right l r)
         (on.ahead (in_front takes.left_bytes left) (in_front takes.right_bytes right)
         (follows_before false takes.left_bytes old.sides.left.reading.ended new.sides.left.reading.ended (before role.Left) (now role.Left) left takes.left l)
         (follows_before false takes.right_bytes old.sides.right.reading.ended new.sides.right.reading.ended (before role.Right) (now role.Right) right takes.right r)));

@@ -14,13 +14,13 @@ use Rattle.hj_msg.specs.declared.event.Event.{Event}
 use Rattle.hj_msg.specs.declared.event.Pair.{Pair}
 use Rattle.hj_msg.specs.Kang.{kang, kang_from, windows_after}
 use Rattle.hj_msg.proofs.Windows.{join_of_both}
-use Rattle.hj_query.specs.Parts.{Parts}
+use Rattle.hj_query.specs.QueryParts.{QueryParts}
 use Rattle.hj_record.specs.Pieces.{Stream}
 use Rattle.hj_eval.specs.Holds.{holds}
 use Rattle.hj_event.specs.declared.merger.Next.{Next}
 use Rattle.hj_event.specs.declared.merger.Next.TheVariants as next
 use Rattle.hj_event.specs.Arrivals.{Ending, clean, bad, unread, too_many}
-use Rattle.hj_event.specs.Events.{Numbered}
+use Rattle.hj_event.specs.Events.{NumberedEvents}
 use Rattle.hj_event.specs.Numbering.{no_event}
 use Rattle.hj_event.specs.Merger.{IsAllRead, fails_next}
 use Rattle.hj_event.specs.Roles.{IsInStep}
@@ -39,16 +39,17 @@ use Rattle.hj_output.specs.Output.{CountsFaults}
 use Rattle.hj_stream.proofs.Prefixes.{IsPrefix-trans}
 
 -- The whole text goes on after that of the first events.
-text-then : (line : Line) (query : Parts) (events : List (Event (List Field))) (all others : Numbered) → all ≡ then_events events others
+text-then : (line : Line) (query : QueryParts) (events : List (Event (List Field))) (all others : NumberedEvents)
+    → all ≡ then_events events others
     → joined_text line query all.events ≡ joined_text line query events ++ text_by line (kang_from (holds query) (windows_after events) others.events)
 text-then line query events all others is =
-    ap (λ (n : Numbered). joined_text line query n.events) is
+    ap (λ (n : NumberedEvents). joined_text line query n.events) is
     ∙ (ap (text_by line) (join_of_both (holds query) events others.events) ∙ flat_map-append _ (kang (holds query) events) (kang_from (holds query) (windows_after events) others.events))
 
-begins_text : (line : Line) (query : Parts) (events : List (Event (List Field))) (all others : Numbered) → all ≡ then_events events others → IsPrefix (joined_text line query events) (joined_text line query all.events)
+begins_text : (line : Line) (query : QueryParts) (events : List (Event (List Field))) (all others : NumberedEvents) → all ≡ then_events events others → IsPrefix (joined_text line query events) (joined_text line query all.events)
 begins_text line query events all others is = record { rest = text_by line (kang_from (holds query) (windows_after events) others.events); is = text-then line query events all others is }
 
-abbrev result_of : Line → Parts → Numbered → JoinResult
+abbrev result_of : Line → QueryParts → NumberedEvents → JoinResult
 result_of line query all = record { text = joined_text line query all.events; ending = all.ending; events = length all.events }
 
 -- the outcome that an answer makes, after this many events
@@ -98,16 +99,16 @@ sink_same count next.TooMany old new same = same
 sink_same count next.Memory old new same = same
 
 -- where no event is left, the whole text was written
-whole_text : (line : Line) (query : Parts) (events : List (Event (List Field))) (all : Numbered) (ending : Ending) → all ≡ then_events events (no_event ending) → (joined_text line query events ≡ joined_text line query all.events) × (all.ending ≡ ending)
+whole_text : (line : Line) (query : QueryParts) (events : List (Event (List Field))) (all : NumberedEvents) (ending : Ending) → all ≡ then_events events (no_event ending) → (joined_text line query events ≡ joined_text line query all.events) × (all.ending ≡ ending)
 whole_text line query events all ending is =
-    (sym (ap (λ (n : Numbered). joined_text line query n.events) is ∙ ap (joined_text line query) (append-nil events)), ap (λ (n : Numbered). n.ending) is)
+    (sym (ap (λ (n : NumberedEvents). joined_text line query n.events) is ∙ ap (joined_text line query) (append-nil events)), ap (λ (n : NumberedEvents). n.ending) is)
 
-pub writes_all : (line : Line) (query : Parts) (count : ℕ) (answer : Next) (events : List (Event (List Field))) (all others : Numbered) → all ≡ then_events events others → GivesAll answer events all → length events ≡ count
+pub writes_all : (line : Line) (query : QueryParts) (count : ℕ) (answer : Next) (events : List (Event (List Field))) (all others : NumberedEvents) → all ≡ then_events events others → GivesAll answer events all → length events ≡ count
     → WritesText (ended_by count answer) (joined_text line query events) (result_of line query all)
 writes_all line query count (next.Event event) events all others is gives counted = begins_text line query events all others is
 writes_all line query count next.Done events all others is gives counted =
     let whole = whole_text line query events all clean gives in
-    (whole.0, whole.1, ap (λ (n : Numbered). length n.events) gives ∙ (ap length (append-nil events) ∙ counted))
+    (whole.0, whole.1, ap (λ (n : NumberedEvents). length n.events) gives ∙ (ap length (append-nil events) ∙ counted))
 writes_all line query count (next.Bad side at why) events all others is gives counted = whole_text line query events all (bad side at why) gives
 writes_all line query count (next.Failed Left) events all others is gives counted = whole_text line query events all (unread Left) gives
 writes_all line query count (next.Failed Right) events all others is gives counted = whole_text line query events all (unread Right) gives
@@ -137,11 +138,11 @@ refusal_says sent.Failed = record { failed = λ left right one. one; writes = λ
 refusal_says sent.Memory = memory_says
 
 -- what begins the text of the first events begins the whole one
-pub front_of_all : (line : Line) (query : Parts) (events : List (Event (List Field))) (all others : Numbered) (grown : List ℕ) → all ≡ then_events events others → IsPrefix grown (joined_text line query events) → IsPrefix grown (joined_text line query all.events)
+pub front_of_all : (line : Line) (query : QueryParts) (events : List (Event (List Field))) (all others : NumberedEvents) (grown : List ℕ) → all ≡ then_events events others → IsPrefix grown (joined_text line query events) → IsPrefix grown (joined_text line query all.events)
 front_of_all line query events all others grown is front = IsPrefix-trans grown (joined_text line query events) (joined_text line query all.events) front (begins_text line query events all others is)
 
 -- a join that wrote this text, of which something else is said
-module _ {Writes Says : Outcome → Parts → Stream → Stream → ℕ → List ℕ → Type 0} {ended : Outcome} {query : Parts} {limit : ℕ}
+module _ {Writes Says : Outcome → QueryParts → Stream → Stream → ℕ → List ℕ → Type 0} {ended : Outcome} {query : QueryParts} {limit : ℕ}
     {before now : Role → RoleState} {old new : Option (List ℕ)} (joins : JoinsSo Writes ended query limit before now old new) where
   pub joins_saying : (grown : List ℕ) → Appends old new grown
       → ((l r : Stream) → Follows joins.left_failed joins.left_ended l → Follows joins.right_failed joins.right_ended r
@@ -165,7 +166,7 @@ module _ {Writes Says : Outcome → Parts → Stream → Stream → ℕ → List
   }
 
 -- memory ran out before anything was read
-pub none_joined : (joined : Parts → Stream → Stream → ℕ → JoinResult) (query : Parts) (limit : ℕ) (now : Role → RoleState) (sink : Option (List ℕ)) → IsInStep false (now role.Left) → IsInStep false (now role.Right)
+pub none_joined : (joined : QueryParts → Stream → Stream → ℕ → JoinResult) (query : QueryParts) (limit : ℕ) (now : Role → RoleState) (sink : Option (List ℕ)) → IsInStep false (now role.Left) → IsInStep false (now role.Right)
     → JoinsTo joined outcome.Memory query limit now now sink sink
 none_joined joined query limit now sink left right = record {
   left_bytes = [];
@@ -184,7 +185,7 @@ none_joined joined query limit now sink left right = record {
   ends = tt;
 }
 
-pub joins_none : (line : Line) (query : Parts) (limit : ℕ) (now : Role → RoleState) (sink : Option (List ℕ)) → IsInStep false (now role.Left) → IsInStep false (now role.Right) → JoinsBy line outcome.Memory query limit now now sink sink
+pub joins_none : (line : Line) (query : QueryParts) (limit : ℕ) (now : Role → RoleState) (sink : Option (List ℕ)) → IsInStep false (now role.Left) → IsInStep false (now role.Right) → JoinsBy line outcome.Memory query limit now now sink sink
 joins_none line = none_joined (joined_by line)
 
 pub counts_refusal : (last : Sent) (old new : ℕ) → CountsFaults last old new → CountsSinkFault (refusal_of last) old new

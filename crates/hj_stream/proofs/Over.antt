@@ -18,14 +18,14 @@ use Rattle.hj_msg.specs.Drain.{pairs_in}
 use Rattle.hj_msg.specs.Feed.{FeedState, events_in}
 use Rattle.hj_msg.specs.Kang.{kang}
 use Rattle.hj_msg.specs.RunsJoin.{EndsJoin, RunsJoin}
-use Rattle.hj_query.specs.Parts.{Parts}
+use Rattle.hj_query.specs.QueryParts.{QueryParts}
 use Rattle.hj_record.specs.Pieces.{Stream}
 use Rattle.hj_eval.specs.Holds.{holds}
 use Rattle.hj_event.specs.declared.merger.Next.{Next}
 use Rattle.hj_event.specs.declared.merger.Next.TheVariants as next
 use Rattle.hj_event.specs.Calls.{GivesAll, then_events}
-use Rattle.hj_event.specs.Events.{Numbered, events_of}
-use Rattle.hj_event.specs.Merger.{Merging, IsNew, TakesNext, events_from, fails_next}
+use Rattle.hj_event.specs.Events.{NumberedEvents, events_of}
+use Rattle.hj_event.specs.Merger.{Merging, IsNewMerger, TakesNext, events_from, fails_next}
 use Rattle.hj_event.specs.Roles.{IsInStep}
 use Rattle.hj_event.specs.Sides.{in_front}
 use Rattle.hj_event.proofs.CallLemmas.{before_call, ends}
@@ -34,7 +34,7 @@ use Rattle.hj_stream.specs.declared.outcome.Outcome.{Outcome}
 use Rattle.hj_stream.specs.declared.outcome.Outcome.TheVariants as outcome
 use Rattle.hj_output.specs.declared.output.Sent.{Sent}
 use Rattle.hj_output.specs.declared.output.Sent.TheVariants as sent
-use Rattle.hj_stream.specs.Draining.{TakesLine, refusal_of}
+use Rattle.hj_stream.specs.Draining.{SendsLine, refusal_of}
 use Rattle.hj_stream.specs.Ending.{EndsAs}
 use Rattle.hj_stream.specs.Feeding.{Feeding, Gives}
 use Rattle.hj_stream.specs.Joining.{CountsSinkFault, JoinsBy}
@@ -55,24 +55,24 @@ Pairs = List (Pair (List Field))
 
 -- A join by a run that ended so: these events began those of its streams, and a prefix of the text of these pairs was written; where
 -- the events ended, these were all, and all of that text was written.
-pub record JoinsOver (line : Line) (made : Outcome) (ended : Fin) (query : Parts) (limit : ℕ) (before now : Role → RoleState) (old new : Option (List ℕ)) (events : Events) (pairs : Pairs) : Type 0 where
+pub record JoinsOver (line : Line) (made : Outcome) (ended : Fin) (query : QueryParts) (limit : ℕ) (before now : Role → RoleState) (old new : Option (List ℕ)) (events : Events) (pairs : Pairs) : Type 0 where
   pub joins : JoinsBy line made query limit before now old new
   pub begins : OfEvents joins (λ all. IsPrefix events all)
   pub writes : IsPrefix joins.grown (text_by line pairs)
   pub ends : EndsRun made ended (OfEvents joins (λ all. events ≡ all) × (joins.grown ≡ text_by line pairs))
 
-no_more : (events : Events) (all others : Numbered) → all ≡ then_events events others → others.events ≡ [] → events ≡ all.events
-no_more events all others is none = sym (ap (λ (n : Numbered). n.events) is ∙ (ap (λ (l : Events). events ++ l) none ∙ append-nil events))
+no_more : (events : Events) (all others : NumberedEvents) → all ≡ then_events events others → others.events ≡ [] → events ≡ all.events
+no_more events all others is none = sym (ap (λ (n : NumberedEvents). n.events) is ∙ (ap (λ (l : Events). events ++ l) none ∙ append-nil events))
 
-begins_all : (events : Events) (all others : Numbered) → all ≡ then_events events others → IsPrefix events all.events
-begins_all events all others is = record { rest = others.events; is = ap (λ (n : Numbered). n.events) is }
+begins_all : (events : Events) (all others : NumberedEvents) → all ≡ then_events events others → IsPrefix events all.events
+begins_all events all others is = record { rest = others.events; is = ap (λ (n : NumberedEvents). n.events) is }
 
 -- all of it begins itself
 whole : {X : Type 0} (xs : List X) → IsPrefix xs xs
 whole xs = record { rest = []; is = sym (append-nil xs) }
 
 -- After an answer that is no event all events were had, unless memory ran out.
-ends_done : (count : ℕ) (last : Next) (events : Events) (left_follows right_follows : Stream → Type 0) (all : Stream → Stream → Numbered) (wrote : Type 0) → wrote
+ends_done : (count : ℕ) (last : Next) (events : Events) (left_follows right_follows : Stream → Type 0) (all : Stream → Stream → NumberedEvents) (wrote : Type 0) → wrote
     → ((l r : Stream) → left_follows l → right_follows r → GivesAll last events (all l r))
     → EndsRun (ended_by count last) fin.Done (((l r : Stream) → left_follows l → right_follows r → events ≡ (all l r).events) × wrote)
 ends_done count (next.Event event) events left_follows right_follows all wrote written each = tt
@@ -83,7 +83,7 @@ ends_done count next.TooMany events left_follows right_follows all wrote written
 ends_done count next.Memory events left_follows right_follows all wrote written each = tt
 
 -- the events ended, and the lines of all were sent
-pub over_last : (line : Line) (query : Parts) (limit : ℕ) (events : Events) (last : Next) (merger later : Merging) (before mid now : Role → RoleState) (old new : Option (List ℕ))
+pub over_last : (line : Line) (query : QueryParts) (limit : ℕ) (events : Events) (last : Next) (merger later : Merging) (before mid now : Role → RoleState) (old new : Option (List ℕ))
     → Reads query limit events merger before mid → TakesNext last merger later mid now → Appends old new (joined_text line query events) → JoinsOver line (ended_by (length events) last) fin.Done query limit before now old new events (kang (holds query) events)
 over_last line query limit events last merger later before mid now old new reads takes written = record {
   joins = record {
@@ -115,7 +115,7 @@ over_last line query limit events last merger later before mid now old new reads
 }
 
 -- a prefix of the lines of the events given was sent
-pub over_begun : (line : Line) (made : Outcome) (ended : Fin) → SaysBegun made → ((all : Type 0) → EndsRun made ended all) → (was : Option Outcome) (query : Parts) (limit : ℕ) (before : Role → RoleState) (events : Events) (pairs : Pairs) (now : Feeding) (old new : Option (List ℕ))
+pub over_begun : (line : Line) (made : Outcome) (ended : Fin) → SaysBegun made → ((all : Type 0) → EndsRun made ended all) → (was : Option Outcome) (query : QueryParts) (limit : ℕ) (before : Role → RoleState) (events : Events) (pairs : Pairs) (now : Feeding) (old new : Option (List ℕ))
     → Fed was query limit before events now → (sends : AppendsFront (joined_text line query events) old new) → IsPrefix sends.grown (text_by line pairs) → JoinsOver line made ended query limit before now.roles old new events pairs
 over_begun line made ended says so None query limit before events pairs now old new fed sends front =
     let reads = fed.reads in
@@ -179,8 +179,8 @@ refusal_ends sent.Memory all = tt
 module _ {F D : Type 0} (gives : F → Given (List Field) → F → Type 0) (state : F → FeedState) (takes : D → Pair (List Field) → Drained → D → Type 0) (view : F → Feeding) (line_by : D → Line) (seen : D → Draining)
     (each_answer : (old : F) (answer : Given (List Field)) (new : F) → gives old answer new → Gives answer (view old) (view new))
     (same_line : (old : D) (pair : Pair (List Field)) (answer : Drained) (new : D) → takes old pair answer new → line_by new ≡ line_by old)
-    (each_pair : (old : D) (pair : Pair (List Field)) (answer : Drained) (new : D) → takes old pair answer new → TakesLine (line_by old pair) answer (seen new).last (seen old).told (seen new).told (seen old).faults (seen new).faults)
-    (query : Parts) (limit : ℕ) (from to : F) (unfilled filled : D) (new : IsNew query limit (view from).merger) (none : (view from).events ≡ 0) (going : (view from).ended ≡ None)
+    (each_pair : (old : D) (pair : Pair (List Field)) (answer : Drained) (new : D) → takes old pair answer new → SendsLine (line_by old pair) answer (seen new).last (seen old).told (seen new).told (seen old).faults (seen new).faults)
+    (query : QueryParts) (limit : ℕ) (from to : F) (unfilled filled : D) (new : IsNewMerger query limit (view from).merger) (none : (view from).events ≡ 0) (going : (view from).ended ≡ None)
     (left : IsInStep false ((view from).roles role.Left)) (right : IsInStep false ((view from).roles role.Right)) where
   abbrev line : Line
   line = line_by unfilled

@@ -13,7 +13,7 @@ use Rattle.hj_msg.specs.declared.feed.Given.{Given}
 use Rattle.hj_msg.specs.declared.fin.Fin.{Fin}
 use Rattle.hj_msg.specs.declared.fin.Fin.TheVariants as fin
 use Rattle.hj_msg.specs.Feed.{Answers, FeedState, GoesOverAnswers, events_in, numbering_of}
-use Rattle.hj_query.specs.Parts.{Parts}
+use Rattle.hj_query.specs.QueryParts.{QueryParts}
 use Rattle.hj_event.specs.Roles.{IsInStep}
 use Rattle.hj_output.specs.declared.output.Sent.TheVariants as sent
 use Rattle.hj_raw.specs.Drain.{Offer, TakesItems}
@@ -24,7 +24,7 @@ use Rattle.hj_stream.specs.declared.feed.EventFeed.{EventFeed}
 use Rattle.hj_stream.specs.declared.outcome.Outcome.{Outcome}
 use Rattle.hj_stream.specs.declared.outcome.Outcome.TheVariants as outcome
 use Rattle.hj_stream.specs.declared.raw.RawLineDrain.{RawLineDrain}
-use Rattle.hj_stream.specs.Draining.{TakesLine}
+use Rattle.hj_stream.specs.Draining.{SendsLine}
 use Rattle.hj_stream.specs.Ending.{EndsAs}
 use Rattle.hj_stream.specs.Ends.{IsUnasked}
 use Rattle.hj_stream.specs.Feeding.{Feeding, Gives}
@@ -38,7 +38,7 @@ use Rattle.hj_stream.proofs.RawOver.{JoinsRawOver, raw_over, raw_refused, raw_st
 use Rattle.hj_stream.proofs.Unread.{IsUnread, reads_none}
 
 -- nothing was read and nothing written
-pub raw_joins_none : (query : Parts) (limit : ℕ) (now : Role → RoleState) (told : Option (List ℕ)) → IsInStep false (now role.Left) → IsInStep false (now role.Right) → JoinsRaw outcome.Memory query limit now now told told
+pub raw_joins_none : (query : QueryParts) (limit : ℕ) (now : Role → RoleState) (told : Option (List ℕ)) → IsInStep false (now role.Left) → IsInStep false (now role.Right) → JoinsRaw outcome.Memory query limit now now told told
 raw_joins_none query limit now told left right = record { text = []; joins = none_joined (result_with []) query limit now told left right }
 
 module _ {O K : Type 0} (outside : OutsideGhosts O) (sink : SinkGhosts K) where
@@ -54,7 +54,7 @@ module _ {O K : Type 0} (outside : OutsideGhosts O) (sink : SinkGhosts K) where
 
   abbrev takes : Drain → Item (List Field) → Drained → Drain → Type 0
   takes old item answer new = (new.out.ghost_name ≡ old.out.ghost_name)
-      × TakesLine (item_text item) answer new.last (sink.told old.out.now) (sink.told new.out.now) (sink.faults old.out.now) (sink.faults new.out.now)
+      × SendsLine (item_text item) answer new.last (sink.told old.out.now) (sink.told new.out.now) (sink.faults old.out.now) (sink.faults new.out.now)
 
   -- what is seen of the feed
   abbrev view : Feed → Feeding
@@ -67,7 +67,7 @@ module _ {O K : Type 0} (outside : OutsideGhosts O) (sink : SinkGhosts K) where
   gives old answer new = (new.outside.ghost_name ≡ old.outside.ghost_name) × ((name : List ℕ) → outside.under new.outside.now name ≡ outside.under old.outside.now name) × Gives answer (view old) (view new) × Answers answer (state old) (state new)
 
   -- The feed gave no event yet.
-  module _ (query : Parts) (limit : ℕ) (from : Feed) (unfilled : Drain) (unasked : IsUnasked query limit from) where
+  module _ (query : QueryParts) (limit : ℕ) (from : Feed) (unfilled : Drain) (unasked : IsUnasked query limit from) where
     start : IsUnread from
     start = reads_none query limit from unasked
 

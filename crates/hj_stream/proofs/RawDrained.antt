@@ -8,11 +8,11 @@ use Rattle.hj_msg.specs.declared.drain.Drained.TheVariants.{Kept, Refused}
 use Rattle.hj_raw.specs.Drain.{AreKept, Offer, TakesItems, items_in}
 use Rattle.hj_raw.specs.Items.{Item}
 use Rattle.hj_raw.specs.Text.{item_text, raw_text}
-use Rattle.hj_stream.specs.Draining.{TakesLine}
+use Rattle.hj_stream.specs.Draining.{SendsLine}
 use Rattle.hj_stream.proofs.Drained.{Draining, SendsFront, line_before, line_kept, line_refused}
 
 module _ {D : Type 0} (takes : D → Item (List Field) → Drained → D → Type 0) (view : D → Draining)
-    (each : (old : D) (item : Item (List Field)) (answer : Drained) (new : D) → takes old item answer new → TakesLine (item_text item) answer (view new).last (view old).told (view new).told (view old).faults (view new).faults) where
+    (each : (old : D) (item : Item (List Field)) (answer : Drained) (new : D) → takes old item answer new → SendsLine (item_text item) answer (view new).last (view old).told (view new).told (view old).faults (view new).faults) where
   pub all_items_kept : (offers : List (Offer (List Field))) (from to : D) → TakesItems takes from offers to → AreKept offers → Appends (view from).told (view to).told (raw_text (items_in offers)) × ((view to).faults ≡ (view from).faults)
   all_items_kept [] from to all kept = subst (λ (d : D). Appends (view from).told (view d).told [] × ((view d).faults ≡ (view from).faults)) (sym all) (Appends-nil (view from).told, refl)
   all_items_kept (one ∷ later) from to all kept =

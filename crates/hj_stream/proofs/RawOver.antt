@@ -16,9 +16,9 @@ use Rattle.hj_msg.specs.declared.fin.Fin.{Fin}
 use Rattle.hj_msg.specs.declared.fin.Fin.TheVariants as fin
 use Rattle.hj_msg.specs.Feed.{GoesOverAnswers, events_in}
 use Rattle.hj_msg.specs.Kang.{kang}
-use Rattle.hj_query.specs.Parts.{Parts}
+use Rattle.hj_query.specs.QueryParts.{QueryParts}
 use Rattle.hj_eval.specs.Holds.{holds}
-use Rattle.hj_event.specs.Merger.{IsNew}
+use Rattle.hj_event.specs.Merger.{IsNewMerger}
 use Rattle.hj_event.specs.Roles.{IsInStep}
 use Rattle.hj_event.specs.Sides.{in_front}
 use Rattle.hj_output.specs.declared.output.Sent.TheVariants as sent
@@ -29,7 +29,7 @@ use Rattle.hj_raw.specs.Items.{Item}
 use Rattle.hj_raw.specs.Text.{item_text, raw_text}
 use Rattle.hj_stream.specs.declared.outcome.Outcome.{Outcome}
 use Rattle.hj_stream.specs.declared.outcome.Outcome.TheVariants as outcome
-use Rattle.hj_stream.specs.Draining.{TakesLine, refusal_of}
+use Rattle.hj_stream.specs.Draining.{SendsLine, refusal_of}
 use Rattle.hj_stream.specs.Ending.{EndsAs}
 use Rattle.hj_stream.specs.Feeding.{Feeding, Gives}
 use Rattle.hj_stream.specs.Joining.{CountsSinkFault, JoinsTo, WritesText}
@@ -48,7 +48,7 @@ Events = List (Event (List Field))
 
 -- A join by a run that ended so: these events began those of its streams, and a prefix of a text was written; where the events
 -- ended, these were all, and all of the text was written.
-pub record JoinsRawOver (text : List ℕ) (made : Outcome) (ended : Fin) (query : Parts) (limit : ℕ) (before now : Role → RoleState) (old new : Option (List ℕ)) (events : Events) : Type 0 where
+pub record JoinsRawOver (text : List ℕ) (made : Outcome) (ended : Fin) (query : QueryParts) (limit : ℕ) (before now : Role → RoleState) (old new : Option (List ℕ)) (events : Events) : Type 0 where
   pub joins : JoinsTo (result_with text) made query limit before now old new
   pub begins : OfEvents joins (λ all. IsPrefix events all)
   pub writes : IsPrefix joins.grown text
@@ -82,7 +82,7 @@ writes_too outcome.TooMany text written joined says = (refl, says.1)
 writes_too outcome.Memory text written joined says = record { rest = []; is = sym (append-nil text) }
 
 -- A join that writes nothing, with a text that is written.
-retold : (text grown : List ℕ) (made : Outcome) (ended : Fin) (query : Parts) (limit : ℕ) (before now : Role → RoleState) (old new : Option (List ℕ)) (events : Events) (pairs : List (Pair (List Field)))
+retold : (text grown : List ℕ) (made : Outcome) (ended : Fin) (query : QueryParts) (limit : ℕ) (before now : Role → RoleState) (old new : Option (List ℕ)) (events : Events) (pairs : List (Pair (List Field)))
     → (over : JoinsOver silent made ended query limit before now None None events pairs) → Appends old new grown → IsPrefix grown text
     → ((written : List ℕ) (joined : JoinResult) → WritesText made written joined → WritesText made grown (record joined { text = text }))
     → ((had wrote : Type 0) → EndsRun made ended (had × wrote) → EndsRun made ended (had × (grown ≡ text)))
@@ -121,8 +121,8 @@ raw_stopped fin.Memory stopped offers items ends is = absurd (let wrong : fin.Me
 -- A run of a chain between a feed over two streams that is seen so, and a drain of raw items to a sink that is seen so.
 module _ {F D : Type 0} (gives : F → Given (List Field) → F → Type 0) (takes : D → Item (List Field) → Drained → D → Type 0) (view : F → Feeding) (seen : D → Draining)
     (each_answer : (old : F) (answer : Given (List Field)) (new : F) → gives old answer new → Gives answer (view old) (view new))
-    (each_item : (old : D) (item : Item (List Field)) (answer : Drained) (new : D) → takes old item answer new → TakesLine (item_text item) answer (seen new).last (seen old).told (seen new).told (seen old).faults (seen new).faults)
-    (query : Parts) (limit : ℕ) (from to : F) (unfilled filled : D) (new : IsNew query limit (view from).merger) (none : (view from).events ≡ 0) (going : (view from).ended ≡ None)
+    (each_item : (old : D) (item : Item (List Field)) (answer : Drained) (new : D) → takes old item answer new → SendsLine (item_text item) answer (seen new).last (seen old).told (seen new).told (seen old).faults (seen new).faults)
+    (query : QueryParts) (limit : ℕ) (from to : F) (unfilled filled : D) (new : IsNewMerger query limit (view from).merger) (none : (view from).events ≡ 0) (going : (view from).ended ≡ None)
     (left : IsInStep false ((view from).roles role.Left)) (right : IsInStep false ((view from).roles role.Right))
     (answers : List (Given (List Field))) (feed : GoesOverAnswers gives from answers to) (offers : List (Offer (List Field))) (drain : TakesItems takes unfilled offers filled) (items : List (Item (List Field))) (stopped : Bool) where
   abbrev all : Events

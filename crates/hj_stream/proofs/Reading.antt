@@ -10,14 +10,14 @@ use Rattle.hj_base.specs.Outside.{RoleState, ChangesOnlyStreams}
 use Rattle.hj_msg.specs.declared.event.Event.{Event}
 use Rattle.hj_msg.specs.Event.{IsWellFormed}
 use Rattle.hj_msg.proofs.Numbered.{front_is_well_formed}
-use Rattle.hj_query.specs.Parts.{Parts}
+use Rattle.hj_query.specs.QueryParts.{QueryParts}
 use Rattle.hj_record.specs.Pieces.{Stream}
 use Rattle.hj_event.specs.declared.merger.Next.{Next}
 use Rattle.hj_event.specs.declared.merger.Next.TheVariants as next
-use Rattle.hj_event.specs.declared.stop.Last.{Last}
+use Rattle.hj_event.specs.declared.stop.MergeEnd.{MergeEnd}
 use Rattle.hj_event.specs.Arrivals.{too_many}
-use Rattle.hj_event.specs.Events.{Numbered, events_of, all_events_of}
-use Rattle.hj_event.specs.Merger.{Merging, IsNew, Answers, AnswersFrom, TakesNext, events_from}
+use Rattle.hj_event.specs.Events.{NumberedEvents, events_of, all_events_of}
+use Rattle.hj_event.specs.Merger.{Merging, IsNewMerger, AnswersNext, AnswersFrom, TakesNext, events_from}
 use Rattle.hj_event.specs.Roles.{IsInStep, IsReadOn}
 use Rattle.hj_event.specs.Sides.{in_front, at_its_end, MayFollow}
 use Rattle.hj_event.specs.Calls.{HasGiven, then_events}
@@ -26,7 +26,7 @@ use Rattle.hj_event.proofs.RoleLemmas.{not_read, read_more}
 use Rattle.hj_event.proofs.Whole.{are_well_formed}
 
 -- These events were given, of these bytes.
-pub record Reads (query : Parts) (limit : ℕ) (events : List (Event (List Field))) (merger : Merging) (before now : Role → RoleState) : Type 0 where
+pub record Reads (query : QueryParts) (limit : ℕ) (events : List (Event (List Field))) (merger : Merging) (before now : Role → RoleState) : Type 0 where
   pub left_bytes : List ℕ
   pub right_bytes : List ℕ
   pub given : HasGiven query limit left_bytes right_bytes events merger
@@ -40,7 +40,7 @@ pub unread : (ended : Bool) (state : RoleState) → ended ≡ false → IsInStep
 unread ended state is step = subst (λ (e : Bool). IsReadOn false [] false e state state) (sym is) (not_read false state step)
 
 -- a merger that is new has given nothing
-pub reads_begin : (query : Parts) (limit : ℕ) (merger : Merging) (now : Role → RoleState) → IsNew query limit merger → IsInStep false (now role.Left) → IsInStep false (now role.Right) → Reads query limit [] merger now now
+pub reads_begin : (query : QueryParts) (limit : ℕ) (merger : Merging) (now : Role → RoleState) → IsNewMerger query limit merger → IsInStep false (now role.Left) → IsInStep false (now role.Right) → Reads query limit [] merger now now
 reads_begin query limit merger now new left right = record {
   left_bytes = [];
   right_bytes = [];
@@ -52,11 +52,11 @@ reads_begin query limit merger now new left right = record {
 }
 
 -- a merger that gave only events goes on
-pub taking : (answer : Next) (old new : Merging) (before now : Role → RoleState) → old.over ≡ None → Answers answer old new before now → TakesNext answer old new before now
-taking answer old new before now going answers = subst (λ (over : Option Last). AnswersFrom over answer old new before now) going answers
+pub taking : (answer : Next) (old new : Merging) (before now : Role → RoleState) → old.over ≡ None → AnswersNext answer old new before now → TakesNext answer old new before now
+taking answer old new before now going answers = subst (λ (over : Option MergeEnd). AnswersFrom over answer old new before now) going answers
 
 -- one event more
-pub reads_more : (query : Parts) (limit : ℕ) (events : List (Event (List Field))) (event : Event (List Field)) (old new : Merging) (before mid now : Role → RoleState) → Reads query limit events old before mid → TakesNext (next.Event event) old new mid now
+pub reads_more : (query : QueryParts) (limit : ℕ) (events : List (Event (List Field))) (event : Event (List Field)) (old new : Merging) (before mid now : Role → RoleState) → Reads query limit events old before mid → TakesNext (next.Event event) old new mid now
     → Reads query limit (events ++ event ∷ []) new before now
 reads_more query limit events event old new before mid now reads takes = record {
   left_bytes = reads.left_bytes ++ takes.left_bytes;
@@ -74,25 +74,25 @@ end_follows true = refl
 end_follows false = tt
 
 -- the events given begin those of some streams
-pub some_events : (query : Parts) (limit : ℕ) (events : List (Event (List Field))) (merger : Merging) (before now : Role → RoleState) → (reads : Reads query limit events merger before now)
+pub some_events : (query : QueryParts) (limit : ℕ) (events : List (Event (List Field))) (merger : Merging) (before now : Role → RoleState) → (reads : Reads query limit events merger before now)
     → events_of query (in_front reads.left_bytes at_its_end) (in_front reads.right_bytes at_its_end) limit ≡ then_events events (events_from merger at_its_end at_its_end)
 some_events query limit events merger before now reads =
     reads.given at_its_end at_its_end (end_follows merger.sides.left.reading.ended) (end_follows merger.sides.right.reading.ended)
 
-up_to_within : (limit : ℕ) (all : Numbered) (over : Bool) → ltb limit (length all.events) ≡ over → length (cond {A = Numbered} over (record { events = take limit all.events; ending = too_many }) all).events ≤ limit
+up_to_within : (limit : ℕ) (all : NumberedEvents) (over : Bool) → ltb limit (length all.events) ≡ over → length (cond {A = NumberedEvents} over (record { events = take limit all.events; ending = too_many }) all).events ≤ limit
 up_to_within limit all true is = omega (arith, length-take limit all.events)
 up_to_within limit all false is = grind (arith, nat_tests)
 
 -- the events of streams are no more than the limit
-pub events_within : (query : Parts) (left right : Stream) (limit : ℕ) → length (events_of query left right limit).events ≤ limit
+pub events_within : (query : QueryParts) (left right : Stream) (limit : ℕ) → length (events_of query left right limit).events ≤ limit
 events_within query left right limit =
     let all = all_events_of query left right in
     up_to_within limit all (ltb limit (length all.events)) refl
 
 -- the events given are numbered from 0
-pub well_formed : (query : Parts) (limit : ℕ) (events : List (Event (List Field))) (merger : Merging) (before now : Role → RoleState) → Reads query limit events merger before now → IsWellFormed events
+pub well_formed : (query : QueryParts) (limit : ℕ) (events : List (Event (List Field))) (merger : Merging) (before now : Role → RoleState) → Reads query limit events merger before now → IsWellFormed events
 well_formed query limit events merger before now reads =
     let left = in_front reads.left_bytes at_its_end in
     let right = in_front reads.right_bytes at_its_end in
     front_is_well_formed events (events_from merger at_its_end at_its_end).events
-    (subst (λ (n : Numbered). IsWellFormed n.events) (some_events query limit events merger before now reads) (are_well_formed query left right limit))
+    (subst (λ (n : NumberedEvents). IsWellFormed n.events) (some_events query limit events merger before now reads) (are_well_formed query left right limit))

@@ -2,7 +2,7 @@
 use Rattle.std.proofs.Common.{◌≡◌, ℕ, false, length, ap, sym, subst, ◌∙◌}
 use Rattle.hj_base.specs.declared.outside.Outside.{Ghosts as OutsideGhosts}
 use Rattle.hj_base.specs.declared.outside.Role.TheVariants as role
-use Rattle.hj_query.specs.Parts.{Parts}
+use Rattle.hj_query.specs.QueryParts.{QueryParts}
 use Rattle.hj_event.specs.Roles.{IsInStep}
 use Rattle.hj_stream.specs.declared.feed.EventFeed.{EventFeed}
 use Rattle.hj_stream.specs.Ends.{IsUnasked}
@@ -13,7 +13,7 @@ module _ {O : Type 0} {outside : OutsideGhosts O} where
     pub right : IsInStep false (outside.state feed.outside.now role.Right)
     pub none : feed.events ≡ 0
 
-  pub reads_none : (query : Parts) (limit : ℕ) (feed : EventFeed O outside) → IsUnasked query limit feed → IsUnread feed
+  pub reads_none : (query : QueryParts) (limit : ℕ) (feed : EventFeed O outside) → IsUnasked query limit feed → IsUnread feed
   reads_none query limit feed unasked = record {
     left = subst (λ ended. IsInStep ended (outside.state feed.outside.now role.Left)) unasked.merger.left feed.left;
     right = subst (λ ended. IsInStep ended (outside.state feed.outside.now role.Right)) unasked.merger.right feed.right;

@@ -7,7 +7,7 @@ use Rattle.hj_stream.specs.declared.outcome.Outcome.{Outcome}
 use Rattle.hj_stream.specs.declared.outcome.Outcome.TheVariants as outcome
 use Rattle.hj_output.specs.declared.output.Sent.{Sent}
 use Rattle.hj_output.specs.declared.output.Sent.TheVariants as sent
-use Rattle.hj_output.specs.Output.{CountsFaults, Sends}
+use Rattle.hj_output.specs.Output.{CountsFaults, SendsPiece}
 
 -- A pair is kept exactly where its whole line was sent.
 abbrev pub answer_by : Sent → Drained
@@ -22,7 +22,7 @@ refusal_of sent.Failed = outcome.SinkFault
 refusal_of sent.Memory = outcome.Memory
 
 -- A drain took a pair with this answer: its line was sent so to a sink that tells its bytes, and counts its faults.
-pub record TakesLine (line : List ℕ) (answer : Drained) (last : Sent) (old new : Option (List ℕ)) (before now : ℕ) : Type 0 where
+pub record SendsLine (line : List ℕ) (answer : Drained) (last : Sent) (old new : Option (List ℕ)) (before now : ℕ) : Type 0 where
   pub answered : answer ≡ answer_by last
-  pub sends : Sends last line old new
+  pub sends : SendsPiece last line old new
   pub faults : CountsFaults last before now

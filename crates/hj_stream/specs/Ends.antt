@@ -2,8 +2,8 @@
 use Rattle.std.specs.Prelude.{◌≡◌, ℕ, [], None}
 use Rattle.std.specs.declared.option.Option.{Option}
 use Rattle.hj_base.specs.declared.outside.Outside.{Ghosts as OutsideGhosts}
-use Rattle.hj_query.specs.Parts.{Parts}
-use Rattle.hj_event.specs.Merger.{IsNew}
+use Rattle.hj_query.specs.QueryParts.{QueryParts}
+use Rattle.hj_event.specs.Merger.{IsNewMerger}
 use Rattle.hj_output.specs.declared.output.Sent.{Sent}
 use Rattle.hj_stream.specs.declared.drain.LineDrain.{LineDrain}
 use Rattle.hj_stream.specs.declared.feed.EventFeed.{EventFeed}
@@ -15,8 +15,8 @@ module _ {O : Type 0} {outside : OutsideGhosts O} where
   outcome_in feed = feed.ended
 
   -- A feed gave no event yet: its merger is new, for this query and this limit, and it gives no more events than that.
-  pub record IsUnasked (query : Parts) (limit : ℕ) (feed : EventFeed O outside) : Type 0 where
-    pub merger : IsNew query limit feed.merger.now
+  pub record IsUnasked (query : QueryParts) (limit : ℕ) (feed : EventFeed O outside) : Type 0 where
+    pub merger : IsNewMerger query limit feed.merger.now
     pub most : feed.limit ≡ limit
     pub given : feed.given.items ≡ []
     pub going : feed.ended ≡ None

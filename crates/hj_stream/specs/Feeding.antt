@@ -30,13 +30,13 @@ outcome_by count next.TooMany = Some outcome.TooMany
 outcome_by count next.Memory = Some outcome.Memory
 
 -- The merger gives an event, and the feed gives it.
-pub record GoesOn (answer : Next) (old new : Feeding) : Type 0 where
+pub record FeedGoesOn (answer : Next) (old new : Feeding) : Type 0 where
   pub takes : TakesNext answer old.merger new.merger old.roles new.roles
   pub counted : new.events ≡ old.events + 1
   pub going : new.ended ≡ None
 
 -- The merger gives no event, and the outcome that this makes is kept.
-pub record Ends (old new : Feeding) : Type 0 where
+pub record EndsFeed (old new : Feeding) : Type 0 where
   pub last : Next
   pub takes : TakesNext last old.merger new.merger old.roles new.roles
   pub outcome : Outcome
@@ -46,8 +46,8 @@ pub record Ends (old new : Feeding) : Type 0 where
 
 -- An answer of a feed: that of the merger, as long as the events haven't ended; then nothing is read any more.
 abbrev pub GivesFrom : Option Outcome → Given (List Field) → Feeding → Feeding → Type 0
-GivesFrom None (Event event) old new = GoesOn (next.Event event) old new
-GivesFrom None Stop old new = Ends old new
+GivesFrom None (Event event) old new = FeedGoesOn (next.Event event) old new
+GivesFrom None Stop old new = EndsFeed old new
 GivesFrom (Some ended) (Event event) old new = ⊥
 GivesFrom (Some ended) Stop old new = new ≡ old
 

@@ -7,7 +7,7 @@ use Rattle.hj_record.specs.Pieces.{Stream}
 use Rattle.hj_msg.specs.declared.event.Event.{Event}
 use Rattle.hj_msg.specs.declared.event.Pair.{Pair}
 use Rattle.hj_msg.specs.Kang.{kang}
-use Rattle.hj_query.specs.Parts.{Parts}
+use Rattle.hj_query.specs.QueryParts.{QueryParts}
 use Rattle.hj_eval.specs.Holds.{holds}
 use Rattle.hj_emit.specs.Line.{line_of}
 use Rattle.hj_event.specs.Arrivals.{Ending}
@@ -22,7 +22,7 @@ abbrev pub text_by : Line → List (Pair (List Field)) → List ℕ
 text_by line pairs = flat_map line pairs
 
 -- What a query's join of events writes, a line for each pair.
-abbrev pub joined_text : Line → Parts → List (Event (List Field)) → List ℕ
+abbrev pub joined_text : Line → QueryParts → List (Event (List Field)) → List ℕ
 joined_text line query events = text_by line (kang (holds query) events)
 
 -- What a join of two streams writes, how their events end, and how many they are.
@@ -32,7 +32,7 @@ pub record JoinResult : Type 0 where
   pub events : ℕ
 
 -- The join of two streams under a query, with this limit of events and a line for each pair.
-abbrev pub joined_by : Line → Parts → Stream → Stream → ℕ → JoinResult
+abbrev pub joined_by : Line → QueryParts → Stream → Stream → ℕ → JoinResult
 joined_by line query left right limit =
     let all = events_of query left right limit in
     record { text = joined_text line query all.events; ending = all.ending; events = length all.events }
@@ -46,9 +46,9 @@ abbrev pub text : List (Pair (List Field)) → List ℕ
 text pairs = text_by pair_line pairs
 
 -- What a query's join of events writes to its output.
-abbrev pub text_of : Parts → List (Event (List Field)) → List ℕ
+abbrev pub text_of : QueryParts → List (Event (List Field)) → List ℕ
 text_of query events = joined_text pair_line query events
 
 -- The join of two streams under a query, with this limit of events, as its output has it.
-abbrev pub join_result : Parts → Stream → Stream → ℕ → JoinResult
+abbrev pub join_result : QueryParts → Stream → Stream → ℕ → JoinResult
 join_result query left right limit = joined_by pair_line query left right limit

@@ -9,7 +9,7 @@ use Rattle.hj_base.specs.declared.outside.Role.TheVariants as role
 use Rattle.hj_base.specs.Counts.{Rose}
 use Rattle.hj_base.specs.Outside.{RoleState, ChangesOnlyStreams}
 use Rattle.hj_base.specs.Journals.{IsPrefix}
-use Rattle.hj_query.specs.Parts.{Parts}
+use Rattle.hj_query.specs.QueryParts.{QueryParts}
 use Rattle.hj_record.specs.Pieces.{Stream}
 use Rattle.hj_event.specs.Arrivals.{clean, bad, unread, too_many}
 use Rattle.hj_event.specs.Roles.{IsReadOn}
@@ -55,7 +55,8 @@ AreEnded ended left right = Unit {0}
 
 -- A join of two streams that writes so: these bytes of both streams were read, this text was written, and whatever comes after the
 -- bytes, it is what the outcome says. Nothing comes after a read that answered the end, and after a failed one the stream is cut off.
-pub record JoinsSo (Writes : Outcome → Parts → Stream → Stream → ℕ → List ℕ → Type 0) (ended : Outcome) (query : Parts) (limit : ℕ)
+pub record JoinsSo (Writes : Outcome → QueryParts → Stream → Stream → ℕ → List ℕ → Type 0) (ended : Outcome) (query : QueryParts)
+    (limit : ℕ)
     (before now : Role → RoleState) (old new : Option (List ℕ)) : Type 0 where
   pub left_bytes : List ℕ
   pub right_bytes : List ℕ
@@ -74,17 +75,17 @@ pub record JoinsSo (Writes : Outcome → Parts → Stream → Stream → ℕ →
   pub ends : AreEnded ended left_ended right_ended
 
 -- A join of two streams that has this result.
-abbrev pub JoinsTo : (Parts → Stream → Stream → ℕ → JoinResult) → Outcome → Parts → ℕ → (Role → RoleState) → (Role → RoleState)
+abbrev pub JoinsTo : (QueryParts → Stream → Stream → ℕ → JoinResult) → Outcome → QueryParts → ℕ → (Role → RoleState) → (Role → RoleState)
     → Option (List ℕ) → Option (List ℕ) → Type 0
 JoinsTo joined ended query limit before now old new =
     JoinsSo (λ how of left right most written. WritesText how written (joined of left right most)) ended query limit before now old new
 
 -- A join that writes a line for each pair.
-abbrev pub JoinsBy : Line → Outcome → Parts → ℕ → (Role → RoleState) → (Role → RoleState) → Option (List ℕ) → Option (List ℕ) → Type 0
+abbrev pub JoinsBy : Line → Outcome → QueryParts → ℕ → (Role → RoleState) → (Role → RoleState) → Option (List ℕ) → Option (List ℕ) → Type 0
 JoinsBy line ended query limit before now old new = JoinsTo (joined_by line) ended query limit before now old new
 
 -- A join that writes the line of each pair as an output has it.
-abbrev pub Joins : Outcome → Parts → ℕ → (Role → RoleState) → (Role → RoleState) → Option (List ℕ) → Option (List ℕ) → Type 0
+abbrev pub Joins : Outcome → QueryParts → ℕ → (Role → RoleState) → (Role → RoleState) → Option (List ℕ) → Option (List ℕ) → Type 0
 Joins ended query limit before now old new = JoinsBy pair_line ended query limit before now old new
 
 -- The sink's count of faults rose where the outcome is its fault, and nowhere else.

@@ -8,7 +8,7 @@ use Rattle.hj_record.specs.Pieces.{Stream}
 use Rattle.hj_msg.specs.declared.event.Event.{Event}
 use Rattle.hj_msg.specs.declared.fin.Fin.{Fin}
 use Rattle.hj_msg.specs.declared.fin.Fin.TheVariants as fin
-use Rattle.hj_query.specs.Parts.{Parts}
+use Rattle.hj_query.specs.QueryParts.{QueryParts}
 use Rattle.hj_event.specs.Events.{events_of}
 use Rattle.hj_event.specs.Sides.{in_front, Follows}
 use Rattle.hj_stream.specs.declared.outcome.Outcome.{Outcome}
@@ -22,7 +22,7 @@ EndsRun outcome.SinkFault end whole = end ≡ fin.Refused
 EndsRun outcome.Memory end whole = Unit {0}
 EndsRun made end whole = (end ≡ fin.Done) × whole
 
-module _ {Writes : Outcome → Parts → Stream → Stream → ℕ → List ℕ → Type 0} {ended : Outcome} {query : Parts} {limit : ℕ}
+module _ {Writes : Outcome → QueryParts → Stream → Stream → ℕ → List ℕ → Type 0} {ended : Outcome} {query : QueryParts} {limit : ℕ}
     {before now : Role → RoleState} {old new : Option (List ℕ)} where
   -- Whatever comes after the bytes that a join read, this holds of the events of its streams.
   abbrev pub OfEvents : JoinsSo Writes ended query limit before now old new → (List (Event (List Field)) → Type 0) → Type 0

@@ -1,6 +1,6 @@
 ghost use Rattle.std.specs.Prelude.{◌≡◌, ◌≢◌};
 ghost use Rattle.hj_output.specs.declared.output.Sent.TheVariants as sent;
-ghost use Rattle.hj_output.specs.Output.{CountsFaults, Sends};
+ghost use Rattle.hj_output.specs.Output.{CountsFaults, SendsPiece};
 ghost use Rattle.hj_stream.specs.Draining.{refusal_of};
 
 use crate::outcome::outcome_of_refusal;
@@ -57,7 +57,7 @@ impl<'a, K: Sink, L: PairLine> LineDrain<'a, K, L> {
     fn send(&mut self, pair: &Pair<SharedRow>) -> Sent
         ensures same_reference { self.new.out.ghost_name ≡ self.old.out.ghost_name }
         ensures lines { self.new.lines ≡ self.old.lines }
-        ensures sends { Sends result (L.line self.old.lines.now pair.now) (K.told self.old.out.now) (K.told self.new.out.now) }
+        ensures sends { SendsPiece result (L.line self.old.lines.now pair.now) (K.told self.old.out.now) (K.told self.new.out.now) }
         ensures faults { CountsFaults result (K.faults self.old.out.now) (K.faults self.new.out.now) }
         ensures refused { self.new.refused ≡ self.old.refused }
     {
@@ -70,17 +70,17 @@ impl<'a, K: Sink, L: PairLine> LineDrain<'a, K, L> {
 
 impl<K: Sink, L: PairLine> Drain<SharedRow> for LineDrain<'_, K, L> {
     ghost use Rattle.hj_msg.specs.Drain.{CountsRefused};
-    ghost use Rattle.hj_stream.specs.Draining.{TakesLine};
+    ghost use Rattle.hj_stream.specs.Draining.{SendsLine};
 
     ghost takes = { λ old pair answer new. (new.out.ghost_name ≡ old.out.ghost_name) × (new.lines ≡ old.lines)
-        × TakesLine (L.line old.lines.now pair) answer new.last (K.told old.out.now) (K.told new.out.now)
+        × SendsLine (L.line old.lines.now pair) answer new.last (K.told old.out.now) (K.told new.out.now)
         (K.faults old.out.now) (K.faults new.out.now) };
 
     ghost refusals = { λ d. d.refused };
 
     fn pair(&mut self, pair: Pair<SharedRow>) -> Drained
         ensures takes { (self.new.out.ghost_name ≡ self.old.out.ghost_name) × (self.new.lines ≡ self.old.lines)
-            × TakesLine (L.line self.old.lines.now pair) result self.new.last (K.told self.old.out.now) (K.told self.new.out.now)
+            × SendsLine (L.line self.old.lines.now pair) result self.new.last (K.told self.old.out.now) (K.told self.new.out.now)
             (K.faults self.old.out.now) (K.faults self.new.out.now) }
         ensures refusals { CountsRefused result self.old.refused self.new.refused }
     {

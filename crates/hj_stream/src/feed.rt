@@ -3,8 +3,8 @@ ghost use Rattle.hj_base.specs.Outside.{NamesStay};
 ghost use Rattle.hj_base.specs.declared.outside.Role.TheVariants as role;
 ghost use Rattle.hj_msg.specs.Feed.{numbering_of};
 ghost use Rattle.hj_event.specs.Roles.{IsInStep};
-ghost use Rattle.hj_event.specs.Merger.{IsNew};
-ghost use Rattle.hj_query.specs.Parts.{Parts};
+ghost use Rattle.hj_event.specs.Merger.{IsNewMerger};
+ghost use Rattle.hj_query.specs.QueryParts.{QueryParts};
 ghost use Rattle.hj_stream.specs.Ahead.{IsGoingOn};
 ghost use Rattle.hj_stream.specs.InStep.{IsInStep-prop};
 
@@ -45,12 +45,12 @@ impl<'a, O: Outside> EventFeed<'a, O> {
     /// Makes a feed that gave no event yet: it gives the events that a new merger finds in the open roles Left and Right of
     /// `outside`, at most `limit` of them.
     pub fn new(merger: &'a mut Merger, limit: u64, outside: &'a mut O) -> Self
-        requires new { (query : Parts) × IsNew query limit merger.old }
+        requires new { (query : QueryParts) × IsNewMerger query limit merger.old }
         requires left { IsInStep false (O.state outside.old role.Left) }
         requires right { IsInStep false (O.state outside.old role.Right) }
         ensures same_reference { result.outside.ghost_name ≡ outside.entry.ghost_name }
         ensures outside { result.outside.now ≡ outside.old }
-        ensures unasked { (query : Parts) → IsNew query limit merger.old → IsUnasked query limit result }
+        ensures unasked { (query : QueryParts) → IsNewMerger query limit merger.old → IsUnasked query limit result }
     {
         EventFeed {
             merger,
@@ -109,7 +109,7 @@ impl<O: Outside> Feed<SharedRow> for EventFeed<'_, O> {
             Next::Event(event) => {
                 self.ready = self.merger.is_ready();
                 self.events += 1;
-                self.given = self.given.and(&event);
+                self.given = self.given.with_item(&event);
                 return Given::Event(event);
             }
             Next::Done => Outcome::Done { events },

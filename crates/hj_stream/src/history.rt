@@ -24,7 +24,7 @@ impl<T> History<T> {
     }
 
     /// Makes the same history with one more after it.
-    pub(crate) fn and(&self, item: &T) -> History<T>
+    pub(crate) fn with_item(&self, item: &T) -> History<T>
         ensures { result.items ≡ self.now.items ++ item.now ∷ [] }
     {
         History::told_by(self, item)

@@ -3,7 +3,7 @@ ghost use Rattle.hj_collect.specs.Marks.{meaning};
 ghost use Rattle.hj_msg.specs.declared.fin.Fin.TheVariants as fin;
 ghost use Rattle.hj_msg.specs.Drain.{CountsRefused};
 ghost use Rattle.hj_output.specs.declared.output.Sent.TheVariants as sent;
-ghost use Rattle.hj_output.specs.Output.{CountsFaults, Sends};
+ghost use Rattle.hj_output.specs.Output.{CountsFaults, SendsPiece};
 ghost use Rattle.hj_raw.specs.Text.{mark_text, pair_text};
 ghost use Rattle.hj_stream.specs.Draining.{answer_by};
 ghost use Rattle.hj_stream.specs.Ending.{EndsAs};
@@ -50,7 +50,7 @@ impl<'a, K: Sink> RawLineDrain<'a, K> {
     /// Sends the line of a pair in one write, and the rest again where the sink took less.
     fn send_pair(&mut self, pair: &Pair<SharedRow>) -> Sent
         ensures same_reference { self.new.out.ghost_name ≡ self.old.out.ghost_name }
-        ensures sends { Sends result (pair_text pair.now) (K.told self.old.out.now) (K.told self.new.out.now) }
+        ensures sends { SendsPiece result (pair_text pair.now) (K.told self.old.out.now) (K.told self.new.out.now) }
         ensures faults { CountsFaults result (K.faults self.old.out.now) (K.faults self.new.out.now) }
         ensures refused { self.new.refused ≡ self.old.refused }
     {
@@ -63,7 +63,7 @@ impl<'a, K: Sink> RawLineDrain<'a, K> {
     /// Sends the line of a mark in one write, and the rest again where the sink took less.
     fn send_mark(&mut self, mark: Mark) -> Sent
         ensures same_reference { self.new.out.ghost_name ≡ self.old.out.ghost_name }
-        ensures sends { Sends result (mark_text (meaning mark)) (K.told self.old.out.now) (K.told self.new.out.now) }
+        ensures sends { SendsPiece result (mark_text (meaning mark)) (K.told self.old.out.now) (K.told self.new.out.now) }
         ensures faults { CountsFaults result (K.faults self.old.out.now) (K.faults self.new.out.now) }
         ensures refused { self.new.refused ≡ self.old.refused }
     {
@@ -93,17 +93,17 @@ impl<K: Sink> RawDrain<SharedRow> for RawLineDrain<'_, K> {
     ghost use Rattle.hj_collect.specs.Marks.{meaning};
     ghost use Rattle.hj_msg.specs.Drain.{CountsRefused};
     ghost use Rattle.hj_raw.specs.Text.{item_text, mark_text, pair_text};
-    ghost use Rattle.hj_stream.specs.Draining.{TakesLine};
+    ghost use Rattle.hj_stream.specs.Draining.{SendsLine};
 
     ghost takes = { λ old item answer new. (new.out.ghost_name ≡ old.out.ghost_name)
-        × TakesLine (item_text item) answer new.last (K.told old.out.now) (K.told new.out.now)
+        × SendsLine (item_text item) answer new.last (K.told old.out.now) (K.told new.out.now)
         (K.faults old.out.now) (K.faults new.out.now) };
 
     ghost refusals = { λ d. d.refused };
 
     fn pair(&mut self, pair: Pair<SharedRow>) -> Drained
         ensures takes { (self.new.out.ghost_name ≡ self.old.out.ghost_name)
-            × TakesLine (pair_text pair) result self.new.last (K.told self.old.out.now) (K.told self.new.out.now)
+            × SendsLine (pair_text pair) result self.new.last (K.told self.old.out.now) (K.told self.new.out.now)
             (K.faults self.old.out.now) (K.faults self.new.out.now) }
         ensures refusals { CountsRefused result self.old.refused self.new.refused }
     {
@@ -113,7 +113,7 @@ impl<K: Sink> RawDrain<SharedRow> for RawLineDrain<'_, K> {
 
     fn mark(&mut self, mark: Mark) -> Drained
         ensures takes { (self.new.out.ghost_name ≡ self.old.out.ghost_name)
-            × TakesLine (mark_text (meaning mark)) result self.new.last (K.told self.old.out.now) (K.told self.new.out.now)
+            × SendsLine (mark_text (meaning mark)) result self.new.last (K.told self.old.out.now) (K.told self.new.out.now)
             (K.faults self.old.out.now) (K.faults self.new.out.now) }
         ensures refusals { CountsRefused result self.old.refused self.new.refused }
     {

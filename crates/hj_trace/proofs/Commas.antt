@@ -12,7 +12,7 @@ use Rattle.hj_chain.specs.declared.actor.Actor.TheVariants.{Admit, PortLeft, Por
 use Rattle.hj_trace.specs.declared.stream.ActorFound.{ActorFound}
 use Rattle.hj_trace.specs.declared.stream.ActorFound.TheVariants as found
 use Rattle.hj_trace.specs.Actors.{IsNumbered, actor_text}
-use Rattle.hj_trace.specs.Stream.{StreamState, Uses, IsUsedUp, BeginsWithNoActor, IsActorOf, ReadsActor}
+use Rattle.hj_trace.specs.Stream.{TextStreamState, Uses, IsUsedUp, BeginsWithNoActor, IsActorOf, ReadsActor}
 use Rattle.hj_trace.proofs.Streams.{looks_then, used_more}
 
 abbrev pub NoComma : List ℕ → Type 0
@@ -97,7 +97,7 @@ none_by_text text later p other actor rest numbered e =
     other actor numbered (sym (no_more text split.0 (actor_text actor) later rest split.1 split.2 split.3))
 
 -- A text with a comma behind was used.
-pub by_text : (answer : ActorFound) (text : List ℕ) (old new : StreamState) (before now : RoleState) → IsActorOf answer text → NoComma text → Uses false (text ++ 44 ∷ []) old before new now
+pub by_text : (answer : ActorFound) (text : List ℕ) (old new : TextStreamState) (before now : RoleState) → IsActorOf answer text → NoComma text → Uses false (text ++ 44 ∷ []) old before new now
     → ReadsActor answer old before new now
 by_text (found.Actor actor) text old new before now is p uses = record { bytes = text ++ 44 ∷ []; uses = uses; finds = (is.0, ap (λ l. l ++ 44 ∷ []) is.1) }
 by_text found.Other text old new before now other p uses = record { bytes = text ++ 44 ∷ []; uses = uses; finds = λ later follows. none_by_text text (new.unused ++ later) p other }
@@ -108,7 +108,7 @@ pub kept : (text : List ℕ) (at byte : ℕ) → at < length text → NoComma (t
 kept text at byte within p other = subst NoComma (sym (take_more_set text at byte within)) (no_comma_both (take at text) (byte ∷ []) p (other, tt))
 
 -- the end comes before a comma
-pub reads_end : (front : List ℕ) (a b c : StreamState) (before mid now : Role → RoleState) → NoComma front → Uses false front a (before a.role) b (mid a.role) → Uses false [] b (mid b.role) c (now b.role)
+pub reads_end : (front : List ℕ) (a b c : TextStreamState) (before mid now : Role → RoleState) → NoComma front → Uses false front a (before a.role) b (mid a.role) → Uses false [] b (mid b.role) c (now b.role)
     → IsUsedUp c → ReadsActor found.Other a (before a.role) c (now a.role)
 reads_end front a b c before mid now p first second up = record {
   bytes = front;
@@ -117,12 +117,12 @@ reads_end front a b c before mid now p first second up = record {
 }
 
 -- a read fails before a comma
-pub reads_failed : (front : List ℕ) (a b c : StreamState) (before mid now : Role → RoleState) → Uses false front a (before a.role) b (mid a.role) → Uses true [] b (mid b.role) c (now b.role)
+pub reads_failed : (front : List ℕ) (a b c : TextStreamState) (before mid now : Role → RoleState) → Uses false front a (before a.role) b (mid a.role) → Uses true [] b (mid b.role) c (now b.role)
     → ReadsActor found.Failed a (before a.role) c (now a.role)
 reads_failed front a b c before mid now first second = record { bytes = front; uses = looks_then true front a b c before mid now first second; finds = tt }
 
 -- a comma comes
-pub reads_comma : (answer : ActorFound) (front : List ℕ) (byte : ℕ) (a b c d : StreamState) (before mid now : Role → RoleState) → byte ≡ 44 → NoComma front → IsActorOf answer front
+pub reads_comma : (answer : ActorFound) (front : List ℕ) (byte : ℕ) (a b c d : TextStreamState) (before mid now : Role → RoleState) → byte ≡ 44 → NoComma front → IsActorOf answer front
     → Uses false front a (before a.role) b (mid a.role) → Uses false [] b (mid b.role) c (now b.role) → slice_get c.unused 0 ≡ Some byte → d ≡ record c { unused = drop 1 c.unused }
     → ReadsActor answer a (before a.role) d (now a.role)
 reads_comma answer front byte a b c d before mid now comma p is first second next skipped =
@@ -130,11 +130,11 @@ reads_comma answer front byte a b c d before mid now comma p is first second nex
     by_text answer front a d (before a.role) (now a.role) is p (subst (λ (one : ℕ). Uses false (front ++ one ∷ []) a (before a.role) d (now a.role)) comma used)
 
 -- no comma came for so long
-pub reads_long : (front : List ℕ) (a b : StreamState) (before now : RoleState) → NoComma front → 7 < length front → Uses false front a before b now → ReadsActor found.Other a before b now
+pub reads_long : (front : List ℕ) (a b : TextStreamState) (before now : RoleState) → NoComma front → 7 < length front → Uses false front a before b now → ReadsActor found.Other a before b now
 reads_long front a b before now p long uses = record { bytes = front; uses = uses; finds = λ later follows. none_so_long front (b.unused ++ later) p long }
 
 -- one byte more that is no comma is used and kept
-pub reads_on : (text : List ℕ) (at byte : ℕ) (a b c d : StreamState) (before mid now : Role → RoleState) → at < length text
+pub reads_on : (text : List ℕ) (at byte : ℕ) (a b c d : TextStreamState) (before mid now : Role → RoleState) → at < length text
     → Uses false (take at text) a (before a.role) b (mid a.role) → Uses false [] b (mid b.role) c (now b.role) → slice_get c.unused 0 ≡ Some byte → d ≡ record c { unused = drop 1 c.unused }
     → Uses false (take (at + 1) (set text at byte)) a (before a.role) d (now a.role)
 reads_on text at byte a b c d before mid now within first second next skipped =

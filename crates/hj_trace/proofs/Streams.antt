@@ -11,7 +11,7 @@ use Rattle.hj_chain.specs.declared.actor.Actor.{Actor}
 use Rattle.hj_trace.specs.declared.stream.ActorFound.TheVariants as found
 use Rattle.hj_trace.specs.Actors.{IsNumbered, actor_text}
 use Rattle.hj_trace.specs.declared.stream.Compared.TheVariants as compared
-use Rattle.hj_trace.specs.Stream.{StreamState, GoesWith, Uses, CountsFaults, PartsFrom, Compares, ReadsActor}
+use Rattle.hj_trace.specs.Stream.{TextStreamState, GoesWithRole, Uses, CountsFaults, PartsFrom, Compares, ReadsActor}
 
 -- the byte at a place of a portion stands next in what is unused from there on
 pub stands_next : (portion : List ℕ) (used filled : ℕ) → used < filled → filled ≤ length portion → slice_get (drop used (take filled portion)) 0 ≡ Some (get_or portion used 0)
@@ -20,13 +20,13 @@ stands_next portion used filled within room =
     slice_get-get_or (drop used (take filled portion)) 0 0 some
     ∙ ap Some (get_or-drop used (take filled portion) 0 0 ∙ ap (λ k. get_or (take filled portion) k 0) (omega arith) ∙ get_or-take filled portion used 0 within)
 
-pub nothing_used : (stream : StreamState) (role : RoleState) → (stream.ended ≡ true → IsAtEnd role.left) → Uses false [] stream role stream role
+pub nothing_used : (stream : TextStreamState) (role : RoleState) → (stream.ended ≡ true → IsAtEnd role.left) → Uses false [] stream role stream role
 nothing_used stream role end = record { role = refl; came = []; read = Consumes-nil role.left; used = append-nil stream.unused; name = λ name e. e; nothing_left = end; faults = refl; unended = λ e. absurd (true≢false (sym e)) }
 
 counts_behind : (failed : Bool) (a b c : ℕ) → b ≡ a → CountsFaults failed b c → CountsFaults failed a c
 counts_behind failed a b c e counts = subst (λ (n : ℕ). CountsFaults failed n c) e counts
 
-pub uses_both : (failed : Bool) (xs ys : List ℕ) (a b c : StreamState) (s t u : RoleState) → Uses false xs a s b t → Uses failed ys b t c u → Uses failed (xs ++ ys) a s c u
+pub uses_both : (failed : Bool) (xs ys : List ℕ) (a b c : TextStreamState) (s t u : RoleState) → Uses false xs a s b t → Uses failed ys b t c u → Uses failed (xs ++ ys) a s c u
 uses_both failed xs ys a b c s t u first second = record {
   role = second.role ∙ first.role;
   came = first.came ++ second.came;
@@ -43,7 +43,7 @@ front_of [] x e = cc
 front_of (y ∷ ys) x e = cc
 
 -- the byte that stands next is used
-pub next_used : (stream : StreamState) (role : RoleState) (byte : ℕ) → (stream.ended ≡ true → IsAtEnd role.left) → slice_get stream.unused 0 ≡ Some byte
+pub next_used : (stream : TextStreamState) (role : RoleState) (byte : ℕ) → (stream.ended ≡ true → IsAtEnd role.left) → slice_get stream.unused 0 ≡ Some byte
     → Uses false (byte ∷ []) stream role (record stream { unused = drop 1 stream.unused }) role
 next_used stream role byte end next = record {
   role = refl;
@@ -57,13 +57,13 @@ next_used stream role byte end next = record {
 }
 
 -- the same with the roles of an outside, before, between and behind
-uses_then : (failed : Bool) (xs ys : List ℕ) (a b c : StreamState) (before mid now : Role → RoleState) → Uses false xs a (before a.role) b (mid a.role) → Uses failed ys b (mid b.role) c (now b.role)
+uses_then : (failed : Bool) (xs ys : List ℕ) (a b c : TextStreamState) (before mid now : Role → RoleState) → Uses false xs a (before a.role) b (mid a.role) → Uses failed ys b (mid b.role) c (now b.role)
     → Uses failed (xs ++ ys) a (before a.role) c (now a.role)
 uses_then failed xs ys a b c before mid now first second =
     uses_both failed xs ys a b c (before a.role) (mid a.role) (now a.role) first (subst (λ (role : Role). Uses failed ys b (mid role) c (now role)) first.role second)
 
 -- a look uses nothing
-pub looks_then : (failed : Bool) (xs : List ℕ) (a b c : StreamState) (before mid now : Role → RoleState) → Uses false xs a (before a.role) b (mid a.role) → Uses failed [] b (mid b.role) c (now b.role)
+pub looks_then : (failed : Bool) (xs : List ℕ) (a b c : TextStreamState) (before mid now : Role → RoleState) → Uses false xs a (before a.role) b (mid a.role) → Uses failed [] b (mid b.role) c (now b.role)
     → Uses failed xs a (before a.role) c (now a.role)
 looks_then failed xs a b c before mid now first second =
     subst (λ (bytes : List ℕ). Uses failed bytes a (before a.role) c (now a.role)) (append-nil xs) (uses_then failed xs [] a b c before mid now first second)
@@ -72,22 +72,22 @@ one_more : (expected : List ℕ) (at : ℕ) → at < length expected → take at
 one_more expected at within = sym (take_more expected at 0 within)
 
 -- one byte more is used, which a look found
-pub used_more : (bytes : List ℕ) (byte : ℕ) (a b c d : StreamState) (before mid now : Role → RoleState) → Uses false bytes a (before a.role) b (mid a.role)
+pub used_more : (bytes : List ℕ) (byte : ℕ) (a b c d : TextStreamState) (before mid now : Role → RoleState) → Uses false bytes a (before a.role) b (mid a.role)
     → Uses false [] b (mid b.role) c (now b.role) → slice_get c.unused 0 ≡ Some byte → d ≡ record c { unused = drop 1 c.unused }
     → Uses false (bytes ++ byte ∷ []) a (before a.role) d (now a.role)
 used_more bytes byte a b c d before mid now first second next skipped =
     let looked = looks_then false bytes a b c before mid now first second in
     let both = uses_both false bytes (byte ∷ []) a c (record c { unused = drop 1 c.unused }) (before a.role) (now a.role) (now a.role) looked (next_used c (now a.role) byte looked.nothing_left next) in
-    subst (λ (stream : StreamState). Uses false (bytes ++ byte ∷ []) a (before a.role) stream (now a.role)) (sym skipped) both
+    subst (λ (stream : TextStreamState). Uses false (bytes ++ byte ∷ []) a (before a.role) stream (now a.role)) (sym skipped) both
 
-pub same_step : (expected : List ℕ) (at : ℕ) (a b c d : StreamState) (before mid now : Role → RoleState) → at < length expected → Uses false (take at expected) a (before a.role) b (mid a.role)
+pub same_step : (expected : List ℕ) (at : ℕ) (a b c d : TextStreamState) (before mid now : Role → RoleState) → at < length expected → Uses false (take at expected) a (before a.role) b (mid a.role)
     → Uses false [] b (mid b.role) c (now b.role) → slice_get c.unused 0 ≡ Some (get_or expected at 0) → d ≡ record c { unused = drop 1 c.unused }
     → Uses false (take (at + 1) expected) a (before a.role) d (now a.role)
 same_step expected at a b c d before mid now within first second next skipped =
     subst (λ (bytes : List ℕ). Uses false bytes a (before a.role) d (now a.role)) (one_more expected at within)
     (used_more (take at expected) (get_or expected at 0) a b c d before mid now first second next skipped)
 
-pub compare_fails : (expected : List ℕ) (at : ℕ) (a b c : StreamState) (before mid now : Role → RoleState) → Uses false (take at expected) a (before a.role) b (mid a.role)
+pub compare_fails : (expected : List ℕ) (at : ℕ) (a b c : TextStreamState) (before mid now : Role → RoleState) → Uses false (take at expected) a (before a.role) b (mid a.role)
     → Uses true [] b (mid b.role) c (now b.role) → Compares compared.Failed expected a (before a.role) c (now a.role)
 compare_fails expected at a b c before mid now first second = record {
   same = take at expected;
@@ -97,11 +97,11 @@ compare_fails expected at a b c before mid now first second = record {
   ends = tt;
 }
 
-parts_from : (expected : List ℕ) (at : ℕ) (stream : StreamState) → at < length expected → slice_get stream.unused 0 ≢ Some (get_or expected at 0) → (stream.unused ≡ [] → stream.ended ≡ true) → PartsFrom (drop at expected) stream
+parts_from : (expected : List ℕ) (at : ℕ) (stream : TextStreamState) → at < length expected → slice_get stream.unused 0 ≢ Some (get_or expected at 0) → (stream.unused ≡ [] → stream.ended ≡ true) → PartsFrom (drop at expected) stream
 parts_from expected at stream within other ended =
     subst (λ (missing : List ℕ). PartsFrom missing stream) (sym (drop-cons expected at 0 within)) (other, ended)
 
-pub compare_differs : (expected : List ℕ) (at : ℕ) (a b c : StreamState) (before mid now : Role → RoleState) → at < length expected → Uses false (take at expected) a (before a.role) b (mid a.role)
+pub compare_differs : (expected : List ℕ) (at : ℕ) (a b c : TextStreamState) (before mid now : Role → RoleState) → at < length expected → Uses false (take at expected) a (before a.role) b (mid a.role)
     → Uses false [] b (mid b.role) c (now b.role) → slice_get c.unused 0 ≢ Some (get_or expected at 0) → (c.unused ≡ [] → c.ended ≡ true)
     → Compares (compared.Differs at) expected a (before a.role) c (now a.role)
 compare_differs expected at a b c before mid now within first second other ended = record {
@@ -129,20 +129,20 @@ pub changes_then : (role other_name : Role) (before mid now : Role → RoleState
 changes_then role other_name before mid now same first second other ne = second other (λ e. ne (e ∙ same)) ∙ first other ne
 
 -- a stream still goes with its role
-pub goes_on : (bytes : List ℕ) (a b : StreamState) (before now : Role → RoleState) → GoesWith a (before a.role) → Uses false bytes a (before a.role) b (now a.role) → GoesWith b (now b.role)
+pub goes_on : (bytes : List ℕ) (a b : TextStreamState) (before now : Role → RoleState) → GoesWithRole a (before a.role) → Uses false bytes a (before a.role) b (now a.role) → GoesWithRole b (now b.role)
 goes_on bytes a b before now goes uses =
-    let still : GoesWith b (now a.role) = record { name = goes.name; phase = uses.name goes.name goes.phase; nothing_left = uses.nothing_left } in
-    subst (λ (role : Role). GoesWith b (now role)) (sym uses.role) still
+    let still : GoesWithRole b (now a.role) = record { name = goes.name; phase = uses.name goes.name goes.phase; nothing_left = uses.nothing_left } in
+    subst (λ (role : Role). GoesWithRole b (now role)) (sym uses.role) still
 
 -- what is unused of a portion, as one part of it
 pub unused_part : (portion : List ℕ) (used filled : ℕ) → used ≤ filled → take (filled - used) (drop used portion) ≡ drop used (take filled portion)
 unused_part portion used filled within = sym (drop-take used (filled - used) portion) ∙ ap (λ n. drop used (take n portion)) (omega (arith, within))
 
 -- bytes that wait are used
-pub waiting_used : (expected : List ℕ) (old new : StreamState) (role : RoleState) → (old.ended ≡ true → IsAtEnd role.left) → old.unused ≡ expected ++ drop (length expected) old.unused
+pub waiting_used : (expected : List ℕ) (old new : TextStreamState) (role : RoleState) → (old.ended ≡ true → IsAtEnd role.left) → old.unused ≡ expected ++ drop (length expected) old.unused
     → new ≡ record old { unused = drop (length expected) old.unused } → Uses false expected old role new role
 waiting_used expected old new role end waits used =
-    subst (λ (stream : StreamState). Uses false expected old role stream role) (sym used) (record {
+    subst (λ (stream : TextStreamState). Uses false expected old role stream role) (sym used) (record {
       role = refl;
       came = [];
       read = Consumes-nil role.left;
@@ -153,7 +153,7 @@ waiting_used expected old new role end waits used =
       unended = λ e. absurd (true≢false (sym e));
     })
 
-pub compare_same : (expected : List ℕ) (old new : StreamState) (role : RoleState) → (old.ended ≡ true → IsAtEnd role.left) → old.unused ≡ expected ++ drop (length expected) old.unused
+pub compare_same : (expected : List ℕ) (old new : TextStreamState) (role : RoleState) → (old.ended ≡ true → IsAtEnd role.left) → old.unused ≡ expected ++ drop (length expected) old.unused
     → new ≡ record old { unused = drop (length expected) old.unused } → Compares compared.Same expected old role new role
 compare_same expected old new role end waits used = record {
   same = expected;
@@ -180,7 +180,7 @@ waiting_text portion used filled at text unused within same comma is =
     ∙ ap (λ w. text ++ 44 ∷ drop (at + 1) w) part ∙ ap (λ d. text ++ 44 ∷ d) (drop-drop (at + 1) used (take filled portion))
 
 -- an actor's text and a comma that wait are used
-pub waiting_actor : (actor : Actor) (old new : StreamState) (role : RoleState) → (old.ended ≡ true → IsAtEnd role.left) → IsNumbered actor × (old.unused ≡ actor_text actor ++ 44 ∷ new.unused)
+pub waiting_actor : (actor : Actor) (old new : TextStreamState) (role : RoleState) → (old.ended ≡ true → IsAtEnd role.left) → IsNumbered actor × (old.unused ≡ actor_text actor ++ 44 ∷ new.unused)
     → new.role ≡ old.role → new.ended ≡ old.ended → ReadsActor (found.Actor actor) old role new role
 waiting_actor actor old new role end waits same_role same_end = record {
   bytes = actor_text actor ++ 44 ∷ [];

@@ -1,7 +1,7 @@
 pub mod Actors
 pub mod Checking
 pub mod Choosing
-pub mod Doing
+pub mod StepAction
 pub mod Faults
 pub mod Line
 pub mod Messages

@@ -13,7 +13,7 @@ use Rattle.hj_trace.specs.declared.stream.ActorFound.{ActorFound}
 use Rattle.hj_trace.specs.declared.stream.ActorFound.TheVariants as found
 use Rattle.hj_trace.specs.Actors.{IsNumbered, actor_text}
 
-pub record StreamState : Type 0 where
+pub record TextStreamState : Type 0 where
   pub role : Role
   -- the bytes that came and weren't used
   pub unused : List ℕ
@@ -21,7 +21,7 @@ pub record StreamState : Type 0 where
   pub ended : Bool
 
 -- A stream goes with its role: that is open, and has answered its end where the stream knows it; then nothing is left.
-pub record GoesWith (stream : StreamState) (role : RoleState) : Type 0 where
+pub record GoesWithRole (stream : TextStreamState) (role : RoleState) : Type 0 where
   pub name : List ℕ
   pub phase : role.phase ≡ opened name stream.ended
   pub nothing_left : stream.ended ≡ true → IsAtEnd role.left
@@ -31,7 +31,7 @@ abbrev pub CountsFaults : Bool → ℕ → ℕ → Type 0
 CountsFaults failed before now = MatchBool failed ((before ≤ now) × Rose before now) (now ≡ before)
 
 -- These bytes of a stream are used. Others may come on the way; they wait to be used behind them.
-pub record Uses (failed : Bool) (bytes : List ℕ) (old : StreamState) (before : RoleState) (new : StreamState) (now : RoleState) : Type 0 where
+pub record Uses (failed : Bool) (bytes : List ℕ) (old : TextStreamState) (before : RoleState) (new : TextStreamState) (now : RoleState) : Type 0 where
   pub role : new.role ≡ old.role
   pub came : List ℕ
   pub read : Consumes before.left now.left came
@@ -43,7 +43,7 @@ pub record Uses (failed : Bool) (bytes : List ℕ) (old : StreamState) (before :
   pub unended : failed ≡ true → new.ended ≡ false
 
 -- Nothing is left: no byte waits, and the end was answered.
-pub record IsUsedUp (stream : StreamState) : Type 0 where
+pub record IsUsedUp (stream : TextStreamState) : Type 0 where
   pub none_waits : stream.unused ≡ []
   pub ended : stream.ended ≡ true
 
@@ -53,7 +53,7 @@ look_failed next.End = false
 look_failed next.Failed = true
 
 -- What stands next in a stream.
-abbrev pub StandsNext : NextByte → StreamState → Type 0
+abbrev pub StandsNext : NextByte → TextStreamState → Type 0
 StandsNext (next.Byte byte) stream = slice_get stream.unused 0 ≡ Some byte
 StandsNext next.End stream = IsUsedUp stream
 StandsNext next.Failed stream = Unit {0}
@@ -64,18 +64,18 @@ compare_failed (compared.Differs at) = false
 compare_failed compared.Failed = true
 
 -- A stream goes on with another byte than the next one of these, or nothing is left of it.
-abbrev pub PartsFrom : List ℕ → StreamState → Type 0
+abbrev pub PartsFrom : List ℕ → TextStreamState → Type 0
 PartsFrom [] stream = ⊥
 PartsFrom (byte ∷ later) stream = (slice_get stream.unused 0 ≢ Some byte) × (stream.unused ≡ [] → stream.ended ≡ true)
 
 -- How a comparison ends, once these bytes are the same and those are missing.
-abbrev pub EndsWith : Compared → List ℕ → List ℕ → StreamState → Type 0
+abbrev pub EndsWith : Compared → List ℕ → List ℕ → TextStreamState → Type 0
 EndsWith compared.Same same missing stream = missing ≡ []
 EndsWith (compared.Differs at) same missing stream = (at ≡ length same) × PartsFrom missing stream
 EndsWith compared.Failed same missing stream = Unit {0}
 
 -- Bytes are compared with those of a stream, up to the first that differs. Those that are the same are used.
-pub record Compares (answer : Compared) (expected : List ℕ) (old : StreamState) (before : RoleState) (new : StreamState) (now : RoleState) : Type 0 where
+pub record Compares (answer : Compared) (expected : List ℕ) (old : TextStreamState) (before : RoleState) (new : TextStreamState) (now : RoleState) : Type 0 where
   pub same : List ℕ
   pub missing : List ℕ
   pub expects : expected ≡ same ++ missing
@@ -93,13 +93,14 @@ actor_failed found.Failed = true
 
 -- The bytes that were used are an actor's text and a comma; or they begin with none, whatever follows those that wait: behind the
 -- end nothing does.
-abbrev pub FindsActor : ActorFound → List ℕ → StreamState → Type 0
+abbrev pub FindsActor : ActorFound → List ℕ → TextStreamState → Type 0
 FindsActor (found.Actor actor) used stream = IsNumbered actor × (used ≡ actor_text actor ++ 44 ∷ [])
 FindsActor found.Other used stream = (later : List ℕ) → (stream.ended ≡ true → later ≡ []) → BeginsWithNoActor (used ++ (stream.unused ++ later))
 FindsActor found.Failed used stream = Unit {0}
 
 -- An actor's text and a comma are read.
-pub record ReadsActor (answer : ActorFound) (old : StreamState) (before : RoleState) (new : StreamState) (now : RoleState) : Type 0 where
+pub record ReadsActor (answer : ActorFound) (old : TextStreamState) (before : RoleState) (new : TextStreamState)
+    (now : RoleState) : Type 0 where
   pub bytes : List ℕ
   pub uses : Uses (actor_failed answer) bytes old before new now
   pub finds : FindsActor answer bytes new

@@ -1,7 +1,7 @@
 ghost use Rattle.std.specs.Prelude.{◌≡◌, ◌++◌, OnOk, codes};
 ghost use Rattle.std.specs.Option.{option_copied};
 ghost use Rattle.hj_trace.specs.Actors.{actor_text};
-ghost use Rattle.hj_trace.specs.Doing.{action_in};
+ghost use Rattle.hj_trace.specs.StepAction.{action_in};
 ghost use Rattle.hj_trace.specs.Line.{front_text, leftward, reported_text, rightward, taken_text};
 ghost use Rattle.hj_trace.specs.Messages.{messages_text};
 
@@ -17,7 +17,7 @@ use hj_msg::{Event, Msg, Report};
 
 /// What an actor does in a step, with what it takes or puts.
 #[derive(Drop)]
-pub enum Doing<'a, P> {
+pub enum StepAction<'a, P> {
     /// The driver asks for the next event.
     Asks,
     /// The driver puts the message of this event.
@@ -42,7 +42,11 @@ pub fn push_maker(text: &mut Vec<u8>, actor: Actor) -> Result<(), Memory>
 
 /// Appends what the line of a step in a chain of this many cores says behind the actor, up to its report: what is taken, and what is
 /// put to the left and to the right.
-pub fn push_front<P>(text: &mut Vec<u8>, doing: &Doing<'_, P>, cores: usize) -> Result<(), Memory>
+pub fn push_front<P>(
+    text: &mut Vec<u8>,
+    doing: &StepAction<'_, P>,
+    cores: usize,
+) -> Result<(), Memory>
     ensures { OnOk result (text.new.items ≡ text.old.items ++ front_text cores (action_in doing.now)) }
 {
     push_taken(text, doing)?;
@@ -51,7 +55,11 @@ pub fn push_front<P>(text: &mut Vec<u8>, doing: &Doing<'_, P>, cores: usize) -> 
 }
 
 /// Appends what is put to the left and to the right, with a comma behind each.
-fn push_putting<P>(text: &mut Vec<u8>, doing: &Doing<'_, P>, cores: usize) -> Result<(), Memory>
+fn push_putting<P>(
+    text: &mut Vec<u8>,
+    doing: &StepAction<'_, P>,
+    cores: usize,
+) -> Result<(), Memory>
     ensures { OnOk result (text.new.items ≡ text.old.items ++ (messages_text (leftward cores (action_in doing.now)) ++ codes "," ++ messages_text (rightward cores (action_in doing.now)) ++ codes ",")) }
 {
     push_leftward(text, doing, cores)?;
@@ -61,37 +69,59 @@ fn push_putting<P>(text: &mut Vec<u8>, doing: &Doing<'_, P>, cores: usize) -> Re
 }
 
 /// Appends the text of what is taken.
-fn push_taken<P>(text: &mut Vec<u8>, doing: &Doing<'_, P>) -> Result<(), Memory>
+fn push_taken<P>(text: &mut Vec<u8>, doing: &StepAction<'_, P>) -> Result<(), Memory>
     ensures { OnOk result (text.new.items ≡ text.old.items ++ taken_text (action_in doing.now)) }
 {
     match doing {
-        Doing::Receives(_, msg) | Doing::Handles(_, _, msg) => push_message(text, *msg),
-        Doing::Collects(_, report) => push_report(text, *report),
-        Doing::Asks | Doing::Admits(_) | Doing::Closes => push_words(text, NOTHING),
+        StepAction::Receives(_, msg) | StepAction::Handles(_, _, msg) => push_message(text, *msg),
+        StepAction::Collects(_, report) => push_report(text, *report),
+        StepAction::Asks | StepAction::Admits(_) | StepAction::Closes => push_words(text, NOTHING),
     }
 }
 
 /// Appends the text of what is put to the left.
-fn push_leftward<P>(text: &mut Vec<u8>, doing: &Doing<'_, P>, cores: usize) -> Result<(), Memory>
+fn push_leftward<P>(
+    text: &mut Vec<u8>,
+    doing: &StepAction<'_, P>,
+    cores: usize,
+) -> Result<(), Memory>
     ensures { OnOk result (text.new.items ≡ text.old.items ++ messages_text (leftward cores (action_in doing.now))) }
 {
     match doing {
-        Doing::Admits(event) => push_event_leftward(text, *event),
-        Doing::Closes => push_words(text, "CloseR"),
-        Doing::Handles(core, _, msg) => push_sent_leftward(text, usize::from(core.0), cores, *msg),
-        Doing::Asks | Doing::Receives(..) | Doing::Collects(..) => push_words(text, NOTHING),
+        StepAction::Admits(event) => push_event_leftward(text, *event),
+        StepAction::Closes => push_words(text, "CloseR"),
+        StepAction::Handles(core, _, msg) => push_sent_leftward(
+            text,
+            usize::from(core.0),
+            cores,
+            *msg,
+        ),
+        StepAction::Asks | StepAction::Receives(..) | StepAction::Collects(..) => push_words(
+            text, NOTHING,
+        ),
     }
 }
 
 /// Appends the text of what is put to the right.
-fn push_rightward<P>(text: &mut Vec<u8>, doing: &Doing<'_, P>, cores: usize) -> Result<(), Memory>
+fn push_rightward<P>(
+    text: &mut Vec<u8>,
+    doing: &StepAction<'_, P>,
+    cores: usize,
+) -> Result<(), Memory>
     ensures { OnOk result (text.new.items ≡ text.old.items ++ messages_text (rightward cores (action_in doing.now))) }
 {
     match doing {
-        Doing::Admits(event) => push_event_rightward(text, *event),
-        Doing::Closes => push_words(text, "CloseL"),
-        Doing::Handles(core, _, msg) => push_sent_rightward(text, usize::from(core.0), cores, *msg),
-        Doing::Asks | Doing::Receives(..) | Doing::Collects(..) => push_words(text, NOTHING),
+        StepAction::Admits(event) => push_event_rightward(text, *event),
+        StepAction::Closes => push_words(text, "CloseL"),
+        StepAction::Handles(core, _, msg) => push_sent_rightward(
+            text,
+            usize::from(core.0),
+            cores,
+            *msg,
+        ),
+        StepAction::Asks | StepAction::Receives(..) | StepAction::Collects(..) => push_words(
+            text, NOTHING,
+        ),
     }
 }
 

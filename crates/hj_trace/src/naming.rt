@@ -1,5 +1,5 @@
 ghost use Rattle.std.specs.Prelude.{◌≡◌, true, length, IfSome};
-ghost use Rattle.hj_chain.specs.Serial.{IsWithin, choosing_after, chosen, first_choosing};
+ghost use Rattle.hj_chain.specs.Serial.{IsPlaceWithin, choosing_after, chosen, first_choosing};
 ghost use Rattle.hj_trace.specs.Choosing.{choosing_in};
 
 use hj_base::{Lcg, Share};
@@ -31,10 +31,10 @@ impl Naming {
         &mut self,
         chain: &Chain<P, J, S>,
     ) -> Option<Actor>
-        requires { IsWithin (length chain.now.state.cores) (choosing_in self.old) }
+        requires { IsPlaceWithin (length chain.now.state.cores) (choosing_in self.old) }
         ensures named { result ≡ chosen (choosing_in self.old) true chain.now.state }
         ensures behind { IfSome result (λ actor. choosing_in self.new ≡ choosing_after (length chain.now.state.cores) actor (choosing_in self.old)) }
-        ensures within { IsWithin (length chain.now.state.cores) (choosing_in self.new) }
+        ensures within { IsPlaceWithin (length chain.now.state.cores) (choosing_in self.new) }
     {
         match self {
             Naming::From(place) => {

@@ -46,7 +46,7 @@ pub fn play<P: Share + Drop, J: Join<P> + Drop, S: Store<P, J> + Drop, F: Feed<P
     ensures stands { (schedule : List Actors) (events : List (Events P)) (given : ℕ) → StandsFor J.predicate chain.old schedule events given → result ≡ Played.Did
         → StandsFurther F.gives J.predicate (schedule ++ actor ∷ []) events given feed.old chain.new feed.new }
 {
-    let Some(next) = doing(chain, actor) else {
+    let Some(next) = next_action(chain, actor) else {
         return Played::NotEnabled;
     };
     if push_front(line, &next, chain.cores()).is_err() {

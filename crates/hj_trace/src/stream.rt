@@ -1,7 +1,7 @@
 ghost use Rattle.std.specs.Prelude.{◌≡◌, ◌<◌, ◌∷◌, ◌++◌, [], true, false, None, Some, IfSome, length, drop, slice_get};
 ghost use Rattle.hj_trace.specs.Actors.{IsNumbered, actor_text};
 ghost use Rattle.hj_base.specs.Outside.{ChangesOnly, NamesStay};
-ghost use Rattle.hj_trace.specs.Stream.{Compares, GoesWith, IsActorOf, ReadsActor, StandsNext, Uses, look_failed};
+ghost use Rattle.hj_trace.specs.Stream.{Compares, GoesWithRole, IsActorOf, ReadsActor, StandsNext, Uses, look_failed};
 
 use crate::actors::{MOST_IN_ACTOR, read_actor};
 use hj_base::{Got, Outside, Role};
@@ -55,9 +55,9 @@ pub struct TextStream {
 
 impl Model for TextStream {
     ghost use Rattle.std.specs.Prelude.{◌≤◌, drop, take, length};
-    ghost use Rattle.hj_trace.specs.Stream.{StreamState};
+    ghost use Rattle.hj_trace.specs.Stream.{TextStreamState};
 
-    ghost Value = { StreamState };
+    ghost Value = { TextStreamState };
 
     ghost view = { λ s. record { role = s.role; unused = drop s.used (take s.filled s.portion); ended = s.ended } };
 
@@ -81,7 +81,7 @@ impl TextStream {
     /// Returns what stands next, and reads on where no byte waits. It uses nothing.
     #[inline(always)]
     pub fn look<O: Outside>(&mut self, outside: &mut O) -> NextByte
-        requires { GoesWith self.old (O.state outside.old self.old.role) }
+        requires { GoesWithRole self.old (O.state outside.old self.old.role) }
         ensures looks { Uses (look_failed result) [] self.old (O.state outside.old self.old.role) self.new (O.state outside.new self.old.role) }
         ensures next { StandsNext result self.new }
         ensures others { ChangesOnly self.old.role (O.state outside.old) (O.state outside.new) }
@@ -98,7 +98,7 @@ impl TextStream {
 
     /// Reads on where no byte waits and the end wasn't answered, and returns what stands next.
     fn look_further<O: Outside>(&mut self, outside: &mut O) -> NextByte
-        requires goes { GoesWith self.old (O.state outside.old self.old.role) }
+        requires goes { GoesWithRole self.old (O.state outside.old self.old.role) }
         requires going { self.old.ended ≡ false }
         requires none_waits { self.old.unused ≡ [] }
         ensures looks { Uses (look_failed result) [] self.old (O.state outside.old self.old.role) self.new (O.state outside.new self.old.role) }
@@ -137,7 +137,7 @@ impl TextStream {
 
     /// Compares bytes with those that stand next, up to the first that differs, and uses those that are the same.
     pub fn compare<O: Outside>(&mut self, expected: &[u8], outside: &mut O) -> Compared
-        requires { GoesWith self.old (O.state outside.old self.old.role) }
+        requires { GoesWithRole self.old (O.state outside.old self.old.role) }
         ensures compares { Compares result expected.now self.old (O.state outside.old self.old.role) self.new (O.state outside.new self.old.role) }
         ensures others { ChangesOnly self.old.role (O.state outside.old) (O.state outside.new) }
         ensures names { NamesStay (O.under outside.old) (O.under outside.new) }
@@ -164,7 +164,7 @@ impl TextStream {
 
     /// Does what `compare` does, byte by byte.
     fn compare_each<O: Outside>(&mut self, expected: &[u8], outside: &mut O) -> Compared
-        requires { GoesWith self.old (O.state outside.old self.old.role) }
+        requires { GoesWithRole self.old (O.state outside.old self.old.role) }
         ensures compares { Compares result expected.now self.old (O.state outside.old self.old.role) self.new (O.state outside.new self.old.role) }
         ensures others { ChangesOnly self.old.role (O.state outside.old) (O.state outside.new) }
         ensures names { NamesStay (O.under outside.old) (O.under outside.new) }
@@ -186,7 +186,7 @@ impl TextStream {
 
     /// Reads the text of an actor and the comma behind it, and uses them. It uses one byte more at most than the longest text has.
     pub fn actor<O: Outside>(&mut self, outside: &mut O) -> ActorFound
-        requires { GoesWith self.old (O.state outside.old self.old.role) }
+        requires { GoesWithRole self.old (O.state outside.old self.old.role) }
         ensures reads { ReadsActor result self.old (O.state outside.old self.old.role) self.new (O.state outside.new self.old.role) }
         ensures others { ChangesOnly self.old.role (O.state outside.old) (O.state outside.new) }
         ensures names { NamesStay (O.under outside.old) (O.under outside.new) }
@@ -214,7 +214,7 @@ impl TextStream {
 
     /// Does what `actor` does, byte by byte.
     fn actor_by_bytes<O: Outside>(&mut self, outside: &mut O) -> ActorFound
-        requires { GoesWith self.old (O.state outside.old self.old.role) }
+        requires { GoesWithRole self.old (O.state outside.old self.old.role) }
         ensures reads { ReadsActor result self.old (O.state outside.old self.old.role) self.new (O.state outside.new self.old.role) }
         ensures others { ChangesOnly self.old.role (O.state outside.old) (O.state outside.new) }
         ensures names { NamesStay (O.under outside.old) (O.under outside.new) }

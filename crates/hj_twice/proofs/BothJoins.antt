@@ -13,19 +13,19 @@ use Rattle.hj_event.specs.Rows.{Rows, bad as rows_bad, rows_of}
 use Rattle.hj_event.specs.Sides.{Follows, at_its_end, cut_off, in_front}
 use Rattle.hj_event.proofs.RoleLemmas.{not_read}
 use Rattle.hj_held.specs.Held.{HeldState, KeptState, open_role}
-use Rattle.hj_query.specs.Parts.{Parts}
+use Rattle.hj_query.specs.QueryParts.{QueryParts}
 use Rattle.hj_record.specs.Pieces.{Stream}
 use Rattle.hj_stream.specs.declared.outcome.Outcome.{Outcome}
 use Rattle.hj_stream.specs.declared.outcome.Outcome.TheVariants as outcome
 use Rattle.hj_stream.specs.JoinText.{JoinResult, join_result}
 use Rattle.hj_stream.specs.Joining.{AreEnded as AreJoined, CountsSinkFault, FailsOn, Joins, JoinsBy, WritesText}
-use Rattle.hj_relay.specs.declared.ending.Twice.{Twice}
-use Rattle.hj_relay.specs.declared.ending.Twice.TheVariants as twice
+use Rattle.hj_relay.specs.declared.ending.TwiceOutcome.{TwiceOutcome}
+use Rattle.hj_relay.specs.declared.ending.TwiceOutcome.TheVariants as twice
 use Rattle.hj_relay.specs.Fits.{Fits}
 use Rattle.hj_relay.specs.Relay.{relay, relay_line, relay_pairs, relay_result, whole}
 use Rattle.hj_twice.specs.Relayed.{relayed_role}
 use Rattle.hj_relay.specs.Rows.{EndsRead, IsTooLong}
-use Rattle.hj_relay.specs.Twice.{AreEnded, CountsFault, EndsFirst, FailsTwice, JoinsTwice, WritesTwice, second_result, twice_behind}
+use Rattle.hj_relay.specs.Twice.{AreEnded, CountsTwiceFault, EndsFirst, FailsTwice, JoinsTwice, WritesTwice, second_result, twice_behind}
 use Rattle.hj_relay.proofs.LeftEnd.{left_rows_end}
 use Rattle.hj_relay.proofs.ReadBack.{relay_read_back}
 
@@ -62,7 +62,7 @@ ends_first (outcome.SourceFault role.Output) written joined alone writes = absur
 ends_first outcome.TooMany written joined alone writes = writes.1
 ends_first outcome.Memory written joined alone writes = tt
 
-pub joins_first : (ended : Outcome) (first second : Parts) (limit : ℕ) (before now : Roles) (empty text out : Option (List ℕ)) → IsAlone ended → JoinsBy relay_line ended first limit before now empty text
+pub joins_first : (ended : Outcome) (first second : QueryParts) (limit : ℕ) (before now : Roles) (empty text out : Option (List ℕ)) → IsAlone ended → JoinsBy relay_line ended first limit before now empty text
     → IsInStep false (before role.Third) → JoinsTwice (twice.First ended) first second limit before now out out
 joins_first ended first second limit before now empty text out alone joins step =
     let same : now role.Third ≡ before role.Third = joins.others role.Third (λ e. cc) (λ e. cc) in
@@ -110,7 +110,7 @@ unread_relay text = record { rest = text; ended = false }
 
 -- ---- both joins
 
-module _ (first second : Parts) (fits : Fits first second) (limit events : ℕ) (ended : Outcome) (before mid now : Roles) (text : List ℕ) (after : HeldState) (old new : Option (List ℕ))
+module _ (first second : QueryParts) (fits : Fits first second) (limit events : ℕ) (ended : Outcome) (before mid now : Roles) (text : List ℕ) (after : HeldState) (old new : Option (List ℕ))
     (made : JoinsBy relay_line (outcome.Done events) first limit before mid (Some []) (Some text))
     (joined : Joins ended second limit (relayed_role (unread_relay text) mid) (relayed_role after now) old new)
     (others : ChangesOnly role.Third mid now) where
@@ -233,7 +233,7 @@ module _ (first second : Parts) (fits : Fits first second) (limit events : ℕ) 
         ends = ended_so ended joined.ends;
       }
 
-pub counts_behind : (events : ℕ) (ended : Outcome) (old new : ℕ) → CountsSinkFault ended old new → CountsFault (twice_behind events ended) old new
+pub counts_behind : (events : ℕ) (ended : Outcome) (old new : ℕ) → CountsSinkFault ended old new → CountsTwiceFault (twice_behind events ended) old new
 counts_behind events (outcome.Done second_events) old new counts = counts
 counts_behind events (outcome.Bad side at found) old new counts = counts
 counts_behind events (outcome.SourceFault of) old new counts = counts
@@ -243,12 +243,12 @@ counts_behind events outcome.Memory old new counts = counts
 
 -- ---- as they are made
 
-module _ (first second : Parts) (limit : ℕ) (before : Roles) (out : Option (List ℕ)) (made_so : Outcome) (empty kept : KeptState) where
+module _ (first second : QueryParts) (limit : ℕ) (before : Roles) (out : Option (List ℕ)) (made_so : Outcome) (empty kept : KeptState) where
   pub made_alone : (now : Roles) → ((events : ℕ) → made_so ≢ outcome.Done events) → CountsSinkFault made_so 0 0 → JoinsBy relay_line made_so first limit before now (Some empty.text) (Some kept.text)
       → IsInStep false (before role.Third) → JoinsTwice (twice.First made_so) first second limit before now out out
   made_alone now undone counts joins step = joins_first made_so first second limit before now (Some empty.text) (Some kept.text) out (is_alone made_so undone counts) joins step
 
-  pub made_both : (fits : Fits first second) (events : ℕ) (ended : Outcome) (mid now : Roles) (bytes : List ℕ) (relay_stream after : HeldState) (new : Option (List ℕ)) (result : Twice)
+  pub made_both : (fits : Fits first second) (events : ℕ) (ended : Outcome) (mid now : Roles) (bytes : List ℕ) (relay_stream after : HeldState) (new : Option (List ℕ)) (result : TwiceOutcome)
       → empty ≡ record { text = []; refusals = 0 } → made_so ≡ outcome.Done events → bytes ≡ kept.text → relay_stream ≡ record { rest = bytes; ended = false } → result ≡ twice_behind events ended
       → JoinsBy relay_line made_so first limit before mid (Some empty.text) (Some kept.text) → Joins ended second limit (relayed_role relay_stream mid) (relayed_role after now) out new → ChangesOnly role.Third mid now
       → JoinsTwice result first second limit before now out new
@@ -259,4 +259,4 @@ module _ (first second : Parts) (limit : ℕ) (before : Roles) (out : Option (Li
       (subst (λ (o : Outcome). JoinsBy relay_line o first limit before mid (Some empty.text) (Some kept.text)) done made) in
       let read : Joins ended second limit (relayed_role (unread_relay kept.text) mid) (relayed_role after now) out new =
       subst (λ (s : HeldState). Joins ended second limit (relayed_role s mid) (relayed_role after now) out new) unread joined in
-      subst (λ (t : Twice). JoinsTwice t first second limit before now out new) (sym is) (joins_both first second fits limit events ended before mid now kept.text after out new wrote read others)
+      subst (λ (t : TwiceOutcome). JoinsTwice t first second limit before now out new) (sym is) (joins_both first second fits limit events ended before mid now kept.text after out new wrote read others)

@@ -7,7 +7,7 @@ ghost use Rattle.hj_stream.specs.Joining.{CountsSinkFault, Joins, JoinsBy};
 ghost use Rattle.hj_relay.specs.Fits.{Fits};
 ghost use Rattle.hj_relay.specs.Relay.{relay_line};
 ghost use Rattle.hj_twice.specs.Relayed.{relayed_role};
-ghost use Rattle.hj_relay.specs.Twice.{CountsFault, JoinsTwice, twice_behind};
+ghost use Rattle.hj_relay.specs.Twice.{CountsTwiceFault, JoinsTwice, twice_behind};
 
 use crate::mode::Mode;
 use crate::relayed::RelayedOutside;
@@ -15,7 +15,7 @@ use hj_base::{Gate, Outside, Role, Sink};
 use hj_engine::{LineJoin, join_serial_by, join_threads_by};
 use hj_held::{HeldStream, KeptText};
 use hj_query::Query;
-use hj_relay::{RelayLine, Twice};
+use hj_relay::{RelayLine, TwiceOutcome};
 use hj_stream::{JoinedLine, Outcome, PairLine};
 use std::alloc::Global;
 use std::sync::Wait;
@@ -37,21 +37,22 @@ pub struct TwoJoins<'a> {
 /// second query, and writes the line of each pair of the second join to `out`. A pair of the first join is a row of the second one's
 /// left stream: the time of its later row, and then the fields of both rows.
 ///
-/// The first join runs to its end, into memory, before the second one begins; each is run as `mode` says. `Twice` says how both ended.
+/// The first join runs to its end, into memory, before the second one begins; each is run as `mode` says.
+/// `TwiceOutcome` says how both ended.
 pub fn join_twice<T: Threads + Wait + Clock + Sync, O: Outside, K: Sink, G: Gate + Sync>(
     alloc: Global,
     joins: TwoJoins<'_>,
     mode: &Mode<'_, T, G>,
     outside: &mut O,
     out: &mut K,
-) -> Twice
+) -> TwiceOutcome
     requires fits { Fits joins.first.now joins.second.now }
     requires left { IsInStep false (O.state outside.old role.Left) }
     requires right { IsInStep false (O.state outside.old role.Right) }
     requires third { IsInStep false (O.state outside.old role.Third) }
     ensures joins { JoinsTwice result joins.entry.first.now joins.entry.second.now joins.entry.limit (O.state outside.old) (O.state outside.new)
         (K.told out.old) (K.told out.new) }
-    ensures faults { CountsFault result (K.faults out.old) (K.faults out.new) }
+    ensures faults { CountsTwiceFault result (K.faults out.old) (K.faults out.new) }
     ensures names { NamesStay (O.under outside.old) (O.under outside.new) }
 {
     let mut relay = KeptText::new(alloc);
@@ -61,7 +62,7 @@ pub fn join_twice<T: Threads + Wait + Clock + Sync, O: Outside, K: Sink, G: Gate
             let ended = join_relay(alloc, joins, mode, &mut relay, outside, out);
             behind(events, ended)
         }
-        ended => Twice::First(ended),
+        ended => TwiceOutcome::First(ended),
     }
 }
 
@@ -157,16 +158,16 @@ fn join_by<L: PairLine, T: Threads + Wait + Clock + Sync, O: Outside, K: Sink, G
 }
 
 /// Tells how two joins ended, of which the first had so many events, and the second ended so.
-fn behind(first: u64, ended: Outcome) -> Twice
+fn behind(first: u64, ended: Outcome) -> TwiceOutcome
     ensures { result ≡ twice_behind first ended }
 {
     match ended {
-        Outcome::Done { events } => Twice::Done {
+        Outcome::Done { events } => TwiceOutcome::Done {
             first,
             second: events,
         },
         // The relay stands in memory, where no read fails.
-        Outcome::SourceFault(_) => Twice::Second(Outcome::SourceFault(Role::Third)),
-        ended => Twice::Second(ended),
+        Outcome::SourceFault(_) => TwiceOutcome::Second(Outcome::SourceFault(Role::Third)),
+        ended => TwiceOutcome::Second(ended),
     }
 }

@@ -8,7 +8,7 @@ use Rattle.hj_base.specs.declared.outside.Role.{Role}
 use Rattle.hj_base.specs.declared.outside.Role.TheVariants as role
 use Rattle.hj_base.specs.Outside.{RoleState, ChangesOnly}
 use Rattle.hj_base.specs.Journals.{IsPrefix}
-use Rattle.hj_query.specs.Parts.{Parts}
+use Rattle.hj_query.specs.QueryParts.{QueryParts}
 use Rattle.hj_eval.specs.Holds.{holds}
 use Rattle.hj_msg.specs.declared.event.Pair.{Pair}
 use Rattle.hj_msg.specs.declared.feed.Given.{Given}
@@ -30,18 +30,18 @@ use Rattle.hj_replay.specs.declared.ready.AlwaysReady.{AlwaysReady}
 use Rattle.hj_trace.specs.Actors.{IsNumbered, actor_text}
 use Rattle.hj_trace.specs.Checking.{Stands}
 use Rattle.hj_trace.specs.Line.{line_text, said}
-use Rattle.hj_trace.specs.Stream.{StreamState, Uses}
+use Rattle.hj_trace.specs.Stream.{TextStreamState, Uses}
 use Rattle.hj_trace.proofs.Plays.{PlaysOver, answers_are, answers_in, over_step, plays-step}
 use Rattle.hj_replay.specs.Feeds.{gives, state_of}
 use Rattle.hj_replay.proofs.Feeding.{may_come}
 use Rattle.hj_verify.specs.declared.output.OutputCheck.{OutputCheck}
 use Rattle.hj_verify.specs.declared.verdict.Verdict.TheVariants as verdict
-use Rattle.hj_verify.specs.Checked.{Checking, CheckingAt, Concludes, Events, Fed, LeadTo, beside, feeding, fresh}
+use Rattle.hj_verify.specs.Checked.{Checking, CheckingAt, Concludes, Events, GaveAnswers, LeadTo, beside, feeding, fresh}
 use Rattle.hj_verify.specs.declared.verdict.Verdict.{Verdict}
-use Rattle.hj_verify.specs.Due.{GaveDue, HasGiven}
+use Rattle.hj_verify.specs.Due.{GaveDue, ChainHasGiven}
 use Rattle.hj_verify.specs.Lines.{ReadsRest}
 use Rattle.hj_verify.specs.Making.{IsGivenUp, Made}
-use Rattle.hj_verify.specs.Output.{Agrees}
+use Rattle.hj_verify.specs.Output.{OutputAgrees}
 use Rattle.hj_verify.specs.Reading.{GivesUp}
 use Rattle.hj_verify.proofs.Ending.{fails_of_streams, fed_more, fed_read, gave_there, more_events, none_yet, not_memory, output_stays, trace_stays}
 use Rattle.hj_verify.proofs.Lists.{cancel, regroup}
@@ -56,7 +56,7 @@ taken_stays count xs ys within front = ap (take count) front.is ∙ take-append-
 
 -- ---- what the step asked of the feed
 
-module _ {O : Type 0} {outside : OutsideGhosts O} (actor : Actor) (chain new : Contents Row Parts) (from to : AlwaysReady O outside) (line : List ℕ) (made : Made {O = O} {outside = outside} actor chain new from to line) where
+module _ {O : Type 0} {outside : OutsideGhosts O} (actor : Actor) (chain new : Contents Row QueryParts) (from to : AlwaysReady O outside) (line : List ℕ) (made : Made {O = O} {outside = outside} actor chain new from to line) where
   abbrev pub asking : Bool
   asking = asks actor chain.state.next true
 
@@ -72,10 +72,10 @@ module _ {O : Type 0} {outside : OutsideGhosts O} (actor : Actor) (chain new : C
 told_answers : {O : Type 0} {outside : OutsideGhosts O} (a : AlwaysReady O outside) (answer : Given Row) (b : AlwaysReady O outside) → gives {O = O} {outside = outside} a answer b → Answers answer (state_of a) (state_of b)
 told_answers a answer b gave = gave.3
 
-module _ {O : Type 0} {outside : OutsideGhosts O} (query : Parts) (n flight : ℕ) (start : Feeding) (number : ℕ) (chain : Contents Row Parts) (from : AlwaysReady O outside) (trace : StreamState) (output : OutputCheck)
-    (join : chain.join ≡ query) (fed : Fed start (feeding from)) where
-  module _ (actor : Actor) (new : Contents Row Parts) (to : AlwaysReady O outside) (line : List ℕ) (made : Made {O = O} {outside = outside} actor chain new from to line) where
-    abbrev pub fed_step : Fed start (feeding to)
+module _ {O : Type 0} {outside : OutsideGhosts O} (query : QueryParts) (n flight : ℕ) (start : Feeding) (number : ℕ) (chain : Contents Row QueryParts) (from : AlwaysReady O outside) (trace : TextStreamState) (output : OutputCheck)
+    (join : chain.join ≡ query) (fed : GaveAnswers start (feeding from)) where
+  module _ (actor : Actor) (new : Contents Row QueryParts) (to : AlwaysReady O outside) (line : List ℕ) (made : Made {O = O} {outside = outside} actor chain new from to line) where
+    abbrev pub fed_step : GaveAnswers start (feeding to)
     fed_step = fed_more start from to (answers actor chain new from to line made) (went actor chain new from to line made) fed
 
     events_step : events_in fed.answers ++ asked actor chain.state.next made.step.answer ≡ events_in fed_step.answers
@@ -89,14 +89,14 @@ module _ {O : Type 0} {outside : OutsideGhosts O} (query : Parts) (n flight : �
     steps_on schedule lines steps =
         let step = made.step in
         let plays : PlaysOver (holds chain.join) n flight (events_in fed.answers) (state_of from).stopped schedule chain.state lines =
-        subst (λ (q : Parts). PlaysOver (holds q) n flight (events_in fed.answers) (state_of from).stopped schedule chain.state lines) (sym join) (record { played_is = steps.played_is; enabled = steps.enabled; text_is = steps.text_is }) in
+        subst (λ (q : QueryParts). PlaysOver (holds q) n flight (events_in fed.answers) (state_of from).stopped schedule chain.state lines) (sym join) (record { played_is = steps.played_is; enabled = steps.enabled; text_is = steps.text_is }) in
         let more = plays-step (gives {O = O} {outside = outside}) (λ _. true) state_of (told_answers {O = O} {outside = outside}) (holds chain.join) actor chain.state new.state from to refl step n flight (events_in fed.answers) schedule lines plays in
         let there = subst (λ (l : Events). PlaysOver (holds chain.join) n flight l (state_of to).stopped (schedule ++ actor ∷ []) new.state (lines ++ line_text (holds chain.join) chain.state actor)) events_step more in
-        let so = subst (λ (q : Parts). PlaysOver (holds q) n flight (events_in fed_step.answers) (state_of to).stopped (schedule ++ actor ∷ []) new.state (lines ++ line_text (holds q) chain.state actor)) join there in
+        let so = subst (λ (q : QueryParts). PlaysOver (holds q) n flight (events_in fed_step.answers) (state_of to).stopped (schedule ++ actor ∷ []) new.state (lines ++ line_text (holds q) chain.state actor)) join there in
         record { played_is = so.played_is; enabled = so.enabled; text_is = so.text_is }
 
     -- the chain emits what it emitted, and perhaps more
-    module _ (goes : GoesWith holds chain (state_of from)) (same_join : new.join ≡ chain.join) (schedule : List Actor) (given : ℕ) (pairs : List (Pair Row)) (gave : HasGiven chain schedule (events_in fed.answers) given pairs) where
+    module _ (goes : GoesWith holds chain (state_of from)) (same_join : new.join ≡ chain.join) (schedule : List Actor) (given : ℕ) (pairs : List (Pair Row)) (gave : ChainHasGiven chain schedule (events_in fed.answers) given pairs) where
       sound : Sound holds chain
       sound = sound-goes holds chain (state_of from) goes
 
@@ -106,9 +106,9 @@ module _ {O : Type 0} {outside : OutsideGhosts O} (query : Parts) (n flight : �
       abbrev pub pairs_on : List (Pair Row)
       pairs_on = emitted (told (action_of chain.state actor) (collected_of gave.stands.reached))
 
-      pub gave_on : HasGiven new (schedule ++ actor ∷ []) (events_in fed_step.answers) given pairs_on
+      pub gave_on : ChainHasGiven new (schedule ++ actor ∷ []) (events_in fed_step.answers) given pairs_on
       gave_on =
-          subst (λ (l : Events). HasGiven new (schedule ++ actor ∷ []) l given pairs_on) events_step
+          subst (λ (l : Events). ChainHasGiven new (schedule ++ actor ∷ []) l given pairs_on) events_step
           (record { stands = stood.stands; emits = ap emitted stood.are })
 
       pub taken_on : take given pairs_on ≡ take given pairs
@@ -120,19 +120,19 @@ module _ {O : Type 0} {outside : OutsideGhosts O} (query : Parts) (n flight : �
 -- ---- a line whose actor was read
 
 -- A check has come behind the actor of a line and its comma.
-pub record OnLine (query : Parts) (n flight : ℕ) (start : Feeding) (number : ℕ) (chain : Contents Row Parts) (now : Feeding) (actor : Actor) (trace : StreamState) (output : OutputCheck) : Type 0 where
+pub record OnLine (query : QueryParts) (n flight : ℕ) (start : Feeding) (number : ℕ) (chain : Contents Row QueryParts) (now : Feeding) (actor : Actor) (trace : TextStreamState) (output : OutputCheck) : Type 0 where
   pub numbered : IsNumbered actor
   pub so : CheckingAt (λ lines. lines ++ (actor_text actor ++ 44 ∷ [])) query n flight start number chain now trace output
 
 -- the output isn't read with the trace
 pub agrees_still : (start now : Feeding) (written : List ℕ) (output : OutputCheck) (roles : Role → RoleState) → roles role.Output ≡ now.roles role.Output
-    → Agrees written (fresh role.Output) (start.roles role.Output) output (now.roles output.stream.role) → Agrees written (fresh role.Output) (start.roles role.Output) output (roles output.stream.role)
+    → OutputAgrees written (fresh role.Output) (start.roles role.Output) output (now.roles output.stream.role) → OutputAgrees written (fresh role.Output) (start.roles role.Output) output (roles output.stream.role)
 agrees_still start now written output roles same agrees =
     let stays : roles output.stream.role ≡ now.roles output.stream.role = ap roles agrees.uses.role ∙ (same ∙ sym (ap now.roles agrees.uses.role)) in
-    subst (λ (s : RoleState). Agrees written (fresh role.Output) (start.roles role.Output) output s) (sym stays) agrees
+    subst (λ (s : RoleState). OutputAgrees written (fresh role.Output) (start.roles role.Output) output s) (sym stays) agrees
 
-pub on_line : (query : Parts) (n flight : ℕ) (start : Feeding) (number : ℕ) (chain : Contents Row Parts) (now : Feeding) (trace : StreamState) (output : OutputCheck) (under : Checking query n flight start number chain now trace output)
-    → (roles : Role → RoleState) → ChangesOnly trace.role now.roles roles → (actor : Actor) (used : StreamState) → IsNumbered actor
+pub on_line : (query : QueryParts) (n flight : ℕ) (start : Feeding) (number : ℕ) (chain : Contents Row QueryParts) (now : Feeding) (trace : TextStreamState) (output : OutputCheck) (under : Checking query n flight start number chain now trace output)
+    → (roles : Role → RoleState) → ChangesOnly trace.role now.roles roles → (actor : Actor) (used : TextStreamState) → IsNumbered actor
     → Uses false (under.lines ++ (actor_text actor ++ 44 ∷ [])) (fresh role.Trace) (start.roles role.Trace) used (roles used.role)
     → OnLine query n flight start number chain (record now { roles = roles }) actor used output
 on_line query n flight start number chain now trace output under roles changes actor used numbered uses =
@@ -160,26 +160,26 @@ on_line query n flight start number chain now trace output under roles changes a
 
 -- ---- its step was made
 
-module _ {O : Type 0} {outside : OutsideGhosts O} (query : Parts) (n flight : ℕ) (start : Feeding) (number : ℕ) (chain new : Contents Row Parts) (from to : AlwaysReady O outside) (actor : Actor) (trace : StreamState) (output : OutputCheck)
+module _ {O : Type 0} {outside : OutsideGhosts O} (query : QueryParts) (n flight : ℕ) (start : Feeding) (number : ℕ) (chain new : Contents Row QueryParts) (from to : AlwaysReady O outside) (actor : Actor) (trace : TextStreamState) (output : OutputCheck)
     (on : OnLine query n flight start number chain (feeding from) actor trace output) (line : List ℕ) (made : Made {O = O} {outside = outside} actor chain new from to line) where
-  abbrev fed_to : Fed start (feeding to)
+  abbrev fed_to : GaveAnswers start (feeding to)
   fed_to = fed_step query n flight start number chain from trace output on.so.join on.so.fed actor new to line made
 
   output_to : (feeding to).roles role.Output ≡ (feeding from).roles role.Output
   output_to = output_stays start from to (answers actor chain new from to line made) (went actor chain new from to line made)
 
-  agrees_to : Agrees (text (take on.so.given on.so.pairs)) (fresh role.Output) (start.roles role.Output) output ((feeding to).roles output.stream.role)
+  agrees_to : OutputAgrees (text (take on.so.given on.so.pairs)) (fresh role.Output) (start.roles role.Output) output ((feeding to).roles output.stream.role)
   agrees_to = agrees_still start (feeding from) (text (take on.so.given on.so.pairs)) output (feeding to).roles output_to on.so.agrees
 
   -- the rest of the line was read
-  module _ (roles : Role → RoleState) (changes : ChangesOnly role.Trace (feeding to).roles roles) (used : StreamState) where
+  module _ (roles : Role → RoleState) (changes : ChangesOnly role.Trace (feeding to).roles roles) (used : TextStreamState) where
     -- and is as it is to be
     pub next_line : new.join ≡ chain.join → GoesWith holds chain (state_of from) → Uses false ((on.so.lines ++ (actor_text actor ++ 44 ∷ [])) ++ line) (fresh role.Trace) (start.roles role.Trace) used (roles used.role)
         → Checking query n flight start (number + 1) new (record (feeding to) { roles = roles }) used output
     next_line same_join goes uses =
         let matches = holds query in
         let lined : (on.so.lines ++ (actor_text actor ++ 44 ∷ [])) ++ line ≡ on.so.lines ++ line_text matches chain.state actor =
-        ap (λ (l : List ℕ). (on.so.lines ++ (actor_text actor ++ 44 ∷ [])) ++ l) (made.line_is ∙ ap (λ (q : Parts). said (holds q) chain.state actor) on.so.join)
+        ap (λ (l : List ℕ). (on.so.lines ++ (actor_text actor ++ 44 ∷ [])) ++ l) (made.line_is ∙ ap (λ (q : QueryParts). said (holds q) chain.state actor) on.so.join)
         ∙ append_assoc on.so.lines (actor_text actor ++ 44 ∷ []) (said matches chain.state actor) in
         let given_text = ap text (taken_on query n flight start number chain from trace output on.so.join on.so.fed actor new to line made goes same_join on.so.schedule on.so.given on.so.pairs on.so.gave) in
         record {
@@ -197,7 +197,7 @@ module _ {O : Type 0} {outside : OutsideGhosts O} (query : Parts) (n flight : �
           given = on.so.given;
           pairs = pairs_on query n flight start number chain from trace output on.so.join on.so.fed actor new to line made goes same_join on.so.schedule on.so.given on.so.pairs on.so.gave;
           gave = gave_on query n flight start number chain from trace output on.so.join on.so.fed actor new to line made goes same_join on.so.schedule on.so.given on.so.pairs on.so.gave;
-          agrees = subst (λ (l : List ℕ). Agrees l (fresh role.Output) (start.roles role.Output) output (roles output.stream.role)) (sym given_text)
+          agrees = subst (λ (l : List ℕ). OutputAgrees l (fresh role.Output) (start.roles role.Output) output (roles output.stream.role)) (sym given_text)
               (agrees_still start (feeding to) (text (take on.so.given on.so.pairs)) output roles (changes role.Output output_isnt_trace) agrees_to);
         }
 
@@ -235,7 +235,7 @@ module _ {O : Type 0} {outside : OutsideGhosts O} (query : Parts) (n flight : �
                       rest = front.rest;
                       is = cancel maker (bytes ++ (used.unused ++ t)) (line ++ front.rest)
                           (front.is ∙ (append_assoc maker (said (holds query) chain.state actor) front.rest
-                          ∙ ap (λ (l : List ℕ). maker ++ (l ++ front.rest)) (sym (made.line_is ∙ ap (λ (q : Parts). said (holds q) chain.state actor) on.so.join))));
+                          ∙ ap (λ (l : List ℕ). maker ++ (l ++ front.rest)) (sym (made.line_is ∙ ap (λ (q : QueryParts). said (holds q) chain.state actor) on.so.join))));
                     }),
               );
             },
@@ -255,7 +255,7 @@ module _ {O : Type 0} {outside : OutsideGhosts O} (query : Parts) (n flight : �
 
 -- ---- its step was given up
 
-pub step_given_up : {O : Type 0} {outside : OutsideGhosts O} (query : Parts) (n flight : ℕ) (start : Feeding) (number : ℕ) (chain : Contents Row Parts) (from to : AlwaysReady O outside) (actor : Actor) (trace : StreamState) (output : OutputCheck)
+pub step_given_up : {O : Type 0} {outside : OutsideGhosts O} (query : QueryParts) (n flight : ℕ) (start : Feeding) (number : ℕ) (chain : Contents Row QueryParts) (from to : AlwaysReady O outside) (actor : Actor) (trace : TextStreamState) (output : OutputCheck)
     → OnLine query n flight start number chain (feeding from) actor trace output → (asked : (answers : List (Given Row)) × GoesOverAnswers (gives {O = O} {outside = outside}) from answers to)
     → (judged : Verdict) → IsGivenUp to.feed.ended judged → Concludes judged query n flight start (feeding to) trace output.stream
 step_given_up query n flight start number chain from to actor trace output on asked judged so =
@@ -269,7 +269,7 @@ step_given_up query n flight start number chain from to actor trace output on as
 
 -- ---- the pairs that are due were compared
 
-module _ (query : Parts) (n flight : ℕ) (start : Feeding) (number : ℕ) (chain new : Contents Row Parts) (now : Feeding) (trace : StreamState) (output compared : OutputCheck) (under : Checking query n flight start number chain now trace output)
+module _ (query : QueryParts) (n flight : ℕ) (start : Feeding) (number : ℕ) (chain new : Contents Row QueryParts) (now : Feeding) (trace : TextStreamState) (output compared : OutputCheck) (under : Checking query n flight start number chain now trace output)
     (roles : Role → RoleState) (changes : ChangesOnly output.stream.role now.roles roles) (state : new.state ≡ chain.state) (join : new.join ≡ chain.join) where
   pub only_output : ChangesOnly role.Output now.roles roles
   only_output = subst (λ (of : Role). ChangesOnly of now.roles roles) under.agrees.uses.role changes

@@ -19,12 +19,12 @@ use Rattle.hj_stream.specs.Feeding.{Feeding, Gives, GivesFrom, outcome_by}
 use Rattle.hj_stream.proofs.Fed.{kept_all}
 use Rattle.hj_trace.specs.declared.fault.TraceFault.{TraceFault}
 use Rattle.hj_replay.specs.declared.ready.AlwaysReady.{AlwaysReady}
-use Rattle.hj_trace.specs.Stream.{StreamState, Uses}
+use Rattle.hj_trace.specs.Stream.{TextStreamState, Uses}
 use Rattle.hj_replay.specs.Feeds.{Gave, MayCome, gives, with_streams}
 use Rattle.hj_replay.proofs.Feeding.{events_both, gives_alone, others_stay, over_both, over_mapped}
 use Rattle.hj_verify.specs.declared.verdict.Verdict.{Verdict}
 use Rattle.hj_verify.specs.declared.verdict.Verdict.TheVariants as verdict
-use Rattle.hj_verify.specs.Checked.{Events, Fed, IsChecked, IsRead, IsStream, beside, feeding, fresh, has_failed}
+use Rattle.hj_verify.specs.Checked.{Events, GaveAnswers, IsChecked, IsReadSoFar, IsStreamRole, beside, feeding, fresh, has_failed}
 use Rattle.hj_verify.specs.Reading.{fault_of, no_memory}
 
 -- ---- which role a verdict names
@@ -41,25 +41,25 @@ memory_apart of e = let wrong : verdict.Ended outcome.Memory ≡ verdict.Ended (
 pub other_role : (a b : Role) → a ≢ b → fault_of a ≡ fault_of b → ⊥
 other_role a b apart e = apart (same_role a b e)
 
-pub not_stream : (found of : Role) → (IsStream found → ⊥) → IsStream of → fault_of found ≡ fault_of of → ⊥
-not_stream found of other is e = other (subst IsStream (sym (same_role found of e)) is)
+pub not_stream : (found of : Role) → (IsStreamRole found → ⊥) → IsStreamRole of → fault_of found ≡ fault_of of → ⊥
+not_stream found of other is e = other (subst IsStreamRole (sym (same_role found of e)) is)
 
 -- the events go on, or have ended without a failed read
-pub streams_go : (judged : Verdict) (ended : Option Outcome) → has_failed ended ≡ false → ((of : Role) → IsStream of → judged ≡ fault_of of → ⊥) → (of : Role) → IsStream of → (ended ≡ Some (outcome.SourceFault of)) ↔ (judged ≡ fault_of of)
+pub streams_go : (judged : Verdict) (ended : Option Outcome) → has_failed ended ≡ false → ((of : Role) → IsStreamRole of → judged ≡ fault_of of → ⊥) → (of : Role) → IsStreamRole of → (ended ≡ Some (outcome.SourceFault of)) ↔ (judged ≡ fault_of of)
 streams_go judged ended going apart of is = (λ e. absurd (true≢false (sym (ap has_failed e) ∙ going)), λ e. absurd (apart of is e))
 
 -- ---- how a stream was read
 
 -- no read failed
-abbrev pub read_on : (judged : Verdict) (of : Role) (before : RoleState) (stream : StreamState) (now : RoleState) → (judged ≡ fault_of of → ⊥) → (bytes : List ℕ) → Uses false bytes (fresh of) before stream now → IsRead judged of before stream now
+abbrev pub read_on : (judged : Verdict) (of : Role) (before : RoleState) (stream : TextStreamState) (now : RoleState) → (judged ≡ fault_of of → ⊥) → (bytes : List ℕ) → Uses false bytes (fresh of) before stream now → IsReadSoFar judged of before stream now
 read_on judged of before stream now apart bytes uses = record { failed = false; bytes = bytes; uses = uses; tells = (λ e. absurd (true≢false (sym e)), λ e. absurd (apart e)) }
 
 -- a read failed
-abbrev pub read_failed : (of : Role) (before : RoleState) (stream : StreamState) (now : RoleState) (bytes : List ℕ) → Uses true bytes (fresh of) before stream now → IsRead (fault_of of) of before stream now
+abbrev pub read_failed : (of : Role) (before : RoleState) (stream : TextStreamState) (now : RoleState) (bytes : List ℕ) → Uses true bytes (fresh of) before stream now → IsReadSoFar (fault_of of) of before stream now
 read_failed of before stream now bytes uses = record { failed = true; bytes = bytes; uses = uses; tells = (λ e. refl, λ e. refl) }
 
 -- what came is what was used and what waits
-pub came_is : (failed : Bool) (of : Role) (bytes : List ℕ) (before : RoleState) (stream : StreamState) (now : RoleState) (uses : Uses failed bytes (fresh of) before stream now) → uses.came ≡ bytes ++ stream.unused
+pub came_is : (failed : Bool) (of : Role) (bytes : List ℕ) (before : RoleState) (stream : TextStreamState) (now : RoleState) (uses : Uses failed bytes (fresh of) before stream now) → uses.came ≡ bytes ++ stream.unused
 came_is failed of bytes before stream now uses = uses.used
 
 -- ---- other roles
@@ -69,8 +69,8 @@ pub unlike : (of other : Role) → IsChecked of → (IsChecked other → ⊥) �
 unlike of other is isnt same = isnt (subst IsChecked (sym same) is)
 
 -- a feed with other states of its roles, but for those of its streams
-abbrev pub fed_aside : (start now : Feeding) (roles : Role → RoleState) → Fed start now → roles role.Left ≡ now.roles role.Left → roles role.Right ≡ now.roles role.Right
-    → ((other : Role) → (IsChecked other → ⊥) → roles other ≡ now.roles other) → Fed start (record now { roles = roles })
+abbrev pub fed_aside : (start now : Feeding) (roles : Role → RoleState) → GaveAnswers start now → roles role.Left ≡ now.roles role.Left → roles role.Right ≡ now.roles role.Right
+    → ((other : Role) → (IsChecked other → ⊥) → roles other ≡ now.roles other) → GaveAnswers start (record now { roles = roles })
 fed_aside start now roles fed left right others = record {
   answers = fed.answers;
   gave = subst (λ (f : Feeding). Gave (beside start.roles start) fed.answers f)
@@ -79,9 +79,9 @@ fed_aside start now roles fed left right others = record {
 }
 
 -- The trace or the output was read.
-abbrev pub fed_read : (start now : Feeding) (of : Role) (roles : Role → RoleState) → Fed start now → IsChecked of → (IsStream of → ⊥) → ChangesOnly of now.roles roles → Fed start (record now { roles = roles })
+abbrev pub fed_read : (start now : Feeding) (of : Role) (roles : Role → RoleState) → GaveAnswers start now → IsChecked of → (IsStreamRole of → ⊥) → ChangesOnly of now.roles roles → GaveAnswers start (record now { roles = roles })
 fed_read start now of roles fed is isnt changes =
-    fed_aside start now roles fed (changes role.Left (λ e. isnt (subst IsStream e tt))) (changes role.Right (λ e. isnt (subst IsStream e tt))) (λ other unread. changes other (unlike of other is unread))
+    fed_aside start now roles fed (changes role.Left (λ e. isnt (subst IsStreamRole e tt))) (changes role.Right (λ e. isnt (subst IsStreamRole e tt))) (λ other unread. changes other (unlike of other is unread))
 
 -- ---- the feed was asked
 
@@ -94,7 +94,7 @@ module _ {O : Type 0} {outside : OutsideGhosts O} (start : Feeding) (from to : A
   gave_there = over_mapped (gives {O = O} {outside = outside}) (λ old answer new. Gives answer old new) (λ f. beside start.roles (feeding f))
       (λ old answer new gave. gives_alone start.roles old.feed.ended answer (feeding old) (feeding new) gave.2) answers from to goes
 
-  abbrev pub fed_more : Fed start (feeding from) → Fed start (feeding to)
+  abbrev pub fed_more : GaveAnswers start (feeding from) → GaveAnswers start (feeding to)
   fed_more fed = record {
     answers = fed.answers ++ answers;
     gave = over_both (λ old answer new. Gives answer old new) fed.answers answers (beside start.roles start) (beside start.roles (feeding from)) (beside start.roles (feeding to)) fed.gave gave_there;
@@ -102,7 +102,7 @@ module _ {O : Type 0} {outside : OutsideGhosts O} (start : Feeding) (from to : A
   }
 
   -- the events with those that it gave
-  pub more_events : (fed : Fed start (feeding from)) → events_in (fed_more fed).answers ≡ events_in fed.answers ++ events_in answers
+  pub more_events : (fed : GaveAnswers start (feeding from)) → events_in (fed_more fed).answers ≡ events_in fed.answers ++ events_in answers
   more_events fed = events_both fed.answers answers
 
   pub trace_stays : (feeding to).roles role.Trace ≡ (feeding from).roles role.Trace
@@ -115,20 +115,20 @@ module _ {O : Type 0} {outside : OutsideGhosts O} (start : Feeding) (from to : A
 
 -- a read of the events that failed is one of their streams
 abbrev pub FailsOfStreams : Option Outcome → Type 0
-FailsOfStreams ended = (of : Role) → ended ≡ Some (outcome.SourceFault of) → IsStream of
+FailsOfStreams ended = (of : Role) → ended ≡ Some (outcome.SourceFault of) → IsStreamRole of
 
-ended_of_streams : (count : ℕ) (last : Next) (o : Outcome) → outcome_by count last ≡ Some o → (of : Role) → Some o ≡ Some (outcome.SourceFault of) → IsStream of
+ended_of_streams : (count : ℕ) (last : Next) (o : Outcome) → outcome_by count last ≡ Some o → (of : Role) → Some o ≡ Some (outcome.SourceFault of) → IsStreamRole of
 ended_of_streams count (next.Event one) o made of is = absurd (let e : None ≡ Some o = made in cc)
 ended_of_streams count next.Done o made of is = absurd (let e : Some (outcome.Done count) ≡ Some (outcome.SourceFault of) = made ∙ is in cc)
 ended_of_streams count (next.Bad side at why) o made of is = absurd (let e : Some (outcome.Bad side at why) ≡ Some (outcome.SourceFault of) = made ∙ is in cc)
 ended_of_streams count (next.Failed Left) o made of is =
     let e : Some (outcome.SourceFault role.Left) ≡ Some (outcome.SourceFault of) = made ∙ is in
     let same : role.Left ≡ of = cc in
-    subst IsStream same tt
+    subst IsStreamRole same tt
 ended_of_streams count (next.Failed Right) o made of is =
     let e : Some (outcome.SourceFault role.Right) ≡ Some (outcome.SourceFault of) = made ∙ is in
     let same : role.Right ≡ of = cc in
-    subst IsStream same tt
+    subst IsStreamRole same tt
 ended_of_streams count next.TooMany o made of is = absurd (let e : Some outcome.TooMany ≡ Some (outcome.SourceFault of) = made ∙ is in cc)
 ended_of_streams count next.Memory o made of is = absurd (let e : Some outcome.Memory ≡ Some (outcome.SourceFault of) = made ∙ is in cc)
 

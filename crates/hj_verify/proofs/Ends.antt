@@ -7,7 +7,7 @@ use Rattle.hj_base.specs.declared.outside.Outside.{Ghosts as OutsideGhosts}
 use Rattle.hj_base.specs.declared.outside.Role.{Role}
 use Rattle.hj_base.specs.declared.outside.Role.TheVariants as role
 use Rattle.hj_base.specs.Outside.{RoleState, ChangesOnly}
-use Rattle.hj_query.specs.Parts.{Parts}
+use Rattle.hj_query.specs.QueryParts.{QueryParts}
 use Rattle.hj_eval.specs.Holds.{holds}
 use Rattle.hj_msg.specs.Feed.{events_in, is_stop}
 use Rattle.hj_chain.specs.Chain.{ChainState, Contents}
@@ -16,7 +16,7 @@ use Rattle.hj_chain.specs.Steps.{GoesWith}
 use Rattle.hj_stream.specs.declared.feed.EventFeed.{EventFeed}
 use Rattle.hj_stream.specs.Feeding.{Feeding}
 use Rattle.hj_stream.specs.JoinText.{text}
-use Rattle.hj_trace.specs.Stream.{StreamState, Uses}
+use Rattle.hj_trace.specs.Stream.{TextStreamState, Uses}
 use Rattle.hj_replay.specs.declared.ready.AlwaysReady.{AlwaysReady}
 use Rattle.hj_replay.specs.Feeds.{SameOutside, state_of}
 use Rattle.hj_verify.specs.declared.output.OutputCheck.{OutputCheck}
@@ -25,8 +25,8 @@ use Rattle.hj_verify.specs.Beside.{ReadsBeside}
 use Rattle.hj_verify.specs.Checked.{Checking, ChecksAll, Concludes, feeding, fresh}
 use Rattle.hj_verify.specs.Due.{GaveDue}
 use Rattle.hj_verify.specs.Lines.{EndsTrace}
-use Rattle.hj_verify.specs.Output.{Agrees, EndsOutput}
-use Rattle.hj_verify.specs.Reading.{GivesUp, IsWhole, no_memory}
+use Rattle.hj_verify.specs.Output.{OutputAgrees, EndsOutput}
+use Rattle.hj_verify.specs.Reading.{GivesUp, IsUsedWhole, no_memory}
 use Rattle.hj_verify.proofs.Advancing.{due_given_up, due_on}
 use Rattle.hj_verify.proofs.Ending.{fails_of_streams, none_yet}
 use Rattle.hj_verify.proofs.FeedBeside.{feeding_beside, outside_beside, outside_then, over}
@@ -37,7 +37,7 @@ use Rattle.hj_verify.proofs.Whole.{agrees_then, end_wrong, ends_checked}
 abbrev Row : Type 0
 Row = List Field
 
-module _ {O : Type 0} {outside : OutsideGhosts O} (query : Parts) (n flight : ℕ) (start : Feeding) (number : ℕ) (chain : Contents Row Parts) (from : AlwaysReady O outside) (trace : StreamState) (output : OutputCheck)
+module _ {O : Type 0} {outside : OutsideGhosts O} (query : QueryParts) (n flight : ℕ) (start : Feeding) (number : ℕ) (chain : Contents Row QueryParts) (from : AlwaysReady O outside) (trace : TextStreamState) (output : OutputCheck)
     (under : Checking query n flight start number chain (feeding from) trace output) where
   -- there is no number for the next line
   pub numbers_end : (judged : Verdict) → judged ≡ no_memory → Concludes judged query n flight start (feeding from) trace output.stream
@@ -47,7 +47,7 @@ module _ {O : Type 0} {outside : OutsideGhosts O} (query : Parts) (n flight : �
       no_memory (given_up_going from.feed.ended under.going))
 
   -- the pairs that are due at the end were compared
-  module _ (new : Contents Row Parts) (compared : OutputCheck) (second : EventFeed O outside) (beside : ReadsBeside {O = O} {outside = outside} role.Output from.feed second) (state : new.state ≡ chain.state) (join : new.join ≡ chain.join) where
+  module _ (new : Contents Row QueryParts) (compared : OutputCheck) (second : EventFeed O outside) (beside : ReadsBeside {O = O} {outside = outside} role.Output from.feed second) (state : new.state ≡ chain.state) (join : new.join ≡ chain.join) where
     abbrev roles_second : Role → RoleState
     roles_second = outside.state second.outside.now
 
@@ -73,7 +73,7 @@ module _ {O : Type 0} {outside : OutsideGhosts O} (query : Parts) (n flight : �
 
     -- the end of the trace was looked for
     module _ (done : IsDone chain.state) (goes : GoesWith holds chain (state_of from)) (due : GaveDue new under.schedule (events_in under.fed.answers) under.pairs (fresh role.Output) (start.roles role.Output) compared (roles_second compared.stream.role))
-        (used : StreamState) (third : EventFeed O outside) (behind : ReadsBeside {O = O} {outside = outside} role.Trace second third) where
+        (used : TextStreamState) (third : EventFeed O outside) (behind : ReadsBeside {O = O} {outside = outside} role.Trace second third) where
       abbrev under_second : Checking query n flight start number new seen_second trace compared
       under_second = due_on query n flight start number chain new (feeding from) trace output compared under roles_second changes_second state join due
 
@@ -97,11 +97,11 @@ module _ {O : Type 0} {outside : OutsideGhosts O} (query : Parts) (n flight : �
           subst (λ (f : Feeding). Concludes judged query n flight start f used compared.stream) (sym is_third)
           (end_wrong query n flight start number new seen_second trace compared under_second done_second stopped_second roles_third changes_third used judged ends)
 
-      pub agrees_third : Agrees (text (take due.given under.pairs)) (fresh role.Output) (start.roles role.Output) compared (roles_third compared.stream.role)
+      pub agrees_third : OutputAgrees (text (take due.given under.pairs)) (fresh role.Output) (start.roles role.Output) compared (roles_third compared.stream.role)
       agrees_third = agrees_then query n flight start number new seen_second trace compared under_second done_second stopped_second roles_third changes_third used
 
       -- and so was that of the output
-      module _ (whole : IsWhole under.lines (fresh role.Trace) (start.roles role.Trace) used (roles_third used.role)) (stream : StreamState) (fourth : EventFeed O outside) (last : ReadsBeside {O = O} {outside = outside} role.Output third fourth) where
+      module _ (whole : IsUsedWhole under.lines (fresh role.Trace) (start.roles role.Trace) used (roles_third used.role)) (stream : TextStreamState) (fourth : EventFeed O outside) (last : ReadsBeside {O = O} {outside = outside} role.Output third fourth) where
         abbrev roles_fourth : Role → RoleState
         roles_fourth = outside.state fourth.outside.now
 

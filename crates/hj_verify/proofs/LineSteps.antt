@@ -7,7 +7,7 @@ use Rattle.hj_base.specs.declared.outside.Outside.{Ghosts as OutsideGhosts}
 use Rattle.hj_base.specs.declared.outside.Role.{Role}
 use Rattle.hj_base.specs.declared.outside.Role.TheVariants as role
 use Rattle.hj_base.specs.Outside.{RoleState, ChangesOnly}
-use Rattle.hj_query.specs.Parts.{Parts}
+use Rattle.hj_query.specs.QueryParts.{QueryParts}
 use Rattle.hj_eval.specs.Holds.{holds}
 use Rattle.hj_msg.specs.declared.feed.Given.{Given}
 use Rattle.hj_msg.specs.Feed.{Answers, FeedState, GoesOverAnswers, events_in}
@@ -21,7 +21,7 @@ use Rattle.hj_stream.specs.declared.feed.EventFeed.{EventFeed}
 use Rattle.hj_stream.specs.Feeding.{Feeding}
 use Rattle.hj_trace.specs.declared.fault.TraceFault.TheVariants as fault
 use Rattle.hj_trace.specs.Actors.{actor_text}
-use Rattle.hj_trace.specs.Stream.{StreamState, Uses}
+use Rattle.hj_trace.specs.Stream.{TextStreamState, Uses}
 use Rattle.hj_replay.specs.declared.ready.AlwaysReady.{AlwaysReady}
 use Rattle.hj_replay.specs.Feeds.{gives, state_of}
 use Rattle.hj_verify.specs.declared.output.OutputCheck.{OutputCheck}
@@ -42,8 +42,8 @@ Row = List Field
 
 -- ---- the trace was read where a line begins
 
-module _ {O : Type 0} {outside : OutsideGhosts O} (query : Parts) (n flight : ℕ) (start : Feeding) (number : ℕ) (chain : Contents Row Parts) (from : AlwaysReady O outside) (trace : StreamState) (output : OutputCheck)
-    (under : Checking query n flight start number chain (feeding from) trace output) (new : EventFeed O outside) (beside : ReadsBeside {O = O} {outside = outside} role.Trace from.feed new) (used : StreamState) where
+module _ {O : Type 0} {outside : OutsideGhosts O} (query : QueryParts) (n flight : ℕ) (start : Feeding) (number : ℕ) (chain : Contents Row QueryParts) (from : AlwaysReady O outside) (trace : TextStreamState) (output : OutputCheck)
+    (under : Checking query n flight start number chain (feeding from) trace output) (new : EventFeed O outside) (beside : ReadsBeside {O = O} {outside = outside} role.Trace from.feed new) (used : TextStreamState) where
   abbrev then_roles : Role → RoleState
   then_roles = outside.state new.outside.now
 
@@ -65,7 +65,7 @@ module _ {O : Type 0} {outside : OutsideGhosts O} (query : Parts) (n flight : �
     maker_there =
         subst (λ (f : Feeding). OnLine query n flight start number chain f actor used output) (sym seen_there) (on_line query n flight start number chain (feeding from) trace output under then_roles changes actor used reads.0 reads.1)
 
-    module _ (not_done : IsDone chain.state → ⊥) (made : Contents Row Parts) (to : AlwaysReady O outside) (line : List ℕ) (asked : (given : List (Given Row)) × GoesOverAnswers (gives {O = O} {outside = outside}) here given to) where
+    module _ (not_done : IsDone chain.state → ⊥) (made : Contents Row QueryParts) (to : AlwaysReady O outside) (line : List ℕ) (asked : (given : List (Given Row)) × GoesOverAnswers (gives {O = O} {outside = outside}) here given to) where
       disabled : (at : ℕ) → MakesStep {O = O} {outside = outside} (Err (verdict.Refused (fault.NotEnabled at))) number actor chain made here to line → Concludes (verdict.Refused (fault.NotEnabled at)) query n flight start (feeding to) used output.stream
       disabled at so =
           subst (λ (f : AlwaysReady O outside). Concludes (verdict.Refused (fault.NotEnabled at)) query n flight start (feeding f) used output.stream) (sym so.feed)
@@ -84,7 +84,7 @@ module _ {O : Type 0} {outside : OutsideGhosts O} (query : Parts) (n flight : �
 
 -- ---- the step was made
 
-module _ {O : Type 0} {outside : OutsideGhosts O} (query : Parts) (n flight : ℕ) (start : Feeding) (number : ℕ) (chain new : Contents Row Parts) (from to : AlwaysReady O outside) (actor : Actor) (trace : StreamState) (output : OutputCheck)
+module _ {O : Type 0} {outside : OutsideGhosts O} (query : QueryParts) (n flight : ℕ) (start : Feeding) (number : ℕ) (chain new : Contents Row QueryParts) (from to : AlwaysReady O outside) (actor : Actor) (trace : TextStreamState) (output : OutputCheck)
     (on : OnLine query n flight start number chain (feeding from) actor trace output) (line : List ℕ) (made : Made {O = O} {outside = outside} actor chain new from to line) where
   abbrev behind : List ℕ
   behind = on.so.lines ++ (actor_text actor ++ 44 ∷ [])
@@ -97,7 +97,7 @@ module _ {O : Type 0} {outside : OutsideGhosts O} (query : Parts) (n flight : �
       subst (λ (s : RoleState). Uses false behind (fresh role.Trace) (start.roles role.Trace) trace s) (sym stays) on.so.trace_used
 
   -- the rest of the line was read
-  module _ (last : EventFeed O outside) (beside : ReadsBeside {O = O} {outside = outside} role.Trace to.feed last) (used : StreamState) where
+  module _ (last : EventFeed O outside) (beside : ReadsBeside {O = O} {outside = outside} role.Trace to.feed last) (used : TextStreamState) where
     abbrev last_roles : Role → RoleState
     last_roles = outside.state last.outside.now
 
@@ -114,7 +114,7 @@ module _ {O : Type 0} {outside : OutsideGhosts O} (query : Parts) (n flight : �
 
 -- ---- the pairs that are due were compared
 
-module _ {O : Type 0} {outside : OutsideGhosts O} (query : Parts) (n flight : ℕ) (start : Feeding) (number : ℕ) (chain new : Contents Row Parts) (from : AlwaysReady O outside) (trace : StreamState) (output compared : OutputCheck)
+module _ {O : Type 0} {outside : OutsideGhosts O} (query : QueryParts) (n flight : ℕ) (start : Feeding) (number : ℕ) (chain new : Contents Row QueryParts) (from : AlwaysReady O outside) (trace : TextStreamState) (output compared : OutputCheck)
     (under : Checking query n flight start (number + 1) chain (feeding from) trace output) (last : EventFeed O outside) (beside : ReadsBeside {O = O} {outside = outside} role.Output from.feed last) (state : new.state ≡ chain.state) (join : new.join ≡ chain.join) where
   abbrev due_roles : Role → RoleState
   due_roles = outside.state last.outside.now
@@ -134,12 +134,12 @@ module _ {O : Type 0} {outside : OutsideGhosts O} (query : Parts) (n flight : �
 
 -- ---- the chain and its feed
 
-module _ {O : Type 0} {outside : OutsideGhosts O} (of : Role) (chain : Contents Row Parts) (from : AlwaysReady O outside) (new : EventFeed O outside) (beside : ReadsBeside {O = O} {outside = outside} of from.feed new) where
+module _ {O : Type 0} {outside : OutsideGhosts O} (of : Role) (chain : Contents Row QueryParts) (from : AlwaysReady O outside) (new : EventFeed O outside) (beside : ReadsBeside {O = O} {outside = outside} of from.feed new) where
   pub goes_beside : GoesWith holds chain (state_of from) → GoesWith holds chain (state_of {O = O} {outside = outside} (over new))
   goes_beside goes = subst (λ (s : FeedState). GoesWith holds chain s) (sym (state_beside of from.feed new beside)) goes
 
 -- a step was made between two reads, so fewer are left
-pub line_fewer : {O : Type 0} {outside : OutsideGhosts O} (chain new : Contents Row Parts) (actor : Actor) (before : AlwaysReady O outside) (first : EventFeed O outside) (to : AlwaysReady O outside) (last : EventFeed O outside) → ReadsBeside {O = O} {outside = outside} role.Trace before.feed first
+pub line_fewer : {O : Type 0} {outside : OutsideGhosts O} (chain new : Contents Row QueryParts) (actor : Actor) (before : AlwaysReady O outside) (first : EventFeed O outside) (to : AlwaysReady O outside) (last : EventFeed O outside) → ReadsBeside {O = O} {outside = outside} role.Trace before.feed first
     → ReadsBeside {O = O} {outside = outside} role.Trace to.feed last → GoesWith holds chain (state_of before) → Steps (gives {O = O} {outside = outside}) (λ _. true) (holds chain.join) actor chain.state (over first) stepped.Did new.state to
     → (was_asked actor chain.state.next true stepped.Did ≡ true → IfSome new.state.next (λ given. Answers given (state_of {O = O} {outside = outside} (over first)) (state_of to)))
     → steps_left new.state (state_of {O = O} {outside = outside} (over last)) < steps_left chain.state (state_of before)

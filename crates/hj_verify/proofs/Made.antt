@@ -6,7 +6,7 @@ use Rattle.std.specs.declared.result.Result.{Result}
 use Rattle.hj_value.specs.declared.field.Field.{Field}
 use Rattle.hj_base.specs.declared.outside.Outside.{Ghosts as OutsideGhosts}
 use Rattle.hj_base.specs.declared.outside.Role.{Role}
-use Rattle.hj_query.specs.Parts.{Parts}
+use Rattle.hj_query.specs.QueryParts.{QueryParts}
 use Rattle.hj_eval.specs.Holds.{holds}
 use Rattle.hj_chain.specs.declared.actor.Actor.{Actor}
 use Rattle.hj_chain.specs.declared.actor.Stepped.TheVariants as stepped
@@ -67,7 +67,7 @@ if_ok (Err judged) so = tt
 
 -- ---- what the step of a line did
 
-module _ {O : Type 0} {outside : OutsideGhosts O} (number : ℕ) (actor : Actor) (old new : Contents Row Parts) (from to : AlwaysReady O outside) (line : List ℕ) where
+module _ {O : Type 0} {outside : OutsideGhosts O} (number : ℕ) (actor : Actor) (old new : Contents Row QueryParts) (from to : AlwaysReady O outside) (line : List ℕ) where
   -- it was made
   pub makes_on : (result : Result (Unit {0}) Verdict) → GoesOnOver to.feed.ended result → Steps (gives {O = O} {outside = outside}) (λ _. true) (holds old.join) actor old.state from stepped.Did new.state to → Gathers actor old stepped.Did new
       → line ≡ said (holds old.join) old.state actor → MakesStep {O = O} {outside = outside} result number actor old new from to line

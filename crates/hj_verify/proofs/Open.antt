@@ -4,16 +4,16 @@ use Rattle.hj_base.specs.declared.outside.Role.{Role}
 use Rattle.hj_base.specs.declared.outside.Role.TheVariants as role
 use Rattle.hj_base.specs.Outside.{RoleState, ChangesOnly}
 use Rattle.hj_event.specs.Roles.{IsInStep}
-use Rattle.hj_trace.specs.Stream.{GoesWith, StreamState}
-use Rattle.hj_verify.specs.Checked.{AreOpen, IsStream}
+use Rattle.hj_trace.specs.Stream.{GoesWithRole, TextStreamState}
+use Rattle.hj_verify.specs.Checked.{AreOpen, IsStreamRole}
 use Rattle.hj_verify.proofs.Stopping.{output_isnt_trace, trace_isnt_output}
 
 module _ (before now : Role → RoleState) where
-  goes_still : (stream : StreamState) → now stream.role ≡ before stream.role → GoesWith stream (before stream.role) → GoesWith stream (now stream.role)
-  goes_still stream same goes = subst (λ (s : RoleState). GoesWith stream s) (sym same) goes
+  goes_still : (stream : TextStreamState) → now stream.role ≡ before stream.role → GoesWithRole stream (before stream.role) → GoesWithRole stream (now stream.role)
+  goes_still stream same goes = subst (λ (s : RoleState). GoesWithRole stream s) (sym same) goes
 
   -- the trace was read
-  pub open_trace : (trace used output : StreamState) → AreOpen before trace output → ChangesOnly trace.role before now → used.role ≡ trace.role → GoesWith used (now used.role) → AreOpen now used output
+  pub open_trace : (trace used output : TextStreamState) → AreOpen before trace output → ChangesOnly trace.role before now → used.role ≡ trace.role → GoesWithRole used (now used.role) → AreOpen now used output
   open_trace trace used output are_open changes same goes = record {
     trace_role = same ∙ are_open.trace_role;
     output_role = are_open.output_role;
@@ -22,7 +22,7 @@ module _ (before now : Role → RoleState) where
   }
 
   -- the output was read
-  pub open_output : (trace output used : StreamState) → AreOpen before trace output → ChangesOnly output.role before now → used.role ≡ output.role → GoesWith used (now used.role) → AreOpen now trace used
+  pub open_output : (trace output used : TextStreamState) → AreOpen before trace output → ChangesOnly output.role before now → used.role ≡ output.role → GoesWithRole used (now used.role) → AreOpen now trace used
   open_output trace output used are_open changes same goes = record {
     trace_role = are_open.trace_role;
     output_role = same ∙ are_open.output_role;
@@ -31,7 +31,7 @@ module _ (before now : Role → RoleState) where
   }
 
   -- the two streams of the events were read
-  pub open_events : (trace output : StreamState) → AreOpen before trace output → now role.Trace ≡ before role.Trace → now role.Output ≡ before role.Output → AreOpen now trace output
+  pub open_events : (trace output : TextStreamState) → AreOpen before trace output → now role.Trace ≡ before role.Trace → now role.Output ≡ before role.Output → AreOpen now trace output
   open_events trace output are_open same also = record {
     trace_role = are_open.trace_role;
     output_role = are_open.output_role;
@@ -45,9 +45,9 @@ module _ (before now : Role → RoleState) where
     others_stay = subst (λ (r : Role). ChangesOnly r before now) is changes
 
     -- a stream of the events stays in step
-    pub in_step_beside : (ended : Bool) (stream : Role) → (IsStream of → ⊥) → IsStream stream → IsInStep ended (before stream) → IsInStep ended (now stream)
-    in_step_beside ended stream isnt stands step = subst (λ (s : RoleState). IsInStep ended s) (sym (others_stay stream (λ e. isnt (subst IsStream e stands)))) step
+    pub in_step_beside : (ended : Bool) (stream : Role) → (IsStreamRole of → ⊥) → IsStreamRole stream → IsInStep ended (before stream) → IsInStep ended (now stream)
+    in_step_beside ended stream isnt stands step = subst (λ (s : RoleState). IsInStep ended s) (sym (others_stay stream (λ e. isnt (subst IsStreamRole e stands)))) step
 
 -- the output stays open while the trace is read
-pub goes_apart : (of : Role) (output : StreamState) (before now : Role → RoleState) → ChangesOnly of before now → output.role ≡ role.Output → of ≢ role.Output → GoesWith output (before output.role) → GoesWith output (now output.role)
+pub goes_apart : (of : Role) (output : TextStreamState) (before now : Role → RoleState) → ChangesOnly of before now → output.role ≡ role.Output → of ≢ role.Output → GoesWithRole output (before output.role) → GoesWithRole output (now output.role)
 goes_apart of output before now changes is apart goes = goes_still before now output (changes output.role (λ e. apart (sym e ∙ is))) goes

@@ -7,9 +7,9 @@ use Rattle.hj_chain.specs.declared.actor.Actor.{Actor}
 use Rattle.hj_trace.specs.declared.stream.ActorFound.TheVariants as found
 use Rattle.hj_trace.specs.declared.stream.Compared.TheVariants as compared
 use Rattle.hj_trace.specs.Actors.{actor_text}
-use Rattle.hj_trace.specs.Stream.{Compares, PartsFrom, ReadsActor, StreamState, Uses}
+use Rattle.hj_trace.specs.Stream.{Compares, PartsFrom, ReadsActor, TextStreamState, Uses}
 use Rattle.hj_trace.proofs.Streams.{none_next}
-use Rattle.hj_verify.specs.Lines.{BeginsWrong, GoesOn, GoesOnWrong}
+use Rattle.hj_verify.specs.Lines.{BeginsWrong, TextGoesOn, GoesOnWrong}
 use Rattle.hj_verify.proofs.Lists.{cancel}
 use Rattle.hj_verify.proofs.Using.{further}
 
@@ -23,22 +23,22 @@ other_first : (byte : ℕ) (more unused later : List ℕ) → slice_get unused 0
 other_first byte more [] later other ends same = let wrong : [] ≡ byte ∷ more = sym (ends refl) ∙ same in cc
 other_first byte more (one ∷ unused) later other ends same = other (ap Some (let is : one ∷ (unused ++ later) ≡ byte ∷ more = same in cc))
 
-parted : (missing rest : List ℕ) (stream : StreamState) (later : List ℕ) → (stream.ended ≡ true → later ≡ []) → PartsFrom missing stream → stream.unused ++ later ≡ missing ++ rest → ⊥
+parted : (missing rest : List ℕ) (stream : TextStreamState) (later : List ℕ) → (stream.ended ≡ true → later ≡ []) → PartsFrom missing stream → stream.unused ++ later ≡ missing ++ rest → ⊥
 parted [] rest stream later none parts same = parts
 parted (byte ∷ more) rest stream later none parts same = other_first byte (more ++ rest) stream.unused later parts.0 (λ empty. none (parts.1 empty)) same
 
-module _ (text : List ℕ) (start : StreamState) (before : RoleState) (old : StreamState) (mid : Role → RoleState) (uses : Uses false text start before old (mid old.role)) where
+module _ (text : List ℕ) (start : TextStreamState) (before : RoleState) (old : TextStreamState) (mid : Role → RoleState) (uses : Uses false text start before old (mid old.role)) where
   -- a read failed
-  pub read_fails : (stream : StreamState) (now : Role → RoleState) (bytes : List ℕ) → Uses true bytes old (mid old.role) stream (now old.role) → (read : List ℕ) × Uses true read start before stream (now stream.role)
+  pub read_fails : (stream : TextStreamState) (now : Role → RoleState) (bytes : List ℕ) → Uses true bytes old (mid old.role) stream (now old.role) → (read : List ℕ) × Uses true read start before stream (now stream.role)
   read_fails stream now bytes fails = (text ++ bytes, further old stream mid now true text bytes start before uses fails)
 
-  module _ (stream : StreamState) (now : Role → RoleState) where
+  module _ (stream : TextStreamState) (now : Role → RoleState) where
     -- a look uses nothing
     pub looked : Uses false [] old (mid old.role) stream (now old.role) → Uses false text start before stream (now stream.role)
     looked looks = subst (λ (l : List ℕ). Uses false l start before stream (now stream.role)) (append-nil text) (further old stream mid now false text [] start before uses looks)
 
     -- a byte stands next
-    pub goes_on_there : (byte : ℕ) → Uses false [] old (mid old.role) stream (now old.role) → slice_get stream.unused 0 ≡ Some byte → GoesOn text start before stream (now stream.role)
+    pub goes_on_there : (byte : ℕ) → Uses false [] old (mid old.role) stream (now old.role) → slice_get stream.unused 0 ≡ Some byte → TextGoesOn text start before stream (now stream.role)
     goes_on_there byte looks next = record { uses = looked looks; more = λ empty. none_next stream.unused byte empty next }
 
     -- an actor's text and a comma were read

@@ -5,7 +5,7 @@ use Rattle.hj_value.specs.declared.field.Field.{Field}
 use Rattle.hj_base.specs.declared.outside.Role.{Role}
 use Rattle.hj_base.specs.declared.outside.Role.TheVariants as role
 use Rattle.hj_base.specs.Outside.{RoleState, ChangesOnly}
-use Rattle.hj_query.specs.Parts.{Parts}
+use Rattle.hj_query.specs.QueryParts.{QueryParts}
 use Rattle.hj_eval.specs.Holds.{holds}
 use Rattle.hj_msg.specs.Feed.{events_in}
 use Rattle.hj_chain.specs.declared.actor.Actor.{Actor}
@@ -20,19 +20,19 @@ use Rattle.hj_trace.specs.declared.fault.TraceFault.TheVariants as fault
 use Rattle.hj_trace.specs.Actors.{IsNumbered, actor_text}
 use Rattle.hj_trace.specs.Checking.{Breaks, Stands}
 use Rattle.hj_trace.specs.Play.{Playing}
-use Rattle.hj_trace.specs.Stream.{StreamState, Uses}
+use Rattle.hj_trace.specs.Stream.{TextStreamState, Uses}
 use Rattle.hj_replay.specs.Feeds.{MayCome}
 use Rattle.hj_verify.specs.declared.output.OutputCheck.{OutputCheck}
 use Rattle.hj_verify.specs.declared.verdict.Verdict.{Verdict}
 use Rattle.hj_verify.specs.declared.verdict.Verdict.TheVariants as verdict
-use Rattle.hj_verify.specs.Checked.{Checking, Concludes, Events, Fed, FailsSo, IsChecked, IsStream, LeadTo, fresh, has_failed}
+use Rattle.hj_verify.specs.Checked.{Checking, Concludes, Events, GaveAnswers, FailsSo, IsChecked, IsStreamRole, LeadTo, fresh, has_failed}
 use Rattle.hj_verify.specs.Lines.{ReadsMaker}
 use Rattle.hj_verify.specs.Making.{IsGivenUp}
 use Rattle.hj_verify.specs.Reading.{GivesUp, fault_of, no_memory}
 use Rattle.hj_verify.proofs.Ending.{FailsOfStreams, came_is, ends_there, fed_read, memory_apart, not_stream, other_role, read_failed, read_on, refused_apart, same_role, streams_go}
 use Rattle.hj_verify.proofs.Lists.{front_empty, regroup}
 
-stream_checked : (of : Role) → IsStream of → IsChecked of
+stream_checked : (of : Role) → IsStreamRole of → IsChecked of
 stream_checked role.Query is = absurd is
 stream_checked role.SecondQuery is = absurd is
 stream_checked role.Left is = tt
@@ -49,10 +49,10 @@ output_isnt_trace e = let wrong : role.Output ≡ role.Trace = e in cc
 
 -- ---- the events failed, or memory ran out
 
-module _ (query : Parts) (n flight : ℕ) (start now : Feeding) (trace output : StreamState) (fed : Fed start now)
+module _ (query : QueryParts) (n flight : ℕ) (start now : Feeding) (trace output : TextStreamState) (fed : GaveAnswers start now)
     (lines : List ℕ) (trace_used : Uses false lines (fresh role.Trace) (start.roles role.Trace) trace (now.roles trace.role))
     (same : List ℕ) (output_used : Uses false same (fresh role.Output) (start.roles role.Output) output (now.roles output.role)) where
-  pub by_memory : ((of : Role) → IsStream of → (now.ended ≡ Some (outcome.SourceFault of)) ↔ (no_memory ≡ fault_of of)) → Concludes no_memory query n flight start now trace output
+  pub by_memory : ((of : Role) → IsStreamRole of → (now.ended ≡ Some (outcome.SourceFault of)) ↔ (no_memory ≡ fault_of of)) → Concludes no_memory query n flight start now trace output
   by_memory tells = record {
     fed = fed;
     streams = tells;
@@ -61,7 +61,7 @@ module _ (query : Parts) (n flight : ℕ) (start now : Feeding) (trace output : 
     says = λ more t o may ends also. tt;
   }
 
-module _ (query : Parts) (n flight : ℕ) (start now : Feeding) (trace output : StreamState) (fed : Fed start now) (streams : FailsOfStreams now.ended)
+module _ (query : QueryParts) (n flight : ℕ) (start now : Feeding) (trace output : TextStreamState) (fed : GaveAnswers start now) (streams : FailsOfStreams now.ended)
     (lines : List ℕ) (trace_used : Uses false lines (fresh role.Trace) (start.roles role.Trace) trace (now.roles trace.role))
     (same : List ℕ) (output_used : Uses false same (fresh role.Output) (start.roles role.Output) output (now.roles output.role)) where
   by_stream : (of : Role) → now.ended ≡ Some (outcome.SourceFault of) → Concludes (fault_of of) query n flight start now trace output
@@ -73,8 +73,8 @@ module _ (query : Parts) (n flight : ℕ) (start now : Feeding) (trace output : 
           λ e. let same_fault : Some (outcome.SourceFault of) ≡ Some (outcome.SourceFault other) = sym is ∙ e in cc,
           λ e. is ∙ ap (λ (r : Role). Some (outcome.SourceFault r)) (same_role of other e),
         );
-        trace_read = read_on (fault_of of) role.Trace (start.roles role.Trace) trace (now.roles trace.role) (λ e. subst IsStream (same_role of role.Trace e) here) lines trace_used;
-        output_read = read_on (fault_of of) role.Output (start.roles role.Output) output (now.roles output.role) (λ e. subst IsStream (same_role of role.Output e) here) same output_used;
+        trace_read = read_on (fault_of of) role.Trace (start.roles role.Trace) trace (now.roles trace.role) (λ e. subst IsStreamRole (same_role of role.Trace e) here) lines trace_used;
+        output_read = read_on (fault_of of) role.Output (start.roles role.Output) output (now.roles output.role) (λ e. subst IsStreamRole (same_role of role.Output e) here) same output_used;
         says = λ more t o may ends also. stream_checked of here;
       }
 
@@ -101,14 +101,14 @@ module _ (query : Parts) (n flight : ℕ) (start now : Feeding) (trace output : 
 -- ---- one of the two that are compared was read
 
 -- the other one stays as it was
-used_still : (of : Role) (bytes : List ℕ) (before : RoleState) (stream : StreamState) (old new : Role → RoleState) → new of ≡ old of → Uses false bytes (fresh of) before stream (old stream.role)
+used_still : (of : Role) (bytes : List ℕ) (before : RoleState) (stream : TextStreamState) (old new : Role → RoleState) → new of ≡ old of → Uses false bytes (fresh of) before stream (old stream.role)
     → Uses false bytes (fresh of) before stream (new stream.role)
 used_still of bytes before stream old new same uses =
     let stays : new stream.role ≡ old stream.role = ap new uses.role ∙ (same ∙ sym (ap old uses.role)) in
     subst (λ (s : RoleState). Uses false bytes (fresh of) before stream s) (sym stays) uses
 
 -- who gives up saw a read fail, or memory run out
-gave_up : (of : Role) (before : RoleState) (used : StreamState) (now : RoleState) (Claim : Verdict → Type 0)
+gave_up : (of : Role) (before : RoleState) (used : TextStreamState) (now : RoleState) (Claim : Verdict → Type 0)
     → ((bytes : List ℕ) → Uses true bytes (fresh of) before used now → Claim (fault_of of)) → ((bytes : List ℕ) → Uses false bytes (fresh of) before used now → Claim no_memory)
     → (judged : Verdict) → GivesUp judged of (fresh of) before used now → Claim judged
 gave_up of before used now Claim failed memory (verdict.Accepted events) gives = absurd gives
@@ -122,17 +122,17 @@ gave_up of before used now Claim failed memory (verdict.Ended outcome.Memory) gi
 
 -- ---- the trace was read
 
-module _ (query : Parts) (n flight : ℕ) (start now : Feeding) (fed : Fed start now) (going : has_failed now.ended ≡ false)
-    (output : StreamState) (same : List ℕ) (output_used : Uses false same (fresh role.Output) (start.roles role.Output) output (now.roles output.role))
+module _ (query : QueryParts) (n flight : ℕ) (start now : Feeding) (fed : GaveAnswers start now) (going : has_failed now.ended ≡ false)
+    (output : TextStreamState) (same : List ℕ) (output_used : Uses false same (fresh role.Output) (start.roles role.Output) output (now.roles output.role))
     (roles : Role → RoleState) (changes : ChangesOnly role.Trace now.roles roles) where
   output_after : Uses false same (fresh role.Output) (start.roles role.Output) output (roles output.role)
   output_after = used_still role.Output same (start.roles role.Output) output now.roles roles (changes role.Output output_isnt_trace) output_used
 
-  abbrev pub fed_there : Fed start (record now { roles = roles })
+  abbrev pub fed_there : GaveAnswers start (record now { roles = roles })
   fed_there = fed_read start now role.Trace roles fed tt (λ e. e) changes
 
   -- a read of it failed, or memory ran out
-  pub trace_gives_up : (judged : Verdict) (used : StreamState) → GivesUp judged role.Trace (fresh role.Trace) (start.roles role.Trace) used (roles used.role) → Concludes judged query n flight start (record now { roles = roles }) used output
+  pub trace_gives_up : (judged : Verdict) (used : TextStreamState) → GivesUp judged role.Trace (fresh role.Trace) (start.roles role.Trace) used (roles used.role) → Concludes judged query n flight start (record now { roles = roles }) used output
   trace_gives_up judged used gives =
       gave_up role.Trace (start.roles role.Trace) used (roles used.role) (λ (v : Verdict). Concludes v query n flight start (record now { roles = roles }) used output)
       (λ bytes uses. record {
@@ -146,7 +146,7 @@ module _ (query : Parts) (n flight : ℕ) (start now : Feeding) (fed : Fed start
       judged gives
 
   -- something is wrong with it, whatever events come behind those that came
-  pub trace_refused : (found : TraceFault) (used : StreamState) (bytes : List ℕ) → Uses false bytes (fresh role.Trace) (start.roles role.Trace) used (roles used.role)
+  pub trace_refused : (found : TraceFault) (used : TextStreamState) (bytes : List ℕ) → Uses false bytes (fresh role.Trace) (start.roles role.Trace) used (roles used.role)
       → ((more : Events) (t o : List ℕ) → MayCome now.ended more → (used.ended ≡ true → t ≡ []) → Stands (holds query) found n flight (events_in fed.answers ++ more) ((bytes ++ used.unused) ++ t) o (text_of query (events_in fed.answers ++ more)))
       → Concludes (verdict.Refused found) query n flight start (record now { roles = roles }) used output
   trace_refused found used bytes uses stands =
@@ -163,7 +163,7 @@ module _ (query : Parts) (n flight : ℕ) (start now : Feeding) (fed : Fed start
       }
 
 -- behind the lines of steps this is wrong
-pub stands_there : (query : Parts) (n flight : ℕ) (events : Events) (ended : Bool) (schedule : List Actor) (chain : ChainState (List Field)) (lines : List ℕ) → LeadTo query n flight events ended schedule chain lines
+pub stands_there : (query : QueryParts) (n flight : ℕ) (events : Events) (ended : Bool) (schedule : List Actor) (chain : ChainState (List Field)) (lines : List ℕ) → LeadTo query n flight events ended schedule chain lines
     → (more : Events) → (ended ≡ true → more ≡ []) → (found : TraceFault) (rest trace output text : List ℕ) → trace ≡ lines ++ rest
     → Breaks (holds query) found (length schedule + 1) (record { chain = chain; coming = more }) rest output text → Stands (holds query) found n flight (events ++ more) trace output text
 stands_there query n flight events ended schedule chain lines steps more fits found rest trace output text is breaks = record {
@@ -176,12 +176,12 @@ stands_there query n flight events ended schedule chain lines steps more fits fo
 
 -- ---- where a line begins
 
-module _ (query : Parts) (n flight : ℕ) (start : Feeding) (number : ℕ) (chain : Contents (List Field) Parts) (now : Feeding) (trace : StreamState) (output : OutputCheck) (under : Checking query n flight start number chain now trace output)
+module _ (query : QueryParts) (n flight : ℕ) (start : Feeding) (number : ℕ) (chain : Contents (List Field) QueryParts) (now : Feeding) (trace : TextStreamState) (output : OutputCheck) (under : Checking query n flight start number chain now trace output)
     (roles : Role → RoleState) (changes : ChangesOnly trace.role now.roles roles) where
   only_trace : ChangesOnly role.Trace now.roles roles
   only_trace = subst (λ (of : Role). ChangesOnly of now.roles roles) under.trace_used.role changes
 
-  pub refused : (found : TraceFault) (used : StreamState) (bytes : List ℕ) → Uses false (under.lines ++ bytes) (fresh role.Trace) (start.roles role.Trace) used (roles used.role)
+  pub refused : (found : TraceFault) (used : TextStreamState) (bytes : List ℕ) → Uses false (under.lines ++ bytes) (fresh role.Trace) (start.roles role.Trace) used (roles used.role)
       → ((more : Events) (t o : List ℕ) → (used.ended ≡ true → t ≡ [])
       → Breaks (holds query) found (length under.schedule + 1) (record { chain = chain.state; coming = more }) (bytes ++ (used.unused ++ t)) o (text_of query (events_in under.fed.answers ++ more)))
       → Concludes (verdict.Refused found) query n flight start (record now { roles = roles }) used output.stream
@@ -191,10 +191,10 @@ module _ (query : Parts) (n flight : ℕ) (start : Feeding) (number : ℕ) (chai
       stands_there query n flight (events_in under.fed.answers) (is_some now.ended) under.schedule chain.state under.lines under.steps more (ends_there now.ended under.going more may) found (bytes ++ (used.unused ++ t))
       (((under.lines ++ bytes) ++ used.unused) ++ t) o (text_of query (events_in under.fed.answers ++ more)) (regroup under.lines bytes used.unused t) (breaks more t o ends))
 
-  pub gives_up : (judged : Verdict) (used : StreamState) → GivesUp judged role.Trace (fresh role.Trace) (start.roles role.Trace) used (roles used.role) → Concludes judged query n flight start (record now { roles = roles }) used output.stream
+  pub gives_up : (judged : Verdict) (used : TextStreamState) → GivesUp judged role.Trace (fresh role.Trace) (start.roles role.Trace) used (roles used.role) → Concludes judged query n flight start (record now { roles = roles }) used output.stream
   gives_up judged used gives = trace_gives_up query n flight start now under.fed under.going output.stream under.agrees.same under.agrees.uses roles only_trace judged used gives
 
-  pub maker_wrong : (IsDone chain.state → ⊥) → (judged : Verdict) (used : StreamState) → ReadsMaker (Err judged) number under.lines (fresh role.Trace) (start.roles role.Trace) used (roles used.role)
+  pub maker_wrong : (IsDone chain.state → ⊥) → (judged : Verdict) (used : TextStreamState) → ReadsMaker (Err judged) number under.lines (fresh role.Trace) (start.roles role.Trace) used (roles used.role)
       → Concludes judged query n flight start (record now { roles = roles }) used output.stream
   maker_wrong not_done (verdict.Accepted events) used reads = absurd reads
   maker_wrong not_done (verdict.Refused (fault.Form line)) used reads =
@@ -221,7 +221,7 @@ module _ (query : Parts) (n flight : ℕ) (start : Feeding) (number : ℕ) (chai
   maker_wrong not_done (verdict.Ended made) used reads = gives_up (verdict.Ended made) used reads
 
   -- the actor isn't enabled
-  pub maker_disabled : (IsDone chain.state → ⊥) → (actor : Actor) (used : StreamState) (line : ℕ) → line ≡ number → IsNumbered actor → cause chain.state actor ≢ None
+  pub maker_disabled : (IsDone chain.state → ⊥) → (actor : Actor) (used : TextStreamState) (line : ℕ) → line ≡ number → IsNumbered actor → cause chain.state actor ≢ None
       → Uses false (under.lines ++ (actor_text actor ++ 44 ∷ [])) (fresh role.Trace) (start.roles role.Trace) used (roles used.role)
       → Concludes (verdict.Refused (fault.NotEnabled line)) query n flight start (record now { roles = roles }) used output.stream
   maker_disabled not_done actor used line here numbered disabled uses =
@@ -238,17 +238,17 @@ module _ (query : Parts) (n flight : ℕ) (start : Feeding) (number : ℕ) (chai
 
 -- ---- the output was read
 
-module _ (query : Parts) (n flight : ℕ) (start now : Feeding) (fed : Fed start now) (going : has_failed now.ended ≡ false)
-    (trace : StreamState) (lines : List ℕ) (trace_used : Uses false lines (fresh role.Trace) (start.roles role.Trace) trace (now.roles trace.role))
+module _ (query : QueryParts) (n flight : ℕ) (start now : Feeding) (fed : GaveAnswers start now) (going : has_failed now.ended ≡ false)
+    (trace : TextStreamState) (lines : List ℕ) (trace_used : Uses false lines (fresh role.Trace) (start.roles role.Trace) trace (now.roles trace.role))
     (roles : Role → RoleState) (changes : ChangesOnly role.Output now.roles roles) where
   trace_after : Uses false lines (fresh role.Trace) (start.roles role.Trace) trace (roles trace.role)
   trace_after = used_still role.Trace lines (start.roles role.Trace) trace now.roles roles (changes role.Trace trace_isnt_output) trace_used
 
-  abbrev pub fed_here : Fed start (record now { roles = roles })
+  abbrev pub fed_here : GaveAnswers start (record now { roles = roles })
   fed_here = fed_read start now role.Output roles fed tt (λ e. e) changes
 
   -- a read of it failed, or memory ran out
-  pub output_gives_up : (judged : Verdict) (used : StreamState) → GivesUp judged role.Output (fresh role.Output) (start.roles role.Output) used (roles used.role) → Concludes judged query n flight start (record now { roles = roles }) trace used
+  pub output_gives_up : (judged : Verdict) (used : TextStreamState) → GivesUp judged role.Output (fresh role.Output) (start.roles role.Output) used (roles used.role) → Concludes judged query n flight start (record now { roles = roles }) trace used
   output_gives_up judged used gives =
       gave_up role.Output (start.roles role.Output) used (roles used.role) (λ (v : Verdict). Concludes v query n flight start (record now { roles = roles }) trace used)
       (λ bytes uses. record {

@@ -5,9 +5,9 @@ use Rattle.std.specs.declared.option.Option.{Option}
 use Rattle.hj_base.specs.declared.outside.Role.{Role}
 use Rattle.hj_base.specs.declared.outside.Role.TheVariants as role
 use Rattle.hj_base.specs.Outside.{RoleState, opened}
-use Rattle.hj_query.specs.Parts.{Parts}
+use Rattle.hj_query.specs.QueryParts.{QueryParts}
 use Rattle.hj_eval.specs.Holds.{holds}
-use Rattle.hj_event.specs.Events.{Numbered, events_of}
+use Rattle.hj_event.specs.Events.{NumberedEvents, events_of}
 use Rattle.hj_event.specs.Roles.{CountsFailure, IsInStep, IsReadOn, name_of}
 use Rattle.hj_event.specs.Sides.{in_front}
 use Rattle.hj_event.proofs.RoleLemmas.{not_read}
@@ -18,14 +18,14 @@ use Rattle.hj_stream.specs.Feeding.{Feeding, Gives}
 use Rattle.hj_stream.specs.JoinText.{text_of}
 use Rattle.hj_stream.proofs.Fed.{Fed as FedSo, fed_all, fed_first}
 use Rattle.hj_trace.specs.Checking.{IsRight, Stands}
-use Rattle.hj_trace.specs.Stream.{CountsFaults, StreamState, Uses}
+use Rattle.hj_trace.specs.Stream.{CountsFaults, TextStreamState, Uses}
 use Rattle.hj_trace.proofs.Readings.{none_stands}
 use Rattle.hj_replay.proofs.Taken.{EndsSo, Taken, taken}
 use Rattle.hj_verify.specs.declared.verdict.Verdict.{Verdict}
 use Rattle.hj_verify.specs.declared.verdict.Verdict.TheVariants as verdict
-use Rattle.hj_verify.specs.Checked.{AllIsRight, Concludes, Events, Fed, IsBegun, IsWrongBy, beside, fresh, has_failed}
+use Rattle.hj_verify.specs.Checked.{AllIsRight, Concludes, Events, GaveAnswers, IsBegunCheck, IsWrongBy, beside, fresh, has_failed}
 use Rattle.hj_verify.specs.Judged.{verdict_by}
-use Rattle.hj_verify.specs.Reading.{IsWhole, fault_of, no_memory}
+use Rattle.hj_verify.specs.Reading.{IsUsedWhole, fault_of, no_memory}
 use Rattle.hj_verify.specs.Verifying.{AreRight, Judges, Verifies}
 use Rattle.hj_verify.proofs.Ending.{ends_there, memory_apart}
 
@@ -36,7 +36,7 @@ counts true before now so = so
 counts false before now so = so
 
 -- the bytes that came of a stream that was open
-pub read_of : (failed : Bool) (of : Role) (bytes : List ℕ) (before : RoleState) (stream : StreamState) (now : RoleState) → IsInStep false before → (uses : Uses failed bytes (fresh of) before stream now) → IsReadOn failed uses.came false stream.ended before now
+pub read_of : (failed : Bool) (of : Role) (bytes : List ℕ) (before : RoleState) (stream : TextStreamState) (now : RoleState) → IsInStep false before → (uses : Uses failed bytes (fresh of) before stream now) → IsReadOn failed uses.came false stream.ended before now
 read_of failed of bytes before stream now step uses =
     let phase : now.phase ≡ opened (name_of before.phase) stream.ended = uses.name (name_of before.phase) step.phase in
     let name : name_of now.phase ≡ name_of before.phase = ap name_of phase in
@@ -61,7 +61,7 @@ made_of (Some made) some = (made, refl)
 
 -- ---- the verdicts
 
-wrong_judges : (judged : Verdict) (query : Parts) (n flight : ℕ) (events : Events) (all : Numbered) (trace output : List ℕ) → all.events ≡ events → IsWrongBy judged query n flight events trace output → Judges judged query n flight all trace output
+wrong_judges : (judged : Verdict) (query : QueryParts) (n flight : ℕ) (events : Events) (all : NumberedEvents) (trace output : List ℕ) → all.events ≡ events → IsWrongBy judged query n flight events trace output → Judges judged query n flight all trace output
 wrong_judges (verdict.Accepted count) query n flight events all trace output are wrong = absurd wrong
 wrong_judges (verdict.Refused fault) query n flight events all trace output are wrong = subst (λ (l : Events). Stands (holds query) fault n flight l trace output (text_of query l)) (sym are) wrong
 wrong_judges (verdict.Ended (outcome.Done count)) query n flight events all trace output are wrong = wrong
@@ -71,7 +71,7 @@ wrong_judges (verdict.Ended outcome.SinkFault) query n flight events all trace o
 wrong_judges (verdict.Ended outcome.TooMany) query n flight events all trace output are wrong = absurd wrong
 wrong_judges (verdict.Ended outcome.Memory) query n flight events all trace output are wrong = wrong
 
-right_judges : (made : Outcome) (query : Parts) (n flight : ℕ) (all : Numbered) (trace output : List ℕ) → has_failed (Some made) ≡ false → EndsSo made all → AreRight query n flight all trace output → Judges (verdict_by made) query n flight all trace output
+right_judges : (made : Outcome) (query : QueryParts) (n flight : ℕ) (all : NumberedEvents) (trace output : List ℕ) → has_failed (Some made) ≡ false → EndsSo made all → AreRight query n flight all trace output → Judges (verdict_by made) query n flight all trace output
 right_judges (outcome.Done count) query n flight all trace output going so right = (so.0, so.1, right)
 right_judges (outcome.Bad side at found) query n flight all trace output going so right = (so, right)
 right_judges (outcome.SourceFault of) query n flight all trace output going so right = absurd (true≢false going)
@@ -88,8 +88,8 @@ no_fault outcome.SinkFault of going e = let wrong : verdict.Ended outcome.SinkFa
 no_fault outcome.TooMany of going e = let wrong : verdict.Ended outcome.TooMany ≡ verdict.Ended (outcome.SourceFault of) = e in cc
 no_fault outcome.Memory of going e = true≢false going
 
-module _ (query : Parts) (n flight limit : ℕ) (start now : Feeding) (begun : IsBegun query limit start) (trace_open : IsInStep false (start.roles role.Trace)) (output_open : IsInStep false (start.roles role.Output)) (trace output : StreamState) where
-  module _ (fed : Fed start now) where
+module _ (query : QueryParts) (n flight limit : ℕ) (start now : Feeding) (begun : IsBegunCheck query limit start) (trace_open : IsInStep false (start.roles role.Trace)) (output_open : IsInStep false (start.roles role.Output)) (trace output : TextStreamState) where
+  module _ (fed : GaveAnswers start now) where
     abbrev events : Events
     events = events_in fed.answers
 
@@ -101,10 +101,10 @@ module _ (query : Parts) (n flight limit : ℕ) (start now : Feeding) (begun : I
     known : Taken query limit (beside start.roles start).roles (beside start.roles now).roles now.ended events
     known = taken now.ended query limit (beside start.roles start).roles events (beside start.roles now) fed_so
 
-  abbrev at_role : Bool → Role → StreamState → List ℕ → Type 0
+  abbrev at_role : Bool → Role → TextStreamState → List ℕ → Type 0
   at_role failed of stream bytes = IsReadOn failed bytes false stream.ended (start.roles of) (now.roles of)
 
-  read_at : (failed : Bool) (of : Role) (stream : StreamState) (bytes : List ℕ) → IsInStep false (start.roles of) → (uses : Uses failed bytes (fresh of) (start.roles of) stream (now.roles stream.role)) → at_role failed of stream uses.came
+  read_at : (failed : Bool) (of : Role) (stream : TextStreamState) (bytes : List ℕ) → IsInStep false (start.roles of) → (uses : Uses failed bytes (fresh of) (start.roles of) stream (now.roles stream.role)) → at_role failed of stream uses.came
   read_at failed of stream bytes step uses =
       subst (λ (r : Role). IsReadOn failed uses.came false stream.ended (start.roles of) (now.roles r)) uses.role (read_of failed of bytes (start.roles of) stream (now.roles stream.role) step uses)
 
@@ -128,7 +128,7 @@ module _ (query : Parts) (n flight limit : ℕ) (start now : Feeding) (begun : I
             wrong_judges judged query n flight (events_in ends.fed.answers ++ goes.more) all (ends.trace_read.uses.came ++ t) (ends.output_read.uses.came ++ o) goes.are (ends.says goes.more t o goes.may none nor);
       }
 
-  all_came : (of : Role) (stream : StreamState) (bytes : List ℕ) (whole : IsWhole bytes (fresh of) (start.roles of) stream (now.roles stream.role)) (later : List ℕ) → (stream.ended ≡ true → later ≡ []) → whole.uses.came ++ later ≡ bytes
+  all_came : (of : Role) (stream : TextStreamState) (bytes : List ℕ) (whole : IsUsedWhole bytes (fresh of) (start.roles of) stream (now.roles stream.role)) (later : List ℕ) → (stream.ended ≡ true → later ≡ []) → whole.uses.came ++ later ≡ bytes
   all_came of stream bytes whole later none =
       ap (λ (l : List ℕ). l ++ later) (whole.uses.used ∙ (ap (λ (l : List ℕ). bytes ++ l) whole.used_up.none_waits ∙ append-nil bytes))
       ∙ (ap (λ (l : List ℕ). bytes ++ l) (none whole.used_up.ended) ∙ append-nil bytes)
@@ -173,7 +173,7 @@ module _ (query : Parts) (n flight limit : ℕ) (start now : Feeding) (begun : I
       subst (λ (v : Verdict). Verifies v query n flight limit start.roles now.roles) (sym (tells made.0 made.1)) (verified_right some few all_right made.0 made.1)
 
 -- memory ran out before anything was read
-pub verified_none : (query : Parts) (n flight limit : ℕ) (roles : Role → RoleState) → IsInStep false (roles role.Left) → IsInStep false (roles role.Right) → IsInStep false (roles role.Trace) → IsInStep false (roles role.Output)
+pub verified_none : (query : QueryParts) (n flight limit : ℕ) (roles : Role → RoleState) → IsInStep false (roles role.Left) → IsInStep false (roles role.Right) → IsInStep false (roles role.Trace) → IsInStep false (roles role.Output)
     → Verifies no_memory query n flight limit roles roles
 verified_none query n flight limit roles left right trace output = record {
   left = record { bytes = []; failed = false; ended = false; read = not_read false (roles role.Left) left };

@@ -7,7 +7,7 @@ use Rattle.hj_value.specs.declared.field.Field.{Field}
 use Rattle.hj_base.specs.declared.outside.Role.{Role}
 use Rattle.hj_base.specs.declared.outside.Role.TheVariants as role
 use Rattle.hj_base.specs.Outside.{RoleState, ChangesOnly}
-use Rattle.hj_query.specs.Parts.{Parts}
+use Rattle.hj_query.specs.QueryParts.{QueryParts}
 use Rattle.hj_eval.specs.Holds.{holds}
 use Rattle.hj_msg.specs.declared.feed.Given.{Given}
 use Rattle.hj_msg.specs.declared.feed.Given.TheVariants as given
@@ -27,15 +27,15 @@ use Rattle.hj_stream.proofs.Fed.{fed_all, fed_first, fed_well}
 use Rattle.hj_trace.specs.declared.fault.TraceFault.TheVariants as fault
 use Rattle.hj_trace.specs.Checking.{DifferAt, IsRight}
 use Rattle.hj_trace.specs.Play.{Playing, AreEnabled, at_start, played, trace_text}
-use Rattle.hj_trace.specs.Stream.{StreamState, Uses}
+use Rattle.hj_trace.specs.Stream.{TextStreamState, Uses}
 use Rattle.hj_replay.specs.Feeds.{MayCome}
 use Rattle.hj_verify.specs.declared.output.OutputCheck.{OutputCheck}
 use Rattle.hj_verify.specs.declared.verdict.Verdict.{Verdict}
 use Rattle.hj_verify.specs.declared.verdict.Verdict.TheVariants as verdict
-use Rattle.hj_verify.specs.Checked.{ChecksAll, Checking, Concludes, Events, Fed, beside, fresh}
+use Rattle.hj_verify.specs.Checked.{ChecksAll, Checking, Concludes, Events, GaveAnswers, beside, fresh}
 use Rattle.hj_verify.specs.Lines.{EndsTrace}
-use Rattle.hj_verify.specs.Output.{Agrees, DiffersBehind, EndsOutput}
-use Rattle.hj_verify.specs.Reading.{IsWhole}
+use Rattle.hj_verify.specs.Output.{OutputAgrees, DiffersBehind, EndsOutput}
+use Rattle.hj_verify.specs.Reading.{IsUsedWhole}
 use Rattle.hj_verify.proofs.Advancing.{agrees_still}
 use Rattle.hj_verify.proofs.Ending.{came_is, ends_there, fed_read, read_on, refused_apart, streams_go}
 use Rattle.hj_verify.proofs.Lists.{front_empty}
@@ -44,7 +44,7 @@ use Rattle.hj_verify.proofs.Stopping.{gives_up, output_gives_up, output_isnt_tra
 abbrev Row : Type 0
 Row = List Field
 
-module _ (query : Parts) (n flight : ℕ) (start : Feeding) (number : ℕ) (chain : Contents Row Parts) (now : Feeding) (trace : StreamState) (output : OutputCheck) (under : Checking query n flight start number chain now trace output)
+module _ (query : QueryParts) (n flight : ℕ) (start : Feeding) (number : ℕ) (chain : Contents Row QueryParts) (now : Feeding) (trace : TextStreamState) (output : OutputCheck) (under : Checking query n flight start number chain now trace output)
     (done : IsDone chain.state) where
   -- the events that came
   abbrev pub came : Events
@@ -63,7 +63,7 @@ module _ (query : Parts) (n flight : ℕ) (start : Feeding) (number : ℕ) (chai
   pub all_text : next_pair under.gave.stands ≡ None → text (take under.given under.pairs) ≡ text_of query came
   all_text none =
       ap text
-      (ap (take under.given) (sym under.gave.emits) ∙ (all_given holds chain under.schedule came under.given under.gave.stands well under.kept done none ∙ ap (λ (q : Parts). kang (holds q) came) under.join))
+      (ap (take under.given) (sym under.gave.emits) ∙ (all_given holds chain under.schedule came under.given under.gave.stands well under.kept done none ∙ ap (λ (q : QueryParts). kang (holds q) came) under.join))
 
   module _ (stopped : is_stop chain.state.next ≡ true → is_some now.ended ≡ true) where
     has_ended : is_some now.ended ≡ true
@@ -89,7 +89,7 @@ module _ (query : Parts) (n flight : ℕ) (start : Feeding) (number : ℕ) (chai
 
     -- ---- the end of the trace
 
-    module _ (roles : Role → RoleState) (changes : ChangesOnly trace.role now.roles roles) (used : StreamState) where
+    module _ (roles : Role → RoleState) (changes : ChangesOnly trace.role now.roles roles) (used : TextStreamState) where
       only_trace : ChangesOnly role.Trace now.roles roles
       only_trace = subst (λ (of : Role). ChangesOnly of now.roles roles) under.trace_used.role changes
 
@@ -107,20 +107,20 @@ module _ (query : Parts) (n flight : ℕ) (start : Feeding) (number : ℕ) (chai
       end_wrong (verdict.Ended made) ends = gives_up query n flight start number chain now trace output under roles changes (verdict.Ended made) used ends
 
       -- the output's state behind it
-      pub agrees_then : Agrees (text (take under.given under.pairs)) (fresh role.Output) (start.roles role.Output) output (roles output.stream.role)
+      pub agrees_then : OutputAgrees (text (take under.given under.pairs)) (fresh role.Output) (start.roles role.Output) output (roles output.stream.role)
       agrees_then = agrees_still start now (text (take under.given under.pairs)) output roles (only_trace role.Output output_isnt_trace) under.agrees
 
       -- ---- the end of the output
 
-      module _ (whole : IsWhole under.lines (fresh role.Trace) (start.roles role.Trace) used (roles used.role)) (none : next_pair under.gave.stands ≡ None)
-          (after : Role → RoleState) (changed : ChangesOnly output.stream.role roles after) (stream : StreamState) where
+      module _ (whole : IsUsedWhole under.lines (fresh role.Trace) (start.roles role.Trace) used (roles used.role)) (none : next_pair under.gave.stands ≡ None)
+          (after : Role → RoleState) (changed : ChangesOnly output.stream.role roles after) (stream : TextStreamState) where
         only_output : ChangesOnly role.Output roles after
         only_output = subst (λ (of : Role). ChangesOnly of roles after) under.agrees.uses.role changed
 
-        abbrev fed_then : Fed start (record now { roles = roles })
+        abbrev fed_then : GaveAnswers start (record now { roles = roles })
         fed_then = fed_read start now role.Trace roles under.fed tt (λ e. e) only_trace
 
-        abbrev fed_last : Fed start (record now { roles = after })
+        abbrev fed_last : GaveAnswers start (record now { roles = after })
         fed_last = fed_read start (record now { roles = roles }) role.Output after fed_then tt (λ e. e) only_output
 
         used_then : Uses false under.lines (fresh role.Trace) (start.roles role.Trace) used (after used.role)
@@ -165,7 +165,7 @@ module _ (query : Parts) (n flight : ℕ) (start : Feeding) (number : ℕ) (chai
           ended = not_none;
           lines = under.lines;
           trace_is = record { uses = used_then; used_up = whole.used_up };
-          output_is = subst (λ (l : List ℕ). IsWhole l (fresh role.Output) (start.roles role.Output) stream (after stream.role)) (all_text none) ends;
+          output_is = subst (λ (l : List ℕ). IsUsedWhole l (fresh role.Output) (start.roles role.Output) stream (after stream.role)) (all_text none) ends;
           right = is_right under.lines (text_of query came) refl refl;
         }
         ends_checked (Err (verdict.Accepted events)) ends = absurd ends

@@ -7,35 +7,35 @@ use Rattle.hj_value.specs.declared.field.Field.{Field}
 use Rattle.hj_msg.specs.declared.event.Event.{Event}
 use Rattle.hj_msg.specs.declared.event.Pair.{Pair}
 use Rattle.hj_msg.specs.Emission.{emitted}
-use Rattle.hj_query.specs.Parts.{Parts}
+use Rattle.hj_query.specs.QueryParts.{QueryParts}
 use Rattle.hj_eval.specs.Holds.{holds}
 use Rattle.hj_chain.specs.declared.actor.Actor.{Actor}
 use Rattle.hj_chain.specs.Chain.{Contents}
 use Rattle.hj_chain.specs.Reached.{StandsFor, collected_of, next_pair}
 use Rattle.hj_stream.specs.JoinText.{text}
-use Rattle.hj_trace.specs.Stream.{StreamState}
+use Rattle.hj_trace.specs.Stream.{TextStreamState}
 use Rattle.hj_verify.specs.declared.output.OutputCheck.{OutputCheck}
 use Rattle.hj_verify.specs.declared.verdict.Verdict.{Verdict}
-use Rattle.hj_verify.specs.Output.{Agrees}
+use Rattle.hj_verify.specs.Output.{OutputAgrees}
 use Rattle.hj_verify.specs.Reading.{GivesUp}
 
 -- A chain stands for this schedule and these events, emits these pairs, and gave so many of them.
-pub record HasGiven (chain : Contents (List Field) Parts) (schedule : List Actor) (events : List (Event (List Field))) (given : ℕ)
+pub record ChainHasGiven (chain : Contents (List Field) QueryParts) (schedule : List Actor) (events : List (Event (List Field))) (given : ℕ)
     (pairs : List (Pair (List Field))) : Type 0 where
   pub stands : StandsFor holds chain schedule events given
   pub emits : emitted (collected_of stands.reached) ≡ pairs
 
 -- All pairs that are due were given, and the output was compared with their lines.
-pub record GaveDue (chain : Contents (List Field) Parts) (schedule : List Actor) (events : List (Event (List Field)))
+pub record GaveDue (chain : Contents (List Field) QueryParts) (schedule : List Actor) (events : List (Event (List Field)))
     (pairs : List (Pair (List Field)))
-    (start : StreamState) (before : RoleState) (output : OutputCheck) (now : RoleState) : Type 0 where
+    (start : TextStreamState) (before : RoleState) (output : OutputCheck) (now : RoleState) : Type 0 where
   pub given : ℕ
-  pub has : HasGiven chain schedule events given pairs
+  pub has : ChainHasGiven chain schedule events given pairs
   pub none_due : next_pair has.stands ≡ None
-  pub agrees : Agrees (text (take given pairs)) start before output now
+  pub agrees : OutputAgrees (text (take given pairs)) start before output now
 
 -- That was done, or given up.
-abbrev pub ChecksDue : Result (Unit {0}) Verdict → Contents (List Field) Parts → List Actor → List (Event (List Field))
-    → List (Pair (List Field)) → StreamState → RoleState → OutputCheck → RoleState → Type 0
+abbrev pub ChecksDue : Result (Unit {0}) Verdict → Contents (List Field) QueryParts → List Actor → List (Event (List Field))
+    → List (Pair (List Field)) → TextStreamState → RoleState → OutputCheck → RoleState → Type 0
 ChecksDue (Ok went) chain schedule events pairs start before output now = GaveDue chain schedule events pairs start before output now
 ChecksDue (Err judged) chain schedule events pairs start before output now = GivesUp judged role.Output start before output.stream now

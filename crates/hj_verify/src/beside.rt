@@ -11,11 +11,11 @@ ghost use Rattle.hj_eval.specs.Holds.{holds};
 ghost use Rattle.hj_chain.specs.declared.actor.Actor.{Actor as Actors};
 ghost use Rattle.hj_chain.specs.Steps.{GoesWith};
 ghost use Rattle.hj_stream.specs.JoinText.{text as lines_of};
-ghost use Rattle.hj_trace.specs.Stream.{GoesWith as IsReadOf, StreamState, Uses};
+ghost use Rattle.hj_trace.specs.Stream.{GoesWithRole as IsReadOf, TextStreamState, Uses};
 ghost use Rattle.hj_verify.specs.Beside.{ReadsBeside};
-ghost use Rattle.hj_verify.specs.Due.{ChecksDue, HasGiven};
+ghost use Rattle.hj_verify.specs.Due.{ChecksDue, ChainHasGiven};
 ghost use Rattle.hj_verify.specs.Lines.{EndsTrace, ReadsMaker, ReadsRest};
-ghost use Rattle.hj_verify.specs.Output.{Agrees, EndsOutput};
+ghost use Rattle.hj_verify.specs.Output.{OutputAgrees, EndsOutput};
 
 use crate::Verdict;
 use crate::output::OutputCheck;
@@ -40,7 +40,7 @@ pub(crate) fn next_maker<O: Outside>(
     ensures beside { ReadsBeside role.Trace feed.old feed.new }
     ensures role { trace.new.role ≡ trace.old.role }
     ensures read { IsReadOf trace.new (O.state feed.new.outside.now trace.new.role) }
-    ensures reads { (text : List ℕ) (start : StreamState) (before : RoleState)
+    ensures reads { (text : List ℕ) (start : TextStreamState) (before : RoleState)
         → Uses false text start before trace.old (O.state feed.old.outside.now trace.old.role)
         → ReadsMaker result number text start before trace.new (O.state feed.new.outside.now trace.new.role) }
 {
@@ -59,7 +59,7 @@ pub(crate) fn next_rest<O: Outside>(
     ensures beside { ReadsBeside role.Trace feed.old feed.new }
     ensures role { trace.new.role ≡ trace.old.role }
     ensures read { IsReadOf trace.new (O.state feed.new.outside.now trace.new.role) }
-    ensures reads { (text : List ℕ) (start : StreamState) (before : RoleState)
+    ensures reads { (text : List ℕ) (start : TextStreamState) (before : RoleState)
         → Uses false text start before trace.old (O.state feed.old.outside.now trace.old.role)
         → ReadsRest result expected.now number text start before trace.new (O.state feed.new.outside.now trace.new.role) }
 {
@@ -75,7 +75,7 @@ pub(crate) fn trace_end<O: Outside>(
     requires of { trace.old.role ≡ role.Trace }
     requires goes { IsReadOf trace.old (O.state feed.old.outside.now trace.old.role) }
     ensures beside { ReadsBeside role.Trace feed.old feed.new }
-    ensures reads { (text : List ℕ) (start : StreamState) (before : RoleState)
+    ensures reads { (text : List ℕ) (start : TextStreamState) (before : RoleState)
         → Uses false text start before trace.old (O.state feed.old.outside.now trace.old.role)
         → EndsTrace result number text start before trace.new (O.state feed.new.outside.now trace.new.role) }
 {
@@ -99,9 +99,9 @@ pub(crate) fn next_pairs<'r, S: Store<SharedRow, QueryJoin<'r>> + Drop, O: Outsi
     ensures role { output.new.stream.role ≡ output.old.stream.role }
     ensures read { IsReadOf output.new.stream (O.state feed.new.outside.now output.new.stream.role) }
     ensures checks { (schedule : List Actors) (events : List (Event (List Field))) (given : ℕ) (pairs : List (Pair (List Field)))
-        (start : StreamState) (before : RoleState)
-        → HasGiven chain.old schedule events given pairs
-        → Agrees (lines_of (take given pairs)) start before output.old (O.state feed.old.outside.now output.old.stream.role)
+        (start : TextStreamState) (before : RoleState)
+        → ChainHasGiven chain.old schedule events given pairs
+        → OutputAgrees (lines_of (take given pairs)) start before output.old (O.state feed.old.outside.now output.old.stream.role)
         → ChecksDue result chain.new schedule events pairs start before output.new (O.state feed.new.outside.now output.new.stream.role) }
 {
     check_due(chain, output, line, feed.outside)
@@ -115,8 +115,8 @@ pub(crate) fn output_end<O: Outside>(
     requires of { output.old.stream.role ≡ role.Output }
     requires goes { IsReadOf output.old.stream (O.state feed.old.outside.now output.old.stream.role) }
     ensures beside { ReadsBeside role.Output feed.old feed.new }
-    ensures ends { (text : List ℕ) (start : StreamState) (before : RoleState)
-        → Agrees text start before output.old (O.state feed.old.outside.now output.old.stream.role)
+    ensures ends { (text : List ℕ) (start : TextStreamState) (before : RoleState)
+        → OutputAgrees text start before output.old (O.state feed.old.outside.now output.old.stream.role)
         → EndsOutput result text start before output.new.stream (O.state feed.new.outside.now output.new.stream.role) }
 {
     output.end(feed.outside)

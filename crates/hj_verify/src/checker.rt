@@ -1,7 +1,7 @@
 ghost use Rattle.std.specs.Prelude.{◌≡◌, ◌≢◌, ℕ, List, None, Some, false};
 ghost use Rattle.hj_base.specs.Outside.{NamesStay};
 ghost use Rattle.hj_base.specs.declared.outside.Role.TheVariants as role;
-ghost use Rattle.hj_event.specs.Merger.{IsNew};
+ghost use Rattle.hj_event.specs.Merger.{IsNewMerger};
 ghost use Rattle.hj_event.specs.Roles.{IsInStep};
 ghost use Rattle.hj_stream.specs.declared.outcome.Outcome.{Outcome as Outcomes};
 ghost use Rattle.hj_stream.specs.Ends.{IsUnasked};
@@ -58,7 +58,7 @@ fn verify_merged<O: Outside>(
     merger: &mut Merger,
     outside: &mut O,
 ) -> Verdict
-    requires merger { IsNew query.now limit merger.old }
+    requires merger { IsNewMerger query.now limit merger.old }
     requires left { IsInStep false (O.state outside.old role.Left) }
     requires right { IsInStep false (O.state outside.old role.Right) }
     requires trace { IsInStep false (O.state outside.old role.Trace) }

@@ -2,7 +2,7 @@ ghost use Rattle.std.specs.Prelude.{◌≡◌, ◌<◌, ℕ, List, true, Some, I
 ghost use Rattle.hj_value.specs.declared.field.Field.{Field};
 ghost use Rattle.hj_msg.specs.declared.feed.Given.{Given};
 ghost use Rattle.hj_msg.specs.Feed.{Answers, GoesOverAnswers};
-ghost use Rattle.hj_query.specs.Parts.{Parts};
+ghost use Rattle.hj_query.specs.QueryParts.{QueryParts};
 ghost use Rattle.hj_eval.specs.Holds.{holds};
 ghost use Rattle.hj_chain.specs.declared.actor.Stepped.TheVariants as stepped;
 ghost use Rattle.hj_chain.specs.Progress.{IsDone};
@@ -94,7 +94,7 @@ pub(crate) fn check_line<'r, S: Store<SharedRow, QueryJoin<'r>> + Drop, O: Outsi
     ensures goes { GoesWith holds chain.new (state_of feed.new) }
     ensures are_open { AreOpen (roles_of feed.new) texts.new.trace texts.new.output.stream }
     ensures fewer { IfOk result (λ _. steps_left chain.new.state (state_of feed.new) < steps_left chain.old.state (state_of feed.old)) }
-    ensures checks { (query : Parts) (n flight : ℕ) (start : Feeding)
+    ensures checks { (query : QueryParts) (n flight : ℕ) (start : Feeding)
         → Checking query n flight start number chain.old (feeding feed.old) texts.old.trace texts.old.output
         → (IsDone chain.old.state → ⊥)
         → ChecksLine result query n flight start number chain.new (feeding feed.new) texts.new.trace texts.new.output }

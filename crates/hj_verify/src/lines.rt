@@ -1,5 +1,5 @@
 ghost use Rattle.std.specs.Prelude.{◌≡◌, ℕ, List};
-ghost use Rattle.hj_query.specs.Parts.{Parts};
+ghost use Rattle.hj_query.specs.QueryParts.{QueryParts};
 ghost use Rattle.hj_eval.specs.Holds.{holds};
 ghost use Rattle.hj_chain.specs.Progress.{IsDone};
 ghost use Rattle.hj_chain.specs.Steps.{GoesWith};
@@ -29,7 +29,7 @@ pub(crate) fn check_lines<'r, S: Store<SharedRow, QueryJoin<'r>> + Drop, O: Outs
     requires goes { GoesWith holds chain.old (state_of feed.old) }
     requires are_open { AreOpen (roles_of feed.old) texts.old.trace texts.old.output.stream }
     ensures outside { SameOutside feed.old feed.new }
-    ensures checks { (query : Parts) (n flight : ℕ) (start : Feeding)
+    ensures checks { (query : QueryParts) (n flight : ℕ) (start : Feeding)
         → Checking query n flight start 1 chain.old (feeding feed.old) texts.old.trace texts.old.output
         → ChecksAll result query n flight start (feeding feed.new) texts.new.trace texts.new.output.stream }
 {
@@ -62,7 +62,7 @@ fn check_ends<'r, S: Store<SharedRow, QueryJoin<'r>> + Drop, O: Outside>(
     requires goes { GoesWith holds chain.old (state_of feed.old) }
     requires are_open { AreOpen (roles_of feed.old) texts.old.trace texts.old.output.stream }
     ensures outside { SameOutside feed.old feed.new }
-    ensures checks { (query : Parts) (n flight : ℕ) (start : Feeding)
+    ensures checks { (query : QueryParts) (n flight : ℕ) (start : Feeding)
         → Checking query n flight start number chain.old (feeding feed.old) texts.old.trace texts.old.output
         → IsDone chain.old.state → ChecksAll result query n flight start (feeding feed.new) texts.new.trace texts.new.output.stream }
 {

@@ -1,8 +1,8 @@
 ghost use Rattle.std.specs.Prelude.{◌≡◌, ◌++◌, List, ℕ, [], false};
 ghost use Rattle.hj_base.specs.Outside.{ChangesOnly, RoleState, NamesStay};
 ghost use Rattle.hj_base.specs.declared.outside.Role.TheVariants as role;
-ghost use Rattle.hj_trace.specs.Stream.{GoesWith as IsReadOf, StreamState};
-ghost use Rattle.hj_verify.specs.Output.{Agrees, ComparesOn, Counts, EndsOutput};
+ghost use Rattle.hj_trace.specs.Stream.{GoesWithRole as IsReadOf, TextStreamState};
+ghost use Rattle.hj_verify.specs.Output.{OutputAgrees, ComparesOn, CountsBytes, EndsOutput};
 
 use crate::Verdict;
 use hj_base::{Outside, Role};
@@ -43,8 +43,8 @@ impl OutputCheck {
         requires { IsReadOf self.old.stream (O.state outside.old self.old.stream.role) }
         ensures role { self.new.stream.role ≡ self.old.stream.role }
         ensures read { IsReadOf self.new.stream (O.state outside.new self.new.stream.role) }
-        ensures compares { (text : List ℕ) (start : StreamState) (before : RoleState)
-            → Agrees text start before self.old (O.state outside.old self.old.stream.role)
+        ensures compares { (text : List ℕ) (start : TextStreamState) (before : RoleState)
+            → OutputAgrees text start before self.old (O.state outside.old self.old.stream.role)
             → ComparesOn result (text ++ expected.now) start before self.new (O.state outside.new self.new.stream.role) }
         ensures others { ChangesOnly self.old.stream.role (O.state outside.old) (O.state outside.new) }
         ensures names { NamesStay (O.under outside.old) (O.under outside.new) }
@@ -64,7 +64,7 @@ impl OutputCheck {
 
     /// Counts bytes more that are the same.
     fn count(&mut self, more: usize) -> Result<(), Verdict>
-        ensures { Counts result more self.old self.new }
+        ensures { CountsBytes result more self.old self.new }
     {
         let Some(same) = self.same.checked_add(more as u64) else {
             return Err(Verdict::Ended(Outcome::Memory));
@@ -76,8 +76,8 @@ impl OutputCheck {
     /// Compares the end of the output with that of the text.
     pub(crate) fn end<O: Outside>(&mut self, outside: &mut O) -> Result<(), Verdict>
         requires { IsReadOf self.old.stream (O.state outside.old self.old.stream.role) }
-        ensures ends { (text : List ℕ) (start : StreamState) (before : RoleState)
-            → Agrees text start before self.old (O.state outside.old self.old.stream.role)
+        ensures ends { (text : List ℕ) (start : TextStreamState) (before : RoleState)
+            → OutputAgrees text start before self.old (O.state outside.old self.old.stream.role)
             → EndsOutput result text start before self.new.stream (O.state outside.new self.new.stream.role) }
         ensures others { ChangesOnly self.old.stream.role (O.state outside.old) (O.state outside.new) }
         ensures names { NamesStay (O.under outside.old) (O.under outside.new) }

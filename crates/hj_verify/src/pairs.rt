@@ -8,9 +8,9 @@ ghost use Rattle.hj_eval.specs.Holds.{holds};
 ghost use Rattle.hj_chain.specs.declared.actor.Actor.{Actor as Actors};
 ghost use Rattle.hj_chain.specs.Steps.{GoesWith};
 ghost use Rattle.hj_stream.specs.JoinText.{pair_line, text as lines_of};
-ghost use Rattle.hj_trace.specs.Stream.{GoesWith as IsReadOf, StreamState};
-ghost use Rattle.hj_verify.specs.Due.{ChecksDue, HasGiven};
-ghost use Rattle.hj_verify.specs.Output.{Agrees, ComparesOn};
+ghost use Rattle.hj_trace.specs.Stream.{GoesWithRole as IsReadOf, TextStreamState};
+ghost use Rattle.hj_verify.specs.Due.{ChecksDue, ChainHasGiven};
+ghost use Rattle.hj_verify.specs.Output.{OutputAgrees, ComparesOn};
 
 use crate::Verdict;
 use crate::output::OutputCheck;
@@ -36,9 +36,9 @@ pub(crate) fn check_due<'r, S: Store<SharedRow, QueryJoin<'r>> + Drop, O: Outsid
     ensures role { output.new.stream.role ≡ output.old.stream.role }
     ensures read { IsReadOf output.new.stream (O.state outside.new output.new.stream.role) }
     ensures checks { (schedule : List Actors) (events : List (Event (List Field))) (given : ℕ) (pairs : List (Pairs (List Field)))
-        (start : StreamState) (before : RoleState)
-        → HasGiven chain.old schedule events given pairs
-        → Agrees (lines_of (take given pairs)) start before output.old (O.state outside.old output.old.stream.role)
+        (start : TextStreamState) (before : RoleState)
+        → ChainHasGiven chain.old schedule events given pairs
+        → OutputAgrees (lines_of (take given pairs)) start before output.old (O.state outside.old output.old.stream.role)
         → ChecksDue result chain.new schedule events pairs start before output.new (O.state outside.new output.new.stream.role) }
     ensures others { ChangesOnly output.old.stream.role (O.state outside.old) (O.state outside.new) }
     ensures names { NamesStay (O.under outside.old) (O.under outside.new) }
@@ -59,8 +59,8 @@ fn check_pair<O: Outside>(
     requires { IsReadOf output.old.stream (O.state outside.old output.old.stream.role) }
     ensures role { output.new.stream.role ≡ output.old.stream.role }
     ensures read { IsReadOf output.new.stream (O.state outside.new output.new.stream.role) }
-    ensures compares { (text : List ℕ) (start : StreamState) (before : RoleState)
-        → Agrees text start before output.old (O.state outside.old output.old.stream.role)
+    ensures compares { (text : List ℕ) (start : TextStreamState) (before : RoleState)
+        → OutputAgrees text start before output.old (O.state outside.old output.old.stream.role)
         → ComparesOn result (text ++ pair_line pair.now) start before output.new (O.state outside.new output.new.stream.role) }
     ensures others { ChangesOnly output.old.stream.role (O.state outside.old) (O.state outside.new) }
     ensures names { NamesStay (O.under outside.old) (O.under outside.new) }

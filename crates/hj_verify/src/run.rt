@@ -1,6 +1,6 @@
 ghost use Rattle.std.specs.Prelude.{ℕ, false};
 ghost use Rattle.hj_base.specs.declared.outside.Role.TheVariants as role;
-ghost use Rattle.hj_query.specs.Parts.{Parts};
+ghost use Rattle.hj_query.specs.QueryParts.{QueryParts};
 ghost use Rattle.hj_eval.specs.Holds.{holds};
 ghost use Rattle.hj_event.specs.Roles.{IsInStep};
 ghost use Rattle.hj_chain.specs.Steps.{GoesWith};
@@ -62,7 +62,7 @@ fn check_begun<'r, S: Store<SharedRow, QueryJoin<'r>> + Drop, O: Outside>(
     requires trace { IsInStep false (roles_of feed.old role.Trace) }
     requires output { IsInStep false (roles_of feed.old role.Output) }
     ensures outside { SameOutside feed.old feed.new }
-    ensures checks { (query : Parts) (n flight : ℕ) (start : Feeding) → IsUnplayed query n flight start chain.old (feeding feed.old)
+    ensures checks { (query : QueryParts) (n flight : ℕ) (start : Feeding) → IsUnplayed query n flight start chain.old (feeding feed.old)
         → ChecksRun result query n flight start (feeding feed.new) }
 {
     go_on(feed)?;

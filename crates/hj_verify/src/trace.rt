@@ -1,7 +1,7 @@
 ghost use Rattle.std.specs.Prelude.{◌≡◌, List, ℕ, false};
 ghost use Rattle.hj_base.specs.Outside.{ChangesOnly, RoleState, NamesStay};
 ghost use Rattle.hj_base.specs.declared.outside.Role.TheVariants as role;
-ghost use Rattle.hj_trace.specs.Stream.{GoesWith as IsReadOf, StreamState, Uses};
+ghost use Rattle.hj_trace.specs.Stream.{GoesWithRole as IsReadOf, TextStreamState, Uses};
 ghost use Rattle.hj_verify.specs.Lines.{EndsTrace, ReadsMaker, ReadsRest};
 
 use crate::Verdict;
@@ -22,7 +22,7 @@ pub(crate) fn read_maker<O: Outside>(
     requires { IsReadOf trace.old (O.state outside.old trace.old.role) }
     ensures role { trace.new.role ≡ trace.old.role }
     ensures read { IsReadOf trace.new (O.state outside.new trace.new.role) }
-    ensures reads { (text : List ℕ) (start : StreamState) (before : RoleState)
+    ensures reads { (text : List ℕ) (start : TextStreamState) (before : RoleState)
         → Uses false text start before trace.old (O.state outside.old trace.old.role)
         → ReadsMaker result number text start before trace.new (O.state outside.new trace.new.role) }
     ensures others { ChangesOnly trace.old.role (O.state outside.old) (O.state outside.new) }
@@ -50,7 +50,7 @@ pub(crate) fn read_rest<O: Outside>(
     requires { IsReadOf trace.old (O.state outside.old trace.old.role) }
     ensures role { trace.new.role ≡ trace.old.role }
     ensures read { IsReadOf trace.new (O.state outside.new trace.new.role) }
-    ensures reads { (text : List ℕ) (start : StreamState) (before : RoleState)
+    ensures reads { (text : List ℕ) (start : TextStreamState) (before : RoleState)
         → Uses false text start before trace.old (O.state outside.old trace.old.role)
         → ReadsRest result expected.now number text start before trace.new (O.state outside.new trace.new.role) }
     ensures others { ChangesOnly trace.old.role (O.state outside.old) (O.state outside.new) }
@@ -70,7 +70,7 @@ pub(crate) fn read_end<O: Outside>(
     outside: &mut O,
 ) -> Result<(), Verdict>
     requires { IsReadOf trace.old (O.state outside.old trace.old.role) }
-    ensures reads { (text : List ℕ) (start : StreamState) (before : RoleState)
+    ensures reads { (text : List ℕ) (start : TextStreamState) (before : RoleState)
         → Uses false text start before trace.old (O.state outside.old trace.old.role)
         → EndsTrace result number text start before trace.new (O.state outside.new trace.new.role) }
     ensures others { ChangesOnly trace.old.role (O.state outside.old) (O.state outside.new) }

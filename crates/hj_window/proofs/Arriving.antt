@@ -10,7 +10,7 @@ use Rattle.hj_base.specs.declared.numbers.Window.TheVariants.{Rows, Time}
 use Rattle.hj_window.specs.declared.side_rows.HeldRow.{HeldRow}
 use Rattle.hj_window.specs.LiveRows.{LiveRow, LiveRows, AllAbove, AllBelow, IsInOrder, is_gone, is_same_side, window_of, of_side, one_too_many, without, Arrived, arrive}
 use Rattle.hj_window.specs.Numbers.{number_of_some}
-use Rattle.hj_window.specs.SideRows.{Kept, unaged, Overflow, overflow, entered}
+use Rattle.hj_window.specs.SideRows.{SideRowsState, unaged, Overflow, overflow, entered}
 use Rattle.hj_window.specs.LiveView.{live_row, live_rows, merged, live_of}
 use Rattle.hj_window.proofs.Order.{below_filter, below_higher, in_order_filter, in_order_push, arrive_in_order}
 use Rattle.hj_window.proofs.Merging.{filter_merged, filter_seen, lefts_of, rights_of, push_left, push_right}
@@ -86,7 +86,7 @@ without_right (Rows count) rows (oldest ∷ others) order order' =
 abbrev stays : LiveRows → ℤ → LiveRow → Bool
 stays live time row = not (is_gone live time row)
 
-rows_that_stay : (left right : Kept) (time : ℤ) → IsInOrder (live_of left right).rows
+rows_that_stay : (left right : SideRowsState) (time : ℤ) → IsInOrder (live_of left right).rows
     → filter (stays (live_of left right) time) (live_of left right).rows ≡ merged (live_rows Left (unaged left.window time left.rows)) (live_rows Right (unaged right.window time right.rows))
 rows_that_stay left right time order =
     let test = stays (live_of left right) time in
@@ -94,17 +94,18 @@ rows_that_stay left right time order =
     ∙ ap (λ l. merged l (filter test (live_rows Right right.rows))) (filter_seen test Left left.rows)
     ∙ ap (merged (live_rows Left (unaged left.window time left.rows))) (filter_seen test Right right.rows)
 
-below_lefts : (left right : Kept) (time : ℤ) (at : ℕ) → AllBelow at (live_of left right).rows → AllBelow at (live_rows Left (unaged left.window time left.rows))
+below_lefts : (left right : SideRowsState) (time : ℤ) (at : ℕ) → AllBelow at (live_of left right).rows → AllBelow at (live_rows Left (unaged left.window time left.rows))
 below_lefts left right time at below =
     let test = stays (live_of left right) time in
     subst (AllBelow at) (filter_seen test Left left.rows) (below_filter test at (live_rows Left left.rows) (subst (AllBelow at) (lefts_of left.rows right.rows) (below_filter _ at (live_of left right).rows below)))
 
-below_rights : (left right : Kept) (time : ℤ) (at : ℕ) → AllBelow at (live_of left right).rows → AllBelow at (live_rows Right (unaged right.window time right.rows))
+below_rights : (left right : SideRowsState) (time : ℤ) (at : ℕ) → AllBelow at (live_of left right).rows → AllBelow at (live_rows Right (unaged right.window time right.rows))
 below_rights left right time at below =
     let test = stays (live_of left right) time in
     subst (AllBelow at) (filter_seen test Right right.rows) (below_filter test at (live_rows Right right.rows) (subst (AllBelow at) (rights_of left.rows right.rows) (below_filter _ at (live_of left right).rows below)))
 
-entered_left : (left right : Kept) (held : HeldRow) → IsInOrder (live_of left right).rows → AllBelow held.no.0 (live_of left right).rows
+entered_left : (left right : SideRowsState) (held : HeldRow) → IsInOrder (live_of left right).rows
+    → AllBelow held.no.0 (live_of left right).rows
     → filter (stays (live_of left right) held.time) (live_of left right).rows ++ live_row Left held ∷ [] ≡ merged (live_rows Left (entered left held)) (live_rows Right (unaged right.window held.time right.rows))
 entered_left left right held order below =
     let lefts = unaged left.window held.time left.rows in
@@ -113,7 +114,8 @@ entered_left left right held order below =
     ∙ push_left (live_rows Left lefts) (live_rows Right rights) (live_row Left held) (below_rights left right held.time held.no.0 below)
     ∙ ap (λ l. merged l (live_rows Right rights)) (sym (map-append (live_row Left) lefts (held ∷ [])))
 
-entered_right : (left right : Kept) (held : HeldRow) → IsInOrder (live_of left right).rows → AllBelow held.no.0 (live_of left right).rows
+entered_right : (left right : SideRowsState) (held : HeldRow) → IsInOrder (live_of left right).rows
+    → AllBelow held.no.0 (live_of left right).rows
     → filter (stays (live_of left right) held.time) (live_of left right).rows ++ live_row Right held ∷ [] ≡ merged (live_rows Left (unaged left.window held.time left.rows)) (live_rows Right (entered right held))
 entered_right left right held order below =
     let lefts = unaged left.window held.time left.rows in
@@ -140,21 +142,24 @@ IsNumberOf live held at = held.no.0 ≡ at + length (filter (is_gone live held.t
 arrives : (live : LiveRows) (side : Side) (held : HeldRow) (at : ℕ) → IsNumberOf live held at → arrived live (live_row side held) ≡ arrive live side held.time at
 arrives live side held at number = ap (λ n. let row : LiveRow = record { no = n; side = side; time = held.time } in arrived live row) number
 
-after_left : (left right : Kept) (held : HeldRow) → IsInOrder (live_of left right).rows → AllBelow held.no.0 (live_of left right).rows
+after_left : (left right : SideRowsState) (held : HeldRow) → IsInOrder (live_of left right).rows
+    → AllBelow held.no.0 (live_of left right).rows
     → number_of_some (arrived (live_of left right) (live_row Left held)).after ≡ (overflow left.window (entered left held)).gone
 after_left left right held order below =
     ap (λ l. number_of_some (one_too_many left.window (of_side Left l))) (entered_left left right held order below)
     ∙ ap (λ l. number_of_some (one_too_many left.window l)) (lefts_of (entered left held) (unaged right.window held.time right.rows))
     ∙ sym (gone_seen left.window Left (entered left held))
 
-after_right : (left right : Kept) (held : HeldRow) → IsInOrder (live_of left right).rows → AllBelow held.no.0 (live_of left right).rows
+after_right : (left right : SideRowsState) (held : HeldRow) → IsInOrder (live_of left right).rows
+    → AllBelow held.no.0 (live_of left right).rows
     → number_of_some (arrived (live_of left right) (live_row Right held)).after ≡ (overflow right.window (entered right held)).gone
 after_right left right held order below =
     ap (λ l. number_of_some (one_too_many right.window (of_side Right l))) (entered_right left right held order below)
     ∙ ap (λ l. number_of_some (one_too_many right.window l)) (rights_of (unaged left.window held.time left.rows) (entered right held))
     ∙ sym (gone_seen right.window Right (entered right held))
 
-rows_left : (left right : Kept) (held : HeldRow) → IsInOrder (live_of left right).rows → AllBelow held.no.0 (live_of left right).rows
+rows_left : (left right : SideRowsState) (held : HeldRow) → IsInOrder (live_of left right).rows
+    → AllBelow held.no.0 (live_of left right).rows
     → (arrived (live_of left right) (live_row Left held)).live.rows ≡ merged (live_rows Left (overflow left.window (entered left held)).rows) (live_rows Right (unaged right.window held.time right.rows))
 rows_left left right held order below =
     let lefts = entered left held in
@@ -165,7 +170,8 @@ rows_left left right held order below =
     ∙ ap (λ l. without (one_too_many left.window l) all) (lefts_of lefts rights)
     ∙ without_left left.window lefts rights (subst IsInOrder (lefts_of lefts rights) (in_order_filter _ all ordered)) (subst IsInOrder (rights_of lefts rights) (in_order_filter _ all ordered))
 
-rows_right : (left right : Kept) (held : HeldRow) → IsInOrder (live_of left right).rows → AllBelow held.no.0 (live_of left right).rows
+rows_right : (left right : SideRowsState) (held : HeldRow) → IsInOrder (live_of left right).rows
+    → AllBelow held.no.0 (live_of left right).rows
     → (arrived (live_of left right) (live_row Right held)).live.rows ≡ merged (live_rows Left (unaged left.window held.time left.rows)) (live_rows Right (overflow right.window (entered right held)).rows)
 rows_right left right held order below =
     let lefts = unaged left.window held.time left.rows in
@@ -177,12 +183,12 @@ rows_right left right held order below =
     ∙ without_right right.window lefts rights (subst IsInOrder (lefts_of lefts rights) (in_order_filter _ all ordered)) (subst IsInOrder (rights_of lefts rights) (in_order_filter _ all ordered))
 
 -- what an arrival on a side leaves of its own rows, and of those of the other side
-pub record Enters (old other new other_new : Kept) (held : HeldRow) : Type 0 where
+pub record Enters (old other new other_new : SideRowsState) (held : HeldRow) : Type 0 where
   pub windows : (new.window ≡ old.window) × (other_new.window ≡ other.window)
   pub own_rows : new.rows ≡ (overflow old.window (entered old held)).rows
   pub other_rows : other_new.rows ≡ unaged other.window held.time other.rows
 
-same_live : (left right : Window) (rows others : List HeldRow) (new other : Kept) → new.window ≡ left → other.window ≡ right → new.rows ≡ rows → other.rows ≡ others
+same_live : (left right : Window) (rows others : List HeldRow) (new other : SideRowsState) → new.window ≡ left → other.window ≡ right → new.rows ≡ rows → other.rows ≡ others
     → live_of new other ≡ record { left = left; right = right; rows = merged (live_rows Left rows) (live_rows Right others) }
 same_live left right rows others new other window window' is is' =
     ap (λ w. let live : LiveRows = record { left = w; right = other.window; rows = merged (live_rows Left new.rows) (live_rows Right other.rows) } in live) window
@@ -194,7 +200,7 @@ below_number : (live : LiveRows) (held : HeldRow) (at : ℕ) → IsNumberOf live
 below_number live held at number below = below_higher at held.no.0 live.rows (omega arith) below
 
 -- the row of the left side that expires after an arrival
-pub left_after : (live : LiveRows) (left right : Kept) (held : HeldRow) (at : ℕ) → live_of left right ≡ live → IsInOrder (live_of left right).rows → AllBelow at live.rows → IsNumberOf live held at
+pub left_after : (live : LiveRows) (left right : SideRowsState) (held : HeldRow) (at : ℕ) → live_of left right ≡ live → IsInOrder (live_of left right).rows → AllBelow at live.rows → IsNumberOf live held at
     → (overflow left.window (entered left held)).gone ≡ number_of_some (arrive live Left held.time at).after
 left_after live left right held at seen order below number =
     let base = live_of left right in
@@ -202,7 +208,7 @@ left_after live left right held at seen order below number =
     let below' = below_number base held at number' (subst (λ (l : LiveRows). AllBelow at l.rows) (sym seen) below) in
     sym (after_left left right held order below') ∙ ap (λ (a : Arrived). number_of_some a.after) (arrives base Left held at number') ∙ ap (λ l. number_of_some (arrive l Left held.time at).after) seen
 
-pub right_after : (live : LiveRows) (left right : Kept) (held : HeldRow) (at : ℕ) → live_of left right ≡ live → IsInOrder (live_of left right).rows → AllBelow at live.rows → IsNumberOf live held at
+pub right_after : (live : LiveRows) (left right : SideRowsState) (held : HeldRow) (at : ℕ) → live_of left right ≡ live → IsInOrder (live_of left right).rows → AllBelow at live.rows → IsNumberOf live held at
     → (overflow right.window (entered right held)).gone ≡ number_of_some (arrive live Right held.time at).after
 right_after live left right held at seen order below number =
     let base = live_of left right in
@@ -211,7 +217,7 @@ right_after live left right held at seen order below number =
     sym (after_right left right held order below') ∙ ap (λ (a : Arrived). number_of_some a.after) (arrives base Right held at number') ∙ ap (λ l. number_of_some (arrive l Right held.time at).after) seen
 
 -- what is live after an arrival on the left
-pub left_live : (live : LiveRows) (left right new other : Kept) (held : HeldRow) (at : ℕ) → live_of left right ≡ live → IsInOrder (live_of left right).rows → AllBelow at live.rows → IsNumberOf live held at
+pub left_live : (live : LiveRows) (left right new other : SideRowsState) (held : HeldRow) (at : ℕ) → live_of left right ≡ live → IsInOrder (live_of left right).rows → AllBelow at live.rows → IsNumberOf live held at
     → Enters left right new other held → live_of new other ≡ (arrive live Left held.time at).live
 left_live live left right new other held at seen order below number enters =
     let base = live_of left right in
@@ -222,7 +228,7 @@ left_live live left right new other held at seen order below number enters =
     ∙ ap (λ (a : Arrived). a.live) (arrives base Left held at number') ∙ ap (λ l. (arrive l Left held.time at).live) seen
 
 -- and on the right
-pub right_live : (live : LiveRows) (left right new other : Kept) (held : HeldRow) (at : ℕ) → live_of left right ≡ live → IsInOrder (live_of left right).rows → AllBelow at live.rows → IsNumberOf live held at
+pub right_live : (live : LiveRows) (left right new other : SideRowsState) (held : HeldRow) (at : ℕ) → live_of left right ≡ live → IsInOrder (live_of left right).rows → AllBelow at live.rows → IsNumberOf live held at
     → Enters right left new other held → live_of other new ≡ (arrive live Right held.time at).live
 right_live live left right new other held at seen order below number enters =
     let base = live_of left right in
@@ -232,17 +238,17 @@ right_live live left right new other held at seen order below number enters =
     ∙ ap (λ l. let live : LiveRows = record { left = left.window; right = right.window; rows = l } in live) (sym (rows_right left right held order below'))
     ∙ ap (λ (a : Arrived). a.live) (arrives base Right held at number') ∙ ap (λ l. (arrive l Right held.time at).live) seen
 
-order_after : (live after : LiveRows) (left right : Kept) (side : Side) (time : ℤ) (at : ℕ) → live_of left right ≡ live → IsInOrder (live_of left right).rows → AllBelow at live.rows → after ≡ (arrive live side time at).live → IsInOrder after.rows
+order_after : (live after : LiveRows) (left right : SideRowsState) (side : Side) (time : ℤ) (at : ℕ) → live_of left right ≡ live → IsInOrder (live_of left right).rows → AllBelow at live.rows → after ≡ (arrive live side time at).live → IsInOrder after.rows
 order_after live after left right side time at seen order below is =
     subst (λ (l : LiveRows). IsInOrder l.rows) (sym is) (arrive_in_order live side time at (subst (λ (l : LiveRows). IsInOrder l.rows) seen order) below)
 
 -- and the numbers rise
-pub left_order : (live : LiveRows) (left right new other : Kept) (held : HeldRow) (at : ℕ) → live_of left right ≡ live → IsInOrder (live_of left right).rows → AllBelow at live.rows → IsNumberOf live held at
+pub left_order : (live : LiveRows) (left right new other : SideRowsState) (held : HeldRow) (at : ℕ) → live_of left right ≡ live → IsInOrder (live_of left right).rows → AllBelow at live.rows → IsNumberOf live held at
     → Enters left right new other held → IsInOrder (live_of new other).rows
 left_order live left right new other held at seen order below number enters =
     order_after live (live_of new other) left right Left held.time at seen order below (left_live live left right new other held at seen order below number enters)
 
-pub right_order : (live : LiveRows) (left right new other : Kept) (held : HeldRow) (at : ℕ) → live_of left right ≡ live → IsInOrder (live_of left right).rows → AllBelow at live.rows → IsNumberOf live held at
+pub right_order : (live : LiveRows) (left right new other : SideRowsState) (held : HeldRow) (at : ℕ) → live_of left right ≡ live → IsInOrder (live_of left right).rows → AllBelow at live.rows → IsNumberOf live held at
     → Enters right left new other held → IsInOrder (live_of other new).rows
 right_order live left right new other held at seen order below number enters =
     order_after live (live_of other new) left right Right held.time at seen order below (right_live live left right new other held at seen order below number enters)

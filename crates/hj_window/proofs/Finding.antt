@@ -9,7 +9,7 @@ use Rattle.hj_base.specs.declared.numbers.Window.{Window}
 use Rattle.hj_base.specs.declared.numbers.Window.TheVariants.{Rows, Time}
 use Rattle.hj_window.specs.LiveRows.{LiveRow, LiveRows, IsInOrder, is_gone, is_gone_at, window_of}
 use Rattle.hj_window.specs.Numbers.{number_of, numbers_of}
-use Rattle.hj_window.specs.SideRows.{Kept, aged, counts_rows, due_rows, first_of}
+use Rattle.hj_window.specs.SideRows.{SideRowsState, aged, counts_rows, due_rows, first_of}
 use Rattle.hj_window.specs.LiveView.{live_row, live_rows, among, merged, live_of}
 use Rattle.hj_window.proofs.Order.{in_order_filter}
 use Rattle.hj_window.proofs.Merging.{filter_merged, filter_seen, lefts_of, rights_of}
@@ -29,17 +29,17 @@ none_gone live now (row ∷ rows) left right =
     ap (λ b. cond b (row ∷ filter (is_gone live now) rows) (filter (is_gone live now) rows)) (stays_on live row.side (now -ℤ row.time) left right) ∙ none_gone live now rows left right
 
 -- the rows that are still to be answered
-abbrev pub still_due : ℤ → Kept → Kept → Option AgedRow → Option AgedRow → List LiveRow
+abbrev pub still_due : ℤ → SideRowsState → SideRowsState → Option AgedRow → Option AgedRow → List LiveRow
 still_due now left right first other = merged (live_rows Left (due_rows left.window now left.rows first)) (live_rows Right (due_rows right.window now right.rows other))
 
-pub lefts_in_order : (left right : Kept) → IsInOrder (live_of left right).rows → IsInOrder (live_rows Left left.rows)
+pub lefts_in_order : (left right : SideRowsState) → IsInOrder (live_of left right).rows → IsInOrder (live_rows Left left.rows)
 lefts_in_order left right order = subst IsInOrder (lefts_of left.rows right.rows) (in_order_filter _ (live_of left right).rows order)
 
-pub rights_in_order : (left right : Kept) → IsInOrder (live_of left right).rows → IsInOrder (live_rows Right right.rows)
+pub rights_in_order : (left right : SideRowsState) → IsInOrder (live_of left right).rows → IsInOrder (live_rows Right right.rows)
 rights_in_order left right order = subst IsInOrder (rights_of left.rows right.rows) (in_order_filter _ (live_of left right).rows order)
 
 -- at first all are
-pub all_due : (live : LiveRows) (now : ℤ) (left right : Kept) (first other : Option AgedRow) → live_of left right ≡ live → IsInOrder (live_of left right).rows
+pub all_due : (live : LiveRows) (now : ℤ) (left right : SideRowsState) (first other : Option AgedRow) → live_of left right ≡ live → IsInOrder (live_of left right).rows
     → aged left.window now left.rows ≡ due_rows left.window now left.rows first → aged right.window now right.rows ≡ due_rows right.window now right.rows other
     → filter (is_gone live now) live.rows ≡ still_due now left right first other
 all_due live now left right first other seen order left_due right_due =
@@ -66,7 +66,7 @@ pub found_on : (side wanted : Side) (due : AgedRow) (answer : Option (Side × Ag
 found_on side wanted due answer is of = sym is ∙ ap (λ s. found s due) of
 
 -- where the left row is the first of two, it comes first
-left_first : (now : ℤ) (left right : Kept) (first other : Option AgedRow) (due : AgedRow) → first_of first other ≡ found Left due
+left_first : (now : ℤ) (left right : SideRowsState) (first other : Option AgedRow) (due : AgedRow) → first_of first other ≡ found Left due
     → still_due now left right first other ≡ live_row Left due.held ∷ merged (live_rows Left (aged left.window now (drop due.next left.rows))) (live_rows Right (due_rows right.window now right.rows other))
 left_first now left right None None due is = cc
 left_first now left right None (Some other) due is = absurd (right_isn't_left other due is)
@@ -83,7 +83,7 @@ left_first now left right (Some first) (Some other) due is =
     ] is
 
 -- and so the right one
-right_first : (now : ℤ) (left right : Kept) (first other : Option AgedRow) (due : AgedRow) → first_of first other ≡ found Right due
+right_first : (now : ℤ) (left right : SideRowsState) (first other : Option AgedRow) (due : AgedRow) → first_of first other ≡ found Right due
     → still_due now left right first other ≡ live_row Right due.held ∷ merged (live_rows Left (due_rows left.window now left.rows first)) (live_rows Right (aged right.window now (drop due.next right.rows)))
 right_first now left right None None due is = cc
 right_first now left right None (Some other) due is =
@@ -105,7 +105,7 @@ answered row rest all due before after so_far next is =
     so_far ∙ ap (λ l. before ++ numbers_of l) next ∙ sym (append_assoc before ((row.side, number_of row) ∷ []) (numbers_of rest)) ∙ ap (λ l. l ++ numbers_of rest) (sym is)
 
 -- a left row was answered, and the next one of its side was looked for
-pub answered_left : (now : ℤ) (left right : Kept) (first other next : Option AgedRow) (due : AgedRow) (all : List LiveRow) (before after : List (Side × EventNo))
+pub answered_left : (now : ℤ) (left right : SideRowsState) (first other next : Option AgedRow) (due : AgedRow) (all : List LiveRow) (before after : List (Side × EventNo))
     → numbers_of all ≡ before ++ numbers_of (still_due now left right first other) → first_of first other ≡ found Left due → after ≡ before ++ (Left, due.held.no) ∷ []
     → aged left.window now (drop due.next left.rows) ≡ due_rows left.window now left.rows next → numbers_of all ≡ after ++ numbers_of (still_due now left right next other)
 answered_left now left right first other next due all before after so_far is grown behind =
@@ -114,7 +114,7 @@ answered_left now left right first other next due all before after so_far is gro
     ∙ ap (λ l. after ++ numbers_of (merged (live_rows Left l) (live_rows Right (due_rows right.window now right.rows other)))) behind
 
 -- and so a right row
-pub answered_right : (now : ℤ) (left right : Kept) (first other next : Option AgedRow) (due : AgedRow) (all : List LiveRow) (before after : List (Side × EventNo))
+pub answered_right : (now : ℤ) (left right : SideRowsState) (first other next : Option AgedRow) (due : AgedRow) (all : List LiveRow) (before after : List (Side × EventNo))
     → numbers_of all ≡ before ++ numbers_of (still_due now left right first other) → first_of first other ≡ found Right due → after ≡ before ++ (Right, due.held.no) ∷ []
     → aged right.window now (drop due.next right.rows) ≡ due_rows right.window now right.rows next → numbers_of all ≡ after ++ numbers_of (still_due now left right first next)
 answered_right now left right first other next due all before after so_far is grown behind =

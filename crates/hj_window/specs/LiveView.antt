@@ -4,7 +4,7 @@ use Rattle.hj_base.specs.declared.numbers.Side.{Side}
 use Rattle.hj_base.specs.declared.numbers.Side.TheVariants.{Left, Right}
 use Rattle.hj_window.specs.declared.side_rows.HeldRow.{HeldRow}
 use Rattle.hj_window.specs.LiveRows.{LiveRow, LiveRows}
-use Rattle.hj_window.specs.SideRows.{Kept}
+use Rattle.hj_window.specs.SideRows.{SideRowsState}
 
 abbrev pub live_row : Side → HeldRow → LiveRow
 live_row side held = record { no = held.no.0; side = side; time = held.time }
@@ -22,6 +22,6 @@ abbrev pub merged : List LiveRow → List LiveRow → List LiveRow
 merged [] others = others
 merged (row ∷ rows) others = among row (merged rows) others
 
-abbrev pub live_of : Kept → Kept → LiveRows
+abbrev pub live_of : SideRowsState → SideRowsState → LiveRows
 live_of left right =
     record { left = left.window; right = right.window; rows = merged (live_rows Left left.rows) (live_rows Right right.rows) }

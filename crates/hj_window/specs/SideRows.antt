@@ -10,7 +10,7 @@ use Rattle.hj_window.specs.declared.side_rows.HeldRow.{HeldRow}
 use Rattle.hj_window.specs.declared.side_rows.AgedRow.{AgedRow}
 use Rattle.hj_window.specs.LiveRows.{is_gone_at}
 
-pub record Kept : Type 0 where
+pub record SideRowsState : Type 0 where
   pub window : Window
   -- the rows, the oldest first
   pub rows : List HeldRow
@@ -76,9 +76,9 @@ overflow (Rows count) (oldest ∷ others) =
     else record { gone = None; rows = oldest ∷ others }
 
 -- The same rows under the same window; the room may be another.
-abbrev pub IsAsBefore : Kept → Kept → Type 0
+abbrev pub IsAsBefore : SideRowsState → SideRowsState → Type 0
 IsAsBefore old new = (new.window ≡ old.window) × (new.rows ≡ old.rows)
 
 -- the side's rows behind an arrival: the aged ones are gone, and the new one is the last
-abbrev pub entered : Kept → HeldRow → List HeldRow
+abbrev pub entered : SideRowsState → HeldRow → List HeldRow
 entered old held = unaged old.window held.time old.rows ++ held ∷ []

@@ -32,11 +32,11 @@ pub(crate) struct SideRows {
 }
 
 impl Model for SideRows {
-    ghost use Rattle.hj_window.specs.SideRows.{Kept, OnceInTime};
+    ghost use Rattle.hj_window.specs.SideRows.{SideRowsState, OnceInTime};
     ghost use Rattle.std.specs.Prelude.{◌-◌};
     ghost use Rattle.std.specs.VecDeque.{deque_len, deque_capacity};
 
-    ghost Value = { Kept };
+    ghost Value = { SideRowsState };
 
     ghost view = { λ s. record { window = s.window; rows = s.rows.items; room = deque_capacity s.rows - deque_len s.rows } };
 

@@ -8,7 +8,7 @@ use Rattle.clap.specs.declared.builder.action.ArgAction.TheVariants.{Set}
 use Rattle.clap.specs.declared.builder.value_parser.ValueParser.TheVariants.{String}
 use Rattle.clap.specs.declared.builder.value_parser.Reading.TheVariants.{AsWritten}
 use Rattle.clap.specs.declared.parser.matches.ValueSource.TheVariants.{CommandLine}
-use Rattle.hj_words.specs.Values.{Text, Value, is_among}
+use Rattle.hj_words.specs.Values.{Text, NamedValue, is_among}
 
 -- an argument with one value
 abbrev pub single : Text → Option Text → Option ℕ → Rule
@@ -39,7 +39,7 @@ abbrev pub positional_arg : ℕ → Text → Rule
 positional_arg place name = single name None (Some place)
 
 -- the row of a value that was read
-abbrev pub row_of : Value → Row
+abbrev pub row_of : NamedValue → Row
 row_of v = record {
   id = v.name;
   values = v.text ∷ [];

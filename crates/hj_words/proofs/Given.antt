@@ -28,13 +28,13 @@ use Rattle.clap.proofs.WalkLemmas.{first_value-rows}
 use Rattle.clap.proofs.FaultLemmas.{leaf_fault}
 use Rattle.hj_words.specs.Arguments.{Accepts, Carries, Refuses, bare_app, command_app, rule_at}
 use Rattle.hj_words.specs.declared.arguments.ValuePlace.TheVariants as place
-use Rattle.hj_words.specs.Values.{Text, Value, given, once, text_of, values_of}
+use Rattle.hj_words.specs.Values.{Text, NamedValue, given, once, text_of, values_of}
 use Rattle.hj_words.proofs.Commands.{Finds, Places, top_of}
 use Rattle.hj_words.proofs.Law.{AreTexts, Agrees, agrees, at, is_accepted}
 use Rattle.hj_words.proofs.Once.{once_after, once_from_start}
 use Rattle.hj_words.proofs.Turns.{no_kinds, none_of_both, rows_of}
 
-pub text_first : (name : Text) (values : List Value) → first_of name (rows_of values) ≡ text_of name values
+pub text_first : (name : Text) (values : List NamedValue) → first_of name (rows_of values) ≡ text_of name values
 text_first name [] = refl
 text_first name (v ∷ values) = go (bytes_eq v.name name) refl (text_first name values)
   where
@@ -46,11 +46,11 @@ pub texts_of : {Z : Type 0} (words : List (String Z)) → AreTexts (map string_b
 texts_of [] = tt
 texts_of (word ∷ words) = (IsUtf8-string_bytes word, texts_of words)
 
-given_where : (o : Option (List Value)) → is_accepted [] o ≡ true → (values : List Value) × (once o ≡ Some values) × (o ≡ Some values) × (once_after [] values ≡ true)
+given_where : (o : Option (List NamedValue)) → is_accepted [] o ≡ true → (values : List NamedValue) × (once o ≡ Some values) × (o ≡ Some values) × (once_after [] values ≡ true)
 given_where None e = absurd (true≢false (sym e))
 given_where (Some values) e = (values, ap (λ b. cond b (Some values) None) (sym (once_from_start values) ∙ e), refl, e)
 
-none_where : (o : Option (List Value)) → is_accepted [] o ≡ false → once o ≡ None
+none_where : (o : Option (List NamedValue)) → is_accepted [] o ≡ false → once o ≡ None
 none_where None e = refl
 none_where (Some values) e = ap (λ b. cond b (Some values) None) (sym (once_from_start values) ∙ e)
 
@@ -78,7 +78,7 @@ module _ (app : App) (options names : List Text) (read : IsRead app options name
   verdict : no_kinds (fault_of app words) ≡ is_accepted [] (values_of options words names None)
   verdict = ap no_kinds fault_is ∙ (none_of_both (walk_fault (top_of read.title read.args) [] (at nothing_held idle 1 false) words) _ ∙ law.0)
 
-  matches_are : (values : List Value) → values_of options words names None ≡ Some values → once_after [] values ≡ true → matches_of app words ≡ rows_of values
+  matches_are : (values : List NamedValue) → values_of options words names None ≡ Some values → once_after [] values ≡ true → matches_of app words ≡ rows_of values
   matches_are values is alone = ap₂ (λ (a : App) ws. walk.rows_after a.top.rules (names_of a) ws) read.is_built argument_words_are ∙ law.1 values is alone
 
   refused_kinds : (kinds : Kinds) → (kinds ≡ [] → ⊥) → no_kinds kinds ≡ false

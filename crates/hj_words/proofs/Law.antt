@@ -8,7 +8,7 @@ use Rattle.clap.specs.Kinds.{Kinds, or_else}
 use Rattle.clap.specs.Walk.{Held, Rule, Step, Waiting, Walk, after_step, arg_by_id, arg_by_long, finished, idle, is_pending, next, next_position, option, plain_word, reacted, settled, value, walked, word_met}
 use Rattle.clap.specs.Faults.{check_fault, defaults_fault, long_fault, settle_fault, step_fault, turn_fault, use_fault, walk_fault, word_fault}
 use Rattle.clap.proofs.WalkLemmas.{both}
-use Rattle.hj_words.specs.Values.{Text, Value, Kind, has_name, in_turn, is_among, kind_of, under, values_of, word_values}
+use Rattle.hj_words.specs.Values.{Text, NamedValue, Kind, has_name, in_turn, is_among, kind_of, under, values_of, word_values}
 use Rattle.hj_words.specs.Values as kinds
 use Rattle.hj_words.proofs.Commands.{Finds, Places, option_arg, positional_arg, single, top_of}
 use Rattle.hj_words.proofs.Once.{once_after}
@@ -21,7 +21,7 @@ AreTexts [] = Unit {0}
 AreTexts (word ∷ words) = IsUtf8 word × AreTexts words
 
 -- the values are accepted behind those before
-abbrev pub is_accepted : List Value → Option (List Value) → Bool
+abbrev pub is_accepted : List NamedValue → Option (List NamedValue) → Bool
 is_accepted before None = false
 is_accepted before (Some values) = once_after before values
 
@@ -61,15 +61,15 @@ module _ (title : Text) (c : List Rule) where
   passes_end w = refl
 
   -- the walk over the words accepts what is accepted behind the values before, and its rows are those of all values
-  abbrev pub Agrees : Walk → List Text → List Value → Option (List Value) → Type 0
+  abbrev pub Agrees : Walk → List Text → List NamedValue → Option (List NamedValue) → Type 0
   Agrees w words before o = (passes w words ≡ is_accepted before o)
-      × ((values : List Value) → o ≡ Some values → once_after before values ≡ true → finished c (fold (walked c []) w words).held ≡ rows_of (before ++ values))
+      × ((values : List NamedValue) → o ≡ Some values → once_after before values ≡ true → finished c (fold (walked c []) w words).held ≡ rows_of (before ++ values))
 
-  pub both_refuse : (w : Walk) (words : List Text) (before : List Value) (o : Option (List Value)) → passes w words ≡ false → is_accepted before o ≡ false → Agrees w words before o
+  pub both_refuse : (w : Walk) (words : List Text) (before : List NamedValue) (o : Option (List NamedValue)) → passes w words ≡ false → is_accepted before o ≡ false → Agrees w words before o
   both_refuse w words before o fails none = (fails ∙ sym none, λ values is once. absurd (true≢false (sym once ∙ (sym (ap (is_accepted before) is) ∙ none))))
 
   -- a word that gives no value
-  pub word_passes : (w after : Walk) (word : Text) (words : List Text) (before : List Value) (o : Option (List Value)) → no_kinds (turn_fault (top_of title c) [] w word) ≡ true
+  pub word_passes : (w after : Walk) (word : Text) (words : List Text) (before : List NamedValue) (o : Option (List NamedValue)) → no_kinds (turn_fault (top_of title c) [] w word) ≡ true
       → walked c [] w word ≡ after → Agrees after words before o → Agrees w (word ∷ words) before o
   word_passes w after word words before o turn onward rest = (
     passes_next w word words ∙ (ap₂ (λ b v. b && passes v words) turn onward ∙ rest.0),
@@ -77,12 +77,12 @@ module _ (title : Text) (c : List Rule) where
   )
 
   -- a word that gives a value of a new name
-  pub value_new : (w after : Walk) (word : Text) (words : List Text) (before : List Value) (name text : Text) (o : Option (List Value))
+  pub value_new : (w after : Walk) (word : Text) (words : List Text) (before : List NamedValue) (name text : Text) (o : Option (List NamedValue))
       → no_kinds (turn_fault (top_of title c) [] w word) ≡ true → walked c [] w word ≡ after → has_name name before ≡ false
       → Agrees after words (before ++ record { name = name; text = text } ∷ []) o → Agrees w (word ∷ words) before (under name text o)
   value_new w after word words before name text o turn onward new rest = go o rest
     where
-      go : (o : Option (List Value)) → Agrees after words (before ++ record { name = name; text = text } ∷ []) o → Agrees w (word ∷ words) before (under name text o)
+      go : (o : Option (List NamedValue)) → Agrees after words (before ++ record { name = name; text = text } ∷ []) o → Agrees w (word ∷ words) before (under name text o)
       go None r = (
         passes_next w word words ∙ (ap₂ (λ b v. b && passes v words) turn onward ∙ r.0),
         λ values is once. absurd (true≢false (sym (ap is_some is))),
@@ -97,7 +97,7 @@ module _ (title : Text) (c : List Rule) where
       )
 
   -- a word that gives a value of a name that has one
-  pub again_refused : (before : List Value) (name text : Text) (o : Option (List Value)) → has_name name before ≡ true → is_accepted before (under name text o) ≡ false
+  pub again_refused : (before : List NamedValue) (name text : Text) (o : Option (List NamedValue)) → has_name name before ≡ true → is_accepted before (under name text o) ≡ false
   again_refused before name text None again = refl
   again_refused before name text (Some more) again = ap (λ b. not b && once_after (before ++ record { name = name; text = text } ∷ []) more) again
 
@@ -145,7 +145,7 @@ module _ (title : Text) (c : List Rule) where
   -- ---- what is held
 
   -- the values before are settled at the next step
-  abbrev pub Settles : Held → List Value → Type 0
+  abbrev pub Settles : Held → List NamedValue → Type 0
   Settles h before = (settle_fault c false h ≡ []) × ((settled c h).rows ≡ rows_of before) × (h.skip ≡ 0)
 
   -- the next step refuses what is pending
@@ -153,7 +153,7 @@ module _ (title : Text) (c : List Rule) where
   Doomed h = (no_kinds (settle_fault c false h) ≡ false) × (h.skip ≡ 0)
 
   -- a text that is pending is settled where its name is new, and else refused
-  pub text_settles : (h : Held) (before : List Value) (name text : Text) (long : Option Text) (index : Option ℕ) → Settles h before → arg_by_id c name ≡ Some (single name long index)
+  pub text_settles : (h : Held) (before : List NamedValue) (name text : Text) (long : Option Text) (index : Option ℕ) → Settles h before → arg_by_id c name ≡ Some (single name long index)
       → has_name name before ≡ false → Settles (with_text name text (settled c h)) (before ++ record { name = name; text = text } ∷ [])
   text_settles h before name text long index s id new = (
     rw (id, s.1) (nil_of _ (use_refused name text long index before ∙ ap not new)),
@@ -161,12 +161,12 @@ module _ (title : Text) (c : List Rule) where
     s.2,
   )
 
-  pub text_doomed : (h : Held) (before : List Value) (name text : Text) (long : Option Text) (index : Option ℕ) → Settles h before → arg_by_id c name ≡ Some (single name long index)
+  pub text_doomed : (h : Held) (before : List NamedValue) (name text : Text) (long : Option Text) (index : Option ℕ) → Settles h before → arg_by_id c name ≡ Some (single name long index)
       → has_name name before ≡ true → Doomed (with_text name text (settled c h))
   text_doomed h before name text long index s id again = (rw (id, s.1) (use_refused name text long index before ∙ ap not again), s.2)
 
   -- an option that waits for its text is refused at the next step
-  pub option_doomed : (h : Held) (before : List Value) (name : Text) (long : Option Text) (index : Option ℕ) → Settles h before → arg_by_id c name ≡ Some (single name long index)
+  pub option_doomed : (h : Held) (before : List NamedValue) (name : Text) (long : Option Text) (index : Option ℕ) → Settles h before → arg_by_id c name ≡ Some (single name long index)
       → Doomed (with_option name (settled c h))
   option_doomed h before name long index s id = (rw id (no_text name long index (settled c h).rows), s.2)
 
@@ -181,7 +181,7 @@ module _ (title : Text) (c : List Rule) where
   doomed_trailing h waiting place names (word ∷ words) places doomed = turn_refused (at h waiting place true) word words (value_fault h place names places doomed.0)
 
 module _ (title : Text) (c : List Rule) (options : List Text) (finds : Finds options c) where
-  pub ends_accepted : (w : Walk) (before : List Value) → Settles title c w.held before → Agrees title c w [] before (Some [])
+  pub ends_accepted : (w : Walk) (before : List NamedValue) → Settles title c w.held before → Agrees title c w [] before (Some [])
   ends_accepted w before s = (
     passes_end title c w ∙ rw (s.0, no_defaults_fault c (settled c w.held).rows finds.defaults, finds.optional (finished c w.held)) refl,
     λ values is once.
@@ -220,7 +220,7 @@ module _ (title : Text) (c : List Rule) (options : List Text) (finds : Finds opt
 
   -- ---- past `--`
 
-  pub agrees_trailing : (words : List Text) (h : Held) (place : ℕ) (names : List Text) (before : List Value) → Settles title c h before → Places c place names
+  pub agrees_trailing : (words : List Text) (h : Held) (place : ℕ) (names : List Text) (before : List NamedValue) → Settles title c h before → Places c place names
       → Agrees title c (at h idle place true) words before (in_turn names words)
   agrees_trailing [] h place names before s places = ends_accepted (at h idle place true) before s
   agrees_trailing (word ∷ words) h place [] before s places =
@@ -235,7 +235,7 @@ module _ (title : Text) (c : List Rule) (options : List Text) (finds : Finds opt
       after = walked_trailing title c h idle place word ∙ value_walked title c h idle place true word name names places
 
       go : (b : Bool) → has_name name before ≡ b
-          → ((more : List Value) → Settles title c (with_text name word (settled c h)) more → Places c (next_position (positional_arg place name) place) names
+          → ((more : List NamedValue) → Settles title c (with_text name word (settled c h)) more → Places c (next_position (positional_arg place name) place) names
           → Agrees title c (at (with_text name word (settled c h)) idle (next_position (positional_arg place name) place) true) words more (in_turn names words))
           → Agrees title c (at h idle place true) (word ∷ words) before (under name word (in_turn names words))
       go false new rest =
@@ -250,11 +250,11 @@ module _ (title : Text) (c : List Rule) (options : List Text) (finds : Finds opt
   -- ---- before `--`
 
   abbrev AgreesIdle : List Text → Type 0
-  AgreesIdle words = (h : Held) (place : ℕ) (names : List Text) (before : List Value) → AreTexts words → Settles title c h before → Places c place names
+  AgreesIdle words = (h : Held) (place : ℕ) (names : List Text) (before : List NamedValue) → AreTexts words → Settles title c h before → Places c place names
       → Agrees title c (at h idle place false) words before (values_of options words names None)
 
   abbrev AgreesWaiting : List Text → Type 0
-  AgreesWaiting words = (h : Held) (place : ℕ) (names : List Text) (before : List Value) (name : Text) → AreTexts words → Settles title c h before → Places c place names
+  AgreesWaiting words = (h : Held) (place : ℕ) (names : List Text) (before : List NamedValue) (name : Text) → AreTexts words → Settles title c h before → Places c place names
       → is_among name options ≡ true → Agrees title c (at (with_option name (settled c h)) (option name) place false) words before (values_of options words names (Some name))
 
   values_next : (word : Text) (words names : List Text) (waiting : Option Text) (kind : Kind) → kind_of word ≡ kind
@@ -280,14 +280,14 @@ module _ (title : Text) (c : List Rule) (options : List Text) (finds : Finds opt
       (ends_refused title c (at (with_option name (settled c h)) (option name) place false) (option_doomed title c h before name (Some name) None s (finds.by_id name is)))
       (ap (is_accepted before) (values_unended names name))
 
-  waiting_refused : (word : Text) (words : List Text) (h : Held) (place : ℕ) (names : List Text) (before : List Value) (name : Text) (kind : Kind)
+  waiting_refused : (word : Text) (words : List Text) (h : Held) (place : ℕ) (names : List Text) (before : List NamedValue) (name : Text) (kind : Kind)
       → passes title c (at (with_option name (settled c h)) (option name) place false) (word ∷ words) ≡ false → kind_of word ≡ kind
       → is_accepted before (word_values options kind word words names (Some name) (values_of options words)) ≡ false
       → Agrees title c (at (with_option name (settled c h)) (option name) place false) (word ∷ words) before (values_of options (word ∷ words) names (Some name))
   waiting_refused word words h place names before name kind fails is none =
       both_refuse title c (at (with_option name (settled c h)) (option name) place false) (word ∷ words) before _ fails (ap (is_accepted before) (values_next word words names (Some name) kind is) ∙ none)
 
-  waiting_text : (word : Text) (words : List Text) (h : Held) (place : ℕ) (names : List Text) (before : List Value) (name : Text) → AreTexts words → Settles title c h before → Places c place names
+  waiting_text : (word : Text) (words : List Text) (h : Held) (place : ℕ) (names : List Text) (before : List NamedValue) (name : Text) → AreTexts words → Settles title c h before → Places c place names
       → is_among name options ≡ true → AgreesIdle words → bytes_eq word (codes "--") ≡ false → long_of word ≡ None → short_of word ≡ None
       → Agrees title c (at (with_option name (settled c h)) (option name) place false) (word ∷ words) before (under name word (values_of options words names None))
   waiting_text word words h place names before name texts s places is rest other long short = go (has_name name before) refl
@@ -337,7 +337,7 @@ module _ (title : Text) (c : List Rule) (options : List Text) (finds : Finds opt
       (waiting_text word words h place names before name texts.1 s places among rest other long short)
 
   -- an option whose text stands in its word
-  option_with_text : (word : Text) (words : List Text) (h : Held) (place : ℕ) (names : List Text) (before : List Value) (name text : Text) → AreTexts words → Settles title c h before
+  option_with_text : (word : Text) (words : List Text) (h : Held) (place : ℕ) (names : List Text) (before : List NamedValue) (name text : Text) → AreTexts words → Settles title c h before
       → Places c place names → is_among name options ≡ true → AgreesIdle words → bytes_eq word (codes "--") ≡ false → long_of word ≡ Some (name, Some text)
       → Agrees title c (at h idle place false) (word ∷ words) before (under name text (values_of options words names None))
   option_with_text word words h place names before name text texts s places is rest other long = go (has_name name before) refl
@@ -363,7 +363,7 @@ module _ (title : Text) (c : List Rule) (options : List Text) (finds : Finds opt
           (again_refused title c before name text _ again)
 
   -- an option whose text follows
-  option_alone : (word : Text) (words : List Text) (h : Held) (place : ℕ) (names : List Text) (before : List Value) (name : Text) → AreTexts words → Settles title c h before
+  option_alone : (word : Text) (words : List Text) (h : Held) (place : ℕ) (names : List Text) (before : List NamedValue) (name : Text) → AreTexts words → Settles title c h before
       → Places c place names → is_among name options ≡ true → AgreesWaiting words → bytes_eq word (codes "--") ≡ false → long_of word ≡ Some (name, None)
       → Agrees title c (at h idle place false) (word ∷ words) before (values_of options words names (Some name))
   option_alone word words h place names before name texts s places is rest other long =
@@ -374,7 +374,7 @@ module _ (title : Text) (c : List Rule) (options : List Text) (finds : Finds opt
       met : word_met c [] false idle place word h ≡ (with_option name (settled c h), next (option name))
       met = option_word_met title c idle word h place name None other long ∙ rw (finds.long name is) refl
 
-  idle_refused : (word : Text) (words : List Text) (h : Held) (place : ℕ) (names : List Text) (before : List Value) (kind : Kind) → kind_of word ≡ kind
+  idle_refused : (word : Text) (words : List Text) (h : Held) (place : ℕ) (names : List Text) (before : List NamedValue) (kind : Kind) → kind_of word ≡ kind
       → no_kinds (turn_fault (top_of title c) [] (at h idle place false) word) ≡ false
       → word_values options kind word words names None (values_of options words) ≡ None
       → Agrees title c (at h idle place false) (word ∷ words) before (values_of options (word ∷ words) names None)
@@ -382,7 +382,7 @@ module _ (title : Text) (c : List Rule) (options : List Text) (finds : Finds opt
       both_refuse title c (at h idle place false) (word ∷ words) before _ (turn_refused title c (at h idle place false) word words fails)
       (ap (is_accepted before) (values_next word words names None kind is ∙ none))
 
-  idle_option : (word : Text) (words : List Text) (h : Held) (place : ℕ) (names : List Text) (before : List Value) (name : Text) (text : Option Text) → AreTexts words → Settles title c h before
+  idle_option : (word : Text) (words : List Text) (h : Held) (place : ℕ) (names : List Text) (before : List NamedValue) (name : Text) (text : Option Text) → AreTexts words → Settles title c h before
       → Places c place names → (b : Bool) → is_among name options ≡ b → AgreesIdle words → AgreesWaiting words → bytes_eq word (codes "--") ≡ false → long_of word ≡ Some (name, text)
       → kind_of word ≡ kinds.option name text → Agrees title c (at h idle place false) (word ∷ words) before (values_of options (word ∷ words) names None)
   idle_option word words h place names before name None texts s places false among idle_rest waiting_rest other long kind =
@@ -399,7 +399,7 @@ module _ (title : Text) (c : List Rule) (options : List Text) (finds : Finds opt
       (option_with_text word words h place names before name text texts s places among idle_rest other long)
 
   -- a positional word
-  idle_plain : (word : Text) (words : List Text) (h : Held) (place : ℕ) (names : List Text) (before : List Value) → AreTexts words → Settles title c h before
+  idle_plain : (word : Text) (words : List Text) (h : Held) (place : ℕ) (names : List Text) (before : List NamedValue) → AreTexts words → Settles title c h before
       → Places c place names → AgreesIdle words → bytes_eq word (codes "--") ≡ false → long_of word ≡ None → short_of word ≡ None → kind_of word ≡ kinds.plain
       → Agrees title c (at h idle place false) (word ∷ words) before (values_of options (word ∷ words) names None)
   idle_plain word words h place [] before texts s places rest other long short kind =

@@ -13,7 +13,7 @@ use Rattle.clap.specs.Faults.{default_fault, defaults_fault, flags_fault, long_f
 use Rattle.clap.specs.declared.parser.matches.ValueSource.TheVariants.{CommandLine}
 use Rattle.clap.proofs.SimpleLemmas.{is_nil}
 use Rattle.clap.proofs.WalkLemmas.{both}
-use Rattle.hj_words.specs.Values.{Text, Value, has_name}
+use Rattle.hj_words.specs.Values.{Text, NamedValue, has_name}
 use Rattle.hj_words.proofs.Commands.{row_of, single, top_of}
 
 or_end : (b : Bool) → (b || true) ≡ true
@@ -22,14 +22,14 @@ or_end false = refl
 
 -- ---- rows
 
-abbrev pub rows_of : List Value → List Row
+abbrev pub rows_of : List NamedValue → List Row
 rows_of = map row_of
 
-pub row_there : (name : Text) (values : List Value) → has_row name (rows_of values) ≡ has_name name values
+pub row_there : (name : Text) (values : List NamedValue) → has_row name (rows_of values) ≡ has_name name values
 row_there name [] = refl
 row_there name (v ∷ values) = ap (λ b. bytes_eq v.name name || b) (row_there name values)
 
-rows_end : (values : List Value) (v : Value) → rows_of values ++ row_of v ∷ [] ≡ rows_of (values ++ v ∷ [])
+rows_end : (values : List NamedValue) (v : NamedValue) → rows_of values ++ row_of v ∷ [] ≡ rows_of (values ++ v ∷ [])
 rows_end [] v = refl
 rows_end (x ∷ values) v = ap (λ rows. row_of x ∷ rows) (rows_end values v)
 
@@ -48,7 +48,7 @@ at_new id change missing (r ∷ rows) e = go (bytes_eq r.id id) refl (at_new id 
         rw is (ap (λ xs. r ∷ xs) (more rest))
 
 -- a value that is new joins the rows
-pub used_new : (name text : Text) (long : Option Text) (index : Option ℕ) (values : List Value) → has_name name values ≡ false
+pub used_new : (name text : Text) (long : Option Text) (index : Option ℕ) (values : List NamedValue) → has_name name values ≡ false
     → used (single name long index) (text ∷ []) (rows_of values) ≡ rows_of (values ++ record { name = name; text = text } ∷ [])
 used_new name text long index values new =
     let none : has_row name (rows_of values) ≡ false = row_there name values ∙ new in
@@ -69,7 +69,7 @@ none_of_both [] b = refl
 none_of_both (k ∷ ks) b = refl
 
 -- the use of an argument with one value is refused exactly where it has one already
-pub use_refused : (name text : Text) (long : Option Text) (index : Option ℕ) (values : List Value)
+pub use_refused : (name text : Text) (long : Option Text) (index : Option ℕ) (values : List NamedValue)
     → no_kinds (use_fault false (single name long index) (text ∷ []) (rows_of values)) ≡ not (has_name name values)
 use_refused name text long index values = go (has_name name values) (row_there name values)
   where

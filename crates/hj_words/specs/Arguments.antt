@@ -6,13 +6,13 @@ use Rattle.clap.specs.Simple.{HasMatchesOf, new_shape, with_rule}
 use Rattle.clap.specs.Words.{App, Rule, first_value, found_of, new_rule}
 use Rattle.clap.specs.declared.builder.action.ArgAction.TheVariants.{Set}
 use Rattle.clap.specs.declared.parser.matches.ArgMatches.{ArgMatches}
-use Rattle.hj_words.specs.Values.{Text, Value, given, text_of}
+use Rattle.hj_words.specs.Values.{Text, NamedValue, given, text_of}
 use Rattle.hj_words.specs.declared.arguments.ValuePlace.{ValuePlace}
 use Rattle.hj_words.specs.declared.arguments.ValuePlace.TheVariants as place
 
 -- the matches give each name the text that the words give it
 pub record Carries (options names words : List Text) (matches : ArgMatches) : Type 0 where
-  pub values : List Value
+  pub values : List NamedValue
   pub are_given : given options names words ≡ Some values
   pub texts : (name : Text) → first_value (found_of matches) name ≡ text_of name values
 

@@ -7,7 +7,7 @@ abbrev pub Text : Type 0
 Text = List ℕ
 
 -- a value, under its name
-pub record Value : Type 0 where
+pub record NamedValue : Type 0 where
   pub name : Text
   pub text : Text
 
@@ -46,11 +46,11 @@ kind_of word =
 abbrev pub is_among : Text → List Text → Bool
 is_among name names = list_any (λ n. bytes_eq n name) names
 
-abbrev pub under : Text → Text → Option (List Value) → Option (List Value)
+abbrev pub under : Text → Text → Option (List NamedValue) → Option (List NamedValue)
 under name text = option_map (λ values. record { name = name; text = text } ∷ values)
 
 -- The values of positional words, which go to these names in turn; none where the names run out.
-abbrev pub in_turn : List Text → List Text → Option (List Value)
+abbrev pub in_turn : List Text → List Text → Option (List NamedValue)
 in_turn names [] = Some []
 in_turn [] (word ∷ words) = None
 in_turn (name ∷ names) (word ∷ words) = under name word (in_turn names words)
@@ -59,7 +59,7 @@ in_turn (name ∷ names) (word ∷ words) = under name word (in_turn names words
 -- positional names that are left and the option that waits for its text. That text begins with no
 -- `-`, unless it is `-` alone; each option has a number, so no order is lost by this.
 abbrev pub word_values : List Text → Kind → Text → List Text → List Text → Option Text
-    → (List Text → Option Text → Option (List Value)) → Option (List Value)
+    → (List Text → Option Text → Option (List NamedValue)) → Option (List NamedValue)
 word_values options plain word words names (Some name) next = under name word (next names None)
 word_values options kind word words names (Some name) next = None
 word_values options dashes word words names None next = in_turn names words
@@ -73,32 +73,32 @@ word_values options plain word words (name ∷ names) None next = under name wor
 
 -- The values that the words give, where these are the options, the names of the positional words that
 -- are left, and the option, if any, whose text is the first word; none where the words are refused.
-unfoldable pub values_of : List Text → List Text → List Text → Option Text → Option (List Value)
+unfoldable pub values_of : List Text → List Text → List Text → Option Text → Option (List NamedValue)
 values_of options [] names None = Some []
 values_of options [] names (Some name) = None
 values_of options (word ∷ words) names waiting =
     word_values options (kind_of word) word words names waiting (values_of options words)
 
-abbrev pub has_name : Text → List Value → Bool
+abbrev pub has_name : Text → List NamedValue → Bool
 has_name name values = list_any (λ v. bytes_eq v.name name) values
 
 -- no name has two values
-abbrev pub are_once : List Value → Bool
+abbrev pub are_once : List NamedValue → Bool
 are_once [] = true
 are_once (v ∷ values) = not (has_name v.name values) && are_once values
 
-abbrev pub if_once : List Value → Option (List Value)
+abbrev pub if_once : List NamedValue → Option (List NamedValue)
 if_once values = if are_once values then Some values else None
 
-abbrev pub once : Option (List Value) → Option (List Value)
+abbrev pub once : Option (List NamedValue) → Option (List NamedValue)
 once None = None
 once (Some values) = if_once values
 
 -- The values that the words give a command with these options and these positional names, each name
 -- at most once; none where the words are refused.
-abbrev pub given : List Text → List Text → List Text → Option (List Value)
+abbrev pub given : List Text → List Text → List Text → Option (List NamedValue)
 given options names words = once (values_of options words names None)
 
 -- the text under a name
-abbrev pub text_of : Text → List Value → Option Text
+abbrev pub text_of : Text → List NamedValue → Option Text
 text_of name values = option_map (λ v. v.text) (find (λ v. bytes_eq v.name name) values)

@@ -2,7 +2,7 @@ ghost use Rattle.std.specs.Prelude.{◌≡◌, IfOk, IfErr, IfSome, Some, None, 
 ghost use Rattle.clap.specs.Words.{first_value, found_of};
 ghost use Rattle.hj_words.specs.Orders.{check_of, equi_of, gen_of, gen_order, join_of, order_among, order_of, raw_of, trace_of, twice_of, verify_of};
 ghost use Rattle.hj_words.specs.Ranges.{IsInRange};
-ghost use Rattle.hj_words.specs.Reading.{Reads};
+ghost use Rattle.hj_words.specs.Reading.{ReadsOrder};
 
 use crate::arguments::values_after;
 use crate::names::{named, names_among};
@@ -33,7 +33,7 @@ pub fn read_words(alloc: Global, words: &[String]) -> Result<Order, Usage>
 
 /// Reads the order of a command whose words gave these values.
 fn read_order(alloc: Global, verb: Verb, matches: &ArgMatches<'_>) -> Result<Order, Usage>
-    ensures { Reads (order_among verb (first_value (found_of matches.now))) result }
+    ensures { ReadsOrder (order_among verb (first_value (found_of matches.now))) result }
 {
     match verb {
         Verb::Equi => read_equi(alloc, matches),
@@ -49,7 +49,7 @@ fn read_order(alloc: Global, verb: Verb, matches: &ArgMatches<'_>) -> Result<Ord
 
 /// Reads the order of `equi`.
 fn read_equi(alloc: Global, matches: &ArgMatches<'_>) -> Result<Order, Usage>
-    ensures { Reads (equi_of (first_value (found_of matches.now))) result }
+    ensures { ReadsOrder (equi_of (first_value (found_of matches.now))) result }
 {
     let w = number(matches.get_str("w"), 1, MOST_ROWS).ok_or(Usage::Words)?;
     let left = named(alloc, matches.get_str("left"))?;
@@ -63,7 +63,7 @@ fn read_equi(alloc: Global, matches: &ArgMatches<'_>) -> Result<Order, Usage>
 
 /// Reads the order of `join`.
 fn read_join(alloc: Global, matches: &ArgMatches<'_>) -> Result<Order, Usage>
-    ensures { Reads (join_of (first_value (found_of matches.now))) result }
+    ensures { ReadsOrder (join_of (first_value (found_of matches.now))) result }
 {
     let numbers = all_numbers(matches).ok_or(Usage::Words)?;
     let names = names_among(alloc, matches)?;
@@ -79,7 +79,7 @@ fn read_join(alloc: Global, matches: &ArgMatches<'_>) -> Result<Order, Usage>
 
 /// Reads the order of `check`.
 fn read_check(alloc: Global, matches: &ArgMatches<'_>) -> Result<Order, Usage>
-    ensures { Reads (check_of (first_value (found_of matches.now))) result }
+    ensures { ReadsOrder (check_of (first_value (found_of matches.now))) result }
 {
     let query = named(alloc, matches.get_str("query"))?;
     Ok(Order::Check { query })
@@ -87,7 +87,7 @@ fn read_check(alloc: Global, matches: &ArgMatches<'_>) -> Result<Order, Usage>
 
 /// Reads the order of `gen`.
 fn read_gen(matches: &ArgMatches<'_>) -> Result<Order, Usage>
-    ensures { Reads (gen_of (first_value (found_of matches.now))) result }
+    ensures { ReadsOrder (gen_of (first_value (found_of matches.now))) result }
 {
     gen_order(
         matches.get_str("n"),
@@ -124,7 +124,7 @@ fn gen_order(
 
 /// Reads the order of `raw`.
 fn read_raw(alloc: Global, matches: &ArgMatches<'_>) -> Result<Order, Usage>
-    ensures { Reads (raw_of (first_value (found_of matches.now))) result }
+    ensures { ReadsOrder (raw_of (first_value (found_of matches.now))) result }
 {
     let numbers = numbers_among(matches, 1, matches.get_str("threads"), None).ok_or(Usage::Words)?;
     let names = names_among(alloc, matches)?;
@@ -139,7 +139,7 @@ fn read_raw(alloc: Global, matches: &ArgMatches<'_>) -> Result<Order, Usage>
 
 /// Reads the order of `trace`.
 fn read_trace(alloc: Global, matches: &ArgMatches<'_>) -> Result<Order, Usage>
-    ensures { Reads (trace_of (first_value (found_of matches.now))) result }
+    ensures { ReadsOrder (trace_of (first_value (found_of matches.now))) result }
 {
     let numbers = numbers_among(matches, 0, Some("0"), matches.get_str("schedule")).ok_or(
         Usage::Words,
@@ -158,7 +158,7 @@ fn read_trace(alloc: Global, matches: &ArgMatches<'_>) -> Result<Order, Usage>
 
 /// Reads the order of `verify`.
 fn read_verify(alloc: Global, matches: &ArgMatches<'_>) -> Result<Order, Usage>
-    ensures { Reads (verify_of (first_value (found_of matches.now))) result }
+    ensures { ReadsOrder (verify_of (first_value (found_of matches.now))) result }
 {
     let trace = named(alloc, matches.get_str("trace"))?;
     let output = named(alloc, matches.get_str("output"))?;
@@ -178,7 +178,7 @@ fn read_verify(alloc: Global, matches: &ArgMatches<'_>) -> Result<Order, Usage>
 
 /// Reads the order of `twice`.
 fn read_twice(alloc: Global, matches: &ArgMatches<'_>) -> Result<Order, Usage>
-    ensures { Reads (twice_of (first_value (found_of matches.now))) result }
+    ensures { ReadsOrder (twice_of (first_value (found_of matches.now))) result }
 {
     let second = named(alloc, matches.get_str("second"))?;
     let third = named(alloc, matches.get_str("third"))?;

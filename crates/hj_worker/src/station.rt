@@ -31,7 +31,7 @@ impl<P: Share + Drop, J: Join<P> + Drop, S: Store<P, J> + Drop> Station<P, J, S>
         match message {
             Msg::R { no, row } => self.handle_row::<true>(turn, no, row),
             Msg::S { no, row } => self.handle_row::<false>(turn, no, row),
-            other => match self.core.pass(&other) {
+            other => match self.core.handle_passing(&other) {
                 Some(way) => {
                     self.ends.pass_on(&mut self.hand, turn, way, other);
                     Ok(())

@@ -61,7 +61,7 @@ impl<P: Share + Drop, J: Join<P> + Drop, S: Store<P, J> + Drop> Chain<P, J, S> {
         ensures others { self.new ≡ record self.old { state = self.new.state } }
     {
         let place = usize::from(core.0);
-        let Some(way) = self.cores[place].pass(&msg) else {
+        let Some(way) = self.cores[place].handle_passing(&msg) else {
             return stepped(self.handle_whole(core, end, msg));
         };
         self.links.carry(place, way, msg);

@@ -2,15 +2,15 @@ ghost use Rattle.std.specs.Prelude.{◌≡◌, ◌+◌, ◌<◌, ◌≤◌, ℕ,
 ghost use Rattle.std.specs.HashMap.{get, hash_map_len, spare};
 ghost use Rattle.std.specs.VecDeque.{deque_capacity, deque_len};
 ghost use Rattle.hj_msg.specs.Store.{holds, with_entry, with_settled, without_entry};
-ghost use Rattle.hj_index.specs.Chains.{is_key, is_row, known_place, rows_in, AreChained, IsAbove, NearlyChained};
+ghost use Rattle.hj_index.specs.KeyChains.{is_key, is_row, known_place, rows_in, AreChained, IsAbove, NearlyChained};
 
-use crate::chains::{Chains, Place};
+use crate::chains::{KeyChains, RowPlace};
 use crate::keys::key_at;
 use hj_rows::RestingRow;
 use hj_value::SharedRow;
 use std::collections::HashMap;
 
-impl Chains {
+impl KeyChains {
     /// Puts a row after all others.
     #[inline(always)]
     pub(super) fn push(&mut self, no: u64, row: SharedRow, settled: bool)
@@ -26,7 +26,7 @@ impl Chains {
         let key = key_at(row.row(), self.own);
         let count = self.base + self.places.len() as u64 + 1;
         let before = set_last(&mut self.last, key, count);
-        self.places.push_back_reserved(Place {
+        self.places.push_back_reserved(RowPlace {
             no,
             key,
             before,
@@ -45,7 +45,7 @@ impl Chains {
     {
         let key = key_at(row.row(), self.own);
         let _last = set_last(&mut self.last, key, 0);
-        let place = Place {
+        let place = RowPlace {
             no,
             key,
             before: 0,
@@ -56,7 +56,7 @@ impl Chains {
     }
 
     /// Puts another place where one stands.
-    fn set_place(&mut self, at: usize, place: Place)
+    fn set_place(&mut self, at: usize, place: RowPlace)
         requires { at < deque_len self.old.places }
         ensures places { self.new.places.items ≡ slice_set self.old.places.items at place }
         ensures own { self.new.own ≡ self.old.own }

@@ -1,12 +1,12 @@
 ghost use Rattle.std.specs.Prelude.{◌≡◌, true, false};
 ghost use Rattle.std.specs.List.{position};
 ghost use Rattle.hj_msg.specs.Store.{holds};
-ghost use Rattle.hj_index.specs.Chains.{is_row, rows_in, AreChained, FindsPlace, FindsRow, IsAbove, IsAscending};
+ghost use Rattle.hj_index.specs.KeyChains.{is_row, rows_in, AreChained, FindsPlace, FindsRow, IsAbove, IsAscending};
 
-use crate::chains::Chains;
+use crate::chains::KeyChains;
 use std::cmp::Ordering;
 
-impl Chains {
+impl KeyChains {
     /// Asks whether the numbers ascend, and one is above all of them.
     #[inline(always)]
     pub(super) fn is_last(&self, no: u64) -> bool

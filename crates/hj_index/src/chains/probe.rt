@@ -3,10 +3,10 @@ ghost use Rattle.std.specs.HashMap.{get};
 ghost use Rattle.hj_value.specs.declared.field.Field.{Field};
 ghost use Rattle.hj_msg.specs.Store.{joins, settled_matches};
 ghost use Rattle.hj_rows.specs.Places.{partner_of};
-ghost use Rattle.hj_index.specs.Chains.{known_place, rows_in, AreChained};
+ghost use Rattle.hj_index.specs.KeyChains.{known_place, rows_in, AreChained};
 ghost use Rattle.hj_index.specs.Keys.{key_at};
 
-use crate::chains::Chains;
+use crate::chains::KeyChains;
 use hj_base::{EventNo, Memory, Share, Side};
 use hj_msg::{Join, Partner, Partners};
 use hj_rows::{joining_row, partners_of};
@@ -14,7 +14,7 @@ use hj_value::SharedRow;
 use std::alloc::Global;
 use std::collections::BTreeMap;
 
-impl Chains {
+impl KeyChains {
     /// Finds the settled rows that join with a row of the other stream, by ascending number. Only rows of a key join with it.
     #[inline(always)]
     pub(crate) fn probe<J: Join<SharedRow>>(

@@ -1,9 +1,9 @@
 ghost use Rattle.std.specs.Prelude.{◌≡◌, ◌<◌, ◌≤◌, ℕ, nat_eq, cond, is_some, length, option_map, slice_get, true, false, Some};
 ghost use Rattle.std.specs.HashMap.{get, hash_map_len};
-ghost use Rattle.hj_index.specs.declared.chains.Place.{Place};
-ghost use Rattle.hj_index.specs.Chains.{is_key, known_place, numbers, rows_in, AreApart, AreChained, AreKeyed, AreKnown, AreLinked, IsAscending, NearlyChained};
+ghost use Rattle.hj_index.specs.declared.chains.RowPlace.{RowPlace};
+ghost use Rattle.hj_index.specs.KeyChains.{is_key, known_place, numbers, rows_in, AreApart, AreChained, AreKeyed, AreKnown, AreLinked, IsAscending, NearlyChained};
 
-use crate::chains::{Chains, Place};
+use crate::chains::{KeyChains, RowPlace};
 use std::collections::HashMap;
 
 /// How many empty places are kept beside those that are as many as the rows, and how many keys beside those that are twice
@@ -13,7 +13,7 @@ const SPARE: usize = 32;
 /// How many places may go before the first until all are counted anew.
 const FAR: u64 = 1 << 62;
 
-impl Chains {
+impl KeyChains {
     /// Drops the empty places before the first row.
     #[inline(always)]
     pub(super) fn drop_first(&mut self)
@@ -34,7 +34,7 @@ impl Chains {
     #[inline(always)]
     fn drop_empty(&mut self)
         requires chained { NearlyChained self.old }
-        requires empty { option_map (λ (place : Place). is_some place.rest) (slice_get self.old.places.items 0) ≡ Some false }
+        requires empty { option_map (λ (place : RowPlace). is_some place.rest) (slice_get self.old.places.items 0) ≡ Some false }
         ensures rows { rows_in self.new ≡ rows_in self.old }
         ensures own { self.new.own ≡ self.old.own }
         ensures fewer { length self.new.places.items < length self.old.places.items }
@@ -108,7 +108,7 @@ impl Chains {
             }
             count += 1;
             let before = move_last(&mut self.last, place.key, count);
-            self.places.push_back_reserved(Place { before, ..place });
+            self.places.push_back_reserved(RowPlace { before, ..place });
         }
     }
 

@@ -14,7 +14,7 @@ use std::alloc::Global;
 
 /// A piece of a condition's text that is still to be written.
 #[derive(Clone, Copy)]
-enum Piece<'a> {
+enum UnwrittenPiece<'a> {
     Bytes(&'static [u8]),
     Bare(&'a Pred),
     /// A condition in parentheses.
@@ -31,7 +31,7 @@ pub fn push_pred(
     ensures { OnOk result (text.new.items ≡ text.old.items ++ pred_text (columns_of query.now) pred.now) }
 {
     let mut todo = Vec::new(alloc);
-    todo.push(Piece::Bare(pred))?;
+    todo.push(UnwrittenPiece::Bare(pred))?;
     'pieces: while let Some(piece) = todo.pop() {
         push_piece(text, &mut todo, query, piece)?;
     }
@@ -41,21 +41,21 @@ pub fn push_pred(
 /// Adds the beginning of a piece to a text, and puts what follows it on the pieces.
 fn push_piece<'a>(
     text: &mut Vec<u8>,
-    todo: &mut Vec<Piece<'a>>,
+    todo: &mut Vec<UnwrittenPiece<'a>>,
     query: &Query,
-    piece: Piece<'a>,
+    piece: UnwrittenPiece<'a>,
 ) -> Result<(), Memory>
     ensures whole { OnOk result (text.new.items ++ unwritten (columns_of query.now) todo.new.items
         ≡ text.old.items ++ piece_text (columns_of query.now) piece.entry ++ unwritten (columns_of query.now) todo.old.items) }
     ensures fewer { OnOk result (turns todo.new.items < turns todo.old.items + piece_turns piece.entry) }
 {
     match piece {
-        Piece::Bytes(bytes) => push_bytes(text, bytes),
-        Piece::Bare(pred) => push_node(text, todo, query, pred),
-        Piece::Enclosed(pred) => {
+        UnwrittenPiece::Bytes(bytes) => push_bytes(text, bytes),
+        UnwrittenPiece::Bare(pred) => push_node(text, todo, query, pred),
+        UnwrittenPiece::Enclosed(pred) => {
             push_bytes(text, b"(")?;
-            todo.push(Piece::Bytes(b")"))?;
-            todo.push(Piece::Bare(pred))?;
+            todo.push(UnwrittenPiece::Bytes(b")"))?;
+            todo.push(UnwrittenPiece::Bare(pred))?;
             Ok(())
         }
     }
@@ -64,7 +64,7 @@ fn push_piece<'a>(
 /// Adds the beginning of a condition to a text, and puts what follows it on the pieces.
 fn push_node<'a>(
     text: &mut Vec<u8>,
-    todo: &mut Vec<Piece<'a>>,
+    todo: &mut Vec<UnwrittenPiece<'a>>,
     query: &Query,
     pred: &'a Pred,
 ) -> Result<(), Memory>
@@ -75,13 +75,13 @@ fn push_node<'a>(
     match pred {
         Pred::Or(left, right) => {
             todo.push(operand(right, is_or(right)))?;
-            todo.push(Piece::Bytes(b" or "))?;
-            todo.push(Piece::Bare(left))?;
+            todo.push(UnwrittenPiece::Bytes(b" or "))?;
+            todo.push(UnwrittenPiece::Bare(left))?;
             Ok(())
         }
         Pred::And(left, right) => {
             todo.push(operand(right, is_joined(right)))?;
-            todo.push(Piece::Bytes(b" and "))?;
+            todo.push(UnwrittenPiece::Bytes(b" and "))?;
             todo.push(operand(left, is_or(left)))?;
             Ok(())
         }
@@ -96,14 +96,14 @@ fn push_node<'a>(
 }
 
 /// Makes the piece of a condition, in parentheses where they are needed.
-fn operand(pred: &Pred, needed: bool) -> Piece<'_>
+fn operand(pred: &Pred, needed: bool) -> UnwrittenPiece<'_>
     ensures text { (columns : Side → List Column) → piece_text columns result ≡ enclosed_if needed (pred_text columns pred.now) }
     ensures turns { piece_turns result ≤ pred_turns pred.now + 2 }
 {
     if needed {
-        Piece::Enclosed(pred)
+        UnwrittenPiece::Enclosed(pred)
     } else {
-        Piece::Bare(pred)
+        UnwrittenPiece::Bare(pred)
     }
 }
 

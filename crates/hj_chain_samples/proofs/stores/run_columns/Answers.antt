@@ -1,6 +1,6 @@
 use Rattle.std.proofs.Common.{◌≡◌, List, All, refl, rules, sym, subst₂}
 use Rattle.hj_base.specs.declared.numbers.Side.TheVariants.{Left}
-use Rattle.hj_query.specs.Parts.{Parts}
+use Rattle.hj_query.specs.QueryParts.{QueryParts}
 use Rattle.hj_eval.specs.declared.filter.Filter.{Filter}
 use Rattle.hj_eval.specs.Filter.{KeepsMatches}
 use Rattle.hj_eval.specs.Holds.{holds}
@@ -12,4 +12,4 @@ run-requires g c κs =
     let filters : c.sent-store.result.filters ≡ c.expect-filters.result.items = search rules in
     let query : c.new-join.result ≡ c.query-query.result = search rules in
     let kept : All (KeepsMatches (holds c.query-query.result)) c.expect-filters.result.items = search rules in
-    ((refl, tt), (side, subst₂ (λ (query : Parts) (filters : List Filter). All (KeepsMatches (holds query)) filters) (sym query) (sym filters) kept))
+    ((refl, tt), (side, subst₂ (λ (query : QueryParts) (filters : List Filter). All (KeepsMatches (holds query)) filters) (sym query) (sym filters) kept))

@@ -1,11 +1,11 @@
 use Rattle.std.proofs.Common.{◌≡◌, All, take}
-use Rattle.hj_rows.specs.Numbered.{places_in}
-use Rattle.hj_columns.specs.Columns.{filters_of, IsColumn, Waits}
+use Rattle.hj_rows.specs.NumberedRows.{places_in}
+use Rattle.hj_columns.specs.Columns.{filters_of, IsKeyColumn, Waits}
 use Rattle.hj_columns.proofs.key_column.reserve_keys.Given as goal
 
 abbrev pub invariant-loop-at : goal.invariant-loop-at
 invariant-loop-at g l = record {
-  columns : All (IsColumn (λ filter. g.F.KeyFilter.key filter l.side) (places_in l.rows)) l.columns.items;
+  columns : All (IsKeyColumn (λ filter. g.F.KeyFilter.key filter l.side) (places_in l.rows)) l.columns.items;
   filters : filters_of l.columns.items ≡ filters_of l.initial.columns.items;
   wait : All (Waits (λ filter. g.F.KeyFilter.key filter l.side) (places_in l.rows) l.row) (take l.at l.columns.items);
 }

@@ -1,7 +1,7 @@
 use Rattle.std.proofs.Common.{◌+◌, ◌*◌, arith}
 use Rattle.std.specs.Int.{bit_at}
 use Rattle.hj_msg.specs.Store.{joins}
-use Rattle.hj_rows.specs.Numbered.{places_in}
+use Rattle.hj_rows.specs.NumberedRows.{places_in}
 use Rattle.hj_columns.specs.declared.key_column.KeyColumn.{KeyColumn}
 use Rattle.hj_columns.proofs.Finding.{in_order-empty}
 use Rattle.hj_columns.proofs.Keeping.{length-places}

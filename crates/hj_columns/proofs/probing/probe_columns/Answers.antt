@@ -1,5 +1,5 @@
 use Rattle.std.proofs.Common.{Some, map, ap, sym, ◌∙◌}
-use Rattle.hj_rows.specs.Numbered.{rows_in}
+use Rattle.hj_rows.specs.NumberedRows.{rows_in}
 use Rattle.hj_columns.proofs.Probes.{let-all, none-match}
 use Rattle.hj_columns.proofs.probing.probe_columns.Goals as goal
 

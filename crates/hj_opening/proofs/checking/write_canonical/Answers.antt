@@ -2,7 +2,7 @@ use Rattle.std.proofs.Common.{List, ℕ, [], refl, ◌∙◌, subst}
 use Rattle.std.proofs.KnownBytes.{Appends-nil}
 use Rattle.std.proofs.lemmas.Result.{err_from_is_err_and}
 use Rattle.hj_output.specs.declared.output.Sent.TheVariants as sent
-use Rattle.hj_output.specs.Output.{Sends}
+use Rattle.hj_output.specs.Output.{SendsPiece}
 use Rattle.hj_query.specs.Canonical.{canonical}
 use Rattle.hj_opening.proofs.checking.write_canonical.Goals as goal
 
@@ -13,12 +13,12 @@ returns-in_err-canonical g c =
 
 pub returns-in-Whole : goal.returns-in-Whole
 returns-in-Whole g c =
-    (subst (λ (text : List ℕ). Sends sent.Whole text (g.K.Sink.told c.args.out.now) (g.K.Sink.told c.put_all.new.out)) (c.bytes.ensures ∙ c.in_ok-canonical.ensures.text) c.in-Whole.ensures.sends, c.in-Whole.ensures.faults)
+    (subst (λ (text : List ℕ). SendsPiece sent.Whole text (g.K.Sink.told c.args.out.now) (g.K.Sink.told c.put_all.new.out)) (c.bytes.ensures ∙ c.in_ok-canonical.ensures.text) c.in-Whole.ensures.sends, c.in-Whole.ensures.faults)
 
 pub returns-in-Failed : goal.returns-in-Failed
 returns-in-Failed g c =
-    (subst (λ (text : List ℕ). Sends sent.Failed text (g.K.Sink.told c.args.out.now) (g.K.Sink.told c.put_all.new.out)) (c.bytes.ensures ∙ c.in_ok-canonical.ensures.text) c.in-Failed.ensures.sends, c.in-Failed.ensures.faults)
+    (subst (λ (text : List ℕ). SendsPiece sent.Failed text (g.K.Sink.told c.args.out.now) (g.K.Sink.told c.put_all.new.out)) (c.bytes.ensures ∙ c.in_ok-canonical.ensures.text) c.in-Failed.ensures.sends, c.in-Failed.ensures.faults)
 
 pub returns : goal.returns
 returns g c =
-    (subst (λ (text : List ℕ). Sends sent.Memory text (g.K.Sink.told c.args.out.now) (g.K.Sink.told c.put_all.new.out)) (c.bytes.ensures ∙ c.in_ok-canonical.ensures.text) c.in-Memory.ensures.sends, c.in-Memory.ensures.faults)
+    (subst (λ (text : List ℕ). SendsPiece sent.Memory text (g.K.Sink.told c.args.out.now) (g.K.Sink.told c.put_all.new.out)) (c.bytes.ensures ∙ c.in_ok-canonical.ensures.text) c.in-Memory.ensures.sends, c.in-Memory.ensures.faults)

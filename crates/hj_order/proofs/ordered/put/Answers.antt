@@ -1,12 +1,12 @@
 use Rattle.std.proofs.Common.{◌∷◌, ◌++◌, List, IsPermutation, sym, subst, arith}
 use Rattle.std.specs.BinaryHeap.{heap_items}
-use Rattle.hj_order.specs.declared.kept.Kept.{Kept}
+use Rattle.hj_order.specs.declared.kept.KeptPair.{KeptPair}
 use Rattle.hj_order.proofs.InOrder.{put_late, put_ordered}
 use Rattle.hj_order.proofs.ordered.put.Goals as goal
 
 pub returns-then-is_in_order-clause-put : goal.returns-then-is_in_order-clause-put
 returns-then-is_in_order-clause-put g c =
-    subst (λ (ones : List (Kept g.row.P.Denot)). IsPermutation (c.args.kept ∷ (heap_items c.args.late.now ++ c.args.in_order.now.items)) (heap_items c.args.late.now ++ ones)) (sym c.push_back_reserved.ensures.items)
+    subst (λ (ones : List (KeptPair g.row.P.Denot)). IsPermutation (c.args.kept ∷ (heap_items c.args.late.now ++ c.args.in_order.now.items)) (heap_items c.args.late.now ++ ones)) (sym c.push_back_reserved.ensures.items)
     (put_ordered c.args.kept (heap_items c.args.late.now) c.args.in_order.now.items)
 
 pub returns-in_default-clause-put : goal.returns-in_default-clause-put

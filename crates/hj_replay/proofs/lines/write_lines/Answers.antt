@@ -2,16 +2,16 @@ use Rattle.std.proofs.Common.{◌≡◌, ◌≢◌, ℕ, List, [], length, Some,
 use Rattle.std.proofs.KnownBytes.{Appends-nil}
 use Rattle.std.specs.Io.KnownBytes.{Appends}
 use Rattle.hj_value.specs.declared.field.Field.{Field}
-use Rattle.hj_query.specs.Parts.{Parts}
+use Rattle.hj_query.specs.QueryParts.{QueryParts}
 use Rattle.hj_eval.specs.Holds.{holds}
 use Rattle.hj_msg.specs.Feed.{is_stop}
 use Rattle.hj_chain.specs.declared.actor.Stepped.TheVariants as stepped
 use Rattle.hj_chain.specs.Chain.{ChainState}
-use Rattle.hj_chain.specs.Serial.{Choosing, IsWithin}
+use Rattle.hj_chain.specs.Serial.{Choosing, IsPlaceWithin}
 use Rattle.hj_chain.specs.Steps.{Steps}
 use Rattle.hj_chain.proofs.ChosenActors.{chosen-enabled}
 use Rattle.hj_chain.proofs.SerialRuns.{cores-stay, fewer-left, first-within}
-use Rattle.hj_output.specs.Output.{CountsFaults, Sends}
+use Rattle.hj_output.specs.Output.{CountsFaults, SendsPiece}
 use Rattle.hj_stream.specs.declared.outcome.Outcome.TheVariants as outcome
 use Rattle.hj_trace.specs.Choosing.{choosing_in}
 use Rattle.hj_trace.specs.Line.{line_text}
@@ -43,7 +43,7 @@ loop-actor-init g c =
       faults = refl;
       goes = c.requires;
       join = refl;
-      within = subst (λ (choosing : Choosing). IsWithin (length c.args.chain.now.state.cores) choosing) (sym c.new-naming.ensures) (first-within (length c.args.chain.now.state.cores) c.args.chooser);
+      within = subst (λ (choosing : Choosing). IsPlaceWithin (length c.args.chain.now.state.cores) choosing) (sym c.new-naming.ensures) (first-within (length c.args.chain.now.state.cores) c.args.chooser);
       ran = other;
     }
 
@@ -66,8 +66,8 @@ loop-actor-preserved g c =
     cores-stay (gives {O = g.row.O.Denot} {outside = g.O.Outside}) (λ _. true) state_of holds c.loop-actor.chain c.write_line.new.chain c.in-Some.actor from to held.goes (c.in-Whole.ensures.step refl) in
     record {
       under = λ n flight first some flights is.
-          let step = subst (λ (join : Parts). Steps (gives {O = g.row.O.Denot} {outside = g.O.Outside}) (λ _. true) (holds join) c.in-Some.actor c.loop-actor.chain.state from stepped.Did c.write_line.new.chain.state to) held.join (c.in-Whole.ensures.step refl) in
-          let sends = subst (λ (join : Parts). Appends (g.K.Sink.told c.loop-actor.out) (g.K.Sink.told c.write_line.new.out) (line_text (holds join) c.loop-actor.chain.state c.in-Some.actor)) held.join c.in-Whole.ensures.sends in
+          let step = subst (λ (join : QueryParts). Steps (gives {O = g.row.O.Denot} {outside = g.O.Outside}) (λ _. true) (holds join) c.in-Some.actor c.loop-actor.chain.state from stepped.Did c.write_line.new.chain.state to) held.join (c.in-Whole.ensures.step refl) in
+          let sends = subst (λ (join : QueryParts). Appends (g.K.Sink.told c.loop-actor.out) (g.K.Sink.told c.write_line.new.out) (line_text (holds join) c.loop-actor.chain.state c.in-Some.actor)) held.join c.in-Whole.ensures.sends in
           subst (λ (choosing : Choosing). Underway (holds c.args.chain.now.join) c.args.chooser n flight first c.args.feed.now (g.K.Sink.told c.args.out.now) choosing c.write_line.new.chain.state to (g.K.Sink.told c.write_line.new.out))
           (sym c.in-Some.ensures.behind)
           (one_more (holds c.args.chain.now.join) c.args.chooser n flight first c.args.feed.now (g.K.Sink.told c.args.out.now) (choosing_in c.loop-actor.naming) c.loop-actor.chain.state from (g.K.Sink.told c.loop-actor.out) (held.under n flight first some flights is)
@@ -76,7 +76,7 @@ loop-actor-preserved g c =
       faults = c.in-Whole.ensures.faults ∙ held.faults;
       goes = c.write_line.ensures.goes;
       join = c.write_line.ensures.join ∙ held.join;
-      within = subst (λ (n : ℕ). IsWithin n (choosing_in c.name.new.self)) (sym stay) c.name.ensures.within;
+      within = subst (λ (n : ℕ). IsPlaceWithin n (choosing_in c.name.new.self)) (sym stay) c.name.ensures.within;
       ran = c.in-Whole.ensures.ran refl;
     }
 
@@ -88,7 +88,7 @@ returns-in_default-write_line g c =
     record {
       writes = λ n flight first some flights is.
           let sends = front_of c.write_line.result (line_text (holds c.args.chain.now.join) c.loop-actor.chain.state c.in-Some.actor) (g.K.Sink.told c.loop-actor.out) (g.K.Sink.told c.write_line.new.out) c.in_default-write_line.not-Whole
-          (subst (λ (join : Parts). Sends c.write_line.result (line_text (holds join) c.loop-actor.chain.state c.in-Some.actor) (g.K.Sink.told c.loop-actor.out) (g.K.Sink.told c.write_line.new.out)) held.join c.write_line.ensures.sends) in
+          (subst (λ (join : QueryParts). SendsPiece c.write_line.result (line_text (holds join) c.loop-actor.chain.state c.in-Some.actor) (g.K.Sink.told c.loop-actor.out) (g.K.Sink.told c.write_line.new.out)) held.join c.write_line.ensures.sends) in
           front (holds c.args.chain.now.join) c.args.chooser n flight first c.args.feed.now (g.K.Sink.told c.args.out.now) (choosing_in c.loop-actor.naming) c.loop-actor.chain.state from (g.K.Sink.told c.loop-actor.out) (held.under n flight first some flights is)
           c.in-Some.actor (sym c.in-Some.ensures.named) to c.write_line.ensures.feed held.ran (g.K.Sink.told c.write_line.new.out) sends c.write_line.result c.in_default-write_line.not-Whole;
       feed = fed_both c.args.feed.now from to held.feed c.write_line.ensures.feed;

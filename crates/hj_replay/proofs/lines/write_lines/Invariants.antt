@@ -2,7 +2,7 @@ use Rattle.std.proofs.Common.{◌≡◌, ◌≢◌, ◌≤◌, ◌+◌, ◌*◌,
 use Rattle.hj_value.specs.declared.field.Field.{Field}
 use Rattle.hj_msg.specs.declared.feed.Given.{Given}
 use Rattle.hj_chain.specs.Chain.{empty_chain}
-use Rattle.hj_chain.specs.Serial.{IsWithin}
+use Rattle.hj_chain.specs.Serial.{IsPlaceWithin}
 use Rattle.hj_chain.specs.Steps.{GoesWith}
 use Rattle.hj_chain.proofs.FewSteps.{to_come}
 use Rattle.hj_eval.specs.Holds.{holds}
@@ -20,7 +20,7 @@ invariant-loop-actor g l = record {
   faults : g.K.Sink.faults l.out ≡ g.K.Sink.faults l.fn.out;
   goes : GoesWith holds l.chain (state_of l.feed);
   join : l.chain.join ≡ l.fn.chain.join;
-  within : IsWithin (length l.chain.state.cores) (choosing_in l.naming);
+  within : IsPlaceWithin (length l.chain.state.cores) (choosing_in l.naming);
   ran : l.feed.feed.ended ≢ Some outcome.Memory;
 }
 

@@ -1,5 +1,5 @@
 use Rattle.std.proofs.Common.{refl, sym, subst₂}
-use Rattle.hj_query.specs.Parts.{Parts}
+use Rattle.hj_query.specs.QueryParts.{QueryParts}
 use Rattle.hj_stores.specs.declared.stores.PlannedStores.{PlannedStores}
 use Rattle.hj_stores.specs.Stores.{AreReadyFor}
 use Rattle.hj_replay.proofs.writing.trace_planned.Goals as goal
@@ -7,11 +7,11 @@ use Rattle.hj_replay.proofs.writing.trace_planned.Goals as goal
 pub trace_over-requires : goal.trace_over-requires
 trace_over-requires g c κs = (
   (refl, tt),
-  (c.requires.fresh, subst₂ (λ (query : Parts) (stores : PlannedStores). AreReadyFor query c.args.plan.size.cores stores) (sym c.requires.ready) c.in-Hash.is c.in_ok-stores.ensures),
+  (c.requires.fresh, subst₂ (λ (query : QueryParts) (stores : PlannedStores). AreReadyFor query c.args.plan.size.cores stores) (sym c.requires.ready) c.in-Hash.is c.in_ok-stores.ensures),
 )
 
 pub trace_over-requires-in-Ordered : goal.trace_over-requires-in-Ordered
 trace_over-requires-in-Ordered g c κs = (
   (refl, tt),
-  (c.requires.fresh, subst₂ (λ (query : Parts) (stores : PlannedStores). AreReadyFor query c.args.plan.size.cores stores) (sym c.requires.ready) c.in-Ordered.is c.in_ok-stores.ensures),
+  (c.requires.fresh, subst₂ (λ (query : QueryParts) (stores : PlannedStores). AreReadyFor query c.args.plan.size.cores stores) (sym c.requires.ready) c.in-Ordered.is c.in_ok-stores.ensures),
 )

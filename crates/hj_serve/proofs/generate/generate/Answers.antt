@@ -2,7 +2,7 @@ use Rattle.std.proofs.Common.{ℕ, List, sym, subst}
 use Rattle.hj_output.specs.declared.output.Sent.TheVariants as sent
 use Rattle.hj_opening.specs.Generating.{IsSummary}
 use Rattle.hj_serve.specs.Orders.{recipe_seen}
-use Rattle.hj_serve.specs.Turning.{crew_seen}
+use Rattle.hj_serve.specs.OrderPlan.{crew_seen}
 use Rattle.hj_opening.specs.Words.{most_events}
 use Rattle.hj_serve.proofs.Summed.{summed_runs, unmade_runs}
 use Rattle.hj_serve.proofs.generate.generate.Goals.{in-Whole, in-Failed, in-Memory}

@@ -1,4 +1,4 @@
-use Rattle.hj_serve.specs.Turning.{crew_seen}
+use Rattle.hj_serve.specs.OrderPlan.{crew_seen}
 use Rattle.hj_opening.specs.Words.{most_events}
 use Rattle.hj_serve.proofs.MadeJoin.{held_joins}
 use Rattle.hj_serve.proofs.generate.join_held.Goals as goal

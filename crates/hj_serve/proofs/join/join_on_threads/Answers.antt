@@ -1,10 +1,10 @@
 use Rattle.std.proofs.Common.{sym, subst}
 use Rattle.hj_opening.specs.Calls.{call}
-use Rattle.hj_serve.specs.declared.ended.Ended.{Ended}
+use Rattle.hj_serve.specs.declared.ended.OrderEnd.{OrderEnd}
 use Rattle.hj_serve.specs.OnCrew.{RunsOnCrew}
 use Rattle.hj_opening.specs.Orders.{join_seen, names_seen, source_seen}
 use Rattle.hj_opening.proofs.Joined.{joins_so}
-use Rattle.hj_serve.specs.Turning.{crew_seen, kind_of}
+use Rattle.hj_serve.specs.OrderPlan.{crew_seen, kind_of}
 use Rattle.hj_serve.proofs.Crewed.{runs_early, runs_joined, shows_streams}
 use Rattle.hj_serve.proofs.Opened.{in_step}
 use Rattle.hj_serve.proofs.join.join_on_threads.Goals as goal
@@ -18,7 +18,7 @@ returns-in-Err g c =
     let kind = kind_of c.args.writing in
     let before = g.O.Outside.state c.args.outside.now in
     let now = g.O.Outside.state c.make_ready.new.outside in
-    subst (λ (ended : Ended). RunsOnCrew crew ended (join_seen kind c.args.join) (call under before now out out faults faults)) (sym c.early.ensures)
+    subst (λ (ended : OrderEnd). RunsOnCrew crew ended (join_seen kind c.args.join) (call under before now out out faults faults)) (sym c.early.ensures)
     (runs_early crew c.in-Err.note (join_seen kind c.args.join) under before now out faults (c.in-Err.ensures.ready kind))
 
 pub join_ready-outcome-requires-clause-left : goal.join_ready-outcome-requires-clause-left

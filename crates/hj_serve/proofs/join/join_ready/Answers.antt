@@ -4,7 +4,7 @@ use Rattle.hj_opening.specs.Joining.{JoinsKind}
 use Rattle.hj_opening.proofs.Joined.{joins_lines}
 use Rattle.hj_serve.specs.declared.plan.Writing.{Writing}
 use Rattle.hj_serve.specs.Crew.{ShowsKind}
-use Rattle.hj_serve.specs.Turning.{crew_seen, kind_of}
+use Rattle.hj_serve.specs.OrderPlan.{crew_seen, kind_of}
 use Rattle.hj_serve.proofs.Crewed.{shows_items, shows_lines}
 use Rattle.hj_serve.proofs.RawJoined.{joins_items, untouched_out}
 use Rattle.hj_serve.proofs.join.join_ready.Goals as goal

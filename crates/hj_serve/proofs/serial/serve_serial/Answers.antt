@@ -1,6 +1,6 @@
 use Rattle.hj_opening.specs.Calls.{call}
 use Rattle.hj_opening.proofs.Serving.{serves_order}
-use Rattle.hj_serve.specs.Turning.{asked_alone}
+use Rattle.hj_serve.specs.OrderPlan.{asked_alone}
 use Rattle.hj_serve.proofs.serial.serve_serial.Goals as goal
 
 pub returns : goal.returns

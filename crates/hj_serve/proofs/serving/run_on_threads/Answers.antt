@@ -2,7 +2,7 @@ use Rattle.std.proofs.Common.{sym, subst}
 use Rattle.hj_opening.specs.Calls.{call}
 use Rattle.hj_serve.specs.declared.plan.ThreadsOrder.{ThreadsOrder}
 use Rattle.hj_serve.specs.OnCrew.{RunsOnCrew}
-use Rattle.hj_serve.specs.Turning.{asked_threads, crew_seen}
+use Rattle.hj_serve.specs.OrderPlan.{asked_threads, crew_seen}
 use Rattle.hj_serve.proofs.serving.run_on_threads.Goals as goal
 
 pub returns-in-Gen : goal.returns-in-Gen

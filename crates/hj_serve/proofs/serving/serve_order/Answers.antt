@@ -5,7 +5,7 @@ use Rattle.hj_opening.specs.Orders.{chain_seen, check_seen, join_seen}
 use Rattle.hj_opening.specs.RunTwice.{twice_names}
 use Rattle.hj_opening.specs.Words.{Order, step_lines}
 use Rattle.hj_opening.proofs.Serving.{serves_check, serves_order, serves_twice}
-use Rattle.hj_serve.specs.Turning.{asked_threads}
+use Rattle.hj_serve.specs.OrderPlan.{asked_threads}
 use Rattle.hj_serve.proofs.serving.serve_order.Goals as goal
 
 pub returns-in-Threads-clause-serves : goal.returns-in-Threads-clause-serves

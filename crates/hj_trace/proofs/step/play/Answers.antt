@@ -1,5 +1,5 @@
 use Rattle.std.proofs.Common.{◌≡◌, ◌++◌, rules}
-use Rattle.hj_trace.specs.Doing.{action_in}
+use Rattle.hj_trace.specs.StepAction.{action_in}
 use Rattle.hj_trace.specs.Line.{front_text}
 use Rattle.hj_trace.proofs.Reported.{answers_of, whole_text}
 use Rattle.hj_trace.proofs.step.play.Goals as goal

@@ -1,5 +1,5 @@
 use Rattle.std.proofs.Common.{refl, sym, subst, subst₂}
-use Rattle.hj_query.specs.Parts.{Parts}
+use Rattle.hj_query.specs.QueryParts.{QueryParts}
 use Rattle.hj_stores.specs.declared.stores.PlannedStores.{PlannedStores}
 use Rattle.hj_stores.specs.Stores.{AreReadyFor}
 use Rattle.hj_stream.specs.Ends.{IsUnasked}
@@ -13,8 +13,8 @@ pub check_over-requires : goal.check_over-requires
 check_over-requires g c κs = (
   (refl, tt),
   (
-    (c.requires.unasked.0, subst (λ (query : Parts). IsUnasked query c.requires.unasked.0 c.args.feed.now.feed) (sym c.requires.ready) c.requires.unasked.1),
-    (c.requires.trace, (c.requires.output, subst₂ (λ (query : Parts) (stores : PlannedStores). AreReadyFor query c.args.size.cores stores) (sym c.requires.ready) c.in-Ok-Hash.field-0-is c.in-Ok-Hash.ensures)),
+    (c.requires.unasked.0, subst (λ (query : QueryParts). IsUnasked query c.requires.unasked.0 c.args.feed.now.feed) (sym c.requires.ready) c.requires.unasked.1),
+    (c.requires.trace, (c.requires.output, subst₂ (λ (query : QueryParts) (stores : PlannedStores). AreReadyFor query c.args.size.cores stores) (sym c.requires.ready) c.in-Ok-Hash.field-0-is c.in-Ok-Hash.ensures)),
   ),
 )
 
@@ -22,7 +22,7 @@ pub check_over-requires-in-Ok-Ordered : goal.check_over-requires-in-Ok-Ordered
 check_over-requires-in-Ok-Ordered g c κs = (
   (refl, tt),
   (
-    (c.requires.unasked.0, subst (λ (query : Parts). IsUnasked query c.requires.unasked.0 c.args.feed.now.feed) (sym c.requires.ready) c.requires.unasked.1),
-    (c.requires.trace, (c.requires.output, subst₂ (λ (query : Parts) (stores : PlannedStores). AreReadyFor query c.args.size.cores stores) (sym c.requires.ready) c.in-Ok-Ordered.field-0-is c.in-Ok-Ordered.ensures)),
+    (c.requires.unasked.0, subst (λ (query : QueryParts). IsUnasked query c.requires.unasked.0 c.args.feed.now.feed) (sym c.requires.ready) c.requires.unasked.1),
+    (c.requires.trace, (c.requires.output, subst₂ (λ (query : QueryParts) (stores : PlannedStores). AreReadyFor query c.args.size.cores stores) (sym c.requires.ready) c.in-Ok-Ordered.field-0-is c.in-Ok-Ordered.ensures)),
   ),
 )

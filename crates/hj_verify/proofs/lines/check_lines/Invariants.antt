@@ -1,5 +1,5 @@
 use Rattle.std.proofs.Common.{ℕ}
-use Rattle.hj_query.specs.Parts.{Parts}
+use Rattle.hj_query.specs.QueryParts.{QueryParts}
 use Rattle.hj_chain.specs.Steps.{GoesWith}
 use Rattle.hj_eval.specs.Holds.{holds}
 use Rattle.hj_stream.specs.Feeding.{Feeding}
@@ -12,7 +12,7 @@ invariant-loop-chain g l = record {
   outside : SameOutside l.fn.feed l.feed;
   goes : GoesWith holds l.chain (state_of l.feed);
   are_open : AreOpen (roles_of l.feed) l.texts.trace l.texts.output.stream;
-  checking : (query : Parts) (n flight : ℕ) (start : Feeding) → Checking query n flight start 1 l.fn.chain (feeding l.fn.feed) l.fn.texts.trace l.fn.texts.output
+  checking : (query : QueryParts) (n flight : ℕ) (start : Feeding) → Checking query n flight start 1 l.fn.chain (feeding l.fn.feed) l.fn.texts.trace l.fn.texts.output
       → Checking query n flight start l.number l.chain (feeding l.feed) l.texts.trace l.texts.output;
 }
 

@@ -12,8 +12,8 @@ returns-then-is_err-clause-step g c = λ answer.
     (in_cores g.J.Join.predicate _ _ c.self.view_is c.requires.going c.from-place.result c.args.core.0 c.from-place.ensures c.requires.within)
     (sym c.first_of.ensures ∙ ap option_copied c.in-Some.is)
 
-pub note-requires : goal.note-requires
-note-requires g c =
+pub update_marks-requires : goal.update_marks-requires
+update_marks-requires g c =
     in_collector g.J.Join.predicate _ _ c.self.view_is c.requires.going c.args.core c.from-place.result c.from-place.ensures
     (in_cores g.J.Join.predicate _ _ c.self.view_is c.requires.going c.from-place.result c.args.core.0 c.from-place.ensures c.requires.within)
 
@@ -27,7 +27,7 @@ pub returns-clause-gathers : goal.returns-clause-gathers
 returns-clause-gathers g c =
     let taken : c.in-Some-take_first.report ≡ c.in-Some.report.now = let e : Some c.in-Some-take_first.report ≡ Some c.in-Some.report.now = sym (sym c.take_first.ensures.first ∙ c.in-Some-take_first.is) ∙ (sym c.first_of.ensures ∙ ap option_copied c.in-Some.is) in cc in
     collecting-gathers g.J.Join.predicate _ _ c.self.view_is c.requires.going c.args.core c.from-place.result c.in-Some.report.now _ _ c.from-place.ensures (sym c.first_of.ensures ∙ ap option_copied c.in-Some.is)
-    (c.note.ensures ∙ ap (λ (report : Report g.row.P.Denot). after_report c.args.core report c.self.inside.collector) taken)
+    (c.update_marks.ensures ∙ ap (λ (report : Report g.row.P.Denot). after_report c.args.core report c.self.inside.collector) taken)
     (granted c.keep.result _ (sym c.is_err.ensures.value ∙ c.if-is_err.false) c.keep.ensures.ok)
 
 pub first_of-requires : goal.first_of-requires

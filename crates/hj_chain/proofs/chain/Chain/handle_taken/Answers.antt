@@ -24,9 +24,9 @@ pub invariant_of-self : goal.invariant_of-self
 invariant_of-self g c =
     let t = opened g.J.Join.predicate c.args.core c.args.end c.args.msg c.requires.taken.0 _ _ c.self.view_is c.requires.taken.1 in
     let low : c.from-place.result < length c.self.inside.cores.items = omega (arith, taken-in_cores g.J.Join.predicate c.args.core c.args.end c.args.msg c.requires.taken.0 _ t c.from-place.result c.from-place.ensures, length-map c.self.inside.cores.items (state_of g.S.Store.entries)) in
-    let few : length (set c.self.inside.cores.items c.from-place.result c.pass.new.self) ≤ 64 = omega (arith, c.self.invariant.few, length-set c.self.inside.cores.items c.from-place.result c.pass.new.self) in
+    let few : length (set c.self.inside.cores.items c.from-place.result c.handle_passing.new.self) ≤ 64 = omega (arith, c.self.invariant.few, length-set c.self.inside.cores.items c.from-place.result c.handle_passing.new.self) in
     record {
-      placed = prepared-placed g.J.Join.predicate (state_of g.S.Store.entries) c.self.inside.join c.self.inside.cores.items c.from-place.result c.index_mut.result.now c.pass.new.self c.self.invariant.placed low c.index_mut.ensures.value (ap (state_of g.S.Store.entries) c.in_default.ensures.others) c.pass.ensures.kept;
+      placed = prepared-placed g.J.Join.predicate (state_of g.S.Store.entries) c.self.inside.join c.self.inside.cores.items c.from-place.result c.index_mut.result.now c.handle_passing.new.self c.self.invariant.placed low c.index_mut.ensures.value (ap (state_of g.S.Store.entries) c.in_default.ensures.others) c.handle_passing.ensures.kept;
       few = few;
       flight = c.self.invariant.flight;
       capacity = c.self.invariant.capacity;
@@ -36,15 +36,15 @@ pub handle_whole-requires : goal.handle_whole-requires
 handle_whole-requires g c =
     let t = opened g.J.Join.predicate c.args.core c.args.end c.args.msg c.requires.taken.0 _ _ c.self.view_is c.requires.taken.1 in
     let low : c.from-place.result < length c.self.inside.cores.items = omega (arith, taken-in_cores g.J.Join.predicate c.args.core c.args.end c.args.msg c.requires.taken.0 _ t c.from-place.result c.from-place.ensures, length-map c.self.inside.cores.items (state_of g.S.Store.entries)) in
-    let same = prepared-states g.J.Join.predicate (state_of g.S.Store.entries) c.self.inside.join c.self.inside.cores.items c.from-place.result c.index_mut.result.now c.pass.new.self c.self.invariant.placed low c.index_mut.ensures.value (ap (state_of g.S.Store.entries) c.in_default.ensures.others) c.pass.ensures.kept in
-    record { taken = (c.requires.taken.0, recored g.J.Join.predicate c.args.core c.args.end c.args.msg c.requires.taken.0 _ (map (state_of g.S.Store.entries) (set c.self.inside.cores.items c.from-place.result c.pass.new.self)) same t) }
+    let same = prepared-states g.J.Join.predicate (state_of g.S.Store.entries) c.self.inside.join c.self.inside.cores.items c.from-place.result c.index_mut.result.now c.handle_passing.new.self c.self.invariant.placed low c.index_mut.ensures.value (ap (state_of g.S.Store.entries) c.in_default.ensures.others) c.handle_passing.ensures.kept in
+    record { taken = (c.requires.taken.0, recored g.J.Join.predicate c.args.core c.args.end c.args.msg c.requires.taken.0 _ (map (state_of g.S.Store.entries) (set c.self.inside.cores.items c.from-place.result c.handle_passing.new.self)) same t) }
 
 pub returns-in_default-clause-step : goal.returns-in_default-clause-step
 returns-in_default-clause-step g c = λ before h.
     let t = opened g.J.Join.predicate c.args.core c.args.end c.args.msg before _ _ c.self.view_is h in
     let low : c.from-place.result < length c.self.inside.cores.items = omega (arith, taken-in_cores g.J.Join.predicate c.args.core c.args.end c.args.msg before _ t c.from-place.result c.from-place.ensures, length-map c.self.inside.cores.items (state_of g.S.Store.entries)) in
-    let same = prepared-states g.J.Join.predicate (state_of g.S.Store.entries) c.self.inside.join c.self.inside.cores.items c.from-place.result c.index_mut.result.now c.pass.new.self c.self.invariant.placed low c.index_mut.ensures.value (ap (state_of g.S.Store.entries) c.in_default.ensures.others) c.pass.ensures.kept in
-    let mid = recored g.J.Join.predicate c.args.core c.args.end c.args.msg before _ (map (state_of g.S.Store.entries) (set c.self.inside.cores.items c.from-place.result c.pass.new.self)) same t in
+    let same = prepared-states g.J.Join.predicate (state_of g.S.Store.entries) c.self.inside.join c.self.inside.cores.items c.from-place.result c.index_mut.result.now c.handle_passing.new.self c.self.invariant.placed low c.index_mut.ensures.value (ap (state_of g.S.Store.entries) c.in_default.ensures.others) c.handle_passing.ensures.kept in
+    let mid = recored g.J.Join.predicate c.args.core c.args.end c.args.msg before _ (map (state_of g.S.Store.entries) (set c.self.inside.cores.items c.from-place.result c.handle_passing.new.self)) same t in
     turned c.handle_whole.result c.stepped.result (λ (answer : FeedAnswer g.row.P.Denot) (result : Stepped). StepsTo (g.J.Join.predicate before.join) (Core c.args.core c.args.end) answer before.state result c.handle_whole.new.self.state)
     c.stepped.ensures.did c.stepped.ensures.memory (on_ok_weaker c.handle_whole.result (λ steps. steps before mid) c.handle_whole.ensures.did) (on_err_weaker c.handle_whole.result (λ steps. steps before mid) c.handle_whole.ensures.memory)
 
@@ -69,7 +69,7 @@ carry-requires-clause-room_right g c =
     let t = opened g.J.Join.predicate c.args.core c.args.end c.args.msg c.requires.taken.0 _ _ c.self.view_is c.requires.taken.1 in
     let low : c.from-place.result < length c.self.inside.cores.items = omega (arith, taken-in_cores g.J.Join.predicate c.args.core c.args.end c.args.msg c.requires.taken.0 _ t c.from-place.result c.from-place.ensures, length-map c.self.inside.cores.items (state_of g.S.Store.entries)) in
     let d = done g.J.Join.predicate (state_of g.S.Store.entries) c.self.inside.join c.self.inside.cores.items c.from-place.result c.index_mut.result.now c.index_mut.result.now c.self.invariant.placed low c.index_mut.ensures.value refl (record { join = refl; place = refl; cores = refl })
-    c.pass.new.self c.args.msg (passed_on c.in-Some.way c.args.msg) None c.in-Some.ensures.state (sym c.in-Some.ensures.sends) (sym c.in-Some.ensures.report) c.pass.ensures.kept in
+    c.handle_passing.new.self c.args.msg (passed_on c.in-Some.way c.args.msg) None c.in-Some.ensures.state (sym c.in-Some.ensures.sends) (sym c.in-Some.ensures.report) c.handle_passing.ensures.kept in
     taken-room_right g.J.Join.predicate c.args.core c.args.end c.args.msg c.requires.taken.0 _ t c.from-place.result c.from-place.ensures (passed_on c.in-Some.way c.args.msg) d.sends_are
 
 pub invariant_of-self-2 : goal.invariant_of-self-2
@@ -77,8 +77,8 @@ invariant_of-self-2 g c =
     let t = opened g.J.Join.predicate c.args.core c.args.end c.args.msg c.requires.taken.0 _ _ c.self.view_is c.requires.taken.1 in
     let low : c.from-place.result < length c.self.inside.cores.items = omega (arith, taken-in_cores g.J.Join.predicate c.args.core c.args.end c.args.msg c.requires.taken.0 _ t c.from-place.result c.from-place.ensures, length-map c.self.inside.cores.items (state_of g.S.Store.entries)) in
     let d = done g.J.Join.predicate (state_of g.S.Store.entries) c.self.inside.join c.self.inside.cores.items c.from-place.result c.index_mut.result.now c.index_mut.result.now c.self.invariant.placed low c.index_mut.ensures.value refl (record { join = refl; place = refl; cores = refl })
-    c.pass.new.self c.args.msg (passed_on c.in-Some.way c.args.msg) None c.in-Some.ensures.state (sym c.in-Some.ensures.sends) (sym c.in-Some.ensures.report) c.pass.ensures.kept in
-    let few : length (set c.self.inside.cores.items c.from-place.result c.pass.new.self) ≤ 64 = omega (arith, c.self.invariant.few, length-set c.self.inside.cores.items c.from-place.result c.pass.new.self) in
+    c.handle_passing.new.self c.args.msg (passed_on c.in-Some.way c.args.msg) None c.in-Some.ensures.state (sym c.in-Some.ensures.sends) (sym c.in-Some.ensures.report) c.handle_passing.ensures.kept in
+    let few : length (set c.self.inside.cores.items c.from-place.result c.handle_passing.new.self) ≤ 64 = omega (arith, c.self.invariant.few, length-set c.self.inside.cores.items c.from-place.result c.handle_passing.new.self) in
     record { placed = d.placed; few = few; flight = c.self.invariant.flight; capacity = c.self.invariant.capacity }
 
 pub returns-clause-step : goal.returns-clause-step
@@ -86,7 +86,7 @@ returns-clause-step g c = λ before h answer.
     let t = opened g.J.Join.predicate c.args.core c.args.end c.args.msg before _ _ c.self.view_is h in
     let low : c.from-place.result < length c.self.inside.cores.items = omega (arith, taken-in_cores g.J.Join.predicate c.args.core c.args.end c.args.msg before _ t c.from-place.result c.from-place.ensures, length-map c.self.inside.cores.items (state_of g.S.Store.entries)) in
     let d = done g.J.Join.predicate (state_of g.S.Store.entries) c.self.inside.join c.self.inside.cores.items c.from-place.result c.index_mut.result.now c.index_mut.result.now c.self.invariant.placed low c.index_mut.ensures.value refl (record { join = refl; place = refl; cores = refl })
-    c.pass.new.self c.args.msg (passed_on c.in-Some.way c.args.msg) None c.in-Some.ensures.state (sym c.in-Some.ensures.sends) (sym c.in-Some.ensures.report) c.pass.ensures.kept in
+    c.handle_passing.new.self c.args.msg (passed_on c.in-Some.way c.args.msg) None c.in-Some.ensures.state (sym c.in-Some.ensures.sends) (sym c.in-Some.ensures.report) c.handle_passing.ensures.kept in
     taken-did g.J.Join.predicate c.args.core c.args.end c.args.msg before _ t c.from-place.result c.from-place.ensures answer _ _ _
     (c.carry.ensures ∙ ap (λ (s : step.Sends g.row.P.Denot). send_out c.from-place.result s.left s.right c.self.inside.links) d.sends_are)
     d.states

@@ -4,7 +4,7 @@ use Rattle.std.proofs.lemmas.List.{map-set, length-map}
 use Rattle.std.specs.declared.cmp.Ordering.TheVariants.{Less}
 use Rattle.hj_base.specs.declared.numbers.EventNo.{EventNo}
 use Rattle.hj_msg.specs.Punctuation.{Mark as Meaning, up_to}
-use Rattle.hj_collect.specs.declared.least.Least.{Least}
+use Rattle.hj_collect.specs.declared.least.LeastMark.{LeastMark}
 use Rattle.hj_collect.specs.declared.reach.Reach.{Reach}
 use Rattle.hj_collect.specs.declared.reach.Reach.TheVariants.{UpTo}
 use Rattle.hj_collect.specs.Least.{IsLeast}
@@ -15,7 +15,7 @@ use Rattle.hj_collect.proofs.Replacing.{rest, least_with, put_above, mark_at}
 use Rattle.hj_collect.proofs.marks.Marks.raise.Goals as goal
 
 -- a mark that comes in the place of another one, above the least
-module _ (items : List Reach) (core : ℕ) (number : EventNo) (low : core < length items) (before : Reach) (was : before ≡ get_or items core before) (least : Least) (is : IsLeast least (map reached items))
+module _ (items : List Reach) (core : ℕ) (number : EventNo) (low : core < length items) (before : Reach) (was : before ≡ get_or items core before) (least : LeastMark) (is : IsLeast least (map reached items))
     (under : Less ≡ compared (reached least.mark) (reached (UpTo number))) where
   here : IsLeast least (reached before ∷ rest items core low)
   here = least_with items core low least before was is

@@ -1,5 +1,5 @@
 use Rattle.std.proofs.Common.{◌≡◌, ◌+◌, Some, map, ap, subst, sym, ◌∙◌}
-use Rattle.hj_rows.specs.Numbered.{places_in}
+use Rattle.hj_rows.specs.NumberedRows.{places_in}
 use Rattle.hj_columns.specs.Store.{ColumnRows}
 use Rattle.hj_columns.proofs.Keeping.{all-append, waits-behind}
 use Rattle.hj_columns.proofs.column_store.ColumnStoreStore.insert.Goals as goal

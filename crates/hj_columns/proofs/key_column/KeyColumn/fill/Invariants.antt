@@ -1,5 +1,5 @@
 use Rattle.std.proofs.Common.{◌≡◌, ◌<◌, ℕ, Some, length, slice_get}
-use Rattle.hj_rows.specs.Numbered.{places_in}
+use Rattle.hj_rows.specs.NumberedRows.{places_in}
 use Rattle.hj_columns.proofs.key_column.KeyColumn.fill.Given as goal
 
 abbrev pub invariant-loop-at : goal.invariant-loop-at

@@ -1,4 +1,4 @@
-use Rattle.hj_desk.specs.declared.raw.Raw.{Raw}
+use Rattle.hj_desk.specs.declared.raw.RawOutlet.{RawOutlet}
 use Rattle.hj_crew.proofs.RawRuns.{ran-raw}
 use Rattle.hj_crew.proofs.Refusing.{refused-within}
 use Rattle.hj_crew.proofs.plan.CrewPlan.run_raw.Goals as goal
@@ -13,4 +13,4 @@ returns-clause-runs g c =
 pub returns-clause-memory : goal.returns-clause-memory
 returns-clause-memory g c =
     let made = c.run_between-ran.result in
-    refused-within made.0 (λ (o : Raw g.row.P.Denot g.row.D.Denot). o.drain) c.args.input.feed made.1 c.new-outlet.result made.2 c.args.drain c.new-outlet.ensures.drain c.run_between-ran.ensures.memory
+    refused-within made.0 (λ (o : RawOutlet g.row.P.Denot g.row.D.Denot). o.drain) c.args.input.feed made.1 c.new-outlet.result made.2 c.args.drain c.new-outlet.ensures.drain c.run_between-ran.ensures.memory

@@ -5,7 +5,7 @@ use Rattle.hj_msg.specs.declared.feed.Given.TheVariants.{Event}
 use Rattle.hj_msg.specs.Driver.{DriverTurn, admission}
 use Rattle.hj_driver.specs.Driver.{cause_of}
 use Rattle.hj_driver.specs.StandsFor as driver
-use Rattle.hj_desk.specs.declared.step.Step.TheVariants.{Did}
+use Rattle.hj_desk.specs.declared.step.DeskStep.TheVariants.{Did}
 use Rattle.hj_desk.specs.Desk.{turns_of}
 use Rattle.hj_desk.specs.Steps.{Admits}
 use Rattle.hj_desk.proofs.Driving.{message-sent, never-waits, next-well, notes-put, port-sent, puts-event, same-event, sent-as, when-sent}

@@ -1,17 +1,18 @@
 use Rattle.std.proofs.Common.{◌≡◌, ℕ, ◌<◌, List, [], ◌∷◌, get_or, refl, ap, subst, arith}
 use Rattle.std.specs.List.{filter_map}
 use Rattle.std.proofs.lemmas.List.Elements.{All-cons, All-nil}
-use Rattle.hj_driver.specs.declared.lane.Arrival.{Arrival}
+use Rattle.hj_driver.specs.declared.lane.OutstandingArrival.{OutstandingArrival}
 use Rattle.hj_driver.specs.Lane.{LaneState, IsAbsent, IsRising, after_departure}
 use Rattle.hj_driver.proofs.Arrivals.{none_changes, lane_with}
 use Rattle.hj_driver.proofs.lane.Lane.take.Goals as goal
 
 -- a number below the first one is none of theirs
-absent_below : (l : List Arrival) → IsRising l → (number : ℕ) (x : Arrival) → x ≡ get_or l 0 x → number < x.no.0 → IsAbsent l number
-absent_below [] rising number x e less = All-nil (λ (a : Arrival). ¬ (a.no.0 ≡ number))
+absent_below : (l : List OutstandingArrival) → IsRising l → (number : ℕ) (x : OutstandingArrival) → x ≡ get_or l 0 x → number < x.no.0
+    → IsAbsent l number
+absent_below [] rising number x e less = All-nil (λ (a : OutstandingArrival). ¬ (a.no.0 ≡ number))
 absent_below (y ∷ ys) rising number x e less =
-    let first : x.no.0 ≡ y.no.0 = ap (λ (a : Arrival). a.no.0) e in
-    All-cons (λ (a : Arrival). ¬ (a.no.0 ≡ number)) y ys (λ same. omega (arith, first, less, same)) (λ k d lt same. let above = rising.0 k d lt in omega (arith, first, less, above, same))
+    let first : x.no.0 ≡ y.no.0 = ap (λ (a : OutstandingArrival). a.no.0) e in
+    All-cons (λ (a : OutstandingArrival). ¬ (a.no.0 ≡ number)) y ys (λ same. omega (arith, first, less, same)) (λ k d lt same. let above = rising.0 k d lt in omega (arith, first, less, above, same))
 
 pub returns-in-Some-2 : goal.returns-in-Some-2
 returns-in-Some-2 c =

@@ -1,7 +1,7 @@
 use Rattle.std.proofs.Common.{List}
 use Rattle.hj_value.specs.declared.field.Field.{Field}
 use Rattle.hj_eval.specs.Holds.{holds}
-use Rattle.hj_desk.specs.declared.in_order.InOrder.{InOrder}
+use Rattle.hj_desk.specs.declared.in_order.OrderedOutlet.{OrderedOutlet}
 use Rattle.hj_crew.proofs.InOrder.{ran-in_order}
 use Rattle.hj_crew.proofs.Refusing.{refused-within}
 use Rattle.hj_engine.proofs.crew.QueryRun.run_in_order.Goals as goal
@@ -16,4 +16,4 @@ returns-clause-runs g c =
 pub returns-clause-refused : goal.returns-clause-refused
 returns-clause-refused g c =
     let made = c.run_between-ran.result in
-    refused-within made.0 (λ (o : InOrder (List Field) g.row.D.Denot). o.drain) c.args.feed made.1 c.new-outlet.result made.2 c.args.drain c.new-outlet.ensures.drain c.run_between-ran.ensures.refused
+    refused-within made.0 (λ (o : OrderedOutlet (List Field) g.row.D.Denot). o.drain) c.args.feed made.1 c.new-outlet.result made.2 c.args.drain c.new-outlet.ensures.drain c.run_between-ran.ensures.refused

@@ -2,7 +2,7 @@ use Rattle.std.proofs.Common.{◌≡◌, true, false, is_some, Ok, List, Option,
 use Rattle.hj_value.specs.declared.field.Field.{Field}
 use Rattle.std.proofs.lemmas.Result.{err_from_is_err_and}
 use Rattle.hj_base.specs.Outside.{role_of}
-use Rattle.hj_event.specs.declared.stop.Stop.TheVariants as stop
+use Rattle.hj_event.specs.declared.stop.SideStop.TheVariants as stop
 use Rattle.hj_event.proofs.ArrivalLemmas.{sees_known}
 use Rattle.hj_event.specs.Taking.{TakesStraight}
 use Rattle.hj_event.proofs.SourceLemmas.{stops_unread, takes_unread}

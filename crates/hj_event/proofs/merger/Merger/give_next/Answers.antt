@@ -1,8 +1,8 @@
 use Rattle.std.proofs.Common.{sym, subst}
 use Rattle.std.proofs.lemmas.Result.{err_from_is_err_and}
 use Rattle.std.specs.declared.option.Option.{Option}
-use Rattle.hj_event.specs.declared.stop.Last.{Last}
-use Rattle.hj_event.specs.Merger.{IsDue, Merging, Steps}
+use Rattle.hj_event.specs.declared.stop.MergeEnd.{MergeEnd}
+use Rattle.hj_event.specs.Merger.{IsDue, Merging, StepsToAnswer}
 use Rattle.hj_event.proofs.MergerLemmas.{steps_arrival}
 use Rattle.hj_event.proofs.merger.Merger.give_next.Goals as goal
 
@@ -18,6 +18,6 @@ returns-clause-steps g c =
     let old = c.args.self.now in
     let new = c.self.inside in
     let due = subst (λ (mid : Merging). IsDue old mid before now) (sym c.self.view_is) c.in_ok-arrive.ensures.arrives in
-    subst (λ (over : Option Last). Steps c.give.result old (record { sides = new.arrivals; numbering = c.give.new.self; over = over }) before now) (sym due.over)
+    subst (λ (over : Option MergeEnd). StepsToAnswer c.give.result old (record { sides = new.arrivals; numbering = c.give.new.self; over = over }) before now) (sym due.over)
     (steps_arrival due.arrival c.give.result old.sides new.arrivals old.over old.numbering new.numbering c.give.new.self before now
     c.requires.none due.takes due.numbers c.give.ensures)

@@ -1,5 +1,5 @@
 use Rattle.std.proofs.Common.{ap, ◌∙◌, rules}
-use Rattle.hj_event.specs.Sides.{Reading}
+use Rattle.hj_event.specs.Sides.{ReaderState}
 use Rattle.hj_event.proofs.LineLemmas.{none_left}
 use Rattle.hj_event.proofs.ReaderLemmas.{fills_end, fills_failed, end_same, still_same}
 use Rattle.hj_event.proofs.reader.Reader.fill.Goals as goal
@@ -14,8 +14,8 @@ returns-in-Failed-clause-fills g c = fills_failed c.args.self.now _ _ _ c.read.n
 
 pub invariant_of-self-in-End : goal.invariant_of-self-in-End
 invariant_of-self-in-End g c = none_left c.self.inside.cutter c.self.inside.cutter c.self.inside.portion c.read.new.buf c.self.inside.taken c.self.inside.filled c.self.inside.lines_end c.self.invariant (search rules) (search rules)
-    (ap (λ (r : Reading). r.rest) c.self.view_is ∙ c.requires.rest)
+    (ap (λ (r : ReaderState). r.rest) c.self.view_is ∙ c.requires.rest)
 
 pub invariant_of-self-in-Failed : goal.invariant_of-self-in-Failed
 invariant_of-self-in-Failed g c = none_left c.self.inside.cutter c.self.inside.cutter c.self.inside.portion c.read.new.buf c.self.inside.taken c.self.inside.filled c.self.inside.lines_end c.self.invariant (search rules) (search rules)
-    (ap (λ (r : Reading). r.rest) c.self.view_is ∙ c.requires.rest)
+    (ap (λ (r : ReaderState). r.rest) c.self.view_is ∙ c.requires.rest)

@@ -1,4 +1,4 @@
-use Rattle.hj_index.specs.Chains.{rows_in}
+use Rattle.hj_index.specs.KeyChains.{rows_in}
 use Rattle.hj_index.proofs.ChainRows.{apart-distinct}
 use Rattle.hj_index.proofs.hash_store.HashStoreStoreSharedRow.reserve.Goals as goal
 

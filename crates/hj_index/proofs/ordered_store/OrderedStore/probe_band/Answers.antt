@@ -3,8 +3,8 @@ use Rattle.std.specs.BTreeMap.Range.{range_contains}
 use Rattle.std.specs.Int.{w64}
 use Rattle.std.proofs.lemmas.Int.{to_z-of_z}
 use Rattle.hj_msg.specs.Store.{joins, settled_matches}
-use Rattle.hj_rows.specs.Numbered.{rows_in}
-use Rattle.hj_index.specs.OrderedIndex.{key_cmp, number_at, AreWithin, Key}
+use Rattle.hj_rows.specs.NumberedRows.{rows_in}
+use Rattle.hj_index.specs.OrderedIndex.{key_cmp, number_at, AreWithin, OrderedKey}
 use Rattle.hj_index.specs.OrderedStore.{JoinsNear, OrderedRows}
 use Rattle.hj_index.proofs.Banding.{finds_first, near_pushed}
 use Rattle.hj_rows.proofs.Probes.{none-above, partner}
@@ -16,7 +16,7 @@ loop-key-init g c =
       finds_first s.own (rows_in s.rows) s.index c.self.invariant c.band.result.0 c.band.result.1 s.other s.within (g.J.Join.predicate c.args.join.now) c.args.side
           (subst (λ (store : OrderedRows). JoinsNear store.own store.other store.within (g.J.Join.predicate c.args.join.now) c.args.side) (sym c.self.view_is) c.requires.suits) c.args.against.now c.args.number
           (subst (λ (store : OrderedRows). number_at store.other c.args.against.now ≡ Some c.args.number) (sym c.self.view_is) c.requires.number)
-          (subst (λ (number : ℤ). (key : Key) → AreWithin s.within key.0 number → range_contains key_cmp c.band.result.0 c.band.result.1 key ≡ true) (to_z-of_z w64 c.args.number c.ranges.number) c.band.ensures.all) c.new-found.result c.into_iter-key-iterator.result
+          (subst (λ (number : ℤ). (key : OrderedKey) → AreWithin s.within key.0 number → range_contains key_cmp c.band.result.0 c.band.result.1 key ≡ true) (to_z-of_z w64 c.args.number c.ranges.number) c.band.ensures.all) c.new-found.result c.into_iter-key-iterator.result
           c.range-key-items.ensures.ordered c.new-found.ensures (c.into_iter-key-iterator.ensures.into_iter_gives ∙ c.range-key-items.ensures.between tt),
       none-above c.new-found.result 0 c.new-found.ensures,
     )

@@ -1,6 +1,6 @@
 use Rattle.std.proofs.Common.{◌≤◌, All}
 use Rattle.hj_msg.specs.Store.{joins, settled_matches}
-use Rattle.hj_rows.specs.Numbered.{rows_in}
+use Rattle.hj_rows.specs.NumberedRows.{rows_in}
 use Rattle.hj_index.proofs.Banding.{places_left}
 use Rattle.hj_rows.proofs.Probes.{number, Finds}
 use Rattle.hj_index.proofs.ordered_store.OrderedStore.probe_band.Given as goal

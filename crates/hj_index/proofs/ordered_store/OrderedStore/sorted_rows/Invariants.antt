@@ -1,5 +1,5 @@
 use Rattle.hj_msg.specs.Store.{joins, settled_matches}
-use Rattle.hj_rows.specs.Numbered.{rows_in}
+use Rattle.hj_rows.specs.NumberedRows.{rows_in}
 use Rattle.hj_index.proofs.Banding.{places_left}
 use Rattle.hj_rows.proofs.SortedProbes.{Sorts}
 use Rattle.hj_index.proofs.ordered_store.OrderedStore.sorted_rows.Given as goal

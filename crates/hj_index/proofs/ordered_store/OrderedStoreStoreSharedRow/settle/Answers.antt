@@ -1,6 +1,6 @@
 use Rattle.std.proofs.Common.{subst, sym}
 use Rattle.hj_msg.specs.Store.{AreDistinct}
-use Rattle.hj_rows.specs.Numbered.{rows_in}
+use Rattle.hj_rows.specs.NumberedRows.{rows_in}
 use Rattle.hj_index.specs.OrderedStore.{AreOrdered}
 use Rattle.hj_index.proofs.Banding.{Rows}
 use Rattle.hj_index.proofs.OrderedRows.{settled_ordered}

@@ -1,7 +1,7 @@
 use Rattle.std.proofs.Common.{[], ◌∷◌, ◌++◌, List, IsPermutation, append-nil, ap₂, sym, subst}
 use Rattle.std.specs.BinaryHeap.{heap_items, IsHeap}
 use Rattle.std.proofs.lemmas.List.Sorted.{IsPermutation-refl}
-use Rattle.hj_order.specs.declared.kept.Kept.{Kept}
+use Rattle.hj_order.specs.declared.kept.KeptPair.{KeptPair}
 use Rattle.hj_order.specs.Due.{due_cmp, pairs_in, AreInOrder}
 use Rattle.hj_order.proofs.InOrder.{one_kept}
 use Rattle.hj_order.proofs.ordered.Ordered.keep_one.Goals as goal
@@ -22,10 +22,10 @@ soonest_of-self-inside-requires g c = record {
 
 pub returns-clause-ok : goal.returns-clause-ok
 returns-clause-ok g c =
-    let one : Kept g.row.P.Denot = record { pair = c.args.pair } in
+    let one : KeptPair g.row.P.Denot = record { pair = c.args.pair } in
     let old = heap_items c.self.inside.late ++ c.self.inside.in_order.items in
     let new = heap_items c.put.new.late ++ c.put.new.in_order.items in
     let whole = pairs_in old ++ c.args.pair ∷ [] in
-    let put : IsPermutation (one ∷ old) new = subst (λ (ones : List (Kept g.row.P.Denot)). IsPermutation (one ∷ ones) new) (ap₂ (λ (xs ys : List (Kept g.row.P.Denot)). xs ++ ys) c.reserve.ensures.items c.reserve-2.ensures.items) c.put.ensures.put in
+    let put : IsPermutation (one ∷ old) new = subst (λ (ones : List (KeptPair g.row.P.Denot)). IsPermutation (one ∷ ones) new) (ap₂ (λ (xs ys : List (KeptPair g.row.P.Denot)). xs ++ ys) c.reserve.ensures.items c.reserve-2.ensures.items) c.put.ensures.put in
     let kept = one_kept whole [] old new one (IsPermutation-refl whole) put in
     subst (λ before. IsPermutation (before ++ c.args.pair ∷ []) (pairs_in new)) c.self.view_is (subst (IsPermutation whole) (append-nil (pairs_in new)) kept)

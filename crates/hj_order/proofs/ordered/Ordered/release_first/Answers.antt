@@ -1,5 +1,5 @@
 use Rattle.std.proofs.Common.{◌≡◌, ◌<◌, ◌∷◌, ◌++◌, All, Some, true, false, get_or, length, refl, sym, ap, subst, ◌∙◌, IsPermutation, arith, rules, true≢false}
-use Rattle.hj_order.specs.declared.kept.Kept.{Kept}
+use Rattle.hj_order.specs.declared.kept.KeptPair.{KeptPair}
 use Rattle.std.specs.BinaryHeap.{heap_items}
 use Rattle.hj_msg.specs.Valid.{later}
 use Rattle.hj_msg.specs.Emission.{comes_before, is_within}
@@ -77,4 +77,4 @@ returns-clause-none g c =
     let taken = taken_ordered kept (heap_items c.self.inside.late) c.self.inside.in_order.items c.pop_front.new.self.items c.in_ok-kept.ensures.items in
     let same : first ≡ kept = c.in_ok-front.ensures.lookup ∙ ap (λ ones. get_or ones 0 first) c.in_ok-kept.ensures.items in
     let due : is_within (Some mark) (later first.pair) ≡ true = sym (c.is_within.ensures ∙ ap (is_within (Some mark)) c.later.ensures) ∙ c.if-not-is_within.false in
-    (λ not. absurd (true≢false not), λ none. absurd (one-within mark kept.pair _ _ taken (subst (λ (one : Kept g.row.P.Denot). is_within (Some mark) (later one.pair) ≡ true) same due) (subst (All (λ pair. is_within (Some mark) (later pair) ≡ false)) (sym c.self.view_is) none)))
+    (λ not. absurd (true≢false not), λ none. absurd (one-within mark kept.pair _ _ taken (subst (λ (one : KeptPair g.row.P.Denot). is_within (Some mark) (later one.pair) ≡ true) same due) (subst (All (λ pair. is_within (Some mark) (later pair) ≡ false)) (sym c.self.view_is) none)))

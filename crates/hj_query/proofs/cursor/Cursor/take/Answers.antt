@@ -1,5 +1,5 @@
 use Rattle.std.proofs.Common.{sym, subst, ◌∙◌}
-use Rattle.hj_query.specs.Lexemes.{Suits}
+use Rattle.hj_query.specs.Lexemes.{SuitsKind}
 use Rattle.hj_query.proofs.Lists.{has_no_end, next_has_at, same_kind, taken}
 use Rattle.hj_query.proofs.cursor.Cursor.take.Goals as goal
 
@@ -14,5 +14,5 @@ skip-requires c =
 pub returns-clause-read : goal.returns-clause-read
 returns-clause-read c = (
   taken c.args.kind c.args.self.now c.skip.new.self c.peek-next.result.place c.peek-next.result.kind c.peek-next.result.bytes.now c.peek-next.ensures.next (sym c.if-not-is_kind.ensures) c.skip.ensures.behind,
-  subst (λ kind. Suits kind c.peek-next.result.bytes.now) (same_kind _ _ (sym c.if-not-is_kind.ensures)) c.peek-next.ensures.suits,
+  subst (λ kind. SuitsKind kind c.peek-next.result.bytes.now) (same_kind _ _ (sym c.if-not-is_kind.ensures)) c.peek-next.ensures.suits,
 )

@@ -2,7 +2,7 @@ use Rattle.std.proofs.Common.{◌≡◌, ◌++◌, map}
 use Rattle.std.specs.Vec.Iter.{into_iter_items}
 use Rattle.hj_collect.specs.Marks.{meaning_of}
 use Rattle.hj_raw.specs.Items.{joined}
-use Rattle.hj_raw.specs.Waiting.{items_of}
+use Rattle.hj_raw.specs.WaitingItems.{items_of}
 use Rattle.hj_raw.proofs.items.RawItems.put_all.Given as goal
 
 -- the pairs so far wait

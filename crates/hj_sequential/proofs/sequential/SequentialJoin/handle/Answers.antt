@@ -5,7 +5,7 @@ use Rattle.hj_msg.specs.declared.event.Event.TheVariants.{Arrive}
 use Rattle.hj_msg.specs.declared.fin.Fin.TheVariants.{Done}
 use Rattle.hj_msg.specs.Event.{IsWellFormed}
 use Rattle.hj_msg.specs.Kang.{after, listed, windows_after}
-use Rattle.hj_sequential.specs.Giving.{Gives}
+use Rattle.hj_sequential.specs.Giving.{GivesListed}
 use Rattle.hj_sequential.specs.Stores.{HoldWindows}
 use Rattle.hj_sequential.proofs.Listing.{left_gives, left_holds, right_gives, right_holds}
 use Rattle.hj_sequential.proofs.sequential.SequentialJoin.handle.Goals as goal
@@ -15,7 +15,7 @@ returns-in-Arrive-default-Left-default-clause-gives g c =
     let arm = c.in-Arrive-default-Left-default in
     let is : c.args.event ≡ Arrive arm.no Left arm.row = cc in
     subst (λ (event : Event g.row.P.Denot). (before : List (Event g.row.P.Denot)) → IsWellFormed (before ++ event ∷ []) → HoldWindows g.S.Store.entries (windows_after before) c.args.self.now.left c.args.self.now.right
-    → Gives g.D.Drain.takes (listed (g.J.Join.predicate c.args.self.now.join) (windows_after before) event) c.arrives.result c.args.drain.now c.arrives.new.drain) (sym is)
+    → GivesListed g.D.Drain.takes (listed (g.J.Join.predicate c.args.self.now.join) (windows_after before) event) c.arrives.result c.args.drain.now c.arrives.new.drain) (sym is)
     (λ before well holds. left_gives g.S.Store.entries (g.J.Join.predicate c.args.self.now.join) before c.args.self.now.left c.args.self.now.right holds arm.no arm.row well g.D.Drain.takes c.arrives.result c.args.drain.now c.arrives.new.drain (c.arrives.ensures.gives _ c.probe-found.ensures))
 
 pub returns-in-Arrive-default-Left-default-clause-holds : goal.returns-in-Arrive-default-Left-default-clause-holds
@@ -31,7 +31,7 @@ returns-in-Arrive-default-Right-default-clause-gives g c =
     let arm = c.in-Arrive-default-Right-default in
     let is : c.args.event ≡ Arrive arm.no Right arm.row = cc in
     subst (λ (event : Event g.row.P.Denot). (before : List (Event g.row.P.Denot)) → IsWellFormed (before ++ event ∷ []) → HoldWindows g.S.Store.entries (windows_after before) c.args.self.now.left c.args.self.now.right
-    → Gives g.D.Drain.takes (listed (g.J.Join.predicate c.args.self.now.join) (windows_after before) event) c.arrives-in-Arrive-default-Right-default.result c.args.drain.now c.arrives-in-Arrive-default-Right-default.new.drain) (sym is)
+    → GivesListed g.D.Drain.takes (listed (g.J.Join.predicate c.args.self.now.join) (windows_after before) event) c.arrives-in-Arrive-default-Right-default.result c.args.drain.now c.arrives-in-Arrive-default-Right-default.new.drain) (sym is)
     (λ before well holds. right_gives g.S.Store.entries (g.J.Join.predicate c.args.self.now.join) before c.args.self.now.left c.args.self.now.right holds arm.no arm.row well g.D.Drain.takes c.arrives-in-Arrive-default-Right-default.result c.args.drain.now c.arrives-in-Arrive-default-Right-default.new.drain (c.arrives-in-Arrive-default-Right-default.ensures.gives _ c.probe-found-in-Arrive-default-Right-default.ensures))
 
 pub returns-in-Arrive-default-Right-default-clause-holds : goal.returns-in-Arrive-default-Right-default-clause-holds

@@ -2,7 +2,7 @@ use Rattle.std.proofs.Common.{◌≡◌, ◌+◌, ◌-◌, ◌≤◌, ◌∙◌,
 use Rattle.std.specs.VecDeque.{deque_len, deque_capacity}
 use Rattle.std.proofs.lemmas.Fn.{filter_same}
 use Rattle.std.proofs.lemmas.Int.{to_z-of_z}
-use Rattle.hj_window.specs.SideRows.{Kept, is_aged, aged, unaged}
+use Rattle.hj_window.specs.SideRows.{SideRowsState, is_aged, aged, unaged}
 use Rattle.hj_window.proofs.SideLemmas.{room_left}
 use Rattle.hj_window.proofs.side_rows.SideRows.remove_aged.Goals as goal
 
@@ -20,7 +20,7 @@ returns-else-self-clause-room c =
     let count : deque_len rows ≡ length rows.items = search rules in
     let left : deque_len c.retain.new.self ≡ length c.retain.new.self.items = search rules in
     let fits : deque_len rows ≤ deque_capacity rows = search rules in
-    subst (λ (k : Kept). k.room + length (aged k.window c.args.now k.rows) ≤ deque_capacity c.retain.new.self - deque_len c.retain.new.self) c.self.view_is
+    subst (λ (k : SideRowsState). k.room + length (aged k.window c.args.now k.rows) ≤ deque_capacity c.retain.new.self - deque_len c.retain.new.self) c.self.view_is
     (room_left window c.args.now rows.items _ _ _ _ count (left ∙ ap length kept) c.retain.ensures.capacity fits)
 
 pub returns-then-self-clause-room : goal.returns-then-self-clause-room
@@ -32,5 +32,5 @@ returns-then-self-clause-room c =
     let count : deque_len rows ≡ length rows.items = search rules in
     let left : deque_len c.pop_aged.new.rows ≡ length c.pop_aged.new.rows.items = search rules in
     let fits : deque_len rows ≤ deque_capacity rows = search rules in
-    subst (λ (k : Kept). k.room + length (aged k.window c.args.now k.rows) ≤ deque_capacity c.pop_aged.new.rows - deque_len c.pop_aged.new.rows) c.self.view_is
+    subst (λ (k : SideRowsState). k.room + length (aged k.window c.args.now k.rows) ≤ deque_capacity c.pop_aged.new.rows - deque_len c.pop_aged.new.rows) c.self.view_is
     (room_left window c.args.now rows.items _ _ _ _ count (left ∙ ap length kept) c.pop_aged.ensures.capacity fits)

@@ -1,5 +1,0 @@
-use Rattle.hj_crew.proofs.Staying.{team-stays}
-use Rattle.hj_crew.proofs.levels.Shared.start.Goals as goal
-
-pub returns-then-is_kept-clause-refused : goal.returns-then-is_kept-clause-refused
-returns-then-is_kept-clause-refused g c = team-stays c.args.team
