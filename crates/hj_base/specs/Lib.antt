@@ -4,6 +4,7 @@ pub mod Lcg
 pub mod Link
 pub mod MemOutside
 pub mod MemSink
+pub mod Output
 pub mod Outside
 pub mod Sink
 pub mod Stream

@@ -1,4 +1,5 @@
-//! Numbers, sides, and the outside: the traits through which streams are read and results are written, with fakes in memory.
+//! Numbers, sides, and the outside: the traits through which streams are read and results are written, with fakes in memory, and
+//! pieces of bytes sent to a sink whole.
 #![tactic(auto)]
 
 mod bytes;
@@ -7,6 +8,7 @@ mod lcg;
 mod mem_outside;
 mod mem_sink;
 mod numbers;
+mod output;
 mod outside;
 mod share;
 mod sink;
@@ -19,6 +21,7 @@ pub use lcg::Lcg;
 pub use mem_outside::MemOutside;
 pub use mem_sink::MemSink;
 pub use numbers::{ChainSize, CoreNo, EventNo, Memory, Setup, Side, Window};
+pub use output::{Sent, put_all};
 pub use outside::{Got, Opened, Outside, Role};
 pub use share::Share;
 pub use sink::{Put, Sink};

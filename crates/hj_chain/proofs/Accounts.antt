@@ -16,8 +16,8 @@ use Rattle.hj_msg.specs.Emission.{is_within, emitted}
 use Rattle.hj_collect.specs.Collector.{CollectorState, after_report, least_mark}
 use Rattle.hj_collect.specs.StandsFor.{with_report}
 use Rattle.hj_collect.specs.StandsFor as collect
+use Rattle.hj_collect.proofs.Emissions.{within, emits-more, met-filter, met-permutation}
 use Rattle.hj_collect.proofs.Following.{follows, least_follows}
-use Rattle.hj_order.proofs.Emissions.{within, emits-more, met-filter, met-permutation}
 use Rattle.hj_chain.proofs.Reporting as reporting
 
 -- the collector took the reports, of the pairs that are emitted so many were given, and every other pair that was met is kept

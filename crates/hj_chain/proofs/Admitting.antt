@@ -14,10 +14,10 @@ use Rattle.hj_driver.specs.declared.answers.Admitted.TheVariants as admitted_as
 use Rattle.hj_driver.specs.declared.answers.Why.{Why}
 use Rattle.hj_driver.specs.Driver.{DriverState, answer_to, cause_of as wait_of, is_send}
 use Rattle.hj_driver.specs.StandsFor.{StandsFor, cause_after}
-use Rattle.hj_queue.specs.Queues.{Queues}
 use Rattle.hj_chain.specs.declared.actor.Actor.TheVariants.{Admit}
 use Rattle.hj_chain.specs.declared.actor.NotNow.TheVariants.{Waits}
 use Rattle.hj_chain.specs.declared.actor.Stepped.TheVariants.{Did, NotEnabled}
+use Rattle.hj_chain.specs.Queues.{Queues}
 use Rattle.hj_chain.specs.Links.{put_in}
 use Rattle.hj_chain.specs.Chain.{FeedAnswer, ChainState, Contents, if_there}
 use Rattle.hj_chain.specs.Steps.{GoesWith, IsGoing, StepsTo, asks}

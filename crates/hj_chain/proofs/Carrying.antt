@@ -11,8 +11,8 @@ use Rattle.hj_msg.specs.declared.message.Msg.{Msg}
 use Rattle.hj_msg.specs.declared.message.Msg.TheVariants.{CloseL, CloseR}
 use Rattle.hj_msg.specs.Core.{sends}
 use Rattle.hj_msg.specs.Driver.{receipt, message_of, port_of}
-use Rattle.hj_queue.specs.Queues.{Queues, no_messages}
 use Rattle.hj_chain.specs.declared.actor.Actor.{Actor}
+use Rattle.hj_chain.specs.Queues.{Queues, no_messages}
 use Rattle.hj_chain.specs.Links.{link_at, put_in, take_in}
 use Rattle.hj_chain.specs.Chain.{FeedAnswer, ChainState, Action, drives, handles, after_action, empty_chain, capacity}
 use Rattle.hj_chain.specs.Reached.{Reached, StepHistory, no_history, recorded, history_of, left_end, right_end}

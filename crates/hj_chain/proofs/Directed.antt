@@ -8,8 +8,8 @@ use Rattle.hj_msg.specs.declared.event.Event.{Event}
 use Rattle.hj_msg.specs.declared.feed.Given.{Given}
 use Rattle.hj_msg.specs.declared.message.Msg.{Msg}
 use Rattle.hj_msg.specs.Turns.{Turn, only_at}
-use Rattle.hj_queue.specs.Queues.{Queues, no_messages}
 use Rattle.hj_chain.specs.declared.actor.Actor.{Actor}
+use Rattle.hj_chain.specs.Queues.{Queues, no_messages}
 use Rattle.hj_chain.specs.Links.{incoming}
 use Rattle.hj_chain.specs.Chain.{FeedAnswer, ChainState, Action, drives, handles, collects, after_action, empty_chain, capacity, asks}
 use Rattle.hj_chain.specs.Reached.{Reached, StepHistory, no_history, recorded, history_of, turn_at}

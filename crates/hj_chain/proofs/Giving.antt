@@ -15,14 +15,14 @@ use Rattle.hj_msg.specs.Emission.{is_within, comes_before, emitted}
 use Rattle.hj_msg.proofs.Members.{Ranked, Ranked-filter}
 use Rattle.hj_msg.proofs.Emitting.{First, joined_ranked, emitted_is}
 use Rattle.hj_collect.specs.Collector.{least_mark}
+use Rattle.hj_collect.proofs.Emissions.{within}
+use Rattle.hj_collect.proofs.Due.{AreApart, apart-kept, none-due, one-due, one-more, still-released}
 use Rattle.hj_collect.proofs.Following.{least_follows}
 use Rattle.hj_chain.specs.declared.actor.Actor.{Actor}
 use Rattle.hj_chain.specs.Chain.{Contents}
 use Rattle.hj_chain.specs.Reached.{StandsFor, collected_of, next_pair, run_of}
 use Rattle.hj_chain.specs.Steps.{GoesWith}
 use Rattle.hj_chain.proofs.Projection.{is_run, all_collected}
-use Rattle.hj_order.proofs.Emissions.{within}
-use Rattle.hj_order.proofs.Due.{AreApart, apart-kept, none-due, one-due, one-more, still-released}
 use Rattle.hj_chain.proofs.Goings.{Sound}
 
 -- what is released of the kept pairs by a mark

@@ -21,13 +21,13 @@ use Rattle.hj_msg.specs.Core as core
 use Rattle.hj_msg.specs.Driver.{DriverTurn, receipt}
 use Rattle.hj_driver.specs.Driver.{DriverState}
 use Rattle.hj_driver.specs.StandsFor.{StandsFor}
-use Rattle.hj_queue.specs.Queues.{Queues}
 use Rattle.hj_chain.specs.declared.actor.Actor.{Actor}
 use Rattle.hj_chain.specs.declared.actor.Actor.TheVariants.{Core, Collect}
 use Rattle.hj_chain.specs.declared.actor.NotNow.{NotNow}
 use Rattle.hj_chain.specs.declared.actor.NotNow.TheVariants.{Empty, ReportsFull}
 use Rattle.hj_chain.specs.declared.actor.Stepped.{Stepped}
 use Rattle.hj_chain.specs.declared.actor.Stepped.TheVariants.{Did, NotEnabled, Memory}
+use Rattle.hj_chain.specs.Queues.{Queues}
 use Rattle.hj_chain.specs.Links.{changed_at, link_at, at_port, put_in, take_out, incoming, take_in, send_out, put_rightwards, HasRoomAt}
 use Rattle.hj_chain.specs.Reports.{queue_at}
 use Rattle.hj_chain.specs.Chain.{FeedAnswer, ChainState, Contents, first, capacity, full_cause, or_empty}

@@ -1,7 +1,7 @@
 -- A message that is put, if there is one.
 use Rattle.std.proofs.Common.{◌≡◌, ℕ, List, [], ◌++◌, Some, None, Option, refl, sym, ap, append-nil}
 use Rattle.std.specs.Option.{option_to_list}
-use Rattle.hj_queue.specs.Queues.{Queues}
+use Rattle.hj_chain.specs.Queues.{Queues}
 use Rattle.hj_chain.specs.Links.{changed_at, put_rightwards, put_leftwards}
 use Rattle.hj_chain.specs.Reports.{ReportQueues}
 use Rattle.hj_msg.specs.declared.message.Report.{Report}

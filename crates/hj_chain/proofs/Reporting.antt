@@ -20,8 +20,8 @@ use Rattle.hj_msg.proofs.Emitting.{emitted_is}
 use Rattle.hj_msg.proofs.Growing.{punctuation_stays}
 use Rattle.hj_msg.proofs.MetOnce.{met_once}
 use Rattle.hj_collect.specs.StandsFor.{with_report}
+use Rattle.hj_collect.proofs.Emissions.{within, among}
 use Rattle.hj_chain.proofs.Ways.{same_place}
-use Rattle.hj_order.proofs.Emissions.{within, among}
 
 some : {X : Type 0} (test : X → Bool) (xs : List X) (x : X) → Contains xs x → test x ≡ true → 1 ≤ length (filter test xs)
 some test xs x h fits = let found = Contains-filter test xs x h fits in omega (arith, found.1)

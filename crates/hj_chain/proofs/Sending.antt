@@ -7,7 +7,7 @@ use Rattle.hj_msg.specs.Core.{Sends, only_if, sends}
 use Rattle.hj_core.specs.declared.way.Way.{Way}
 use Rattle.hj_core.specs.declared.way.Way.TheVariants as way
 use Rattle.hj_core.specs.Sent.{passed_on}
-use Rattle.hj_queue.specs.Queues.{Queues}
+use Rattle.hj_chain.specs.Queues.{Queues}
 use Rattle.hj_chain.specs.Links.{changed_at, link_at, put_rightwards, put_leftwards, send_out}
 use Rattle.hj_chain.proofs.Places.{length-changed_at, changed_at-twice}
 use Rattle.hj_chain.proofs.Putting.{nothing_left, nothing_right}

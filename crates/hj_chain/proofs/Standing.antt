@@ -8,8 +8,8 @@ use Rattle.hj_msg.specs.Core as core
 use Rattle.hj_msg.specs.Turns.{only_at}
 use Rattle.hj_msg.specs.Event.{IsWellFormed}
 use Rattle.hj_msg.specs.Driver.{DriverTurn}
-use Rattle.hj_queue.specs.Queues.{Queues}
 use Rattle.hj_chain.specs.declared.actor.Actor.TheVariants.{Core}
+use Rattle.hj_chain.specs.Queues.{Queues}
 use Rattle.hj_chain.specs.Links.{link_at, incoming, take_in, send_out}
 use Rattle.hj_chain.specs.Reports.{queue_at}
 use Rattle.hj_chain.specs.Chain.{FeedAnswer, ChainState, Contents, first, after, after_action, action_of, handles, cause, capacity}

@@ -6,7 +6,6 @@ use Rattle.hj_msg.specs.declared.message.Report.{Report}
 use Rattle.hj_msg.specs.Core as core
 use Rattle.hj_msg.specs.Feed.{IsFresh, FeedState, Answers, event_in}
 use Rattle.hj_driver.specs.Driver.{DriverState, new_driver}
-use Rattle.hj_queue.specs.Queues.{Queues, no_messages}
 use Rattle.hj_msg.specs.declared.event.Pair.{Pair}
 use Rattle.hj_msg.specs.Met.{met}
 use Rattle.hj_collect.specs.Collector.{CollectorState, nothing_taken}
@@ -14,6 +13,7 @@ use Rattle.hj_collect.proofs.Following.{new_follows}
 use Rattle.std.specs.List.{range_with_len}
 use Rattle.std.specs.List.Sorted.{IsPermutation}
 use Rattle.std.proofs.lemmas.List.Sorted.{IsPermutation-refl}
+use Rattle.hj_chain.specs.Queues.{Queues, no_messages}
 use Rattle.hj_chain.specs.Chain.{Contents, capacity, empty_chain}
 use Rattle.hj_chain.specs.Reached.{begins}
 use Rattle.hj_chain.specs.Steps.{GoesWith}

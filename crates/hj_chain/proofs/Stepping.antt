@@ -14,12 +14,12 @@ use Rattle.hj_msg.specs.Core as core
 use Rattle.hj_msg.specs.Driver.{admission, receipt, message_of, port_of}
 use Rattle.hj_driver.specs.declared.answers.Why.{Why}
 use Rattle.hj_driver.specs.Driver.{after_put, after_take, cause_of as wait_of}
-use Rattle.hj_queue.specs.Queues.{Queues}
 use Rattle.hj_chain.specs.declared.actor.Actor.{Actor}
 use Rattle.hj_chain.specs.declared.actor.Actor.TheVariants.{Admit, Core, Collect}
 use Rattle.hj_chain.specs.declared.actor.NotNow.{NotNow}
 use Rattle.hj_chain.specs.declared.actor.NotNow.TheVariants.{Waits, Empty, ReportsFull, NoSuchCore}
 use Rattle.hj_chain.specs.declared.actor.Stepped.TheVariants.{Did, NotEnabled, Memory}
+use Rattle.hj_chain.specs.Queues.{Queues}
 use Rattle.hj_chain.specs.Links.{changed_at, link_at, at_port, put_in, take_out, incoming, take_in, send_out, take_leftwards, take_rightwards}
 use Rattle.hj_chain.specs.Reports.{queue_at}
 use Rattle.hj_chain.specs.Chain.{FeedAnswer, ChainState, Action, drives, handles, collects, first, action_of, after_action, cause_of, admit_cause, or_empty, at_core, full_cause, capacity, asks, if_there, next_action}

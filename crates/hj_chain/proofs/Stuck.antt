@@ -27,10 +27,10 @@ use Rattle.hj_driver.specs.Lane.{is_taken, waits_for}
 use Rattle.hj_driver.specs.Driver.{DriverState, awaits_close, count_of, is_finished, is_sent, row_cause}
 use Rattle.hj_driver.proofs.ComingOut.{no_cause}
 use Rattle.hj_driver.proofs.MayClose.{may_close}
-use Rattle.hj_queue.specs.Queues.{Queues, no_messages}
 use Rattle.hj_chain.specs.declared.actor.Actor.{Actor}
 use Rattle.hj_chain.specs.declared.actor.Actor.TheVariants.{Admit, PortLeft, PortRight, Core, Collect}
 use Rattle.hj_chain.specs.declared.actor.NotNow.TheVariants.{Waits, NoSuchCore, Over, ReportsFull}
+use Rattle.hj_chain.specs.Queues.{Queues, no_messages}
 use Rattle.hj_chain.specs.Links.{link_at, at_port, incoming}
 use Rattle.hj_chain.specs.Reports.{queue_at}
 use Rattle.hj_chain.specs.Chain.{ChainState, Action, admit_cause, capacity, cause, cause_of, closing_cause, full_cause, or_empty}

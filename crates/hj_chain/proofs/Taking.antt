@@ -7,9 +7,9 @@ use Rattle.hj_base.specs.declared.numbers.Side.TheVariants.{Left, Right}
 use Rattle.hj_msg.specs.declared.message.Msg.{Msg}
 use Rattle.hj_msg.specs.declared.message.Report.{Report}
 use Rattle.hj_msg.specs.Core as core
-use Rattle.hj_queue.specs.Queues.{Queues, no_messages}
 use Rattle.hj_chain.specs.declared.actor.Actor.TheVariants.{Core}
 use Rattle.hj_chain.specs.declared.actor.Stepped.TheVariants.{Did, Memory}
+use Rattle.hj_chain.specs.Queues.{Queues, no_messages}
 use Rattle.hj_chain.specs.Links.{changed_at, link_at, incoming, put_back, send_out, take_in, take_leftwards, take_rightwards, HasRoomBack}
 use Rattle.hj_chain.specs.Reports.{queue_at}
 use Rattle.hj_chain.specs.Chain.{ChainState, FeedAnswer, Contents, capacity, first}

@@ -3,7 +3,7 @@ use Rattle.std.proofs.Common.{◌≡◌, ℕ, ◌+◌, ◌<◌, List, [], ◌∷
 use Rattle.std.proofs.lemmas.List.{get_or-replicate, length-replicate}
 use Rattle.hj_base.specs.declared.numbers.Side.{Side}
 use Rattle.hj_base.specs.declared.numbers.Side.TheVariants.{Left, Right}
-use Rattle.hj_queue.specs.Queues.{Queues, no_messages}
+use Rattle.hj_chain.specs.Queues.{Queues, no_messages}
 use Rattle.hj_chain.specs.Links.{changed_at, link_at, put_rightwards, put_leftwards, take_rightwards, take_leftwards, at_port, put_in, take_out, incoming, take_in, send_out}
 use Rattle.hj_chain.proofs.Places.{length-changed_at}
 use Rattle.hj_chain.proofs.Ways.{length-take_in, length-put_in}

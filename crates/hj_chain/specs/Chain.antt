@@ -16,12 +16,12 @@ use Rattle.hj_msg.specs.Driver.{DriverTurn, admission, receipt, closing, message
 use Rattle.hj_driver.specs.declared.answers.Closing.{Closing}
 use Rattle.hj_driver.specs.declared.answers.Closing.TheVariants as answer
 use Rattle.hj_driver.specs.Driver.{DriverState, new_driver, after_put, after_take, closed, cause_of as wait_of, closing_of}
-use Rattle.hj_queue.specs.Queues.{Queues, no_messages}
 use Rattle.hj_collect.specs.Collector.{CollectorState}
 use Rattle.hj_chain.specs.declared.actor.Actor.{Actor}
 use Rattle.hj_chain.specs.declared.actor.Actor.TheVariants.{Admit, PortLeft, PortRight, Core, Collect}
 use Rattle.hj_chain.specs.declared.actor.NotNow.{NotNow}
 use Rattle.hj_chain.specs.declared.actor.NotNow.TheVariants.{Waits, Drains, Closed, Empty, ReportsFull, NoSuchCore, Over}
+use Rattle.hj_chain.specs.Queues.{Queues, no_messages}
 use Rattle.hj_chain.specs.Reports.{queue_at}
 use Rattle.hj_chain.specs.Links.{changed_at, at_port, put_in, take_out, incoming, take_in, send_out}
 

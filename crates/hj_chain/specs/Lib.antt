@@ -4,6 +4,7 @@ pub mod Looks
 pub mod Placed
 pub mod Progress
 pub mod Prompt
+pub mod Queues
 pub mod Reached
 pub mod Reports
 pub mod Serial

@@ -3,7 +3,7 @@
 use Rattle.std.specs.Prelude.{ℕ, zero, suc, ◌+◌, ◌<◌, List, [], ◌∷◌, ◌++◌, drop, length, slice_index_or}
 use Rattle.hj_base.specs.declared.numbers.Side.{Side}
 use Rattle.hj_base.specs.declared.numbers.Side.TheVariants.{Left, Right}
-use Rattle.hj_queue.specs.Queues.{Queues, no_messages}
+use Rattle.hj_chain.specs.Queues.{Queues, no_messages}
 
 -- the list with the element at a place changed
 abbrev pub changed_at : {X : Type 0} → ℕ → (X → X) → List X → List X

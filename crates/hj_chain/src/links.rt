@@ -4,14 +4,14 @@ ghost use Rattle.hj_base.specs.declared.numbers.Side.TheVariants.{Left, Right};
 ghost use Rattle.hj_msg.specs.Core.{only_if, sends};
 ghost use Rattle.hj_msg.specs.declared.message.Msg.TheVariants.{R as LeftRow, S as RightRow};
 ghost use Rattle.hj_core.specs.Sent.{passed_on};
-ghost use Rattle.hj_queue.specs.Queues.{no_messages};
+ghost use Rattle.hj_chain.specs.Queues.{no_messages};
 ghost use Rattle.hj_chain.specs.Chain.{first};
 ghost use Rattle.hj_chain.specs.Links.{link_at, changed_at, put_leftwards, put_rightwards, at_port, HasRoomAt, incoming as incoming_of, put_in, put_back, send_out, take_out, take_in, HasRoomBack};
 
+use crate::PlainLink;
 use hj_base::{EventNo, Memory, Side};
 use hj_core::Way;
 use hj_msg::Msg;
-use hj_queue::PlainLink;
 use std::alloc::Global;
 use std::marker::Model;
 
@@ -24,7 +24,7 @@ pub struct Links<P> {
 impl<P> Model for Links<P> {
     ghost use Rattle.std.specs.Prelude.{List};
     ghost use Rattle.hj_msg.specs.declared.message.Msg.{Msg};
-    ghost use Rattle.hj_queue.specs.Queues.{Queues};
+    ghost use Rattle.hj_chain.specs.Queues.{Queues};
 
     ghost Value = { List (Queues (Msg P)) };
 

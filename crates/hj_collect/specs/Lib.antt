@@ -1,4 +1,6 @@
 pub mod Collector
+pub mod Due
+pub mod Giving
 pub mod Least
 pub mod Marks
 pub mod Reach

@@ -25,8 +25,8 @@ use Rattle.hj_msg.proofs.Growing.{emission_grows}
 use Rattle.hj_collect.specs.Collector.{CollectorState, after_report}
 use Rattle.hj_collect.specs.StandsFor as collect
 use Rattle.hj_collect.specs.StandsFor.{with_report}
+use Rattle.hj_collect.proofs.Emissions.{met-permutation}
 use Rattle.hj_collect.proofs.Following.{follows}
-use Rattle.hj_order.proofs.Emissions.{met-permutation}
 use Rattle.hj_link.specs.Seen.{EndSeen}
 use Rattle.hj_raw.specs.Items.{TakenReport, lists_of, with_taken}
 use Rattle.hj_desk.specs.declared.desk.Desk.{Desk}

@@ -16,10 +16,10 @@ use Rattle.hj_msg.specs.Drain.{Drainage, pairs_in}
 use Rattle.hj_msg.specs.Emission.{emitted}
 use Rattle.hj_msg.specs.Met.{met, pairs_of}
 use Rattle.hj_msg.specs.Punctuation.{Mark, punctuation}
+use Rattle.hj_collect.specs.Giving.{AreTakenOut, Gives}
 use Rattle.hj_collect.specs.Collector.{CollectorState, least_mark}
+use Rattle.hj_collect.proofs.Giving.{answered-both, takes-both}
 use Rattle.hj_collect.proofs.Following.{least_follows}
-use Rattle.hj_order.specs.Giving.{AreTakenOut, Gives}
-use Rattle.hj_order.proofs.Giving.{answered-both, takes-both}
 use Rattle.hj_raw.specs.Items.{TakenReport, lists_of, with_taken}
 use Rattle.hj_desk.specs.declared.in_order.OrderedOutlet.{OrderedOutlet}
 use Rattle.hj_desk.specs.OrderedOutlet.{GivesInOrder}

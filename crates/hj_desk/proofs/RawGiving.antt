@@ -11,8 +11,8 @@ use Rattle.hj_msg.specs.declared.message.Report.{Report}
 use Rattle.hj_msg.specs.Met.{pairs_of}
 use Rattle.hj_msg.specs.Punctuation.{Mark, punctuation}
 use Rattle.hj_collect.specs.Collector.{CollectorState, least_mark}
+use Rattle.hj_collect.proofs.Giving.{all-kept, last-refused}
 use Rattle.hj_collect.proofs.Following.{least_follows}
-use Rattle.hj_order.proofs.Giving.{all-kept, last-refused}
 use Rattle.hj_raw.specs.Drain.{AreKept, Offer, TakesItems, items_in}
 use Rattle.hj_raw.specs.Items.{Item, TakenReport, items_of_report, joined, lists_of, mark_behind, raw_items, with_taken}
 use Rattle.hj_raw.specs.WaitingItems.{WaitingItems, with_report}

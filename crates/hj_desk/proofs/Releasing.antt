@@ -14,9 +14,9 @@ use Rattle.hj_msg.specs.Run.{Run, IsRun}
 use Rattle.hj_msg.specs.Valid.{later}
 use Rattle.hj_msg.proofs.Members.{Ranked, Ranked-filter}
 use Rattle.hj_msg.proofs.Emitting.{First, joined_ranked, emitted_is}
-use Rattle.hj_order.specs.Giving.{AreTakenOut}
-use Rattle.hj_order.proofs.Due.{AreApart, apart-kept}
-use Rattle.hj_order.proofs.Giving.{AreNext, are-next}
+use Rattle.hj_collect.specs.Giving.{AreTakenOut}
+use Rattle.hj_collect.proofs.Due.{AreApart, apart-kept}
+use Rattle.hj_collect.proofs.Giving.{AreNext, are-next}
 use Rattle.hj_desk.specs.Releases.{Releases}
 
 -- pairs that are taken out of those that are kept are the next ones

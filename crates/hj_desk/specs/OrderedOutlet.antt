@@ -3,7 +3,7 @@ use Rattle.std.specs.Prelude.{ℕ, Bool, List}
 use Rattle.hj_msg.specs.declared.drain.Drained.{Drained}
 use Rattle.hj_msg.specs.declared.event.Pair.{Pair}
 use Rattle.hj_msg.specs.Drain.{Drainage, TakesAll, pairs_in}
-pub use Rattle.hj_order.specs.Giving.{AreAnswered}
+pub use Rattle.hj_collect.specs.Giving.{AreAnswered}
 use Rattle.hj_raw.specs.Items.{TakenReport, lists_of}
 use Rattle.hj_desk.specs.declared.in_order.OrderedOutlet.{OrderedOutlet}
 use Rattle.hj_desk.specs.Releases.{Releases}

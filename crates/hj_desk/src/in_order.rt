@@ -7,9 +7,8 @@ ghost use Rattle.hj_collect.specs.Collector.{least_mark};
 
 use crate::outlet::Outlet;
 use hj_base::{Memory, Share};
-use hj_collect::Collector;
+use hj_collect::{Collector, Ordered};
 use hj_msg::{Drain, Drained, Report};
-use hj_order::Ordered;
 use std::alloc::Global;
 
 /// Gives the pairs of the reports to a drain, in the order of the sequential join: each once no pair before it can come any more.

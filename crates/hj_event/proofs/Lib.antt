@@ -1,3 +1,6 @@
+pub mod Leading
+pub mod ReadRows
+pub mod PlainLines
 pub mod CallLemmas
 pub mod CutPieces
 pub mod CutRows

@@ -15,10 +15,10 @@ use Rattle.hj_record.specs.LineEnd.{inside_after, EndsWithin}
 use Rattle.hj_record.specs.Pieces.{PiecesEnd, Stream, pieces_of, bad as pieces_bad, clean as pieces_clean, unread as pieces_unread}
 use Rattle.hj_record.proofs.Splits.{inside_next}
 use Rattle.hj_record.proofs.Blanks.{HaveNoRecord, blank_unread}
-use Rattle.hj_schema.specs.declared.fault.RowFault.{RowFault}
-use Rattle.hj_schema.specs.Rows.{row_of}
+use Rattle.hj_event.specs.declared.schema.fault.RowFault.{RowFault}
 use Rattle.hj_event.specs.declared.fault.RecordFault.{RecordFault}
 use Rattle.hj_event.specs.declared.fault.RecordFault.TheVariants as fault
+use Rattle.hj_event.specs.SchemaRows.{row_of}
 use Rattle.hj_event.specs.Rows.{Rows, in_time, row_in_time, record_row, row_at, no_row, end_at, put_row, rows_from, rows_in, unread}
 use Rattle.hj_event.specs.Sides.{ReaderState, unless_refused}
 use Rattle.hj_event.specs.Taking.{TellsRow}

@@ -10,10 +10,10 @@ use Rattle.hj_value.specs.Row.{time_of}
 use Rattle.hj_record.specs.declared.fault.PieceFault.{PieceFault}
 use Rattle.hj_record.specs.Pieces.{Pieces, PiecesEnd, clean as pieces_clean, bad as pieces_bad, unread as pieces_unread}
 use Rattle.hj_record.specs.Records.{record_of}
-use Rattle.hj_schema.specs.declared.fault.RowFault.{RowFault}
-use Rattle.hj_schema.specs.Rows.{row_of}
+use Rattle.hj_event.specs.declared.schema.fault.RowFault.{RowFault}
 use Rattle.hj_event.specs.declared.fault.RecordFault.{RecordFault}
 use Rattle.hj_event.specs.declared.fault.RecordFault.TheVariants as fault
+use Rattle.hj_event.specs.SchemaRows.{row_of}
 use Rattle.hj_event.specs.Rows.{Rows, then_rows, in_time, row_in_time, record_row, row_at, with_time, put_row, rows_from, rows_in, greatest_of, put_in, put_all, is_sure, in_order, unread}
 use Rattle.hj_event.specs.Waiting.{NoneBefore, AreInOrder}
 

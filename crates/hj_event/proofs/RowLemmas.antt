@@ -7,7 +7,7 @@ use Rattle.hj_value.specs.declared.field.Field.{Field}
 use Rattle.hj_record.specs.declared.fault.PieceFault.{PieceFault}
 use Rattle.hj_record.specs.declared.fault.PieceFault.TheVariants as piece_fault
 use Rattle.hj_record.specs.Pieces.{Pieces, Stream, then_pieces}
-use Rattle.hj_schema.specs.declared.fault.RowFault.TheVariants as row_fault
+use Rattle.hj_event.specs.declared.schema.fault.RowFault.TheVariants as row_fault
 use Rattle.hj_event.specs.declared.fault.RecordFault.{RecordFault}
 use Rattle.hj_event.specs.declared.fault.RecordFault.TheVariants as fault
 use Rattle.hj_event.specs.declared.stop.SideStop.{SideStop}

@@ -10,9 +10,9 @@ use Rattle.hj_record.specs.Cutter.{Cutting}
 use Rattle.hj_record.specs.Cuts.{Cuts, LeadsBy}
 use Rattle.hj_record.specs.Line.{most_in_next}
 use Rattle.hj_record.specs.Pieces.{IsPiece}
-use Rattle.hj_schema.specs.Lines.{IsLineOf}
 use Rattle.hj_event.specs.declared.stop.ReadStep.TheVariants as read_step
 use Rattle.hj_event.specs.declared.stop.SideStop.TheVariants as stop
+use Rattle.hj_event.specs.Lines.{IsLineOf}
 use Rattle.hj_event.specs.Rows.{in_time, record_row, row_at, row_in_time, with_time}
 use Rattle.hj_event.specs.Sides.{ReaderState}
 use Rattle.hj_event.specs.Reads.{reading, IsReadable}

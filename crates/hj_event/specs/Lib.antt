@@ -5,11 +5,14 @@ pub mod Cut
 pub mod Days
 pub mod Events
 pub mod Late
+pub mod Lines
 pub mod Merger
 pub mod Numbering
 pub mod Reads
 pub mod Roles
+pub mod RowAnswers
 pub mod Rows
+pub mod SchemaRows
 pub mod Settling
 pub mod Sides
 pub mod Silences

@@ -9,10 +9,10 @@ use Rattle.hj_value.specs.Row.{time_of}
 use Rattle.hj_record.specs.declared.fault.PieceFault.{PieceFault}
 use Rattle.hj_record.specs.Pieces.{Stream, Pieces, PiecesEnd, pieces_of, clean as pieces_clean, bad as pieces_bad, unread as pieces_unread}
 use Rattle.hj_record.specs.Records.{record_of}
-use Rattle.hj_schema.specs.declared.fault.RowFault.{RowFault}
-use Rattle.hj_schema.specs.Rows.{row_of}
+use Rattle.hj_event.specs.declared.schema.fault.RowFault.{RowFault}
 use Rattle.hj_event.specs.declared.fault.RecordFault.{RecordFault}
 use Rattle.hj_event.specs.declared.fault.RecordFault.TheVariants as fault
+use Rattle.hj_event.specs.SchemaRows.{row_of}
 
 -- The row, unless its time is below the greatest time of the rows before less the slack.
 abbrev pub in_time : ℕ → Option ℤ → List Field → Result (Option (List Field)) RecordFault

@@ -10,8 +10,7 @@ use Rattle.hj_base.specs.Outside.{RoleState}
 use Rattle.hj_record.specs.declared.fault.PieceFault.TheVariants as piece_fault
 use Rattle.hj_record.specs.Line.{most_from}
 use Rattle.hj_record.specs.Pieces.{Stream}
-use Rattle.hj_schema.specs.declared.fault.RowFault.TheVariants as row_fault
-use Rattle.hj_schema.specs.Lines.{IsLineOf}
+use Rattle.hj_event.specs.declared.schema.fault.RowFault.TheVariants as row_fault
 use Rattle.hj_event.specs.declared.fault.RecordFault.{RecordFault}
 use Rattle.hj_event.specs.declared.fault.RecordFault.TheVariants as fault
 use Rattle.hj_event.specs.declared.stop.SideStop.{SideStop}
@@ -22,6 +21,7 @@ use Rattle.hj_event.specs.declared.row_source.LineStep.{LineStep}
 use Rattle.hj_event.specs.declared.row_source.LineStep.TheVariants as line_step
 use Rattle.hj_event.specs.declared.stop.ReadStep.{ReadStep}
 use Rattle.hj_event.specs.declared.stop.ReadStep.TheVariants as read_step
+use Rattle.hj_event.specs.Lines.{IsLineOf}
 use Rattle.hj_event.specs.Rows.{Rows, no_row, then_rows, row_at, in_time, with_time, is_sure, clean, bad, unread}
 use Rattle.hj_event.specs.Sides.{ReaderState, SideState, in_front, at_its_end, cut_off, MayFollow, Follows, read_ahead, rows_ahead, side_ahead}
 use Rattle.hj_event.specs.Roles.{IsReadOn, IsUnread}

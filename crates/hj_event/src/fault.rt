@@ -1,8 +1,8 @@
 ghost use Rattle.std.specs.Prelude.{◌≡◌};
 ghost use Rattle.hj_event.specs.declared.fault.RecordFault.TheVariants.{Piece, Row};
 
+use crate::RowFault;
 use hj_record::PieceFault;
-use hj_schema::RowFault;
 use thiserror::Error;
 
 /// Why a record ends the stream.

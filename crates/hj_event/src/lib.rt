@@ -1,4 +1,4 @@
-//! The two streams merged into one list of numbered events.
+//! The two streams, whose rows are read by their schemas, merged into one list of numbered events.
 #![tactic(auto)]
 
 mod arrivals;
@@ -14,15 +14,16 @@ mod numbering;
 mod reader;
 mod record;
 mod row_source;
+mod schema;
 mod silence;
 mod stop;
 mod waiting;
 
 pub use fault::RecordFault;
 pub use hj_msg::{Event, Pair};
-pub use hj_schema::RowFault;
 pub use laws::{
     calls_give_events, cut_stream_gives_prefix, events_are_well_formed, rows_are_in_order,
     rows_expire_in_turn, silence_is_told,
 };
 pub use merger::{Merger, Next};
+pub use schema::{RowFault, read_row};

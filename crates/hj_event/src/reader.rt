@@ -10,11 +10,11 @@ ghost use Rattle.hj_event.specs.Sides.{new_reading};
 ghost use Rattle.hj_event.specs.Taking.{stop_of, ReadsPiece, Holds, Advances, IsNextLine, TakesNextLine, TellsRow, most_in_line};
 
 use crate::record::{is_late, read_record};
+use crate::schema::read_line;
 use crate::stop::{ReadStep, SideStop};
 use crate::{RecordFault, RowFault};
 use hj_base::{Got, Memory, Outside, Side};
 use hj_record::{CARRIAGE_RETURN, Cut, Cutter, Fed, Fields, LINE_FEED, PieceFault, QUOTE};
-use hj_schema::read_line;
 use hj_value::{ColumnType, Row, Schema, SharedRow};
 use std::alloc::Global;
 use std::marker::Model;

@@ -1,9 +1,8 @@
 ghost use Rattle.std.specs.Prelude.{◌≡◌, ◌≤◌, ◌-ℤ◌, int_lt, length, pos};
 ghost use Rattle.hj_event.specs.Taking.{ReadsPiece, InTime, is_late};
 
-use crate::RecordFault;
+use crate::{RecordFault, read_row};
 use hj_record::{Fields, read_piece_into};
-use hj_schema::read_row;
 use hj_value::{Row, Schema};
 use std::alloc::Global;
 

@@ -5,12 +5,12 @@ use Rattle.std.proofs.lemmas.Grind.{flat_map-append}
 use Rattle.std.specs.List.{flat_map}
 use Rattle.std.specs.Io.KnownBytes.{Appends}
 use Rattle.std.specs.declared.option.Option.{Option}
+use Rattle.hj_base.specs.declared.output.Sent.{Sent}
+use Rattle.hj_base.specs.declared.output.Sent.TheVariants as sent
+use Rattle.hj_base.specs.Output.{AppendsFront, SendsPiece, CountsRefusals}
 use Rattle.hj_base.specs.Counts.{Rose}
 use Rattle.hj_base.specs.Journals.{IsPrefix}
 use Rattle.hj_notes.specs.declared.parts.NotePart.{NotePart}
-use Rattle.hj_output.specs.declared.output.Sent.{Sent}
-use Rattle.hj_output.specs.declared.output.Sent.TheVariants as sent
-use Rattle.hj_output.specs.Output.{AppendsFront, SendsPiece, CountsRefusals}
 use Rattle.hj_notes.specs.NoteWritten.{NoteWritten}
 use Rattle.hj_notes.specs.Parts.{part_text}
 

@@ -14,8 +14,8 @@ use Rattle.hj_query.specs.declared.fault.Wanted.TheVariants as wanted
 use Rattle.std.specs.declared.option.Option.{Option}
 use Rattle.hj_record.specs.declared.fault.PieceFault.{PieceFault}
 use Rattle.hj_record.specs.declared.fault.PieceFault.TheVariants as piece
-use Rattle.hj_schema.specs.declared.fault.RowFault.{RowFault}
-use Rattle.hj_schema.specs.declared.fault.RowFault.TheVariants as row
+use Rattle.hj_event.specs.declared.schema.fault.RowFault.{RowFault}
+use Rattle.hj_event.specs.declared.schema.fault.RowFault.TheVariants as row
 use Rattle.hj_event.specs.declared.fault.RecordFault.{RecordFault}
 use Rattle.hj_event.specs.declared.fault.RecordFault.TheVariants as fault
 

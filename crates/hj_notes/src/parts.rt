@@ -1,12 +1,11 @@
 ghost use Rattle.std.specs.Prelude.{◌≡◌};
 ghost use Rattle.std.specs.List.{flat_map};
-ghost use Rattle.hj_output.specs.Output.{SendsPiece, CountsRefusals};
+ghost use Rattle.hj_base.specs.Output.{SendsPiece, CountsRefusals};
 ghost use Rattle.hj_notes.specs.Notes.{role_name, side_name};
 ghost use Rattle.hj_notes.specs.NoteWritten.{NoteWritten};
 ghost use Rattle.hj_notes.specs.Parts.{part_text};
 
-use hj_base::{Role, Side, Sink};
-use hj_output::{Sent, put_all};
+use hj_base::{Role, Sent, Side, Sink, put_all};
 use itoa::Buffer;
 
 /// A part of a note: words, or a number in decimal.

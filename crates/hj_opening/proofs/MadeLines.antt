@@ -15,6 +15,7 @@ use Rattle.csv.specs.Reading.{default_config}
 use Rattle.csv.specs.declared.parser.Action.TheVariants as act
 use Rattle.csv.specs.declared.parser.State.{State}
 use Rattle.csv.specs.declared.parser.State.TheVariants as st
+use Rattle.hj_event.specs.SchemaRows.{int_field, put_value, row_of}
 use Rattle.hj_event.specs.Rows.{Rows, put_row, row_at, rows_from, rows_in, rows_of, most_in_stream, then_rows, in_time, with_time, clean as rows_clean}
 use Rattle.hj_event.proofs.OrderLemmas.{as_read}
 use Rattle.hj_gen.specs.Streams.{DrawnRow, row_line}
@@ -25,7 +26,6 @@ use Rattle.hj_record.specs.LineEnd.{inside_after}
 use Rattle.hj_record.specs.Pieces.{IsPiece, Pieces, Split, ended, last_pieces, pieces_of, split, then_pieces, up_to_too_long, clean as pieces_clean}
 use Rattle.hj_record.specs.Records.{only_record, record_in, record_of, without_marks}
 use Rattle.hj_record.proofs.Splits.{IsPiece-from_line, Unended, split-piece, with_piece}
-use Rattle.hj_schema.specs.Rows.{int_field, put_value, row_of}
 use Rattle.hj_value.specs.declared.field.Field.{Field}
 use Rattle.hj_value.specs.declared.field.Field.TheVariants as field
 use Rattle.hj_value.specs.Number.{int_of}

@@ -3,12 +3,12 @@ use Rattle.std.specs.Prelude.{ℕ, List, Ok, Err}
 use Rattle.std.specs.Io.KnownBytes.{Appends}
 use Rattle.std.specs.declared.option.Option.{Option}
 use Rattle.std.specs.declared.result.Result.{Result}
+use Rattle.hj_base.specs.declared.output.Sent.TheVariants as sent
 use Rattle.hj_base.specs.declared.outside.Role.TheVariants as role
+use Rattle.hj_base.specs.Output.{CountsFaults, SendsPiece}
 use Rattle.hj_base.specs.Journals.{IsPrefix}
 use Rattle.hj_notes.specs.declared.note.Note.{Note}
 use Rattle.hj_notes.specs.declared.note.Note.TheVariants as note
-use Rattle.hj_output.specs.declared.output.Sent.TheVariants as sent
-use Rattle.hj_output.specs.Output.{CountsFaults, SendsPiece}
 use Rattle.hj_query.specs.Canonical.{canonical}
 use Rattle.hj_query.specs.QueryParts.{QueryParts}
 use Rattle.hj_opening.specs.Calls.{Call}

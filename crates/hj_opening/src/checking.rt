@@ -6,9 +6,8 @@ ghost use Rattle.hj_opening.specs.Run.{RunsOrder};
 ghost use Rattle.hj_opening.specs.Words.{check_query};
 
 use crate::query::read_query;
-use hj_base::{Outside, Role, Sink};
+use hj_base::{Outside, Role, Sent, Sink, put_all};
 use hj_notes::Note;
-use hj_output::{Sent, put_all};
 use hj_query::{Query, print};
 use std::alloc::Global;
 

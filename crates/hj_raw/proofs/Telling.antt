@@ -27,7 +27,7 @@ use Rattle.hj_msg.proofs.MetOnce.{met_once}
 use Rattle.hj_msg.proofs.OnlyMatches.{met_only_matches}
 use Rattle.hj_msg.proofs.WithinPunctuation.{met_within}
 use Rattle.hj_collect.specs.Marks.{is_same}
-use Rattle.hj_order.proofs.Emissions.{met-permutation}
+use Rattle.hj_collect.proofs.Emissions.{met-permutation}
 use Rattle.hj_raw.specs.Items.{Item, TakenReport, joined, marked, mark_behind, items_behind, items_of_report, lists_of, raw_items, with_taken}
 use Rattle.hj_raw.specs.Telling.{AreTakenOf, IsBelow, TellsAll, TellsMatches, is_pair_of}
 use Rattle.hj_raw.proofs.Behind.{one_behind}

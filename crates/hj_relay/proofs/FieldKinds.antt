@@ -13,9 +13,9 @@ use Rattle.hj_value.specs.declared.number.IntFault.TheVariants as int
 use Rattle.hj_value.specs.Number.{fits_i64, int_of, is_number}
 use Rattle.std.specs.Str.Parse.{signed_digits_value}
 use Rattle.hj_emit.specs.Line.{field_bytes}
-use Rattle.hj_schema.specs.declared.fault.RowFault.{RowFault}
-use Rattle.hj_schema.specs.declared.fault.RowFault.TheVariants as fault
-use Rattle.hj_schema.specs.Rows.{int_field, put_value, row_of, value_of, values_from}
+use Rattle.hj_event.specs.declared.schema.fault.RowFault.{RowFault}
+use Rattle.hj_event.specs.declared.schema.fault.RowFault.TheVariants as fault
+use Rattle.hj_event.specs.SchemaRows.{int_field, put_value, row_of, value_of, values_from}
 use Rattle.hj_relay.specs.Fits.{kinds}
 use Rattle.hj_relay.proofs.Numbers.{printed_reads}
 

@@ -10,10 +10,10 @@ use Rattle.hj_value.specs.Row.{time_of}
 use Rattle.hj_record.specs.declared.fault.PieceFault.{PieceFault}
 use Rattle.hj_record.specs.Pieces.{PiecesEnd, Stream, pieces_of}
 use Rattle.hj_record.specs.Records.{record_of}
-use Rattle.hj_schema.specs.declared.fault.RowFault.{RowFault}
-use Rattle.hj_schema.specs.Rows.{row_of}
+use Rattle.hj_event.specs.declared.schema.fault.RowFault.{RowFault}
 use Rattle.hj_event.specs.declared.fault.RecordFault.{RecordFault}
 use Rattle.hj_event.specs.declared.fault.RecordFault.TheVariants as fault
+use Rattle.hj_event.specs.SchemaRows.{row_of}
 use Rattle.hj_event.specs.Rows.{Rows, RowsEnd, bad, clean, greatest_of, in_time, is_sure, most_in_stream, put_all, put_in, put_row, read_of, record_row, row_at, row_in_time, rows_from, rows_of, staying, unread, with_time}
 use Rattle.hj_event.specs.Waiting.{AreInOrder, NoneBefore}
 use Rattle.hj_event.proofs.OrderLaws.{rows_in_order}

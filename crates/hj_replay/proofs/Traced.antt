@@ -3,9 +3,12 @@ use Rattle.std.proofs.Common.{◌≡◌, ◌≢◌, ℕ, Bool, true, false, List
 use Rattle.std.proofs.KnownBytes.{Appends-nil}
 use Rattle.std.specs.declared.option.Option.{Option}
 use Rattle.hj_value.specs.declared.field.Field.{Field}
+use Rattle.hj_base.specs.declared.output.Sent.{Sent}
+use Rattle.hj_base.specs.declared.output.Sent.TheVariants as sent
 use Rattle.hj_base.specs.declared.outside.Outside.{Ghosts as OutsideGhosts}
 use Rattle.hj_base.specs.declared.outside.Role.{Role}
 use Rattle.hj_base.specs.declared.outside.Role.TheVariants as role
+use Rattle.hj_base.specs.Output.{CountsFaults}
 use Rattle.hj_base.specs.Outside.{RoleState}
 use Rattle.hj_msg.specs.declared.event.Event.{Event}
 use Rattle.hj_msg.specs.declared.feed.Given.{Given}
@@ -17,11 +20,8 @@ use Rattle.hj_event.specs.Events.{NumberedEvents, events_of}
 use Rattle.hj_event.specs.Roles.{IsInStep}
 use Rattle.hj_record.specs.Pieces.{Stream}
 use Rattle.hj_event.specs.Sides.{in_front, Follows, at_its_end, cut_off}
-use Rattle.hj_output.specs.Output.{CountsFaults}
 use Rattle.hj_stream.specs.Joining.{AreEnded, CountsSinkFault, FailsOn}
 use Rattle.hj_event.proofs.RoleLemmas.{not_read}
-use Rattle.hj_output.specs.declared.output.Sent.{Sent}
-use Rattle.hj_output.specs.declared.output.Sent.TheVariants as sent
 use Rattle.hj_stream.specs.declared.outcome.Outcome.{Outcome}
 use Rattle.hj_stream.specs.declared.outcome.Outcome.TheVariants as outcome
 use Rattle.hj_stream.specs.Ends.{IsUnasked}

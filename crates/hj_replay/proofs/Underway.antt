@@ -4,7 +4,10 @@ use Rattle.std.proofs.KnownBytes.{Appends-nil, Appends-trans}
 use Rattle.std.specs.Io.KnownBytes.{Appends}
 use Rattle.std.specs.declared.option.Option.{Option}
 use Rattle.hj_value.specs.declared.field.Field.{Field}
+use Rattle.hj_base.specs.declared.output.Sent.{Sent}
+use Rattle.hj_base.specs.declared.output.Sent.TheVariants as sent
 use Rattle.hj_base.specs.declared.outside.Outside.{Ghosts as OutsideGhosts}
+use Rattle.hj_base.specs.Output.{AppendsFront, SendsPiece}
 use Rattle.hj_msg.specs.declared.event.Event as event
 use Rattle.hj_msg.specs.declared.feed.Given.{Given}
 use Rattle.hj_msg.specs.declared.feed.Given.TheVariants as given
@@ -21,9 +24,6 @@ use Rattle.hj_chain.specs.Steps.{Steps, asks}
 use Rattle.hj_chain.proofs.ChosenActors.{none-enabled}
 use Rattle.hj_chain.proofs.OnlyCloses.{none_to_come}
 use Rattle.hj_chain.proofs.Stuck.{finished-sent, stuck_is_done}
-use Rattle.hj_output.specs.declared.output.Sent.{Sent}
-use Rattle.hj_output.specs.declared.output.Sent.TheVariants as sent
-use Rattle.hj_output.specs.Output.{AppendsFront, SendsPiece}
 use Rattle.hj_stream.specs.declared.outcome.Outcome.{Outcome}
 use Rattle.hj_stream.specs.declared.outcome.Outcome.TheVariants as outcome
 use Rattle.hj_replay.specs.declared.ready.AlwaysReady.{AlwaysReady}

@@ -3,12 +3,12 @@ use Rattle.std.specs.Prelude.{◌≡◌, ◌≢◌, ℕ, Bool, List, [], ◌++�
 use Rattle.std.specs.Io.KnownBytes.{Appends}
 use Rattle.std.specs.declared.option.Option.{Option}
 use Rattle.hj_value.specs.declared.field.Field.{Field}
+use Rattle.hj_base.specs.declared.output.Sent.{Sent}
+use Rattle.hj_base.specs.declared.output.Sent.TheVariants as sent
 use Rattle.hj_base.specs.declared.outside.Outside.{Ghosts as OutsideGhosts}
 use Rattle.hj_msg.specs.declared.event.Event.{Event}
 use Rattle.hj_msg.specs.Feed.{events_in}
 use Rattle.hj_chain.specs.declared.serial.Chooser.{Chooser}
-use Rattle.hj_output.specs.declared.output.Sent.{Sent}
-use Rattle.hj_output.specs.declared.output.Sent.TheVariants as sent
 use Rattle.hj_stream.specs.declared.outcome.Outcome.{Outcome}
 use Rattle.hj_stream.specs.declared.outcome.Outcome.TheVariants as outcome
 use Rattle.hj_trace.specs.Play.{BeginsTrace, IsTrace}

@@ -1,5 +1,7 @@
 ghost use Rattle.std.specs.Prelude.{◌≡◌, ◌≢◌, ◌≤◌, ℕ, List, None, Some, true, IfSome};
+ghost use Rattle.hj_base.specs.declared.output.Sent.TheVariants as sent;
 ghost use Rattle.hj_base.specs.declared.outside.Role.{Role as Roles};
+ghost use Rattle.hj_base.specs.Output.{CountsFaults, SendsPiece};
 ghost use Rattle.hj_value.specs.declared.field.Field.{Field};
 ghost use Rattle.hj_msg.specs.declared.feed.Given.{Given};
 ghost use Rattle.hj_msg.specs.Feed.{Answers, FeedState, event_in};
@@ -7,19 +9,16 @@ ghost use Rattle.hj_chain.specs.declared.actor.Stepped.TheVariants as stepped;
 ghost use Rattle.hj_chain.specs.Chain.{cause, empty_chain};
 ghost use Rattle.hj_chain.specs.Steps.{GoesWith, Steps, was_asked};
 ghost use Rattle.hj_eval.specs.Holds.{holds};
-ghost use Rattle.hj_output.specs.declared.output.Sent.TheVariants as sent;
-ghost use Rattle.hj_output.specs.Output.{CountsFaults, SendsPiece};
 ghost use Rattle.hj_stream.specs.declared.outcome.Outcome.TheVariants as outcome;
 ghost use Rattle.hj_trace.specs.Line.{line_text};
 ghost use Rattle.hj_replay.specs.Feeds.{Fed, gives, state_of};
 ghost use Rattle.hj_replay.specs.Writing.{WritesLines};
 
 use crate::AlwaysReady;
-use hj_base::{Outside, Sink};
+use hj_base::{Outside, Sent, Sink, put_all};
 use hj_chain::{Actor, Chain, Chooser};
 use hj_eval::QueryJoin;
 use hj_msg::Store;
-use hj_output::{Sent, put_all};
 use hj_stream::Outcome;
 use hj_trace::{Naming, Played, play, push_maker};
 use hj_value::SharedRow;

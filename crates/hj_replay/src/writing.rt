@@ -1,12 +1,12 @@
 ghost use Rattle.std.specs.Prelude.{◌≡◌, ◌≢◌, None, false, List, ℕ, IfOk, OnErr};
+ghost use Rattle.hj_base.specs.declared.output.Sent.TheVariants as sending;
+ghost use Rattle.hj_base.specs.Output.{CountsFaults};
 ghost use Rattle.hj_base.specs.Outside.{NamesStay};
 ghost use Rattle.hj_base.specs.declared.outside.Role.TheVariants as role;
 ghost use Rattle.hj_msg.specs.Feed.{IsFresh};
 ghost use Rattle.hj_eval.specs.Holds.{holds};
 ghost use Rattle.hj_event.specs.Merger.{IsNewMerger};
 ghost use Rattle.hj_event.specs.Roles.{IsInStep};
-ghost use Rattle.hj_output.specs.declared.output.Sent.TheVariants as sending;
-ghost use Rattle.hj_output.specs.Output.{CountsFaults};
 ghost use Rattle.hj_stream.specs.Ends.{IsUnasked};
 ghost use Rattle.hj_stream.specs.Joining.{CountsSinkFault};
 ghost use Rattle.hj_stores.specs.Stores.{AreReady};
@@ -16,12 +16,11 @@ ghost use Rattle.hj_replay.specs.Writing.{Makes, WritesRun};
 
 use crate::lines::write_lines;
 use crate::{AlwaysReady, TracePlan};
-use hj_base::{Memory, Outside, Sink};
+use hj_base::{Memory, Outside, Sent, Sink};
 use hj_chain::Chain;
 use hj_eval::{QueryJoin, ReadyQuery};
 use hj_event::Merger;
 use hj_msg::Store;
-use hj_output::Sent;
 use hj_query::Query;
 use hj_stores::{ChainStores, PlannedStores, planned_stores};
 use hj_stream::{EventFeed, Outcome};

@@ -1,5 +1,6 @@
 -- A run between the feed of two streams and the drain of a sink, as the code has them: what it leaves as it was, and how its join ends.
 use Rattle.std.proofs.Common.{◌≡◌, ◌≢◌, ◌-◌, List, ℕ, true, is_some, ap, sym, subst₂}
+use Rattle.hj_base.specs.declared.output.Sent.TheVariants as sent
 use Rattle.hj_base.specs.declared.outside.Outside.{Ghosts as OutsideGhosts}
 use Rattle.hj_base.specs.declared.sink.Sink.{Ghosts as SinkGhosts}
 use Rattle.hj_value.specs.declared.field.Field.{Field}
@@ -18,7 +19,6 @@ use Rattle.hj_stream.specs.declared.feed.EventFeed.{EventFeed}
 use Rattle.hj_stream.specs.declared.line.PairLine.{Ghosts as LineGhosts}
 use Rattle.hj_stream.specs.declared.outcome.Outcome.{Outcome}
 use Rattle.hj_stream.specs.declared.outcome.Outcome.TheVariants as outcome
-use Rattle.hj_output.specs.declared.output.Sent.TheVariants as sent
 use Rattle.hj_stream.specs.Draining.{SendsLine}
 use Rattle.hj_stream.specs.Ending.{EndsAs}
 use Rattle.hj_stream.specs.Ends.{IsUnasked}

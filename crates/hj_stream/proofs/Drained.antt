@@ -8,11 +8,11 @@ use Rattle.hj_msg.specs.declared.drain.Drained.{Drained}
 use Rattle.hj_msg.specs.declared.drain.Drained.TheVariants.{Kept, Refused}
 use Rattle.hj_msg.specs.declared.event.Pair.{Pair}
 use Rattle.hj_msg.specs.Drain.{Drainage, TakesAll, AreKept, pairs_in}
-use Rattle.hj_output.specs.declared.output.Sent.{Sent}
-use Rattle.hj_output.specs.declared.output.Sent.TheVariants as sent
+use Rattle.hj_base.specs.declared.output.Sent.{Sent}
+use Rattle.hj_base.specs.declared.output.Sent.TheVariants as sent
 use Rattle.hj_stream.specs.Draining.{SendsLine, answer_by}
 use Rattle.hj_stream.specs.JoinText.{Line, text_by}
-use Rattle.hj_output.specs.Output.{AppendsFront, CountsFaults, SendsPiece}
+use Rattle.hj_base.specs.Output.{AppendsFront, CountsFaults, SendsPiece}
 
 -- What is seen of a drain: how its last line went, and what its sink tells and counts.
 pub record Draining : Type 0 where

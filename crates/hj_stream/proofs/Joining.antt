@@ -5,9 +5,12 @@ use Rattle.std.proofs.KnownBytes.{Appends-nil}
 use Rattle.std.specs.Io.KnownBytes.{Appends}
 use Rattle.std.specs.declared.option.Option.{Option}
 use Rattle.hj_value.specs.declared.field.Field.{Field}
+use Rattle.hj_base.specs.declared.output.Sent.{Sent}
+use Rattle.hj_base.specs.declared.output.Sent.TheVariants as sent
 use Rattle.hj_base.specs.declared.numbers.Side.TheVariants.{Left, Right}
 use Rattle.hj_base.specs.declared.outside.Role.{Role}
 use Rattle.hj_base.specs.declared.outside.Role.TheVariants as role
+use Rattle.hj_base.specs.Output.{CountsFaults}
 use Rattle.hj_base.specs.Journals.{IsPrefix}
 use Rattle.hj_base.specs.Outside.{RoleState, role_of}
 use Rattle.hj_msg.specs.declared.event.Event.{Event}
@@ -29,13 +32,10 @@ use Rattle.hj_event.specs.Calls.{GivesAll, then_events}
 use Rattle.hj_event.proofs.RoleLemmas.{not_read}
 use Rattle.hj_stream.specs.declared.outcome.Outcome.{Outcome}
 use Rattle.hj_stream.specs.declared.outcome.Outcome.TheVariants as outcome
-use Rattle.hj_output.specs.declared.output.Sent.{Sent}
-use Rattle.hj_output.specs.declared.output.Sent.TheVariants as sent
 use Rattle.hj_stream.specs.Draining.{refusal_of}
 use Rattle.hj_stream.specs.Feeding.{outcome_by}
 use Rattle.hj_stream.specs.JoinText.{JoinResult, Line, joined_by, joined_text, text_by}
 use Rattle.hj_stream.specs.Joining.{CountsSinkFault, FailsOn, WritesText, AreEnded, JoinsBy, JoinsSo, JoinsTo}
-use Rattle.hj_output.specs.Output.{CountsFaults}
 use Rattle.hj_stream.proofs.Prefixes.{IsPrefix-trans}
 
 -- The whole text goes on after that of the first events.

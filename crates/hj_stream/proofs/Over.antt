@@ -3,9 +3,12 @@ use Rattle.std.proofs.Common.{◌≡◌, ◌≢◌, ℕ, true, false, List, [], 
 use Rattle.std.specs.Io.KnownBytes.{Appends}
 use Rattle.std.specs.declared.option.Option.{Option}
 use Rattle.hj_value.specs.declared.field.Field.{Field}
+use Rattle.hj_base.specs.declared.output.Sent.{Sent}
+use Rattle.hj_base.specs.declared.output.Sent.TheVariants as sent
 use Rattle.hj_base.specs.declared.numbers.Side.TheVariants.{Left, Right}
 use Rattle.hj_base.specs.declared.outside.Role.{Role}
 use Rattle.hj_base.specs.declared.outside.Role.TheVariants as role
+use Rattle.hj_base.specs.Output.{AppendsFront}
 use Rattle.hj_base.specs.Journals.{IsPrefix}
 use Rattle.hj_base.specs.Outside.{RoleState}
 use Rattle.hj_msg.specs.declared.drain.Drained.{Drained}
@@ -32,14 +35,11 @@ use Rattle.hj_event.proofs.CallLemmas.{before_call, ends}
 use Rattle.hj_event.proofs.RoleLemmas.{read_more}
 use Rattle.hj_stream.specs.declared.outcome.Outcome.{Outcome}
 use Rattle.hj_stream.specs.declared.outcome.Outcome.TheVariants as outcome
-use Rattle.hj_output.specs.declared.output.Sent.{Sent}
-use Rattle.hj_output.specs.declared.output.Sent.TheVariants as sent
 use Rattle.hj_stream.specs.Draining.{SendsLine, refusal_of}
 use Rattle.hj_stream.specs.Ending.{EndsAs}
 use Rattle.hj_stream.specs.Feeding.{Feeding, Gives}
 use Rattle.hj_stream.specs.Joining.{CountsSinkFault, JoinsBy}
 use Rattle.hj_stream.specs.JoinText.{Line, joined_by, joined_text, text_by}
-use Rattle.hj_output.specs.Output.{AppendsFront}
 use Rattle.hj_stream.specs.Runs.{EndsRun, OfEvents}
 use Rattle.hj_stream.proofs.Drained.{Draining, all_kept, last_refused}
 use Rattle.hj_stream.proofs.Fed.{Fed, HasEnded, fed_all, fed_first, fed_well}

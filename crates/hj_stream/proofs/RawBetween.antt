@@ -2,6 +2,7 @@
 -- its join ends.
 use Rattle.std.proofs.Common.{◌≡◌, ◌≢◌, ◌-◌, List, [], ℕ, true, false, is_some, sym, subst₂}
 use Rattle.std.specs.declared.option.Option.{Option}
+use Rattle.hj_base.specs.declared.output.Sent.TheVariants as sent
 use Rattle.hj_base.specs.declared.outside.Outside.{Ghosts as OutsideGhosts}
 use Rattle.hj_base.specs.declared.outside.Role.{Role}
 use Rattle.hj_base.specs.declared.outside.Role.TheVariants as role
@@ -15,7 +16,6 @@ use Rattle.hj_msg.specs.declared.fin.Fin.TheVariants as fin
 use Rattle.hj_msg.specs.Feed.{Answers, FeedState, GoesOverAnswers, events_in, numbering_of}
 use Rattle.hj_query.specs.QueryParts.{QueryParts}
 use Rattle.hj_event.specs.Roles.{IsInStep}
-use Rattle.hj_output.specs.declared.output.Sent.TheVariants as sent
 use Rattle.hj_raw.specs.Drain.{Offer, TakesItems}
 use Rattle.hj_raw.specs.Ending.{EndsRaw}
 use Rattle.hj_raw.specs.Items.{Item}

@@ -4,8 +4,10 @@ use Rattle.std.proofs.lemmas.Grind.{flat_map-append}
 use Rattle.std.specs.Io.KnownBytes.{Appends}
 use Rattle.std.specs.declared.option.Option.{Option}
 use Rattle.hj_value.specs.declared.field.Field.{Field}
+use Rattle.hj_base.specs.declared.output.Sent.TheVariants as sent
 use Rattle.hj_base.specs.declared.outside.Role.{Role}
 use Rattle.hj_base.specs.declared.outside.Role.TheVariants as role
+use Rattle.hj_base.specs.Output.{AppendsFront}
 use Rattle.hj_base.specs.Journals.{IsPrefix}
 use Rattle.hj_base.specs.Outside.{RoleState}
 use Rattle.hj_msg.specs.declared.drain.Drained.{Drained}
@@ -21,8 +23,6 @@ use Rattle.hj_eval.specs.Holds.{holds}
 use Rattle.hj_event.specs.Merger.{IsNewMerger}
 use Rattle.hj_event.specs.Roles.{IsInStep}
 use Rattle.hj_event.specs.Sides.{in_front}
-use Rattle.hj_output.specs.declared.output.Sent.TheVariants as sent
-use Rattle.hj_output.specs.Output.{AppendsFront}
 use Rattle.hj_raw.specs.Drain.{Offer, TakesItems, items_in}
 use Rattle.hj_raw.specs.Ending.{EndsRaw}
 use Rattle.hj_raw.specs.Items.{Item}

@@ -5,9 +5,9 @@ use Rattle.hj_msg.specs.declared.drain.Drained.{Drained}
 use Rattle.hj_msg.specs.declared.drain.Drained.TheVariants.{Kept, Refused}
 use Rattle.hj_stream.specs.declared.outcome.Outcome.{Outcome}
 use Rattle.hj_stream.specs.declared.outcome.Outcome.TheVariants as outcome
-use Rattle.hj_output.specs.declared.output.Sent.{Sent}
-use Rattle.hj_output.specs.declared.output.Sent.TheVariants as sent
-use Rattle.hj_output.specs.Output.{CountsFaults, SendsPiece}
+use Rattle.hj_base.specs.declared.output.Sent.{Sent}
+use Rattle.hj_base.specs.declared.output.Sent.TheVariants as sent
+use Rattle.hj_base.specs.Output.{CountsFaults, SendsPiece}
 
 -- A pair is kept exactly where its whole line was sent.
 abbrev pub answer_by : Sent → Drained

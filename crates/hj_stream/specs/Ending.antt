@@ -5,7 +5,7 @@ use Rattle.hj_msg.specs.declared.fin.Fin.{Fin}
 use Rattle.hj_msg.specs.declared.fin.Fin.TheVariants as fin
 use Rattle.hj_stream.specs.declared.outcome.Outcome.{Outcome}
 use Rattle.hj_stream.specs.declared.outcome.Outcome.TheVariants as outcome
-use Rattle.hj_output.specs.declared.output.Sent.{Sent}
+use Rattle.hj_base.specs.declared.output.Sent.{Sent}
 use Rattle.hj_stream.specs.Draining.{refusal_of}
 
 -- The outcome of a run that ended so: that of the feed's end, or that of the last line, or that memory ran out.

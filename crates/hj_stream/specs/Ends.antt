@@ -1,10 +1,10 @@
 -- What is seen of the two ends of a join: of the feed of its events, and of the drain of its lines.
 use Rattle.std.specs.Prelude.{◌≡◌, ℕ, [], None}
 use Rattle.std.specs.declared.option.Option.{Option}
+use Rattle.hj_base.specs.declared.output.Sent.{Sent}
 use Rattle.hj_base.specs.declared.outside.Outside.{Ghosts as OutsideGhosts}
 use Rattle.hj_query.specs.QueryParts.{QueryParts}
 use Rattle.hj_event.specs.Merger.{IsNewMerger}
-use Rattle.hj_output.specs.declared.output.Sent.{Sent}
 use Rattle.hj_stream.specs.declared.drain.LineDrain.{LineDrain}
 use Rattle.hj_stream.specs.declared.feed.EventFeed.{EventFeed}
 use Rattle.hj_stream.specs.declared.outcome.Outcome.{Outcome}

@@ -1,5 +1,5 @@
 -- What is seen of a drain of raw items.
-use Rattle.hj_output.specs.declared.output.Sent.{Sent}
+use Rattle.hj_base.specs.declared.output.Sent.{Sent}
 use Rattle.hj_stream.specs.declared.raw.RawLineDrain.{RawLineDrain}
 
 -- how it sent its last line

@@ -1,13 +1,12 @@
 ghost use Rattle.std.specs.Prelude.{◌≡◌, ◌≢◌};
-ghost use Rattle.hj_output.specs.declared.output.Sent.TheVariants as sent;
-ghost use Rattle.hj_output.specs.Output.{CountsFaults, SendsPiece};
+ghost use Rattle.hj_base.specs.declared.output.Sent.TheVariants as sent;
+ghost use Rattle.hj_base.specs.Output.{CountsFaults, SendsPiece};
 ghost use Rattle.hj_stream.specs.Draining.{refusal_of};
 
 use crate::outcome::outcome_of_refusal;
 use crate::{Outcome, PairLine};
-use hj_base::{Memory, Sink};
+use hj_base::{Memory, Sent, Sink, put_all};
 use hj_msg::{Drain, Drained, Pair};
-use hj_output::{Sent, put_all};
 use hj_value::SharedRow;
 
 /// Writes the line of each pair that it takes to a sink.

@@ -1,15 +1,14 @@
 ghost use Rattle.std.specs.Prelude.{◌≡◌, ◌≢◌, true, is_some};
 ghost use Rattle.hj_msg.specs.declared.fin.Fin.TheVariants as fin;
-ghost use Rattle.hj_output.specs.declared.output.Sent.TheVariants as sent;
+ghost use Rattle.hj_base.specs.declared.output.Sent.TheVariants as sent;
 ghost use Rattle.hj_stream.specs.Draining.{refusal_of};
 ghost use Rattle.hj_stream.specs.Ending.{EndsAs};
 ghost use Rattle.hj_stream.specs.Ends.{last_in, outcome_in};
 
 use crate::{EventFeed, LineDrain, PairLine};
-use hj_base::{Outside, Role, Side, Sink};
+use hj_base::{Outside, Role, Sent, Side, Sink};
 use hj_event::RecordFault;
 use hj_msg::Fin;
-use hj_output::Sent;
 
 /// Says how a join ended.
 #[derive(Clone, Copy, Debug, PartialEq, Eq)]

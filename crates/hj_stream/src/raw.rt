@@ -2,8 +2,8 @@ ghost use Rattle.std.specs.Prelude.{◌≡◌, ◌≢◌, true, is_some};
 ghost use Rattle.hj_collect.specs.Marks.{meaning};
 ghost use Rattle.hj_msg.specs.declared.fin.Fin.TheVariants as fin;
 ghost use Rattle.hj_msg.specs.Drain.{CountsRefused};
-ghost use Rattle.hj_output.specs.declared.output.Sent.TheVariants as sent;
-ghost use Rattle.hj_output.specs.Output.{CountsFaults, SendsPiece};
+ghost use Rattle.hj_base.specs.declared.output.Sent.TheVariants as sent;
+ghost use Rattle.hj_base.specs.Output.{CountsFaults, SendsPiece};
 ghost use Rattle.hj_raw.specs.Text.{mark_text, pair_text};
 ghost use Rattle.hj_stream.specs.Draining.{answer_by};
 ghost use Rattle.hj_stream.specs.Ending.{EndsAs};
@@ -12,10 +12,9 @@ ghost use Rattle.hj_stream.specs.RawEnds.{last_sent};
 
 use crate::outcome::outcome_of_refusal;
 use crate::{EventFeed, Outcome};
-use hj_base::{Memory, Outside, Sink};
+use hj_base::{Memory, Outside, Sent, Sink, put_all};
 use hj_collect::Mark;
 use hj_msg::{Drained, Fin, Pair};
-use hj_output::{Sent, put_all};
 use hj_raw::{RawDrain, fill_mark_line, fill_pair_line};
 use hj_value::SharedRow;
 

@@ -1,7 +1,7 @@
 ghost use Rattle.std.specs.Prelude.{◌≡◌, ◌+◌, ◌≤◌, replicate, IfOk};
 ghost use Rattle.hj_driver.specs.Driver.{new_driver};
-ghost use Rattle.hj_queue.specs.Queues.{no_messages};
 ghost use Rattle.hj_collect.specs.Collector.{nothing_taken};
+ghost use Rattle.hj_chain.specs.Queues.{no_messages};
 ghost use Rattle.hj_chain.specs.Chain.{capacity};
 ghost use Rattle.hj_chain.specs.Reports.{no_reports};
 

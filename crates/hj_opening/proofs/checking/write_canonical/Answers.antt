@@ -1,8 +1,8 @@
 use Rattle.std.proofs.Common.{List, ℕ, [], refl, ◌∙◌, subst}
 use Rattle.std.proofs.KnownBytes.{Appends-nil}
 use Rattle.std.proofs.lemmas.Result.{err_from_is_err_and}
-use Rattle.hj_output.specs.declared.output.Sent.TheVariants as sent
-use Rattle.hj_output.specs.Output.{SendsPiece}
+use Rattle.hj_base.specs.declared.output.Sent.TheVariants as sent
+use Rattle.hj_base.specs.Output.{SendsPiece}
 use Rattle.hj_query.specs.Canonical.{canonical}
 use Rattle.hj_opening.proofs.checking.write_canonical.Goals as goal
 

@@ -11,7 +11,7 @@ use Rattle.hj_chain.specs.Serial.{Choosing, IsPlaceWithin}
 use Rattle.hj_chain.specs.Steps.{Steps}
 use Rattle.hj_chain.proofs.ChosenActors.{chosen-enabled}
 use Rattle.hj_chain.proofs.SerialRuns.{cores-stay, fewer-left, first-within}
-use Rattle.hj_output.specs.Output.{CountsFaults, SendsPiece}
+use Rattle.hj_base.specs.Output.{CountsFaults, SendsPiece}
 use Rattle.hj_stream.specs.declared.outcome.Outcome.TheVariants as outcome
 use Rattle.hj_trace.specs.Choosing.{choosing_in}
 use Rattle.hj_trace.specs.Line.{line_text}

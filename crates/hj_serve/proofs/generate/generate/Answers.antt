@@ -1,5 +1,5 @@
 use Rattle.std.proofs.Common.{ℕ, List, sym, subst}
-use Rattle.hj_output.specs.declared.output.Sent.TheVariants as sent
+use Rattle.hj_base.specs.declared.output.Sent.TheVariants as sent
 use Rattle.hj_opening.specs.Generating.{IsSummary}
 use Rattle.hj_serve.specs.Orders.{recipe_seen}
 use Rattle.hj_serve.specs.OrderPlan.{crew_seen}

@@ -2,8 +2,8 @@ use Rattle.std.proofs.Common.{◌≡◌, ℕ, ◌+◌, List, [], length, replica
 use Rattle.hj_msg.specs.declared.message.Msg.{Msg}
 use Rattle.hj_msg.specs.declared.message.Report.{Report}
 use Rattle.hj_driver.specs.Driver.{DriverState}
-use Rattle.hj_queue.specs.Queues.{no_messages}
 use Rattle.hj_collect.specs.Collector.{nothing_taken}
+use Rattle.hj_chain.specs.Queues.{no_messages}
 use Rattle.hj_chain.specs.Chain.{capacity}
 use Rattle.hj_chain.specs.Reports.{ReportQueues}
 use Rattle.hj_chain.proofs.Starting.{goes-first, is_empty_chain}

@@ -1,5 +1,5 @@
 use Rattle.std.proofs.Common.{◌≡◌, replicate}
-use Rattle.hj_queue.specs.Queues.{no_messages}
+use Rattle.hj_chain.specs.Queues.{no_messages}
 use Rattle.hj_chain.proofs.links.Links.new.Given as goal
 
 abbrev pub invariant-loop-at : goal.invariant-loop-at

@@ -1,6 +1,6 @@
 use Rattle.std.proofs.Common.{◌+◌, ◌∷◌, arith, ap, sym, ◌∙◌}
 use Rattle.hj_msg.specs.declared.message.Msg.{Msg}
-use Rattle.hj_queue.specs.Queues.{Queues}
+use Rattle.hj_chain.specs.Queues.{Queues}
 use Rattle.hj_chain.specs.Links.{put_back}
 use Rattle.hj_chain.proofs.Places.{written}
 use Rattle.hj_chain.proofs.links.Links.put_back.Goals as goal

@@ -1,7 +1,7 @@
 use Rattle.std.proofs.Common.{◌≡◌, ◌≢◌, [], sym, ◌∙◌, rules}
 use Rattle.hj_msg.specs.declared.drain.Drained.TheVariants.{Kept, Refused}
 use Rattle.hj_desk.proofs.Going.{goes-on, goes-stands}
-use Rattle.hj_order.proofs.Giving.{was-kept}
+use Rattle.hj_collect.proofs.Giving.{was-kept}
 use Rattle.hj_desk.proofs.Rounds.{given-stands, round-on, round-over, round-refused, round-waits}
 use Rattle.hj_desk.proofs.caller.Caller.round.Goals as goal
 

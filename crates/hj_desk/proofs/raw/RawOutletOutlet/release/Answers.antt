@@ -5,7 +5,7 @@ use Rattle.hj_raw.specs.WaitingItems.{WaitingItems, item_of}
 use Rattle.hj_desk.specs.Outlet.{GivesDue}
 use Rattle.hj_desk.specs.RawOutlet.{GivesRaw}
 use Rattle.hj_desk.proofs.RawGiving.{raw-gives}
-use Rattle.hj_order.proofs.Giving.{was-kept}
+use Rattle.hj_collect.proofs.Giving.{was-kept}
 use Rattle.hj_desk.proofs.raw.RawOutletOutlet.release.Goals as goal
 
 pub returns-then-eq-clause-due : goal.returns-then-eq-clause-due

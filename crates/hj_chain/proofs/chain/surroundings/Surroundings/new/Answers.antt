@@ -1,6 +1,6 @@
 use Rattle.std.proofs.Common.{ℕ, ◌+◌, replicate, ap, ◌∙◌}
 use Rattle.hj_msg.specs.declared.message.Msg.{Msg}
-use Rattle.hj_queue.specs.Queues.{no_messages}
+use Rattle.hj_chain.specs.Queues.{no_messages}
 use Rattle.hj_chain.specs.Chain.{capacity}
 use Rattle.hj_chain.specs.Reports.{no_reports}
 use Rattle.hj_chain.proofs.chain.surroundings.Surroundings.new.Goals as goal

@@ -1,6 +1,0 @@
-use Rattle.std.proofs.Common.{ap}
-use Rattle.hj_chain_samples.specs.TwoRows.{two_rows}
-use Rattle.hj_chain_samples.proofs.chains.chain_of.Goals as goal
-
-pub new-requires-clause-fresh : goal.new-requires-clause-fresh
-new-requires-clause-fresh g c = ap (two_rows c.args.feed.now.first) c.requires.fresh

@@ -1,5 +1,0 @@
-use Rattle.hj_chain.specs.Steps.{GoesWith}
-use Rattle.hj_chain_samples.proofs.chains.step_all.Given as goal
-
-abbrev pub invariant-loop-line : goal.invariant-loop-line
-invariant-loop-line g l = GoesWith g.J.Join.predicate l.chain (g.F.Feed.state l.feed)

@@ -1,5 +1,0 @@
-use Rattle.std.proofs.Common.{◌≡◌}
-use Rattle.hj_chain_samples.proofs.links.send_all.Given as goal
-
-abbrev pub invariant-loop : goal.invariant-loop
-invariant-loop l = l.sender.link ≡ l.fn.sender.link

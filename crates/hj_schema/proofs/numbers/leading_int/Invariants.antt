@@ -1,7 +1,0 @@
-use Rattle.std.proofs.Common.{◌≡◌, ◌<◌, ◌^◌, take, All}
-use Rattle.std.specs.Str.Parse.{digits_value}
-use Rattle.hj_schema.specs.Lines.{IsDigit}
-use Rattle.hj_schema.proofs.numbers.leading_int.Given as goal
-
-abbrev pub invariant-loop-at : goal.invariant-loop-at
-invariant-loop-at l = All IsDigit (take l.at l.bytes) × (l.value ≡ digits_value 10 (take l.at l.bytes)) × (l.value < 10 ^ l.at)

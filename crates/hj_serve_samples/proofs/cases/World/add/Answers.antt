@@ -1,5 +1,0 @@
-use Rattle.hj_serve_samples.proofs.MemoryRoles.{unbegun-contents}
-use Rattle.hj_serve_samples.proofs.cases.World.add.Goals as goal
-
-pub returns : goal.returns
-returns g c = unbegun-contents c.args.self.now.outside c.add.new.self c.add.ensures.streams c.requires

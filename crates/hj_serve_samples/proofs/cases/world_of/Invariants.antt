@@ -1,5 +1,0 @@
-use Rattle.hj_serve_samples.proofs.MemoryRoles.{AreUnbegun}
-use Rattle.hj_serve_samples.proofs.cases.world_of.Given as goal
-
-abbrev pub invariant-loop-what : goal.invariant-loop-what
-invariant-loop-what g l = AreUnbegun l.world.outside
