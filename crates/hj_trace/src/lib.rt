@@ -15,7 +15,7 @@ mod text;
 pub use actors::{push_actor, read_actor};
 pub use fault::{TraceFault, push_fault};
 pub use line::{StepAction, push_front, push_maker, push_reported};
-pub use looking::doing;
+pub use looking::next_action;
 pub use messages::{push_message, push_report};
 pub use naming::Naming;
 pub use step::{Played, play};

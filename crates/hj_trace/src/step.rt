@@ -12,7 +12,7 @@ ghost use Rattle.hj_chain.specs.Steps.{Gathers, GoesWith, StandsFurther, was_ask
 ghost use Rattle.hj_trace.specs.Steps.{Plays, added_at, waiting_at};
 
 use crate::line::{push_front, push_reported};
-use crate::looking::doing;
+use crate::looking::next_action;
 use hj_base::Share;
 use hj_chain::{Actor, Chain, Stepped};
 use hj_msg::{Feed, Join, Report, Store};
