@@ -1,9 +1,10 @@
 -- The pairs that a chain gives to a drain, one after another.
-use Rattle.std.proofs.Common.{◌≡◌, ℕ, zero, suc, ◌+◌, ◌<◌, Bool, true, false, cond, List, [], ◌∷◌, ◌++◌, length, map, replicate, take, drop, Some, None, Option, refl, ap, sym, ◌∙◌, subst, arith, append-nil, append_assoc, length-append}
+use Rattle.std.proofs.Common.{◌≡◌, ℕ, zero, suc, ◌+◌, ◌<◌, Bool, true, false, cond, List, [], ◌∷◌, ◌++◌, length, map, replicate, take, drop, Some, None, Option, refl, ap, sym, ◌∙◌, subst, arith, append-nil, append_assoc}
 use Rattle.std.specs.List.{slice_get}
 use Rattle.std.specs.List.Sorted.{IsPermutation}
 use Rattle.std.proofs.Math.Seq.{take-add}
-use Rattle.std.proofs.lemmas.List.{length-map, length-replicate, replicate-append-replicate}
+use Rattle.std.proofs.lemmas.List.{length-map, length-replicate}
+use Rattle.std.proofs.lemmas.List.Elements.{All-contains}
 use Rattle.std.proofs.lemmas.List.Sorted.{IsPermutation-sym, IsPermutation-trans, IsPermutation-append_right, length_permutation}
 use Rattle.std.proofs.lemmas.Option.{slice_get_within}
 use Rattle.hj_msg.specs.declared.drain.Drained.{Drained}
@@ -11,15 +12,21 @@ use Rattle.hj_msg.specs.declared.drain.Drained.TheVariants.{Kept, Refused}
 use Rattle.hj_msg.specs.declared.event.Event.{Event}
 use Rattle.hj_msg.specs.declared.event.Pair.{Pair}
 use Rattle.hj_msg.specs.declared.message.Report.{Report}
-use Rattle.hj_msg.specs.Drain.{Drainage, TakesAll}
-use Rattle.hj_msg.specs.Emission.{emitted}
+use Rattle.hj_msg.specs.Drain.{Drainage, TakesAll, pairs_in}
+use Rattle.hj_msg.specs.Emission.{emitted, is_within}
+use Rattle.hj_msg.specs.Feed.{FeedState}
 use Rattle.hj_msg.specs.Met.{met}
+use Rattle.hj_msg.specs.Valid.{later}
+use Rattle.hj_collect.specs.Giving.{AreAnswered, GivesDue, NoneDue}
+use Rattle.hj_collect.specs.Collector.{least_mark}
 use Rattle.hj_chain.specs.declared.actor.Actor.{Actor}
 use Rattle.hj_chain.specs.Chain.{Contents}
 use Rattle.hj_chain.specs.Reached.{StandsFor, collected_of, next_pair}
 use Rattle.hj_chain.specs.Serial.{GivesPairs, Releases}
+use Rattle.hj_chain.specs.Steps.{GoesWith}
+use Rattle.hj_chain.proofs.Giving.{after, gives-none, goes-after, next, sound}
 use Rattle.hj_chain.proofs.Goings.{Stood}
-use Rattle.hj_chain.proofs.Looking.{at-dropped, take-at}
+use Rattle.hj_chain.proofs.Looking.{take-at}
 
 abbrev pub pair_in : {P : Type 0} → Drainage P → Pair P
 pair_in one = one.pair
@@ -42,17 +49,9 @@ pub record Gave {P J D : Type 0} (takes : D → Pair P → Drained → D → Typ
   pub kept : ℕ
   pub answers : map answer_in pairs ≡ replicate kept Kept ++ last
 
-map-push : {X Y : Type 0} (f : X → Y) (xs : List X) (x : X) → map f (xs ++ x ∷ []) ≡ map f xs ++ f x ∷ []
-map-push f [] x = refl
-map-push f (y ∷ xs) x = ap (λ l. f y ∷ l) (map-push f xs x)
-
 pub map-both : {X Y : Type 0} (f : X → Y) (xs ys : List X) → map f (xs ++ ys) ≡ map f xs ++ map f ys
 map-both f [] ys = refl
 map-both f (y ∷ xs) ys = ap (λ l. f y ∷ l) (map-both f xs ys)
-
-pub takes-both : {D P : Type 0} (takes : D → Pair P → Drained → D → Type 0) (xs ys : List (Drainage P)) (old mid new : D) → TakesAll takes old xs mid → TakesAll takes mid ys new → TakesAll takes old (xs ++ ys) new
-takes-both {D} takes [] ys old mid new first rest = subst (λ (d : D). TakesAll takes d ys new) first rest
-takes-both takes (x ∷ xs) ys old mid new first rest = (first.0, first.1, takes-both takes xs ys first.0 mid new first.2 rest)
 
 drop-nothing : {X : Type 0} (i : ℕ) → drop {A = X} i [] ≡ []
 drop-nothing zero = refl
@@ -66,10 +65,6 @@ drop-drop (suc g) i (suc j) (x ∷ xs) is = drop-drop g i j xs (omega (arith, is
 
 pub take-both : {X : Type 0} (i j given : ℕ) (xs : List X) → take (i + j) (drop given xs) ≡ take i (drop given xs) ++ take j (drop (given + i) xs)
 take-both i j given xs = take-add i j (drop given xs) ∙ ap (λ l. take i (drop given xs) ++ take j l) (drop-drop given i (given + i) xs refl)
-
--- the next element
-take-next : {X : Type 0} (count given at : ℕ) (xs : List X) (x : X) → at ≡ given + count → slice_get xs at ≡ Some x → (more : ℕ) → more ≡ count + 1 → take more (drop given xs) ≡ take count (drop given xs) ++ x ∷ []
-take-next count given at xs x is here more next = take-at (drop given xs) count x (at-dropped xs given at count is ∙ here) more next
 
 if-going : {X : Type 0} (b : Bool) (o : Option X) (x : X) → cond b None o ≡ Some x → o ≡ Some x
 if-going true o x is = absurd (cc)
@@ -109,68 +104,67 @@ module _ {P J D : Type 0} (takes : D → Pair P → Drained → D → Type 0) (p
     answers = refl;
   }
 
-  answers-push : (answer : Drained) (kept : ℕ) → (more : ℕ) × (replicate kept Kept ++ answer ∷ [] ≡ replicate more Kept ++ last_of answer)
-  answers-push Kept kept = (kept + 1, replicate-append-replicate kept 1 Kept ∙ sym (append-nil (replicate (kept + 1) Kept)))
-  answers-push Refused kept = (kept, refl)
-
-  -- one pair more
-  pub gave-more : (now new : Contents P J) (filled more : D) → Gave takes predicate schedule events given lists unfilled [] now filled → (pair : Pair P)
-      → ((schedule : List Actor) (events : List (Event P)) (count : ℕ) (stands : StandsFor predicate now schedule events count) → Some pair ≡ next_pair stands)
-      → IsPermutation now.kept (pair ∷ new.kept) → new ≡ record now { kept = new.kept } → (answer : Drained) → takes filled pair answer more → Gave takes predicate schedule events given lists unfilled (last_of answer) new more
-  gave-more now new filled more gave pair next taken others answer took =
-      let one : Drainage P = record { pair = pair; answer = answer } in
-      let stood = gave.stood in
-      let count : ℕ = length gave.pairs in
-      let all = emitted (collected_of stood.stands.reached) in
-      let some : next_pair stood.stands ≡ Some pair = sym (next schedule events (given + count) stood.stands) in
-      let here : slice_get (emitted lists) (given + count) ≡ Some pair = subst (λ (l : List (List (Report P))). slice_get (emitted l) (given + count) ≡ Some pair) stood.are (if-going now.state.over (slice_get all (given + count)) pair some) in
-      let longer : length (gave.pairs ++ one ∷ []) ≡ count + 1 = length-append gave.pairs (one ∷ []) in
-      let answered = answers-push answer gave.kept in
-      record {
-        pairs = gave.pairs ++ one ∷ [];
-        drain = takes-both takes gave.pairs (one ∷ []) unfilled filled more gave.drain (more, took, refl);
-        stood = stood-more predicate now new others schedule events (given + count) lists stood pair some taken (given + length (gave.pairs ++ one ∷ [])) (omega (arith, longer));
-        in_order =
-            map-push pair_in gave.pairs one ∙ ap (λ l. l ++ pair ∷ []) gave.in_order
-            ∙ sym (take-next count given (given + count) (emitted lists) pair refl here (length (gave.pairs ++ one ∷ [])) longer);
-        kept = answered.0;
-        answers = map-push answer_in gave.pairs one ∙ ap (λ l. l ++ answer ∷ []) (gave.answers ∙ append-nil (replicate gave.kept Kept)) ∙ answered.1;
-      }
-
   pub all-kept : (now : Contents P J) (filled : D) (gave : Gave takes predicate schedule events given lists unfilled [] now filled) → map answer_in gave.pairs ≡ replicate (length gave.pairs) Kept
   all-kept now filled gave =
       let are : map answer_in gave.pairs ≡ replicate gave.kept Kept = gave.answers ∙ append-nil (replicate gave.kept Kept) in
       are ∙ ap (λ (k : ℕ). replicate k Kept) (sym (length-replicate gave.kept Kept) ∙ ap length (sym are) ∙ length-map gave.pairs answer_in)
 
-module _ {P J D : Type 0} (takes : D → Pair P → Drained → D → Type 0) {predicate : J → P → P → Bool} {old : Contents P J} {schedule : List Actor} {events : List (Event P)} {given : ℕ} (stood : StandsFor predicate old schedule events given) (unfilled : D) where
-  abbrev Gift : List Drained → Contents P J → D → Type 0
-  Gift last now filled = Gave takes predicate schedule events given (collected_of stood.reached) unfilled last now filled
+module _ {P J D : Type 0} (takes : D → Pair P → Drained → D → Type 0) (predicate : J → P → P → Bool) (unfilled : D) where
+  -- nothing is given where memory ran out
+  pub releases-nothing : (now : Contents P J) → now.state.over ≡ true → (schedule : List Actor) (events : List (Event P)) (given : ℕ) (stood : StandsFor predicate now schedule events given) → Releases takes stood unfilled Kept now unfilled
+  releases-nothing now over schedule events given stood =
+      let lists = collected_of stood.reached in
+      let same : given ≡ given + 0 = omega arith in
+      record {
+        pairs = [];
+        drain = refl;
+        stands = record {
+          reached = stood.reached;
+          collector = stood.collector;
+          within = omega (arith, stood.within);
+          released = subst (λ (n : ℕ). IsPermutation (take n (emitted lists) ++ now.kept) (met lists)) same stood.released;
+        };
+        collected = refl;
+        in_order = refl;
+        gives = (refl, ap (λ b. cond b None (slice_get (emitted lists) (given + 0))) over);
+      }
 
-  gift : (now : Contents P J) (filled : D) (last : List Drained) (gave : Gift last now filled) (answer : Drained) → GivesPairs answer gave.pairs gave.stood.stands → Releases takes stood unfilled answer now filled
-  gift now filled last gave answer gives = record {
-    pairs = gave.pairs;
-    drain = gave.drain;
-    stands = gave.stood.stands;
-    collected = gave.stood.are;
-    in_order = gave.in_order ∙ ap (λ (l : List (List (Report P))). take (length gave.pairs) (drop given (emitted l))) (sym gave.stood.are);
-    gives = gives;
-  }
+  -- all that is due, of a chain whose fields are open
+  module _ (opened now : Contents P J) (is : opened ≡ now) (goes : (feed : FeedState) × GoesWith predicate now feed) (answer : Drained) (left : List (Pair P)) (filled : D)
+      (due : GivesDue takes (least_mark opened.collector) opened.kept unfilled answer left filled) where
+    abbrev pairs : List (Drainage P)
+    pairs = due.gives.pairs
 
-  -- no further pair was due
-  pub releases-all : (now new : Contents P J) → new ≡ now → (filled : D) → Gift [] now filled → ((schedule : List Actor) (events : List (Event P)) (count : ℕ) (stands : StandsFor predicate now schedule events count) → None ≡ next_pair stands)
-      → Releases takes stood unfilled Kept new filled
-  releases-all now new same filled gave none =
-      subst (λ (c : Contents P J). Releases takes stood unfilled Kept c filled) (sym same)
-      (gift now filled [] gave Kept (all-kept takes predicate schedule events given (collected_of stood.reached) unfilled now filled gave, sym (none _ _ _ gave.stood.stands)))
+    releases-here : (schedule : List Actor) (events : List (Event P)) (given : ℕ) (stood : StandsFor predicate opened schedule events given) → Releases takes stood unfilled answer (record opened { kept = left }) filled
+    releases-here schedule events given stood =
+        let same : length (pairs_in pairs) ≡ length pairs = length-map pairs pair_in in
+        let whole = sound predicate opened now is goes in
+        let first = (next predicate opened whole (pairs_in pairs) left due.gives.out schedule events given stood).next in
+        record {
+          pairs = pairs;
+          drain = due.gives.drain;
+          stands = after predicate opened whole (pairs_in pairs) left due.gives.out schedule events given stood (given + length pairs) (ap (λ (n : ℕ). given + n) same);
+          collected = refl;
+          in_order = first ∙ ap (λ (n : ℕ). take n (drop given (emitted (collected_of stood.reached)))) same;
+          gives = tells answer due.gives.answered due.rest (after predicate opened whole (pairs_in pairs) left due.gives.out schedule events given stood (given + length pairs) (ap (λ (n : ℕ). given + n) same));
+        }
+      where
+        tells : (answer : Drained) → AreAnswered answer pairs → (answer ≡ Kept → NoneDue (least_mark opened.collector) left)
+            → (stands : StandsFor predicate (record opened { kept = left }) schedule events (given + length pairs)) → GivesPairs answer pairs stands
+        tells Kept answered rest stands = (
+          answered,
+          sym (gives-none predicate (record opened { kept = left }) (λ pair h. All-contains (λ pair. is_within (least_mark opened.collector) (later pair) ≡ false) left pair (rest refl) h) schedule events (given + length pairs) stands),
+        )
+        tells Refused answered rest stands = answered
 
-  -- the last one was refused
-  pub releases-some : (now : Contents P J) (filled : D) → Gift (Refused ∷ []) now filled → Releases takes stood unfilled Refused now filled
-  releases-some now filled gave = gift now filled (Refused ∷ []) gave Refused (gave.kept, gave.answers)
+    pub releases-due : (schedule : List Actor) (events : List (Event P)) (given : ℕ) (stood : StandsFor predicate now schedule events given) → Releases takes stood unfilled answer (record opened { kept = left }) filled
+    releases-due =
+        subst (λ (c : Contents P J). (schedule : List Actor) (events : List (Event P)) (given : ℕ) (stood : StandsFor predicate c schedule events given) → Releases takes stood unfilled answer (record opened { kept = left }) filled) is
+        releases-here
+
+    pub goes-due : (feed : FeedState) → GoesWith predicate now feed → GoesWith predicate (record opened { kept = left }) feed
+    goes-due = goes-after predicate opened now is goes (pairs_in pairs) left due.gives.out
 
 -- the pairs that are kept become fewer
 pub fewer : {X : Type 0} (xs ys : List X) (x : X) → IsPermutation xs (x ∷ ys) → length ys < length xs
 fewer xs ys x is = omega (arith, length_permutation xs (x ∷ ys) is)
-
-pub was-kept : (answer : Drained) → (answer ≡ Refused → ⊥) → answer ≡ Kept
-was-kept Kept other = refl
-was-kept Refused other = absurd (other refl)

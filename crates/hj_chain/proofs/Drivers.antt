@@ -14,8 +14,7 @@ use Rattle.hj_driver.specs.declared.lane.OutstandingArrival.{OutstandingArrival}
 use Rattle.hj_driver.specs.Driver.{DriverState, after_put, after_take, answer_to, cause_of as wait_of, count_of}
 use Rattle.hj_driver.specs.StandsFor.{StandsFor, cause_after}
 use Rattle.hj_driver.proofs.ComingOut.{cause_of-same, no_cause, has_come_out, row_cause-not_out}
-use Rattle.hj_driver.proofs.Standing.{stands-admission, stands-count, stands-receipt}
-use Rattle.hj_chain.proofs.Driving.{flight-put}
+use Rattle.hj_driver.proofs.Standing.{flight-put, stands-admission, stands-count, stands-receipt}
 
 unique : {P : Type 0} (one other : DriverState) (log : List (DriverTurn P)) → StandsFor one log → StandsFor other log → one.flight ≡ other.flight → one ≡ other
 unique one other log a b same =

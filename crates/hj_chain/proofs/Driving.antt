@@ -8,7 +8,7 @@ use Rattle.hj_msg.specs.declared.event.Event.TheVariants.{Arrive, Expire, Quiet}
 use Rattle.hj_msg.specs.declared.feed.Given.{Given}
 use Rattle.hj_msg.specs.declared.feed.Given.TheVariants as given
 use Rattle.hj_msg.specs.declared.message.Msg.{Msg}
-use Rattle.hj_msg.specs.declared.message.Msg.TheVariants.{R, AckS, EndS, ExpS, QuietL, CloseL, S, EndR, ExpR, QuietR, CloseR}
+use Rattle.hj_msg.specs.declared.message.Msg.TheVariants.{CloseL, CloseR}
 use Rattle.hj_msg.specs.Event.{IsWellFormed}
 use Rattle.hj_msg.specs.Driver.{DriverTurn, admission, receipt, closing, admitted}
 use Rattle.hj_msg.specs.Run.{LogEntry}
@@ -20,7 +20,7 @@ use Rattle.hj_driver.specs.StandsFor.{StandsFor}
 use Rattle.hj_driver.proofs.ComingOut.{no_cause, has_come_out, row_cause-not_out}
 use Rattle.hj_driver.proofs.Logs.{admitted-push}
 use Rattle.hj_driver.proofs.MayClose.{may_close}
-use Rattle.hj_driver.proofs.Standing.{stands-new, stands-admission, stands-receipt, stands-closing}
+use Rattle.hj_driver.proofs.Standing.{closes-put, flight-put, stands-new, stands-admission, stands-receipt, stands-closing}
 use Rattle.hj_driver.proofs.States.{length-filter_map, length-filter}
 use Rattle.hj_chain.specs.declared.actor.Actor.{Actor}
 use Rattle.hj_chain.specs.Chain.{FeedAnswer, ChainState, Action, if_there, asks, drives, after_action, empty_chain}
@@ -52,22 +52,6 @@ count-put (Expire at Right of) driver = omega (arith, length-append driver.right
 count-put (Quiet at Left) driver = omega (arith, length-append driver.left_quiets (at ∷ []))
 count-put (Quiet at Right) driver = omega (arith, length-append driver.right_quiets (at ∷ []))
 
-pub flight-put : {P : Type 0} (event : Event P) (driver : DriverState) → (after_put event driver).flight ≡ driver.flight
-flight-put (Arrive at Left row) driver = refl
-flight-put (Arrive at Right row) driver = refl
-flight-put (Expire at Left of) driver = refl
-flight-put (Expire at Right of) driver = refl
-flight-put (Quiet at Left) driver = refl
-flight-put (Quiet at Right) driver = refl
-
-pub closes-put : {P : Type 0} (event : Event P) (driver : DriverState) → (after_put event driver).closes ≡ driver.closes
-closes-put (Arrive at Left row) driver = refl
-closes-put (Arrive at Right row) driver = refl
-closes-put (Expire at Left of) driver = refl
-closes-put (Expire at Right of) driver = refl
-closes-put (Quiet at Left) driver = refl
-closes-put (Quiet at Right) driver = refl
-
 pub count-take : {P : Type 0} (port : Side) (message : Msg P) (driver : DriverState) → count_of (after_take port message driver) ≤ count_of driver
 count-take port message driver =
     omega (
@@ -91,26 +75,7 @@ sent-right P (Sent left right) = refl
 pub sent-take : {P : Type 0} (port : Side) (message : Msg P) (state : Closes) → is_sent (after_close port message state) ≡ is_sent state
 sent-take {P} Right CloseL state = sent-left P state
 sent-take {P} Left CloseR state = sent-right P state
-sent-take Left CloseL state = refl
-sent-take Left (R at row) state = refl
-sent-take Left (AckS at) state = refl
-sent-take Left (EndS at) state = refl
-sent-take Left (ExpS at) state = refl
-sent-take Left (S at row) state = refl
-sent-take Left (EndR at) state = refl
-sent-take Left (ExpR at) state = refl
-sent-take Left (QuietL at) state = refl
-sent-take Left (QuietR at) state = refl
-sent-take Right CloseR state = refl
-sent-take Right (R at row) state = refl
-sent-take Right (AckS at) state = refl
-sent-take Right (EndS at) state = refl
-sent-take Right (ExpS at) state = refl
-sent-take Right (S at row) state = refl
-sent-take Right (EndR at) state = refl
-sent-take Right (ExpR at) state = refl
-sent-take Right (QuietL at) state = refl
-sent-take Right (QuietR at) state = refl
+sent-take port message state = refl
 
 module _ {P : Type 0} (matches : P → P → Bool) (n most : ℕ) where
   driven-begin : (first : Given P) → DrivenIfWell 0 (event_in (Some first)) (empty_chain n most first) no_history

@@ -25,7 +25,8 @@ use Rattle.hj_chain.specs.Chain.{FeedAnswer, ChainState, Action, after_action, e
 use Rattle.hj_chain.specs.Reached.{Reached, StepHistory, recorded}
 use Rattle.hj_msg.specs.Feed.{event_in}
 use Rattle.hj_chain.proofs.Doing.{Doing, admits, shuts, receives, works, gathers, taken_by, inquires}
-use Rattle.hj_chain.proofs.Driving.{closes-put, sent-take}
+use Rattle.hj_driver.proofs.Standing.{closes-put}
+use Rattle.hj_chain.proofs.Driving.{sent-take}
 use Rattle.hj_chain.proofs.Induction.{by_steps}
 use Rattle.hj_chain.proofs.Shape.{Shape, links-length}
 use Rattle.hj_chain.proofs.Totals.{sum_of, total, total-changed, total-nothing}

@@ -35,6 +35,7 @@ pub mod Outstanding
 pub mod OwedCloses
 pub mod OwedEnds
 pub mod OwedRows
+pub mod OwedThrough
 pub mod Owing
 pub mod Passing
 pub mod Places

@@ -9,7 +9,6 @@ use Rattle.hj_msg.specs.declared.message.Msg.TheVariants.{CloseL}
 use Rattle.hj_msg.specs.Core as core
 use Rattle.hj_msg.specs.Core.{State, empty_state}
 use Rattle.hj_msg.specs.Event.{IsWellFormed}
-use Rattle.hj_driver.specs.declared.lane.Departure.TheVariants.{Row, End}
 use Rattle.hj_driver.specs.Driver.{DriverState, count_of, is_sent}
 use Rattle.hj_driver.proofs.ComingOut.{no_cause}
 use Rattle.hj_driver.proofs.MayClose.{may_close}
@@ -17,20 +16,19 @@ use Rattle.hj_chain.specs.declared.actor.Actor.{Actor}
 use Rattle.hj_chain.specs.Chain.{FeedAnswer, ChainState, Action, after_action, empty_chain}
 use Rattle.hj_chain.specs.Reached.{Reached, StepHistory, no_history, recorded, history_of}
 use Rattle.hj_msg.specs.Feed.{event_in}
-use Rattle.hj_chain.proofs.Balance.{is_waiting}
 use Rattle.hj_chain.proofs.Carrying.{rights, lefts}
 use Rattle.hj_chain.proofs.Counts.{count}
-use Rattle.hj_chain.proofs.Directed.{directed}
 use Rattle.hj_chain.proofs.Doing.{Doing, admits, shuts, receives, works, gathers, taken_by, inquires}
-use Rattle.hj_chain.proofs.Driving.{closes-put, sent-take, count-take}
+use Rattle.hj_driver.proofs.Standing.{closes-put}
+use Rattle.hj_chain.proofs.Driving.{sent-take, count-take}
 use Rattle.hj_chain.proofs.Induction.{by_steps}
-use Rattle.hj_chain.proofs.MessageKinds.{a_CloseL, a_CloseR, right_kinds, left_kinds, CloseL_right, CloseR_left}
+use Rattle.hj_chain.proofs.MessageKinds.{a_CloseL, a_CloseR, CloseL_right, CloseR_left}
 use Rattle.hj_chain.proofs.Outstanding.{balanced}
 use Rattle.hj_chain.proofs.Passing.{few_under_way, few_under_way_back, fewer_sent}
-use Rattle.hj_chain.proofs.Room.{acks, count-length}
+use Rattle.hj_chain.proofs.Room.{count-length, outstanding_left, outstanding_right}
 use Rattle.hj_chain.proofs.Shape.{Shape}
 use Rattle.hj_chain.proofs.Turning.{messages, state_at, turned}
-use Rattle.hj_chain.proofs.UnderWay.{way_r, way_l, came_r, came_l, sent_r, sent_l, each_r, comes_right, passes_on, passes_back, CloseL_goes, CloseR_goes, rows_right, expiries_right, quiets_right, ends_right, rows_left, expiries_left, quiets_left, ends_left, sent_last}
+use Rattle.hj_chain.proofs.UnderWay.{way_r, way_l, came_r, came_l, sent_r, sent_l, each_r, comes_right, passes_on, passes_back, CloseL_goes, CloseR_goes, sent_last}
 
 -- no event is outstanding once the closes were put
 abbrev AreGone : DriverState → Type 0
@@ -102,45 +100,10 @@ in_front {P} p message rest all = tells (p message) (omega (arith, all, count-le
 
 module _ {P : Type 0} (matches : P → P → Bool) (m most : ℕ) {schedule : List Actor} {events : List (Event P)} {chain : ChainState P} (reached : Reached matches (suc m) most schedule events chain) (well : IsWellFormed events) where
   pub closes_right : (sent : is_sent chain.driver.closes ≡ true) (k : ℕ) → k ≤ suc m → length (rights chain k) ≤ way_r matches m most reached a_CloseL k
-  closes_right sent k within =
-      let b = balanced matches (suc m) most reached well in
-      omega (
-        arith,
-        none_outstanding matches (suc m) most reached sent,
-        right_kinds (rights chain k),
-        (directed matches (suc m) most reached).rightwards k within,
-        rows_right matches m most reached k within,
-        expiries_right matches m most reached k within,
-        quiets_right matches m most reached k within,
-        ends_right matches m most reached k within,
-        acks matches m most reached well k within,
-        b.left.rows,
-        b.right.ends,
-        b.right.expiries,
-        b.left.quiets,
-        count-length (is_waiting Row) chain.driver.left_arrivals,
-        count-length (is_waiting End) chain.driver.right_arrivals,
-      )
+  closes_right sent k within = omega (arith, none_outstanding matches (suc m) most reached sent, outstanding_right matches m most reached well k within)
 
   pub closes_left : (sent : is_sent chain.driver.closes ≡ true) (k : ℕ) → k ≤ suc m → length (lefts chain k) ≤ way_l matches m most reached a_CloseR k
-  closes_left sent k within =
-      let b = balanced matches (suc m) most reached well in
-      omega (
-        arith,
-        none_outstanding matches (suc m) most reached sent,
-        left_kinds (lefts chain k),
-        (directed matches (suc m) most reached).leftwards k within,
-        rows_left matches m most reached k within,
-        expiries_left matches m most reached k within,
-        quiets_left matches m most reached k within,
-        ends_left matches m most reached k within,
-        b.right.rows,
-        b.left.ends,
-        b.left.expiries,
-        b.right.quiets,
-        count-length (is_waiting Row) chain.driver.right_arrivals,
-        count-length (is_waiting End) chain.driver.left_arrivals,
-      )
+  closes_left sent k within = omega (arith, none_outstanding matches (suc m) most reached sent, outstanding_left matches m most reached well k within)
 
   -- one of each was put
   pub one_right : (k : ℕ) → k ≤ suc m → way_r matches m most reached a_CloseL k + came_r matches m most reached a_CloseL (suc m) ≤ cond (is_sent chain.driver.closes) 1 0

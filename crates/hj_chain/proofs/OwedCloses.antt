@@ -13,8 +13,10 @@ use Rattle.hj_driver.specs.declared.closes.Closes.TheVariants.{Unsent, Sent}
 use Rattle.hj_driver.specs.Driver.{after_close, awaits_close, is_sent}
 use Rattle.hj_chain.specs.Links.{changed_at}
 use Rattle.hj_chain.proofs.Awaited.{one}
-use Rattle.hj_chain.proofs.Driving.{closes-put, sent-take}
+use Rattle.hj_driver.proofs.Standing.{closes-put}
+use Rattle.hj_chain.proofs.Driving.{sent-take}
 use Rattle.hj_chain.proofs.MessageKinds.{a_CloseL, a_CloseR}
+use Rattle.hj_chain.proofs.OwedThrough.{handles-left, handles-right, owes-driver, to_left, to_right}
 use Rattle.hj_chain.proofs.Owing.{Owes, Fewer}
 use Rattle.hj_chain.proofs.Places.{get_or-changed_at, get_or-changed_other}
 use Rattle.hj_chain.proofs.Totals.{sum_of}
@@ -23,7 +25,7 @@ use Rattle.hj_chain.proofs.Weighing.{Weights, at_exit, at_end}
 -- the close of the left end goes through to the right port
 module _ (P : Type 0) (n : ℕ) where
   abbrev pub close_left : Weights (Msg P)
-  close_left = record { rightwards = λ k message. one (a_CloseL message); leftwards = λ k message. 0 }
+  close_left = to_right a_CloseL
 
   close_left-taking : (port : Side) (message : Msg P) (closes : Closes) → Fewer (one (awaits_close Left (after_close port message closes))) (at_exit close_left port n message) (one (awaits_close Left closes))
   close_left-taking Right CloseL Unsent = inl refl
@@ -32,23 +34,18 @@ module _ (P : Type 0) (n : ℕ) where
   close_left-taking Left CloseR (Sent left right) = inr (omega arith)
   close_left-taking port message closes = inr (omega arith)
 
-  close_left-handling : (end : Side) (place : ℕ) (message : Msg P) → at_end close_left end place message ≤ sum_of (close_left.leftwards place) (sends place n message).left + sum_of (close_left.rightwards (place + 1)) (sends place n message).right
-  close_left-handling Left place CloseL = omega arith
-  close_left-handling Left place message = omega arith
-  close_left-handling Right place message = omega arith
+  CloseL-passes : (place : ℕ) (message : Msg P) → one (a_CloseL message) ≤ sum_of (λ (m : Msg P). one (a_CloseL m)) (sends place n message).right
+  CloseL-passes place CloseL = omega arith
+  CloseL-passes place message = omega arith
 
   pub owes-close_left : Owes n close_left (λ driver cores. one (awaits_close Left driver.closes))
-  owes-close_left = record {
-    beginning = λ most. refl;
-    putting = λ event driver cores. omega (arith, ap (λ c. one (awaits_close Left c)) (closes-put event driver));
-    closing = λ driver cores. omega arith;
-    taking = λ port message driver cores. close_left-taking port message driver.closes;
-    handling = λ end place message driver cores low all. inr (omega (arith, close_left-handling end place message));
-  }
+  owes-close_left =
+      owes-driver n close_left (λ driver. one (awaits_close Left driver.closes)) (λ most. refl) (λ event driver. omega (arith, ap (λ c. one (awaits_close Left c)) (closes-put event driver)))
+      (λ driver. omega arith) (λ port message driver. close_left-taking port message driver.closes) (handles-right n a_CloseL CloseL-passes)
 
   -- and that of the right end to the left port
   abbrev pub close_right : Weights (Msg P)
-  close_right = record { rightwards = λ k message. 0; leftwards = λ k message. one (a_CloseR message) }
+  close_right = to_left a_CloseR
 
   close_right-taking : (port : Side) (message : Msg P) (closes : Closes) → Fewer (one (awaits_close Right (after_close port message closes))) (at_exit close_right port n message) (one (awaits_close Right closes))
   close_right-taking Left CloseR Unsent = inl refl
@@ -57,19 +54,14 @@ module _ (P : Type 0) (n : ℕ) where
   close_right-taking Right CloseL (Sent left right) = inr (omega arith)
   close_right-taking port message closes = inr (omega arith)
 
-  close_right-handling : (end : Side) (place : ℕ) (message : Msg P) → at_end close_right end place message ≤ sum_of (close_right.leftwards place) (sends place n message).left + sum_of (close_right.rightwards (place + 1)) (sends place n message).right
-  close_right-handling Right place CloseR = omega arith
-  close_right-handling Right place message = omega arith
-  close_right-handling Left place message = omega arith
+  CloseR-passes : (place : ℕ) (message : Msg P) → one (a_CloseR message) ≤ sum_of (λ (m : Msg P). one (a_CloseR m)) (sends place n message).left
+  CloseR-passes place CloseR = omega arith
+  CloseR-passes place message = omega arith
 
   pub owes-close_right : Owes n close_right (λ driver cores. one (awaits_close Right driver.closes))
-  owes-close_right = record {
-    beginning = λ most. refl;
-    putting = λ event driver cores. omega (arith, ap (λ c. one (awaits_close Right c)) (closes-put event driver));
-    closing = λ driver cores. omega arith;
-    taking = λ port message driver cores. close_right-taking port message driver.closes;
-    handling = λ end place message driver cores low all. inr (omega (arith, close_right-handling end place message));
-  }
+  owes-close_right =
+      owes-driver n close_right (λ driver. one (awaits_close Right driver.closes)) (λ most. refl) (λ event driver. omega (arith, ap (λ c. one (awaits_close Right c)) (closes-put event driver)))
+      (λ driver. omega arith) (λ port message driver. close_right-taking port message driver.closes) (handles-left n a_CloseR CloseR-passes)
 
 -- a close that was put, and that a core didn't handle
 abbrev pub unhandled : Bool → Bool → ℕ

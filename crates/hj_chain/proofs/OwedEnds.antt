@@ -1,6 +1,6 @@
 -- Each end mark that the driver awaits is under way, or the row from which it comes: core 0 makes those of right rows, and the last
 -- core those of left ones.
-use Rattle.std.proofs.Common.{◌≡◌, ℕ, ◌+◌, ◌≤◌, inr, ◌==◌, nat_lt, Bool, true, false, cond, List, ◌++◌, refl, ap, arith, eq-eqb, ne_eqb}
+use Rattle.std.proofs.Common.{◌≡◌, ℕ, ◌+◌, ◌≤◌, ◌==◌, nat_lt, Bool, true, false, cond, List, ◌++◌, refl, ap, arith, eq-eqb, ne_eqb}
 use Rattle.std.specs.List.{filter_map}
 use Rattle.hj_base.specs.declared.numbers.EventNo.{EventNo}
 use Rattle.hj_base.specs.declared.numbers.Side.{Side}
@@ -9,7 +9,7 @@ use Rattle.hj_msg.specs.declared.event.Event.{Event}
 use Rattle.hj_msg.specs.declared.event.Event.TheVariants.{Arrive, Expire, Quiet}
 use Rattle.hj_msg.specs.declared.message.Msg.{Msg}
 use Rattle.hj_msg.specs.declared.message.Msg.TheVariants.{R, AckS, EndS, S, EndR}
-use Rattle.hj_msg.specs.Core.{sends, only_if, is_last}
+use Rattle.hj_msg.specs.Core.{only_if, is_last}
 use Rattle.hj_msg.specs.Driver.{message_of, port_of}
 use Rattle.hj_msg.specs.Messages.{is_R, is_S, is_EndR, is_EndS}
 use Rattle.hj_driver.specs.declared.lane.Departure.TheVariants.{Row, End}
@@ -17,9 +17,10 @@ use Rattle.hj_driver.specs.declared.lane.OutstandingArrival.{OutstandingArrival}
 use Rattle.hj_driver.specs.Lane.{waits_for}
 use Rattle.hj_driver.specs.Driver.{DriverState, after_put, after_message}
 use Rattle.hj_chain.proofs.Counts.{count}
+use Rattle.hj_chain.proofs.OwedThrough.{Handles, owes-driver}
 use Rattle.hj_chain.proofs.Owing.{Owes, Fewer}
 use Rattle.hj_chain.proofs.Totals.{sum_of}
-use Rattle.hj_chain.proofs.Weighing.{Weights, at_entry, at_exit, at_end}
+use Rattle.hj_chain.proofs.Weighing.{Weights, at_entry, at_exit}
 use Rattle.hj_chain.proofs.Awaited.{one, waits-put, taken-one, waits-others, waits-still}
 
 less : (b : Bool) (x : ℕ) → cond b 0 x ≤ x
@@ -33,11 +34,9 @@ module _ (P : Type 0) (n number : ℕ) (some : 1 ≤ n) where
 
   end_left-putting : (event : Event P) (driver : DriverState) → count (waits_for number End) (after_put event driver).left_arrivals ≤ count (waits_for number End) driver.left_arrivals + at_entry end_left (port_of event) n (message_of event)
   end_left-putting (Arrive at Left row) driver = omega (arith, waits-put number End driver.left_arrivals at, ap (λ b. cond b 0 (one (at.0 == number))) (ne_eqb 0 n (λ same. omega (arith, same, some))))
-  end_left-putting (Arrive at Right row) driver = omega arith
   end_left-putting (Expire at Left of) driver = omega arith
-  end_left-putting (Expire at Right of) driver = omega arith
   end_left-putting (Quiet at Left) driver = omega arith
-  end_left-putting (Quiet at Right) driver = omega arith
+  end_left-putting event driver = omega arith
 
   none_out : (message : Msg P) → at_exit end_left Right n message ≡ 0
   none_out message = ap (λ b. cond b 0 (one (is_R number message))) (eq-eqb n n refl)
@@ -49,7 +48,7 @@ module _ (P : Type 0) (n number : ℕ) (some : 1 ≤ n) where
   end_left-taking Right (R at row) arrivals = waits-others number at.0 End Row arrivals _ (none_out (R at row))
   end_left-taking Right message arrivals = waits-still number End arrivals _ (none_out message)
 
-  end_left-handling : (end : Side) (place : ℕ) (message : Msg P) → at_end end_left end place message ≤ sum_of (end_left.leftwards place) (sends place n message).left + sum_of (end_left.rightwards (place + 1)) (sends place n message).right
+  end_left-handling : Handles n end_left
   end_left-handling Left place (R at row) = omega (arith, less (place == n) (one (at.0 == number)), mark-or-row (is_last place n) at row)
     where
       mark-or-row : (last : Bool) (at : EventNo) (row : P) → one (at.0 == number) ≤ sum_of (λ message. one (is_EndR number message)) (only_if {P = P} last (EndR at)) + cond last 0 (one (is_R number (R at row)))
@@ -60,13 +59,8 @@ module _ (P : Type 0) (n number : ℕ) (some : 1 ≤ n) where
   end_left-handling Right place message = omega arith
 
   pub owes-end_left : Owes n end_left (λ driver cores. count (waits_for number End) driver.left_arrivals)
-  owes-end_left = record {
-    beginning = λ most. refl;
-    putting = λ event driver cores. end_left-putting event driver;
-    closing = λ driver cores. omega arith;
-    taking = λ port message driver cores. end_left-taking port message driver.left_arrivals;
-    handling = λ end place message driver cores low all. inr (omega (arith, end_left-handling end place message));
-  }
+  owes-end_left =
+      owes-driver n end_left (λ driver. count (waits_for number End) driver.left_arrivals) (λ most. refl) end_left-putting (λ driver. omega arith) (λ port message driver. end_left-taking port message driver.left_arrivals) end_left-handling
 
   -- and behind core 0 a right one
   abbrev pub end_right : Weights (Msg P)
@@ -74,11 +68,9 @@ module _ (P : Type 0) (n number : ℕ) (some : 1 ≤ n) where
 
   end_right-putting : (event : Event P) (driver : DriverState) → count (waits_for number End) (after_put event driver).right_arrivals ≤ count (waits_for number End) driver.right_arrivals + at_entry end_right (port_of event) n (message_of event)
   end_right-putting (Arrive at Right row) driver = omega (arith, waits-put number End driver.right_arrivals at, ap (λ b. cond b 0 (one (at.0 == number))) (ne_eqb n 0 (λ same. omega (arith, same, some))))
-  end_right-putting (Arrive at Left row) driver = omega arith
   end_right-putting (Expire at Left of) driver = omega arith
-  end_right-putting (Expire at Right of) driver = omega arith
   end_right-putting (Quiet at Left) driver = omega arith
-  end_right-putting (Quiet at Right) driver = omega arith
+  end_right-putting event driver = omega arith
 
   end_right-taking : (port : Side) (message : Msg P) (arrivals : List OutstandingArrival)
       → Fewer (count (waits_for number End) (filter_map (after_message Right port message) arrivals)) (at_exit end_right port n message) (count (waits_for number End) arrivals)
@@ -86,7 +78,7 @@ module _ (P : Type 0) (n number : ℕ) (some : 1 ≤ n) where
   end_right-taking Left (S at row) arrivals = waits-others number at.0 End Row arrivals 0 refl
   end_right-taking port message arrivals = waits-still number End arrivals 0 refl
 
-  end_right-handling : (end : Side) (place : ℕ) (message : Msg P) → at_end end_right end place message ≤ sum_of (end_right.leftwards place) (sends place n message).left + sum_of (end_right.rightwards (place + 1)) (sends place n message).right
+  end_right-handling : Handles n end_right
   end_right-handling Right place (S at row) = omega (arith, less (place + 1 == 0) (one (at.0 == number)), row-or-mark (nat_lt (place + 1) n) (place == 0) at row)
     where
       row-or-mark : (inner first : Bool) (at : EventNo) (row : P) → one (at.0 == number)
@@ -100,10 +92,5 @@ module _ (P : Type 0) (n number : ℕ) (some : 1 ≤ n) where
   end_right-handling Left place message = omega arith
 
   pub owes-end_right : Owes n end_right (λ driver cores. count (waits_for number End) driver.right_arrivals)
-  owes-end_right = record {
-    beginning = λ most. refl;
-    putting = λ event driver cores. end_right-putting event driver;
-    closing = λ driver cores. omega arith;
-    taking = λ port message driver cores. end_right-taking port message driver.right_arrivals;
-    handling = λ end place message driver cores low all. inr (omega (arith, end_right-handling end place message));
-  }
+  owes-end_right =
+      owes-driver n end_right (λ driver. count (waits_for number End) driver.right_arrivals) (λ most. refl) end_right-putting (λ driver. omega arith) (λ port message driver. end_right-taking port message driver.right_arrivals) end_right-handling

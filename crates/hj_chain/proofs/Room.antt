@@ -13,10 +13,10 @@ use Rattle.hj_chain.proofs.Driving.{driven}
 use Rattle.hj_chain.proofs.Carrying.{rights, lefts}
 use Rattle.hj_chain.proofs.Directed.{directed}
 use Rattle.hj_chain.proofs.Counts.{count}
-use Rattle.hj_chain.proofs.MessageKinds.{an_AckS, right_kinds, left_kinds}
+use Rattle.hj_chain.proofs.MessageKinds.{an_AckS, right_kinds, left_kinds, a_CloseL, a_CloseR}
 use Rattle.hj_chain.proofs.Balance.{is_waiting}
 use Rattle.hj_chain.proofs.Outstanding.{balanced}
-use Rattle.hj_chain.proofs.UnderWay.{rows_right, expiries_right, quiets_right, closes_right, ends_right, rows_left, expiries_left, quiets_left, closes_left, ends_left, way_r}
+use Rattle.hj_chain.proofs.UnderWay.{rows_right, expiries_right, quiets_right, closes_right, ends_right, rows_left, expiries_left, quiets_left, closes_left, ends_left, way_r, way_l}
 use Rattle.hj_chain.proofs.Acknowledged.{acks_under_way}
 
 pub count-length : {X : Type 0} (p : X → Bool) (xs : List X) → count p xs ≤ length xs
@@ -38,8 +38,10 @@ module _ {P : Type 0} (matches : P → P → Bool) (m most : ℕ) {schedule : Li
     | inr few ↦ omega (arith, few, (balanced matches (suc m) most reached well).right.ends, count-length (is_waiting End) chain.driver.right_arrivals)
   ]
 
-  few_rights : (k : ℕ) → k ≤ suc m → length (rights chain k) ≤ 2 * chain.driver.flight + 1
-  few_rights k within =
+  -- what is under way is outstanding, but for a close
+  pub outstanding_right : (k : ℕ) → k ≤ suc m
+      → length (rights chain k) ≤ length chain.driver.left_arrivals + 2 * length chain.driver.right_arrivals + length chain.driver.right_expiries + length chain.driver.left_quiets + way_r matches m most reached a_CloseL k
+  outstanding_right k within =
       let b = balanced matches (suc m) most reached well in
       omega (
         arith,
@@ -48,22 +50,19 @@ module _ {P : Type 0} (matches : P → P → Bool) (m most : ℕ) {schedule : Li
         rows_right matches m most reached k within,
         expiries_right matches m most reached k within,
         quiets_right matches m most reached k within,
-        closes_right matches m most reached k within,
         ends_right matches m most reached k within,
         acks k within,
         b.left.rows,
         b.right.ends,
         b.right.expiries,
         b.left.quiets,
-        b.left.close,
-        one_close (is_sent chain.driver.closes),
         count-length (is_waiting Row) chain.driver.left_arrivals,
         count-length (is_waiting End) chain.driver.right_arrivals,
-        (driven matches (suc m) most reached well).few,
       )
 
-  few_lefts : (k : ℕ) → k ≤ suc m → length (lefts chain k) ≤ chain.driver.flight + 1
-  few_lefts k within =
+  pub outstanding_left : (k : ℕ) → k ≤ suc m
+      → length (lefts chain k) ≤ length chain.driver.right_arrivals + length chain.driver.left_arrivals + length chain.driver.left_expiries + length chain.driver.right_quiets + way_l matches m most reached a_CloseR k
+  outstanding_left k within =
       let b = balanced matches (suc m) most reached well in
       omega (
         arith,
@@ -72,18 +71,24 @@ module _ {P : Type 0} (matches : P → P → Bool) (m most : ℕ) {schedule : Li
         rows_left matches m most reached k within,
         expiries_left matches m most reached k within,
         quiets_left matches m most reached k within,
-        closes_left matches m most reached k within,
         ends_left matches m most reached k within,
         b.right.rows,
         b.left.ends,
         b.left.expiries,
         b.right.quiets,
-        b.right.close,
-        one_close (is_sent chain.driver.closes),
         count-length (is_waiting Row) chain.driver.right_arrivals,
         count-length (is_waiting End) chain.driver.left_arrivals,
-        (driven matches (suc m) most reached well).few,
       )
+
+  few_rights : (k : ℕ) → k ≤ suc m → length (rights chain k) ≤ 2 * chain.driver.flight + 1
+  few_rights k within =
+      let close = (balanced matches (suc m) most reached well).left.close in
+      omega (arith, outstanding_right k within, closes_right matches m most reached k within, close, one_close (is_sent chain.driver.closes), (driven matches (suc m) most reached well).few)
+
+  few_lefts : (k : ℕ) → k ≤ suc m → length (lefts chain k) ≤ chain.driver.flight + 1
+  few_lefts k within =
+      let close = (balanced matches (suc m) most reached well).right.close in
+      omega (arith, outstanding_left k within, closes_left matches m most reached k within, close, one_close (is_sent chain.driver.closes), (driven matches (suc m) most reached well).few)
 
 room-of : {P : Type 0} (matches : P → P → Bool) (n most : ℕ) {schedule : List Actor} {events : List (Event P)} {chain : ChainState P} → Reached matches n most schedule events chain → 1 ≤ n → IsWellFormed events → HasRoom chain
 room-of matches zero most reached some well = absurd (omega (arith, some))

@@ -22,6 +22,7 @@ use Rattle.hj_msg.specs.Punctuation.{punctuation}
 use Rattle.hj_msg.specs.Valid.{later}
 use Rattle.hj_msg.proofs.Members.{Contains-filter}
 use Rattle.hj_collect.specs.Collector.{CollectorState, least_mark}
+use Rattle.hj_collect.proofs.Giving.{takes-both}
 use Rattle.hj_collect.proofs.Due.{rest}
 use Rattle.hj_collect.proofs.Emissions.{within}
 use Rattle.hj_collect.proofs.Following.{least_follows}
@@ -40,7 +41,7 @@ use Rattle.hj_chain.specs.Serial.{Choosing, IsPlaceWithin, LetsOut, MakesSteps, 
 use Rattle.hj_chain.specs.Steps.{GoesWith, Gathers, Steps, asks, was_asked}
 use Rattle.hj_chain.proofs.ChosenActors.{chosen-enabled, none-enabled}
 use Rattle.hj_chain.proofs.Doing.{deed, taken_by}
-use Rattle.hj_chain.proofs.Draining.{Gave, all-kept, answer_in, gave-nothing, last_of, map-both, pair_in, take-both, takes-both}
+use Rattle.hj_chain.proofs.Draining.{Gave, all-kept, answer_in, gave-nothing, last_of, map-both, pair_in, take-both}
 use Rattle.hj_chain.proofs.Driving.{driven}
 use Rattle.hj_chain.proofs.FewSteps.{few_steps, fewer-come, to_come}
 use Rattle.hj_chain.proofs.Gathered.{told}

@@ -57,6 +57,9 @@ module _ {P J : Type 0} (predicate : J → P → P → Bool) (core_no : CoreNo) 
   pub recored : (now : Contents P J) (cores : List (core.State P)) → cores ≡ now.state.cores → HasTaken predicate core_no end message before now → HasTaken predicate core_no end message before (record now { state = record now.state { cores = cores } })
   recored now cores same taken = opened (record now { state = record now.state { cores = cores } }) now (ap (λ (cs : List (core.State P)). record now { state = record now.state { cores = cs } }) same) taken
 
+  pub taken-same : (same : Msg P) (now : Contents P J) → same ≡ message → HasTaken predicate core_no end message before now → HasTaken predicate core_no end same before now
+  taken-same same now is taken = subst (λ (m : Msg P). HasTaken predicate core_no end m before now) (sym is) taken
+
   module _ (now : Contents P J) (taken : HasTaken predicate core_no end message before now) (at : ℕ) (is_at : at ≡ core_no.0) where
     abbrev most : ℕ
     most = capacity before.state.driver.flight

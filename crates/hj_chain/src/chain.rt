@@ -218,8 +218,7 @@ impl<P: Share + Drop, J: Join<P> + Drop, S: Store<P, J> + Drop> Chain<P, J, S> {
         if self.over {
             return None;
         }
-        let mark = self.collector.punctuation()?;
-        self.kept.release(mark)
+        self.kept.next_due(&self.collector)
     }
 
     /// Returns whether the chain is done: the driver took both closes, and of each core the report of its end was

@@ -3,6 +3,7 @@ ghost use Rattle.std.specs.Option.{option_copied};
 ghost use Rattle.hj_base.specs.declared.numbers.Side.TheVariants.{Left, Right};
 ghost use Rattle.hj_msg.specs.Core.{only_if, sends};
 ghost use Rattle.hj_msg.specs.declared.message.Msg.TheVariants.{R as LeftRow, S as RightRow};
+ghost use Rattle.hj_core.specs.Rows.{row_message};
 ghost use Rattle.hj_core.specs.Sent.{passed_on};
 ghost use Rattle.hj_chain.specs.Queues.{no_messages};
 ghost use Rattle.hj_chain.specs.Chain.{first};
@@ -189,9 +190,25 @@ impl<P: Drop> Links<P> {
         }
     }
 
+    /// Puts what a core of this place among `cores` sends for a left row, or for a right one.
+    #[inline(always)]
+    pub fn send_row<const IS_LEFT: bool>(&mut self, place: usize, cores: usize, no: EventNo, row: P)
+        requires small { place < 2 ^ 16 }
+        requires in_range { place + 1 < length self.old }
+        requires room_left { length (link_at self.old place).leftwards + 1 ≤ (link_at self.old place).capacity }
+        requires room_right { length (link_at self.old (place + 1)).rightwards + length (sends place cores (row_message IS_LEFT no row)).right ≤ (link_at self.old (place + 1)).capacity }
+        ensures { self.new ≡ send_out place (sends place cores (row_message IS_LEFT no row)).left (sends place cores (row_message IS_LEFT no row)).right self.old }
+    {
+        if IS_LEFT {
+            self.send_left_row(place, cores, no, row);
+        } else {
+            self.send_right_row(place, cores, no, row);
+        }
+    }
+
     /// Puts what a core of this place among `cores` sends for a left row: the row to the right, and at the last core its end to the left.
     #[inline(always)]
-    pub fn send_left_row(&mut self, place: usize, cores: usize, no: EventNo, row: P)
+    fn send_left_row(&mut self, place: usize, cores: usize, no: EventNo, row: P)
         requires small { place < 2 ^ 16 }
         requires in_range { place + 1 < length self.old }
         requires room_left { length (link_at self.old place).leftwards + 1 ≤ (link_at self.old place).capacity }
@@ -205,7 +222,7 @@ impl<P: Drop> Links<P> {
     /// Puts what a core of this place among `cores` sends for a right row: the row to the left; to the right an acknowledgement, if there
     /// is a neighbour, and at the first core its end.
     #[inline(always)]
-    pub fn send_right_row(&mut self, place: usize, cores: usize, no: EventNo, row: P)
+    fn send_right_row(&mut self, place: usize, cores: usize, no: EventNo, row: P)
         requires small { place < 2 ^ 16 }
         requires in_range { place + 1 < length self.old }
         requires room_left { length (link_at self.old place).leftwards + 1 ≤ (link_at self.old place).capacity }

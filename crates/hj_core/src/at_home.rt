@@ -1,7 +1,7 @@
 ghost use Rattle.std.specs.Prelude.{◌≡◌, ◌↔◌, ℕ, true, OnErr, OnOk, IfOk, MatchOption};
 ghost use Rattle.std.specs.Option.{ForSome};
 ghost use Rattle.hj_base.specs.declared.numbers.Side.{Side as Sides};
-ghost use Rattle.hj_msg.specs.Core.{is_home, with_home_row};
+ghost use Rattle.hj_msg.specs.Core.{is_home};
 ghost use Rattle.hj_msg.specs.Store.{with_entry, with_settled, without_entry};
 ghost use Rattle.hj_core.specs.Homes.{AreAtHome};
 ghost use Rattle.hj_core.specs.Ready.{IsReadyRow};
@@ -50,26 +50,23 @@ pub(crate) fn rest_at_home<P: Drop, J: Join<P>, S: Store<P, J>>(
     }
 }
 
-/// Keeps a row equal to this one in a store, if this is its home. After an error the store has the rows that it had.
+/// Puts a row that is equal to this one at rest in a store. After an error the store has the rows that it had.
 #[inline(always)]
-pub(crate) fn keep_at_home<P: Share + Drop, J: Join<P>, S: Store<P, J>>(
+pub(crate) fn put_at_rest<P: Drop, J: Join<P>, S: Store<P, J>>(
     store: &mut S,
-    place: &CorePlace,
     no: EventNo,
     row: &P,
+    resting: P,
     settled: bool,
 ) -> Result<(), Memory>
-    requires { AreAtHome place.now.place place.now.cores (S.entries store.old) }
-    ensures entries { OnOk result (S.entries store.new ≡ with_home_row (is_home place.now.place place.now.cores no.0) (record { no = no.0; row = row.now; settled = settled }) (S.entries store.old)) }
+    requires { resting ≡ row.now }
+    ensures entries { OnOk result (S.entries store.new ≡ with_entry (record { no = no.0; row = row.now; settled = settled }) (S.entries store.old)) }
     ensures unchanged { OnErr result (S.entries store.new ≡ S.entries store.old) }
-    ensures home { AreAtHome place.now.place place.now.cores (S.entries store.new) }
+    ensures home { (place cores : ℕ) → is_home place cores no.0 ≡ true → AreAtHome place cores (S.entries store.old) → AreAtHome place cores (S.entries store.new) }
     ensures suits { (side : Sides) (join : J) → S.suits store.new side join ↔ S.suits store.old side join }
 {
-    if place.is_home(no) {
-        let resting = row.share()?;
-        store.reserve(no, row)?;
-        store.insert(no, resting, settled);
-    }
+    store.reserve(no, row)?;
+    store.insert(no, resting, settled);
     Ok(())
 }
 

@@ -1,22 +1,23 @@
-ghost use Rattle.std.specs.Prelude.{◌≡◌, ◌<◌, ◌≤◌, [], false, not, ◌&&◌, None, Some, IfOk, IfSome, IfNone, OnErr, MatchOption};
+ghost use Rattle.std.specs.Prelude.{◌≡◌, ◌<◌, ◌≤◌, [], false, not, ◌&&◌, None, Some, IfOk, IfSome, IfNone, OnErr, OnOk, MatchOption};
 ghost use Rattle.std.specs.Option.{ForSome};
-ghost use Rattle.hj_msg.specs.Core.{empty_state, after, sends, report};
+ghost use Rattle.hj_msg.specs.Core.{empty_state, after, is_home, sends, report};
 ghost use Rattle.hj_msg.specs.Store.{with_element};
-ghost use Rattle.hj_msg.specs.declared.message.Msg.TheVariants.{R as LeftRow, S as RightRow, CloseL, CloseR};
+ghost use Rattle.hj_msg.specs.declared.message.Msg.TheVariants.{CloseL, CloseR};
 ghost use Rattle.hj_core.specs.Passing.{is_row, way_of};
 ghost use Rattle.hj_core.specs.Ready.{IsReadyRow};
-ghost use Rattle.hj_core.specs.Rows.{row_message};
+ghost use Rattle.hj_core.specs.Rows.{partners_of, row_message, with_resting};
 ghost use Rattle.hj_core.specs.Sent.{passed_on};
 
 mod preparing;
 
-use crate::at_home::{keep_at_home, remove_at_home, settle_at_home};
+use crate::at_home::{put_at_rest, remove_at_home, settle_at_home};
 use crate::flight::Flight;
 use crate::place::CorePlace;
+use crate::rows::{probed, side_of};
 use crate::sends::when;
 use crate::{Sends, Way};
 use hj_base::{CoreNo, EventNo, Memory, Share, Side};
-use hj_msg::{Join, Msg, Report, Store};
+use hj_msg::{Join, Msg, Partners, Report, Store};
 use std::alloc::Global;
 use std::marker::Model;
 
@@ -115,8 +116,8 @@ impl<P: Share + Drop, J: Join<P> + Drop, S: Store<P, J> + Drop> Core<P, J, S> {
         ensures kept { KeepsPlace self.old self.new }
     {
         match msg {
-            Msg::R { no, row } => Ok(Some(self.handle_left(*no, row)?)),
-            Msg::S { no, row } => Ok(Some(self.handle_right(*no, row)?)),
+            Msg::R { no, row } => Ok(Some(self.handle_row::<true>(*no, row)?)),
+            Msg::S { no, row } => Ok(Some(self.handle_row::<false>(*no, row)?)),
             other => Ok(self.handle_other(other)),
         }
     }
@@ -215,7 +216,8 @@ impl<P: Share + Drop, J: Join<P> + Drop, S: Store<P, J> + Drop> Core<P, J, S> {
         if ends { Some(Report::Ended) } else { None }
     }
 
-    /// Handles a left row of a number, or a right one, as `handle` does its message, and returns its report.
+    /// Handles a left row of a number, or a right one, as `handle` does its message, and returns its report: finds its partners, and keeps
+    /// it if it rests here; a right one also until the left neighbour acknowledges it.
     #[inline(always)]
     pub fn handle_row<const IS_LEFT: bool>(
         &mut self,
@@ -227,70 +229,70 @@ impl<P: Share + Drop, J: Join<P> + Drop, S: Store<P, J> + Drop> Core<P, J, S> {
         ensures unchanged { OnErr result (state_of S.entries self.new ≡ state_of S.entries self.old) }
         ensures kept { KeepsPlace self.old self.new }
     {
-        if IS_LEFT {
-            self.handle_left(no, row)
-        } else {
-            self.handle_right(no, row)
-        }
-    }
-
-    /// Handles a left row of a number, as `handle` does its message, and returns its report: finds its partners, and keeps it if it
-    /// rests here.
-    #[inline(always)]
-    pub fn handle_left(&mut self, no: EventNo, row: &P) -> Result<Report<P>, Memory>
-        ensures state { IfOk result (λ entry. state_of S.entries self.new ≡ after self.old.place self.old.cores (state_of S.entries self.old) (LeftRow no row.now)) }
-        ensures report { IfOk result (λ entry. Some entry ≡ report (J.predicate self.old.join) (state_of S.entries self.old) (LeftRow no row.now)) }
-        ensures unchanged { OnErr result (state_of S.entries self.new ≡ state_of S.entries self.old) }
-        ensures kept { KeepsPlace self.old self.new }
-    {
-        let mut partners = self.right.probe(Side::Right, row, &self.join)?;
-        self.flight.add_partners(row, &self.join, &mut partners)?;
+        let partners = self.partners_of::<IS_LEFT>(row)?;
         let reported = row.share()?;
-        let last = self.place.is_last();
-        keep_at_home::<P, J, S>(&mut self.left, &self.place, no, row, last)?;
-        Ok(Report::Handled {
-            no,
-            side: Side::Left,
-            row: reported,
-            partners,
-        })
-    }
-
-    /// Handles a right row of a number, as `handle` does its message, and returns its report: finds its partners, and keeps it if it
-    /// rests here, and until the left neighbour acknowledges it.
-    #[inline(always)]
-    pub fn handle_right(&mut self, no: EventNo, row: &P) -> Result<Report<P>, Memory>
-        ensures state { IfOk result (λ entry. state_of S.entries self.new ≡ after self.old.place self.old.cores (state_of S.entries self.old) (RightRow no row.now)) }
-        ensures report { IfOk result (λ entry. Some entry ≡ report (J.predicate self.old.join) (state_of S.entries self.old) (RightRow no row.now)) }
-        ensures unchanged { OnErr result (state_of S.entries self.new ≡ state_of S.entries self.old) }
-        ensures kept { KeepsPlace self.old self.new }
-    {
-        let partners = self.left.probe(Side::Left, row, &self.join)?;
-        let reported = row.share()?;
-        let first = self.place.is_first();
-        let flying = share_in_flight(&mut self.flight, first, row)?;
-        keep_at_home::<P, J, S>(&mut self.right, &self.place, no, row, first)?;
+        let last = self.place.is_last_of::<IS_LEFT>();
+        let flying = share_in_flight(&mut self.flight, IS_LEFT || last, row)?;
+        self.keep::<IS_LEFT>(no, row, last)?;
         keep_in_flight(&mut self.flight, no, flying);
         Ok(Report::Handled {
             no,
-            side: Side::Right,
+            side: side_of::<IS_LEFT>(),
             row: reported,
             partners,
         })
     }
+
+    /// Finds the partners of a left row, or of a right one: rows at rest of the other stream, and, of a left row, rows in flight.
+    #[inline(always)]
+    fn partners_of<const IS_LEFT: bool>(&self, row: &P) -> Result<Partners<P>, Memory>
+        ensures { IfOk result (λ partners. partners ≡ partners_of IS_LEFT (J.predicate self.now.join) (state_of S.entries self.now) row.now) }
+    {
+        let (others, side) = probed::<IS_LEFT, S>(&self.left, &self.right);
+        let mut partners = others.probe(side, row, &self.join)?;
+        if IS_LEFT {
+            self.flight.add_partners(row, &self.join, &mut partners)?;
+        }
+        Ok(partners)
+    }
+
+    /// Keeps a row equal to this one in the store of its stream, if this is its home. After an error what the core holds is as before.
+    #[inline(always)]
+    fn keep<const IS_LEFT: bool>(
+        &mut self,
+        no: EventNo,
+        row: &P,
+        settled: bool,
+    ) -> Result<(), Memory>
+        ensures state { OnOk result (state_of S.entries self.new
+            ≡ with_resting IS_LEFT (is_home self.old.place self.old.cores no.0) (record { no = no.0; row = row.now; settled = settled }) (state_of S.entries self.old)) }
+        ensures unchanged { OnErr result (state_of S.entries self.new ≡ state_of S.entries self.old) }
+        ensures flight { self.new.flight ≡ self.old.flight }
+        ensures kept { KeepsPlace self.old self.new }
+    {
+        if !self.place.is_home(no) {
+            return Ok(());
+        }
+        let resting = row.share()?;
+        if IS_LEFT {
+            put_at_rest::<P, J, S>(&mut self.left, no, row, resting, settled)
+        } else {
+            put_at_rest::<P, J, S>(&mut self.right, no, row, resting, settled)
+        }
+    }
 }
 
-/// Makes a row equal to this one, and room for it in flight, if it has a left neighbour to go to.
+/// Makes a row equal to this one, and room for it in flight, but where it doesn't fly.
 #[inline(always)]
 fn share_in_flight<P: Share + Drop>(
     flight: &mut Flight<P>,
-    first: bool,
+    stays: bool,
     row: &P,
 ) -> Result<Option<P>, Memory>
     ensures rows { flight.new.rows ≡ flight.old.rows }
-    ensures ready { IfOk result (IsReadyRow (not first) row.now (0 < flight.new.room)) }
+    ensures ready { IfOk result (IsReadyRow (not stays) row.now (0 < flight.new.room)) }
 {
-    if first {
+    if stays {
         Ok(None)
     } else {
         flight.reserve()?;

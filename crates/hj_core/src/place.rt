@@ -1,5 +1,6 @@
 ghost use Rattle.std.specs.Prelude.{◌≡◌, ◌<◌, ◌+◌, ◌==◌, nat_lt};
 ghost use Rattle.hj_msg.specs.Core.{is_home, is_last};
+ghost use Rattle.hj_core.specs.Rows.{is_last_of};
 
 use hj_base::{CoreNo, EventNo};
 use std::marker::Model;
@@ -61,6 +62,18 @@ impl CorePlace {
             return no.0 % u64::from(self.cores) == place;
         }
         no.0 & self.mask == place
+    }
+
+    /// Returns whether the core is the last one that a left row comes to, or a right one.
+    #[inline(always)]
+    pub(crate) fn is_last_of<const IS_LEFT: bool>(&self) -> bool
+        ensures { result ≡ is_last_of IS_LEFT self.now.place self.now.cores }
+    {
+        if IS_LEFT {
+            self.is_last()
+        } else {
+            self.is_first()
+        }
     }
 
     #[inline(always)]

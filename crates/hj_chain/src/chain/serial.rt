@@ -150,12 +150,10 @@ impl<P: Share + Drop, J: Join<P> + Drop, S: Store<P, J> + Drop> Chain<P, J, S> {
         ensures others { self.new ≡ record self.old { kept = self.new.kept } }
         ensures goes { (feed : FeedState) → GoesWith J.predicate self.old feed → GoesWith J.predicate self.new feed }
     {
-        while let Some(pair) = self.pair() {
-            if drain.pair(pair) == Drained::Refused {
-                return Drained::Refused;
-            }
+        if self.over {
+            return Drained::Kept;
         }
-        Drained::Kept
+        self.kept.give_due(&self.collector, drain)
     }
 
     /// Returns whether an actor is enabled.

@@ -1,5 +1,5 @@
 ghost use Rattle.std.specs.Prelude.{◌≡◌, ◌<◌, length, true, OnOk, OnErr};
-ghost use Rattle.hj_msg.specs.declared.message.Msg.TheVariants.{R as LeftRow, S as RightRow};
+ghost use Rattle.hj_core.specs.Rows.{row_message};
 ghost use Rattle.hj_chain.specs.Chain.{Contents, FeedAnswer};
 ghost use Rattle.hj_chain.specs.Steps.{IsGoing, StepsTo};
 ghost use Rattle.hj_chain.specs.Taken.{HasTaken, TurnsTo};
@@ -7,6 +7,7 @@ ghost use Rattle.hj_chain.specs.Taken.{HasTaken, TurnsTo};
 use super::Chain;
 use crate::{Actor, NotNow, Stepped};
 use hj_base::{CoreNo, EventNo, Gate, Memory, Share, Side};
+use hj_core::row_message;
 use hj_msg::{Join, Msg, Store};
 
 impl<P: Share + Drop, J: Join<P> + Drop, S: Store<P, J> + Drop> Chain<P, J, S> {
@@ -77,8 +78,8 @@ impl<P: Share + Drop, J: Join<P> + Drop, S: Store<P, J> + Drop> Chain<P, J, S> {
         ensures others { self.new ≡ record self.old { state = self.new.state } }
     {
         match msg {
-            Msg::R { no, row } => self.handle_left_row(core, end, no, row),
-            Msg::S { no, row } => self.handle_right_row(core, end, no, row),
+            Msg::R { no, row } => self.handle_row::<true>(core, end, no, row),
+            Msg::S { no, row } => self.handle_row::<false>(core, end, no, row),
             msg => self.handle_other(core, end, msg),
         }
     }
@@ -95,52 +96,28 @@ impl<P: Share + Drop, J: Join<P> + Drop, S: Store<P, J> + Drop> Chain<P, J, S> {
         self.handle(core, end, msg)
     }
 
-    /// Lets a core handle a left row that was taken at one of its ends.
+    /// Lets a core handle a left row, or a right one, that was taken at one of its ends.
     // Called, so that the sweep over the actors stays small.
     #[inline(never)]
-    fn handle_left_row(
+    fn handle_row<const IS_LEFT: bool>(
         &mut self,
         core: CoreNo,
         end: Side,
         no: EventNo,
         row: P,
     ) -> Result<(), Memory>
-        requires taken { (before : Contents P J) × HasTaken J.predicate core end (LeftRow no row) before self.old }
-        ensures did { OnOk result (TurnsTo J.predicate core end (LeftRow no row) self.old Stepped.Did self.new) }
-        ensures memory { OnErr result (TurnsTo J.predicate core end (LeftRow no row) self.old Stepped.Memory self.new) }
+        requires taken { (before : Contents P J) × HasTaken J.predicate core end (row_message IS_LEFT no row) before self.old }
+        ensures did { OnOk result (TurnsTo J.predicate core end (row_message IS_LEFT no row) self.old Stepped.Did self.new) }
+        ensures memory { OnErr result (TurnsTo J.predicate core end (row_message IS_LEFT no row) self.old Stepped.Memory self.new) }
         ensures others { self.new ≡ record self.old { state = self.new.state } }
     {
         let place = usize::from(core.0);
-        let Ok(report) = self.cores[place].handle_left(no, &row) else {
-            self.give_up(core, end, Msg::R { no, row });
+        let Ok(report) = self.cores[place].handle_row::<IS_LEFT>(no, &row) else {
+            self.give_up(core, end, row_message::<IS_LEFT, P>(no, row));
             return Err(Memory);
         };
-        self.links.send_left_row(place, self.cores.len(), no, row);
-        self.reports.put(place, Some(report));
-        Ok(())
-    }
-
-    /// Lets a core handle a right row that was taken at one of its ends.
-    // Called, so that the sweep over the actors stays small.
-    #[inline(never)]
-    fn handle_right_row(
-        &mut self,
-        core: CoreNo,
-        end: Side,
-        no: EventNo,
-        row: P,
-    ) -> Result<(), Memory>
-        requires taken { (before : Contents P J) × HasTaken J.predicate core end (RightRow no row) before self.old }
-        ensures did { OnOk result (TurnsTo J.predicate core end (RightRow no row) self.old Stepped.Did self.new) }
-        ensures memory { OnErr result (TurnsTo J.predicate core end (RightRow no row) self.old Stepped.Memory self.new) }
-        ensures others { self.new ≡ record self.old { state = self.new.state } }
-    {
-        let place = usize::from(core.0);
-        let Ok(report) = self.cores[place].handle_right(no, &row) else {
-            self.give_up(core, end, Msg::S { no, row });
-            return Err(Memory);
-        };
-        self.links.send_right_row(place, self.cores.len(), no, row);
+        self.links
+            .send_row::<IS_LEFT>(place, self.cores.len(), no, row);
         self.reports.put(place, Some(report));
         Ok(())
     }

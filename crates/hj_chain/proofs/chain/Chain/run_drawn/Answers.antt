@@ -7,7 +7,7 @@ use Rattle.hj_chain.specs.declared.serial.Chooser.TheVariants as chooser
 use Rattle.hj_chain.specs.Serial.{RunsSerially, by_draw}
 use Rattle.hj_chain.proofs.Sweeping.{named-by-draw}
 use Rattle.hj_chain.proofs.ChosenActors.{chosen-enabled}
-use Rattle.hj_chain.proofs.Draining.{was-kept}
+use Rattle.hj_collect.proofs.Giving.{was-kept}
 use Rattle.hj_chain.proofs.Goings.{enabled_going}
 use Rattle.hj_chain.proofs.FewSteps.{to_come}
 use Rattle.hj_chain.proofs.SerialRuns.{release-settles, running-begins, running-ends-done, running-ends-over, running-over, running-refused, running-release, running-step, step-fewer, step-settled, was-going}

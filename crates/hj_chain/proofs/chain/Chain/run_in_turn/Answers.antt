@@ -5,7 +5,7 @@ use Rattle.hj_chain.specs.Chain.{Contents}
 use Rattle.hj_chain.specs.Serial.{from_place}
 use Rattle.hj_chain.specs.Sweep.{Puts, Sweeps}
 use Rattle.hj_chain.specs.Sweep as sweep
-use Rattle.hj_chain.proofs.Draining.{was-kept}
+use Rattle.hj_collect.proofs.Giving.{was-kept}
 use Rattle.hj_chain.proofs.SerialRuns.{release-settles, running-begins, running-ends-over, running-refused, running-release}
 use Rattle.hj_chain.proofs.Sweeping.{sweeping-at}
 use Rattle.hj_chain.proofs.Swept.{collects-end, is-going, moves-sweeps, put-ends, put-on, round-again, round-falls, round-fewer, round-most, round-was, sweeps-over}
