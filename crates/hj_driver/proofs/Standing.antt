@@ -111,43 +111,41 @@ stands-closing driver log stands unsent none =
       closes = sym (closes_of-closing log unclosed);
     }
 
+-- what a driver keeps of a side
+abbrev arrivals_at : Side → DriverState → List OutstandingArrival
+arrivals_at Left driver = driver.left_arrivals
+arrivals_at Right driver = driver.right_arrivals
+
+abbrev expiries_at : Side → DriverState → List EventNo
+expiries_at Left driver = driver.left_expiries
+expiries_at Right driver = driver.right_expiries
+
+abbrev quiets_at : Side → DriverState → List EventNo
+quiets_at Left driver = driver.left_quiets
+quiets_at Right driver = driver.right_quiets
+
 -- What is put joins its list; everything else of the driver stays.
 module _ {P : Type 0} where
-  left_arrivals-put : (put : Event P) (driver : DriverState) → (after_put put driver).left_arrivals ≡ driver.left_arrivals ++ cons_option (arrival_after Left put []) []
-  left_arrivals-put (Arrive at Left row) driver = refl
-  left_arrivals-put (Expire at Left of) driver = sym (append-nil driver.left_arrivals)
-  left_arrivals-put (Quiet at Left) driver = sym (append-nil driver.left_arrivals)
-  left_arrivals-put put driver = sym (append-nil driver.left_arrivals)
+  arrivals-put : (side : Side) (put : Event P) (driver : DriverState) → arrivals_at side (after_put put driver) ≡ arrivals_at side driver ++ cons_option (arrival_after side put []) []
+  arrivals-put Left (Arrive at Left row) driver = refl
+  arrivals-put Right (Arrive at Right row) driver = refl
+  arrivals-put side (Expire at Left of) driver = sym (append-nil (arrivals_at side driver))
+  arrivals-put side (Quiet at Left) driver = sym (append-nil (arrivals_at side driver))
+  arrivals-put side put driver = sym (append-nil (arrivals_at side driver))
 
-  left_expiries-put : (put : Event P) (driver : DriverState) → (after_put put driver).left_expiries ≡ driver.left_expiries ++ cons_option (expiry_after Left put []) []
-  left_expiries-put (Expire at Left of) driver = refl
-  left_expiries-put (Arrive at Left row) driver = sym (append-nil driver.left_expiries)
-  left_expiries-put (Quiet at Left) driver = sym (append-nil driver.left_expiries)
-  left_expiries-put put driver = sym (append-nil driver.left_expiries)
+  expiries-put : (side : Side) (put : Event P) (driver : DriverState) → expiries_at side (after_put put driver) ≡ expiries_at side driver ++ cons_option (expiry_after side put []) []
+  expiries-put Left (Expire at Left of) driver = refl
+  expiries-put Right (Expire at Right of) driver = refl
+  expiries-put side (Arrive at Left row) driver = sym (append-nil (expiries_at side driver))
+  expiries-put side (Quiet at Left) driver = sym (append-nil (expiries_at side driver))
+  expiries-put side put driver = sym (append-nil (expiries_at side driver))
 
-  right_arrivals-put : (put : Event P) (driver : DriverState) → (after_put put driver).right_arrivals ≡ driver.right_arrivals ++ cons_option (arrival_after Right put []) []
-  right_arrivals-put (Arrive at Right row) driver = refl
-  right_arrivals-put (Expire at Left of) driver = sym (append-nil driver.right_arrivals)
-  right_arrivals-put (Quiet at Left) driver = sym (append-nil driver.right_arrivals)
-  right_arrivals-put put driver = sym (append-nil driver.right_arrivals)
-
-  right_expiries-put : (put : Event P) (driver : DriverState) → (after_put put driver).right_expiries ≡ driver.right_expiries ++ cons_option (expiry_after Right put []) []
-  right_expiries-put (Expire at Right of) driver = refl
-  right_expiries-put (Arrive at Left row) driver = sym (append-nil driver.right_expiries)
-  right_expiries-put (Quiet at Left) driver = sym (append-nil driver.right_expiries)
-  right_expiries-put put driver = sym (append-nil driver.right_expiries)
-
-  left_quiets-put : (put : Event P) (driver : DriverState) → (after_put put driver).left_quiets ≡ driver.left_quiets ++ cons_option (quiet_after Left put []) []
-  left_quiets-put (Quiet at Left) driver = refl
-  left_quiets-put (Arrive at Left row) driver = sym (append-nil driver.left_quiets)
-  left_quiets-put (Expire at Left of) driver = sym (append-nil driver.left_quiets)
-  left_quiets-put put driver = sym (append-nil driver.left_quiets)
-
-  right_quiets-put : (put : Event P) (driver : DriverState) → (after_put put driver).right_quiets ≡ driver.right_quiets ++ cons_option (quiet_after Right put []) []
-  right_quiets-put (Quiet at Right) driver = refl
-  right_quiets-put (Arrive at Left row) driver = sym (append-nil driver.right_quiets)
-  right_quiets-put (Expire at Left of) driver = sym (append-nil driver.right_quiets)
-  right_quiets-put put driver = sym (append-nil driver.right_quiets)
+  quiets-put : (side : Side) (put : Event P) (driver : DriverState) → quiets_at side (after_put put driver) ≡ quiets_at side driver ++ cons_option (quiet_after side put []) []
+  quiets-put Left (Quiet at Left) driver = refl
+  quiets-put Right (Quiet at Right) driver = refl
+  quiets-put side (Arrive at Left row) driver = sym (append-nil (quiets_at side driver))
+  quiets-put side (Expire at Left of) driver = sym (append-nil (quiets_at side driver))
+  quiets-put side put driver = sym (append-nil (quiets_at side driver))
 
   pub closes-put : (put : Event P) (driver : DriverState) → (after_put put driver).closes ≡ driver.closes
   closes-put (Arrive at Left row) driver = refl
@@ -167,12 +165,12 @@ stands-put : {P : Type 0} (driver : DriverState) (log : List (DriverTurn P)) (pu
 stands-put driver log put stands well lawful = record {
   well_formed = well;
   lawful = subst (λ (flight : ℕ). IsLawful flight (admitted (log ++ admission put ∷ [])) (log ++ admission put ∷ [])) (sym (flight-put put driver)) lawful;
-  left_arrivals = left_arrivals-put put driver ∙ ap (λ (l : List OutstandingArrival). l ++ cons_option (arrival_after Left put []) []) stands.left_arrivals ∙ sym (arrivals_of-admission Left log put);
-  left_expiries = left_expiries-put put driver ∙ ap (λ (l : List EventNo). l ++ cons_option (expiry_after Left put []) []) stands.left_expiries ∙ sym (expiries_of-admission Left log put);
-  right_arrivals = right_arrivals-put put driver ∙ ap (λ (l : List OutstandingArrival). l ++ cons_option (arrival_after Right put []) []) stands.right_arrivals ∙ sym (arrivals_of-admission Right log put);
-  right_expiries = right_expiries-put put driver ∙ ap (λ (l : List EventNo). l ++ cons_option (expiry_after Right put []) []) stands.right_expiries ∙ sym (expiries_of-admission Right log put);
-  left_quiets = left_quiets-put put driver ∙ ap (λ (l : List EventNo). l ++ cons_option (quiet_after Left put []) []) stands.left_quiets ∙ sym (quiets_of-admission Left log put);
-  right_quiets = right_quiets-put put driver ∙ ap (λ (l : List EventNo). l ++ cons_option (quiet_after Right put []) []) stands.right_quiets ∙ sym (quiets_of-admission Right log put);
+  left_arrivals = arrivals-put Left put driver ∙ ap (λ (l : List OutstandingArrival). l ++ cons_option (arrival_after Left put []) []) stands.left_arrivals ∙ sym (arrivals_of-admission Left log put);
+  left_expiries = expiries-put Left put driver ∙ ap (λ (l : List EventNo). l ++ cons_option (expiry_after Left put []) []) stands.left_expiries ∙ sym (expiries_of-admission Left log put);
+  right_arrivals = arrivals-put Right put driver ∙ ap (λ (l : List OutstandingArrival). l ++ cons_option (arrival_after Right put []) []) stands.right_arrivals ∙ sym (arrivals_of-admission Right log put);
+  right_expiries = expiries-put Right put driver ∙ ap (λ (l : List EventNo). l ++ cons_option (expiry_after Right put []) []) stands.right_expiries ∙ sym (expiries_of-admission Right log put);
+  left_quiets = quiets-put Left put driver ∙ ap (λ (l : List EventNo). l ++ cons_option (quiet_after Left put []) []) stands.left_quiets ∙ sym (quiets_of-admission Left log put);
+  right_quiets = quiets-put Right put driver ∙ ap (λ (l : List EventNo). l ++ cons_option (quiet_after Right put []) []) stands.right_quiets ∙ sym (quiets_of-admission Right log put);
   closes = closes-put put driver ∙ stands.closes ∙ sym (closes_of-admission log put);
 }
 

@@ -14,17 +14,17 @@ use Rattle.hj_driver.specs.declared.lane.Departure.TheVariants.{Row, End}
 use Rattle.hj_driver.specs.declared.lane.OutstandingArrival.{OutstandingArrival}
 use Rattle.hj_driver.specs.Leaving.{LeavingState}
 use Rattle.hj_driver.specs.Lane.{LaneState, after_departure, is_other, with_departure, is_taken, waits_for}
-use Rattle.hj_driver.specs.Driver.{DriverState, after_take, after_close_taken, awaits, awaits_close, is_awaited}
+use Rattle.hj_driver.specs.Driver.{DriverState, HasRoom, after_take, after_close_taken, awaits, awaits_close, is_awaited}
 
 abbrev pub state : ℕ → List OutstandingArrival → List EventNo → List OutstandingArrival → List EventNo → List EventNo → List EventNo
     → Closes → DriverState
 state flight la le ra re lq rq closes = record { flight = flight; left_arrivals = la; left_expiries = le; right_arrivals = ra; right_expiries = re; left_quiets = lq; right_quiets = rq; closes = closes }
 
-filter_map-some : {X : Type 0} (l : List X) → filter_map (λ x. Some x) l ≡ l
+pub filter_map-some : {X : Type 0} (l : List X) → filter_map (λ x. Some x) l ≡ l
 filter_map-some [] = refl
 filter_map-some {X} (x ∷ xs) = ap (λ (ys : List X). x ∷ ys) (filter_map-some xs)
 
-filter-true : {X : Type 0} (l : List X) → filter (λ x. true) l ≡ l
+pub filter-true : {X : Type 0} (l : List X) → filter (λ x. true) l ≡ l
 filter-true [] = refl
 filter-true {X} (x ∷ xs) = ap (λ (ys : List X). x ∷ ys) (filter-true xs)
 
@@ -49,96 +49,29 @@ with_expiries f lane = record lane { expiries = f lane.expiries }
 abbrev pub with_numbers : (List EventNo → List EventNo) → LeavingState → LeavingState
 with_numbers f leaving = record leaving { numbers = f leaving.numbers }
 
--- what each message does to the lanes
-at_right-R-core : (P : Type 0) (l r : LaneState) (lq rq : LeavingState) (f : ℕ) (c : Closes) (at : EventNo) (row : P) → seen (with_arrivals (filter_map (after_departure at.0 Row)) l) r lq rq f c ≡ after_take {P = P} Right (R at row) (seen l r lq rq f c)
-at_right-R-core P l r lq rq f c at row = simp (filter-true, filter_map-some) refl
-
-pub at_right-R : {P : Type 0} (m : Msg P) (l r after : LaneState) (lq rq : LeavingState) (f : ℕ) (c : Closes) (old : DriverState) (at : EventNo) (row : P) → m ≡ R at row → seen l r lq rq f c ≡ old → after ≡ with_arrivals (filter_map (after_departure at.0 Row)) l → seen after r lq rq f c ≡ after_take Right m old
-at_right-R {P} m l r after lq rq f c old at row is_m is_old e = ap (λ (x : LaneState). seen x r lq rq f c) e ∙ at_right-R-core P l r lq rq f c at row ∙ ap (λ (d : DriverState). after_take {P = P} Right (R at row) d) is_old ∙ ap (λ (x : Msg P). after_take Right x old) (sym is_m)
-
-at_right-EndS-core : (P : Type 0) (l r : LaneState) (lq rq : LeavingState) (f : ℕ) (c : Closes) (at : EventNo) → seen l (with_arrivals (filter_map (after_departure at.0 End)) r) lq rq f c ≡ after_take {P = P} Right (EndS at) (seen l r lq rq f c)
-at_right-EndS-core P l r lq rq f c at = simp (filter-true, filter_map-some) refl
-
-pub at_right-EndS : {P : Type 0} (m : Msg P) (l r after : LaneState) (lq rq : LeavingState) (f : ℕ) (c : Closes) (old : DriverState) (at : EventNo) → m ≡ EndS at → seen l r lq rq f c ≡ old → after ≡ with_arrivals (filter_map (after_departure at.0 End)) r → seen l after lq rq f c ≡ after_take Right m old
-at_right-EndS {P} m l r after lq rq f c old at is_m is_old e = ap (λ (x : LaneState). seen l x lq rq f c) e ∙ at_right-EndS-core P l r lq rq f c at ∙ ap (λ (d : DriverState). after_take {P = P} Right (EndS at) d) is_old ∙ ap (λ (x : Msg P). after_take Right x old) (sym is_m)
-
-at_right-ExpS-core : (P : Type 0) (l r : LaneState) (lq rq : LeavingState) (f : ℕ) (c : Closes) (of : EventNo) → seen l (with_expiries (filter (is_other of.0)) r) lq rq f c ≡ after_take {P = P} Right (ExpS of) (seen l r lq rq f c)
-at_right-ExpS-core P l r lq rq f c of = simp (filter-true, filter_map-some) refl
-
-pub at_right-ExpS : {P : Type 0} (m : Msg P) (l r after : LaneState) (lq rq : LeavingState) (f : ℕ) (c : Closes) (old : DriverState) (of : EventNo) → m ≡ ExpS of → seen l r lq rq f c ≡ old → after ≡ with_expiries (filter (is_other of.0)) r → seen l after lq rq f c ≡ after_take Right m old
-at_right-ExpS {P} m l r after lq rq f c old of is_m is_old e = ap (λ (x : LaneState). seen l x lq rq f c) e ∙ at_right-ExpS-core P l r lq rq f c of ∙ ap (λ (d : DriverState). after_take {P = P} Right (ExpS of) d) is_old ∙ ap (λ (x : Msg P). after_take Right x old) (sym is_m)
-
-at_left-S-core : (P : Type 0) (l r : LaneState) (lq rq : LeavingState) (f : ℕ) (c : Closes) (at : EventNo) (row : P) → seen l (with_arrivals (filter_map (after_departure at.0 Row)) r) lq rq f c ≡ after_take {P = P} Left (S at row) (seen l r lq rq f c)
-at_left-S-core P l r lq rq f c at row = simp (filter-true, filter_map-some) refl
-
-pub at_left-S : {P : Type 0} (m : Msg P) (l r after : LaneState) (lq rq : LeavingState) (f : ℕ) (c : Closes) (old : DriverState) (at : EventNo) (row : P) → m ≡ S at row → seen l r lq rq f c ≡ old → after ≡ with_arrivals (filter_map (after_departure at.0 Row)) r → seen l after lq rq f c ≡ after_take Left m old
-at_left-S {P} m l r after lq rq f c old at row is_m is_old e = ap (λ (x : LaneState). seen l x lq rq f c) e ∙ at_left-S-core P l r lq rq f c at row ∙ ap (λ (d : DriverState). after_take {P = P} Left (S at row) d) is_old ∙ ap (λ (x : Msg P). after_take Left x old) (sym is_m)
-
-at_left-EndR-core : (P : Type 0) (l r : LaneState) (lq rq : LeavingState) (f : ℕ) (c : Closes) (at : EventNo) → seen (with_arrivals (filter_map (after_departure at.0 End)) l) r lq rq f c ≡ after_take {P = P} Left (EndR at) (seen l r lq rq f c)
-at_left-EndR-core P l r lq rq f c at = simp (filter-true, filter_map-some) refl
-
-pub at_left-EndR : {P : Type 0} (m : Msg P) (l r after : LaneState) (lq rq : LeavingState) (f : ℕ) (c : Closes) (old : DriverState) (at : EventNo) → m ≡ EndR at → seen l r lq rq f c ≡ old → after ≡ with_arrivals (filter_map (after_departure at.0 End)) l → seen after r lq rq f c ≡ after_take Left m old
-at_left-EndR {P} m l r after lq rq f c old at is_m is_old e = ap (λ (x : LaneState). seen x r lq rq f c) e ∙ at_left-EndR-core P l r lq rq f c at ∙ ap (λ (d : DriverState). after_take {P = P} Left (EndR at) d) is_old ∙ ap (λ (x : Msg P). after_take Left x old) (sym is_m)
-
-at_left-ExpR-core : (P : Type 0) (l r : LaneState) (lq rq : LeavingState) (f : ℕ) (c : Closes) (of : EventNo) → seen (with_expiries (filter (is_other of.0)) l) r lq rq f c ≡ after_take {P = P} Left (ExpR of) (seen l r lq rq f c)
-at_left-ExpR-core P l r lq rq f c of = simp (filter-true, filter_map-some) refl
-
-pub at_left-ExpR : {P : Type 0} (m : Msg P) (l r after : LaneState) (lq rq : LeavingState) (f : ℕ) (c : Closes) (old : DriverState) (of : EventNo) → m ≡ ExpR of → seen l r lq rq f c ≡ old → after ≡ with_expiries (filter (is_other of.0)) l → seen after r lq rq f c ≡ after_take Left m old
-at_left-ExpR {P} m l r after lq rq f c old of is_m is_old e = ap (λ (x : LaneState). seen x r lq rq f c) e ∙ at_left-ExpR-core P l r lq rq f c of ∙ ap (λ (d : DriverState). after_take {P = P} Left (ExpR of) d) is_old ∙ ap (λ (x : Msg P). after_take Left x old) (sym is_m)
-
-at_right-CloseL-core : (P : Type 0) (l r : LaneState) (lq rq : LeavingState) (f : ℕ) (c : Closes) → seen l r lq rq f (after_close_taken Left c) ≡ after_take {P = P} Right CloseL (seen l r lq rq f c)
-at_right-CloseL-core P l r lq rq f c = simp (filter-true, filter_map-some) refl
-
-pub at_right-CloseL : {P : Type 0} (m : Msg P) (l r : LaneState) (lq rq : LeavingState) (f : ℕ) (c after : Closes) (old : DriverState) → m ≡ CloseL → seen l r lq rq f c ≡ old → after ≡ after_close_taken Left c → seen l r lq rq f after ≡ after_take Right m old
-at_right-CloseL {P} m l r lq rq f c after old is_m is_old e = ap (λ (x : Closes). seen l r lq rq f x) e ∙ at_right-CloseL-core P l r lq rq f c ∙ ap (λ (d : DriverState). after_take {P = P} Right CloseL d) is_old ∙ ap (λ (x : Msg P). after_take Right x old) (sym is_m)
-
-at_left-CloseR-core : (P : Type 0) (l r : LaneState) (lq rq : LeavingState) (f : ℕ) (c : Closes) → seen l r lq rq f (after_close_taken Right c) ≡ after_take {P = P} Left CloseR (seen l r lq rq f c)
-at_left-CloseR-core P l r lq rq f c = simp (filter-true, filter_map-some) refl
-
-pub at_left-CloseR : {P : Type 0} (m : Msg P) (l r : LaneState) (lq rq : LeavingState) (f : ℕ) (c after : Closes) (old : DriverState) → m ≡ CloseR → seen l r lq rq f c ≡ old → after ≡ after_close_taken Right c → seen l r lq rq f after ≡ after_take Left m old
-at_left-CloseR {P} m l r lq rq f c after old is_m is_old e = ap (λ (x : Closes). seen l r lq rq f x) e ∙ at_left-CloseR-core P l r lq rq f c ∙ ap (λ (d : DriverState). after_take {P = P} Left CloseR d) is_old ∙ ap (λ (x : Msg P). after_take Left x old) (sym is_m)
-
-at_right-QuietL-core : (P : Type 0) (l r : LaneState) (lq rq : LeavingState) (f : ℕ) (c : Closes) (at : EventNo) → seen l r (with_numbers (filter (is_other at.0)) lq) rq f c ≡ after_take {P = P} Right (QuietL at) (seen l r lq rq f c)
-at_right-QuietL-core P l r lq rq f c at = simp (filter-true, filter_map-some) refl
-
-pub at_right-QuietL : {P : Type 0} (m : Msg P) (l r : LaneState) (lq rq after : LeavingState) (f : ℕ) (c : Closes) (old : DriverState) (at : EventNo) → m ≡ QuietL at → seen l r lq rq f c ≡ old → after ≡ with_numbers (filter (is_other at.0)) lq → seen l r after rq f c ≡ after_take Right m old
-at_right-QuietL {P} m l r lq rq after f c old at is_m is_old e = ap (λ (x : LeavingState). seen l r x rq f c) e ∙ at_right-QuietL-core P l r lq rq f c at ∙ ap (λ (d : DriverState). after_take {P = P} Right (QuietL at) d) is_old ∙ ap (λ (x : Msg P). after_take Right x old) (sym is_m)
-
-at_left-QuietR-core : (P : Type 0) (l r : LaneState) (lq rq : LeavingState) (f : ℕ) (c : Closes) (at : EventNo) → seen l r lq (with_numbers (filter (is_other at.0)) rq) f c ≡ after_take {P = P} Left (QuietR at) (seen l r lq rq f c)
-at_left-QuietR-core P l r lq rq f c at = simp (filter-true, filter_map-some) refl
-
-pub at_left-QuietR : {P : Type 0} (m : Msg P) (l r : LaneState) (lq rq after : LeavingState) (f : ℕ) (c : Closes) (old : DriverState) (at : EventNo) → m ≡ QuietR at → seen l r lq rq f c ≡ old → after ≡ with_numbers (filter (is_other at.0)) rq → seen l r lq after f c ≡ after_take Left m old
-at_left-QuietR {P} m l r lq rq after f c old at is_m is_old e = ap (λ (x : LeavingState). seen l r lq x f c) e ∙ at_left-QuietR-core P l r lq rq f c at ∙ ap (λ (d : DriverState). after_take {P = P} Left (QuietR at) d) is_old ∙ ap (λ (x : Msg P). after_take Left x old) (sym is_m)
+-- what a message changes, where it and what was kept before it are known by equations
+pub taken : {P : Type 0} {m known : Msg P} {old kept new : DriverState} (port : Side) → m ≡ known → kept ≡ old → new ≡ after_take port known kept → new ≡ after_take port m old
+taken {P} {known = known} {old = old} port is_known is_old is = is ∙ ap (λ (d : DriverState). after_take port known d) is_old ∙ ap (λ (x : Msg P). after_take port x old) (sym is_known)
 
 -- no other message changes anything
 idle : (d : DriverState) → d ≡ state d.flight (filter_map (λ x. Some x) d.left_arrivals) (filter (λ x. true) d.left_expiries) (filter_map (λ x. Some x) d.right_arrivals) (filter (λ x. true) d.right_expiries) (filter (λ x. true) d.left_quiets) (filter (λ x. true) d.right_quiets) d.closes
 idle d = simp (filter-true, filter_map-some) refl
 
 pub at_left-other : {P : Type 0} (m : Msg P) (d : DriverState) → ((at : EventNo) (row : P) → m ≡ S at row → ⊥) → ((at : EventNo) → m ≡ EndR at → ⊥) → ((of : EventNo) → m ≡ ExpR of → ⊥) → ((at : EventNo) → m ≡ QuietR at → ⊥) → (m ≡ CloseR → ⊥) → d ≡ after_take Left m d
-at_left-other (R at row) d no_S no_EndR no_ExpR no_QuietR no_CloseR = idle d
-at_left-other (AckS at) d no_S no_EndR no_ExpR no_QuietR no_CloseR = idle d
-at_left-other (EndS at) d no_S no_EndR no_ExpR no_QuietR no_CloseR = idle d
-at_left-other (ExpS at) d no_S no_EndR no_ExpR no_QuietR no_CloseR = idle d
-at_left-other CloseL d no_S no_EndR no_ExpR no_QuietR no_CloseR = idle d
 at_left-other (S at row) d no_S no_EndR no_ExpR no_QuietR no_CloseR = absurd (no_S at row refl)
 at_left-other (EndR at) d no_S no_EndR no_ExpR no_QuietR no_CloseR = absurd (no_EndR at refl)
 at_left-other (ExpR of) d no_S no_EndR no_ExpR no_QuietR no_CloseR = absurd (no_ExpR of refl)
-at_left-other (QuietL at) d no_S no_EndR no_ExpR no_QuietR no_CloseR = idle d
 at_left-other (QuietR at) d no_S no_EndR no_ExpR no_QuietR no_CloseR = absurd (no_QuietR at refl)
 at_left-other CloseR d no_S no_EndR no_ExpR no_QuietR no_CloseR = absurd (no_CloseR refl)
+at_left-other m d no_S no_EndR no_ExpR no_QuietR no_CloseR = idle d
 
 pub at_right-other : {P : Type 0} (m : Msg P) (d : DriverState) → ((at : EventNo) (row : P) → m ≡ R at row → ⊥) → ((at : EventNo) → m ≡ EndS at → ⊥) → ((of : EventNo) → m ≡ ExpS of → ⊥) → ((at : EventNo) → m ≡ QuietL at → ⊥) → (m ≡ CloseL → ⊥) → d ≡ after_take Right m d
-at_right-other (S at row) d no_R no_EndS no_ExpS no_QuietL no_CloseL = idle d
-at_right-other (AckS at) d no_R no_EndS no_ExpS no_QuietL no_CloseL = idle d
-at_right-other (EndR at) d no_R no_EndS no_ExpS no_QuietL no_CloseL = idle d
-at_right-other (ExpR at) d no_R no_EndS no_ExpS no_QuietL no_CloseL = idle d
-at_right-other CloseR d no_R no_EndS no_ExpS no_QuietL no_CloseL = idle d
 at_right-other (R at row) d no_R no_EndS no_ExpS no_QuietL no_CloseL = absurd (no_R at row refl)
 at_right-other (EndS at) d no_R no_EndS no_ExpS no_QuietL no_CloseL = absurd (no_EndS at refl)
 at_right-other (ExpS of) d no_R no_EndS no_ExpS no_QuietL no_CloseL = absurd (no_ExpS of refl)
-at_right-other (QuietR at) d no_R no_EndS no_ExpS no_QuietL no_CloseL = idle d
 at_right-other (QuietL at) d no_R no_EndS no_ExpS no_QuietL no_CloseL = absurd (no_QuietL at refl)
 at_right-other CloseL d no_R no_EndS no_ExpS no_QuietL no_CloseL = absurd (no_CloseL refl)
+at_right-other m d no_R no_EndS no_ExpS no_QuietL no_CloseL = idle d
 
 -- nothing becomes more
 pub length-filter_map : {X : Type 0} (f : X → Option X) (l : List X) → length (filter_map f l) ≤ length l
@@ -174,6 +107,22 @@ pub fewer_numbers : (p : EventNo → Bool) (before after : LeavingState) → aft
 fewer_numbers p before after e = record {
   fewer = omega (arith, ap (λ (l : LeavingState). length l.numbers) e, length-filter p before.numbers);
   room = ap (λ (l : LeavingState). l.room) e;
+}
+
+pub same_lane : {lane : LaneState} → HasNoMore lane lane
+same_lane = record { fewer = omega arith; room = refl }
+
+pub same_leaving : {leaving : LeavingState} → LeavesNoMore leaving leaving
+same_leaving = record { fewer = omega arith; room = refl }
+
+pub room_stays : {flight : ℕ} {l r l2 r2 : LaneState} {lq rq lq2 rq2 : LeavingState} → HasRoom flight l r lq rq → HasNoMore l l2 → HasNoMore r r2 → LeavesNoMore lq lq2 → LeavesNoMore rq rq2 → HasRoom flight l2 r2 lq2 rq2
+room_stays room left right left_quiets right_quiets = record {
+  left_room = left.room ∙ room.left_room;
+  right_room = right.room ∙ room.right_room;
+  left_quiets_room = left_quiets.room ∙ room.left_quiets_room;
+  right_quiets_room = right_quiets.room ∙ room.right_quiets_room;
+  few = omega arith;
+  small = room.small;
 }
 
 -- a message that isn't awaited changes nothing
@@ -217,25 +166,14 @@ is_false true never = absurd (never refl)
 is_false false never = refl
 
 pub unawaited : {P : Type 0} (port : Side) (m : Msg P) (d : DriverState) → (IsTrue (awaits port m d) → ⊥) → after_take port m d ≡ d
-unawaited Left (R at row) d never = sym (idle d)
-unawaited Left (AckS at) d never = sym (idle d)
-unawaited Left (EndS at) d never = sym (idle d)
-unawaited Left (ExpS of) d never = sym (idle d)
-unawaited Left CloseL d never = sym (idle d)
 unawaited Left (S at row) d never = simp (filter-true, filter_map-some) (ap (λ x. let changed : DriverState = record d { right_arrivals = x } in changed) (unwaited_arrivals at.0 Row d.right_arrivals (is_false _ never)))
 unawaited Left (EndR at) d never = simp (filter-true, filter_map-some) (ap (λ x. let changed : DriverState = record d { left_arrivals = x } in changed) (unwaited_arrivals at.0 End d.left_arrivals (is_false _ never)))
 unawaited Left (ExpR of) d never = simp (filter-true, filter_map-some) (ap (λ x. let changed : DriverState = record d { left_expiries = x } in changed) (unwaited_numbers of.0 d.left_expiries (is_false _ never)))
-unawaited Left (QuietL at) d never = sym (idle d)
 unawaited Left (QuietR at) d never = simp (filter-true, filter_map-some) (ap (λ x. let changed : DriverState = record d { right_quiets = x } in changed) (unwaited_numbers at.0 d.right_quiets (is_false _ never)))
 unawaited Left CloseR d never = simp (filter-true, filter_map-some) (ap (λ x. let changed : DriverState = record d { closes = x } in changed) (unwaited_close Right d.closes (is_false _ never)))
 unawaited Right (R at row) d never = simp (filter-true, filter_map-some) (ap (λ x. let changed : DriverState = record d { left_arrivals = x } in changed) (unwaited_arrivals at.0 Row d.left_arrivals (is_false _ never)))
-unawaited Right (AckS at) d never = sym (idle d)
 unawaited Right (EndS at) d never = simp (filter-true, filter_map-some) (ap (λ x. let changed : DriverState = record d { right_arrivals = x } in changed) (unwaited_arrivals at.0 End d.right_arrivals (is_false _ never)))
 unawaited Right (ExpS of) d never = simp (filter-true, filter_map-some) (ap (λ x. let changed : DriverState = record d { right_expiries = x } in changed) (unwaited_numbers of.0 d.right_expiries (is_false _ never)))
-unawaited Right (QuietR at) d never = sym (idle d)
 unawaited Right (QuietL at) d never = simp (filter-true, filter_map-some) (ap (λ x. let changed : DriverState = record d { left_quiets = x } in changed) (unwaited_numbers at.0 d.left_quiets (is_false _ never)))
 unawaited Right CloseL d never = simp (filter-true, filter_map-some) (ap (λ x. let changed : DriverState = record d { closes = x } in changed) (unwaited_close Left d.closes (is_false _ never)))
-unawaited Right (S at row) d never = sym (idle d)
-unawaited Right (EndR at) d never = sym (idle d)
-unawaited Right (ExpR of) d never = sym (idle d)
-unawaited Right CloseR d never = sym (idle d)
+unawaited port m d never = sym (idle d)

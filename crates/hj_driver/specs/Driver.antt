@@ -1,5 +1,5 @@
 -- What a driver keeps: the outstanding events of both sides, and the closes.
-use Rattle.std.specs.Prelude.{ℕ, ◌+◌, ◌<◌, ◌==◌, Bool, true, false, not, ◌&&◌, List, [], ◌∷◌, ◌++◌, length, None, Some, if◌then◌else◌}
+use Rattle.std.specs.Prelude.{◌≡◌, ℕ, ◌+◌, ◌^◌, ◌<◌, ◌≤◌, ◌==◌, Bool, true, false, not, ◌&&◌, List, [], ◌∷◌, ◌++◌, length, None, Some, if◌then◌else◌}
 use Rattle.std.specs.declared.option.Option.{Option}
 use Rattle.std.specs.List.{All, Contains, filter, filter_map, list_any}
 use Rattle.hj_base.specs.declared.numbers.EventNo.{EventNo}
@@ -20,7 +20,8 @@ use Rattle.hj_driver.specs.declared.closes.Closes.{Closes}
 use Rattle.hj_driver.specs.declared.closes.Closes.TheVariants.{Unsent, Sent}
 use Rattle.hj_driver.specs.declared.lane.Departure.TheVariants.{Row, End}
 use Rattle.hj_driver.specs.declared.lane.OutstandingArrival.{OutstandingArrival}
-use Rattle.hj_driver.specs.Lane.{after_departure, is_other, waits_for}
+use Rattle.hj_driver.specs.Lane.{LaneState, after_departure, is_other, waits_for}
+use Rattle.hj_driver.specs.Leaving.{LeavingState}
 
 -- The outstanding arrivals, expiries and quiet events of each side, the closes, and how many events may be outstanding. An expiry is kept by
 -- the number of its row.
@@ -33,6 +34,15 @@ pub record DriverState : Type 0 where
   pub left_quiets : List EventNo
   pub right_quiets : List EventNo
   pub closes : Closes
+
+-- Each of its lists has room for all events that may be outstanding, and no more are.
+pub record HasRoom (flight : ℕ) (left right : LaneState) (left_quiets right_quiets : LeavingState) : Type 0 where
+  pub left_room : left.room ≡ flight
+  pub right_room : right.room ≡ flight
+  pub left_quiets_room : left_quiets.room ≡ flight
+  pub right_quiets_room : right_quiets.room ≡ flight
+  pub few : ((length left.arrivals + length left.expiries) + (length right.arrivals + length right.expiries)) + (length left_quiets.numbers + length right_quiets.numbers) ≤ flight
+  pub small : flight < 2 ^ 16
 
 abbrev pub new_driver : ℕ → DriverState
 new_driver flight = record { flight = flight; left_arrivals = []; left_expiries = []; right_arrivals = []; right_expiries = []; left_quiets = []; right_quiets = []; closes = Unsent }

@@ -26,8 +26,7 @@ pub struct Driver {
 }
 
 impl Model for Driver {
-    ghost use Rattle.std.specs.Prelude.{◌≡◌, ◌+◌, ◌^◌, ◌<◌, ◌≤◌, length};
-    ghost use Rattle.hj_driver.specs.Driver.{DriverState};
+    ghost use Rattle.hj_driver.specs.Driver.{DriverState, HasRoom};
 
     ghost Value = { DriverState };
 
@@ -42,14 +41,7 @@ impl Model for Driver {
       closes = d.closes;
     } };
 
-    ghost invariant = { λ d. record {
-      left_room : d.left.room ≡ d.flight;
-      right_room : d.right.room ≡ d.flight;
-      left_quiets_room : d.left_quiets.room ≡ d.flight;
-      right_quiets_room : d.right_quiets.room ≡ d.flight;
-      few : ((length d.left.arrivals + length d.left.expiries) + (length d.right.arrivals + length d.right.expiries)) + (length d.left_quiets.numbers + length d.right_quiets.numbers) ≤ d.flight;
-      small : d.flight < 2 ^ 16;
-    } };
+    ghost invariant = { λ d. HasRoom d.flight d.left d.right d.left_quiets d.right_quiets };
 }
 
 impl Driver {
