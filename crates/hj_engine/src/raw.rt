@@ -56,7 +56,7 @@ pub fn join_raw<T: Threads + Wait + Clock + Sync, O: Outside, K: Sink, G: Gate +
         return (Outcome::Memory, None);
     };
     let joined = join_merged(alloc, query, plan, limit, &mut merger, outside, out);
-    // by a call, and not part by part
+    // Dropped by a call, which is one step here; let go at the end of the function, it is compiled and proved leaf by leaf.
     drop(merger);
     joined
 }

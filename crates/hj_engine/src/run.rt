@@ -111,7 +111,7 @@ fn run_over<
     }
     let mut chain = begun(alloc, query, plan.size, stores, feed)?;
     let fin = chain.run_serial(plan.chooser, feed, drain, plan.gate);
-    // by a call, and not part by part
+    // Dropped by a call, which is one step here; let go at the end of the function, it is compiled and proved leaf by leaf.
     drop(chain);
     Ok(fin)
 }

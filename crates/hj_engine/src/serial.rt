@@ -61,7 +61,7 @@ pub fn join_serial_by<L: PairLine, O: Outside, K: Sink, G: Gate>(
         return Outcome::Memory;
     };
     let joined = join_merged(alloc, join, plan, &mut merger, outside, out);
-    // by a call, and not part by part
+    // Dropped by a call, which is one step here; let go at the end of the function, it is compiled and proved leaf by leaf.
     drop(merger);
     joined
 }

@@ -81,7 +81,7 @@ pub fn join_threads_by<
         return (Outcome::Memory, None);
     };
     let joined = join_merged(alloc, join, plan, &mut merger, outside, out);
-    // by a call, and not part by part
+    // Dropped by a call, which is one step here; let go at the end of the function, it is compiled and proved leaf by leaf.
     drop(merger);
     joined
 }
