@@ -36,10 +36,6 @@ kept : {X : Type 0} (b : Bool) (x : X) (l : List X) (n : ℕ) → length l ≤ n
 kept true x l n low = omega arith
 kept false x l n low = omega arith
 
--- the driver that is seen in its two lanes and its quiet events
-abbrev pub seen : LaneState → LaneState → LeavingState → LeavingState → ℕ → Closes → DriverState
-seen left right lq rq flight closes = record { flight = flight; left_arrivals = left.arrivals; left_expiries = left.expiries; right_arrivals = right.arrivals; right_expiries = right.expiries; left_quiets = lq.numbers; right_quiets = rq.numbers; closes = closes }
-
 abbrev pub with_arrivals : (List OutstandingArrival → List OutstandingArrival) → LaneState → LaneState
 with_arrivals f lane = record lane { arrivals = f lane.arrivals }
 

@@ -9,7 +9,7 @@ use crate::closes::Closes;
 use crate::lane::{Departure, Lane};
 use crate::leaving::Leaving;
 use crate::{Admitted, Closing, Why};
-use hj_base::{Memory, Side};
+use hj_base::{EventNo, Memory, Side};
 use hj_msg::{Event, Msg};
 use std::alloc::Global;
 use std::marker::Model;
@@ -201,22 +201,7 @@ impl Driver {
         ensures state { self.new ≡ after_put event self.old }
     {
         match event {
-            Event::Arrive {
-                no,
-                side: Side::Left,
-                row,
-            } => {
-                self.left.arrive(no);
-                (Side::Left, Msg::R { no, row })
-            }
-            Event::Arrive {
-                no,
-                side: Side::Right,
-                row,
-            } => {
-                self.right.arrive(no);
-                (Side::Right, Msg::S { no, row })
-            }
+            Event::Arrive { no, side, row } => self.put_row(no, side, row),
             Event::Expire {
                 side: Side::Left,
                 of,
@@ -246,6 +231,27 @@ impl Driver {
             } => {
                 self.right_quiets.put(no);
                 (Side::Right, Msg::QuietR(no))
+            }
+        }
+    }
+
+    /// Takes note that a row is put; returns the end of the chain at which it is put, and its message.
+    #[inline(always)]
+    fn put_row<P>(&mut self, no: EventNo, side: Side, row: P) -> (Side, Msg<P>)
+        requires room { count_of self.old < self.old.flight }
+        requires new { IsNewEvent (Event.Arrive no side row) self.old }
+        ensures port { result.0 ≡ port_of (Event.Arrive no side row) }
+        ensures message { result.1 ≡ message_of (Event.Arrive no side row) }
+        ensures state { self.new ≡ after_put (Event.Arrive no side row) self.old }
+    {
+        match side {
+            Side::Left => {
+                self.left.arrive(no);
+                (Side::Left, Msg::R { no, row })
+            }
+            Side::Right => {
+                self.right.arrive(no);
+                (Side::Right, Msg::S { no, row })
             }
         }
     }
