@@ -105,30 +105,14 @@ impl KeyChains {
         ensures own { self.new.own ≡ self.old.own }
         ensures chained { AreChained self.new }
     {
-        if self.is_last(no) {
-            self.push(no, row, settled);
-        } else {
-            self.put_among(no, row, settled);
-        }
-    }
-
-    /// Puts a row where its number may be held, or isn't above all others.
-    #[cold]
-    fn put_among(&mut self, no: u64, row: SharedRow, settled: bool)
-        requires room { deque_len self.old.places < deque_capacity self.old.places }
-        requires chain_room { 0 < spare self.old.last }
-        requires chained { AreChained self.old }
-        ensures rows { rows_in self.new ≡ with_entry (record { no = no; row = row; settled = settled }) (rows_in self.old) }
-        ensures own { self.new.own ≡ self.old.own }
-        ensures chained { AreChained self.new }
-    {
-        match self.find(no) {
-            Some(at) => self.replace(at, no, row, settled),
-            None => {
-                self.is_ascending = false;
-                self.push(no, row, settled);
+        if !self.is_last(no) {
+            if let Some(at) = self.find_behind(no) {
+                self.replace(at, no, row, settled);
+                return;
             }
+            self.is_ascending = false;
         }
+        self.push(no, row, settled);
     }
 
     /// Settles the row of a number; returns false exactly where there is none.

@@ -1,10 +1,17 @@
 ghost use Rattle.std.specs.Prelude.{◌≡◌, ◌||◌, ◌&&◌, not, true, false, None, FitsSigned, OnOk, option_and_then};
 ghost use Rattle.std.specs.Int.{w64};
+ghost use Rattle.std.specs.Option.{option_copied};
 ghost use Rattle.std.specs.BTreeMap.Range.{range_contains, IsLeBy, IsLtBy};
 ghost use Rattle.std.specs.Range.Bound.{IsForward};
+ghost use Rattle.hj_msg.specs.Store.{joins};
+ghost use Rattle.hj_rows.specs.NumberedRows.{rows_in};
+ghost use Rattle.hj_rows.specs.Places.{joining};
+ghost use Rattle.hj_index.specs.OrderedStore.{rest_of};
 ghost use Rattle.hj_index.specs.OrderedIndex.{holds_key, is_key, key_cmp, key_of, number_at, stands, AreWithin, HasPlace, OrderedKey};
 
-use hj_base::Memory;
+use hj_base::{Memory, Side};
+use hj_msg::Join;
+use hj_rows::{NumberedRows, is_joined};
 use hj_value::{Field, Row, SharedRow};
 use std::alloc::Global;
 use std::collections::BTreeSet;
@@ -98,6 +105,29 @@ impl OrderedIndex {
     {
         if let Some(key) = key {
             self.keys.remove(&key);
+        }
+    }
+
+    /// Returns the row for which a key stands, where it is settled and joins with a row of the other side.
+    #[inline(always)]
+    pub(crate) fn joining_row<'a, J: Join<SharedRow>>(
+        &self,
+        rows: &'a NumberedRows<SharedRow>,
+        key: OrderedKey,
+        side: Side,
+        against: &SharedRow,
+        join: &J,
+    ) -> Option<&'a SharedRow>
+        ensures { option_copied result ≡ joining (λ row. joins (J.predicate join.now) side row against.now) (rest_of (rows_in rows.now) self.now.reserved key) }
+    {
+        if self.reserved == Some(key) {
+            return None;
+        }
+        let rest = rows.get(key.1)?;
+        if rest.settled && is_joined(side, &rest.row, against, join) {
+            Some(&rest.row)
+        } else {
+            None
         }
     }
 }

@@ -1,19 +1,17 @@
-ghost use Rattle.std.specs.Prelude.{◌≡◌, ◌<◌, [], Some, map, IfOk};
-ghost use Rattle.std.specs.Option.{option_copied};
+ghost use Rattle.std.specs.Prelude.{◌≡◌, ◌<◌, [], Some, IfOk};
 ghost use Rattle.hj_base.specs.declared.numbers.Side.{Side};
 ghost use Rattle.hj_eval.specs.Holds.{holds};
 ghost use Rattle.hj_eval.specs.Plan.{plan_of};
 ghost use Rattle.hj_rows.specs.NumberedRows.{rows_in};
 ghost use Rattle.hj_index.specs.OrderedIndex.{key_of, number_at, HasPlace};
-ghost use Rattle.hj_index.specs.OrderedStore.{band_plan, rest_of, JoinsNear};
-ghost use Rattle.hj_rows.specs.Places.{joining, partner_of};
-ghost use Rattle.hj_msg.specs.Store.{joins, settled_matches};
+ghost use Rattle.hj_index.specs.OrderedStore.{band_plan, JoinsNear};
+ghost use Rattle.hj_msg.specs.Store.{settled_matches};
 ghost use Rattle.hj_query.specs.QueryParts.{QueryParts};
 
-use crate::ordered_index::{OrderedIndex, OrderedKey, band, key_of, key_of_held, number_at};
+use crate::ordered_index::{OrderedIndex, band, key_of, key_of_held, number_at};
 use hj_base::{EventNo, Memory, Share, Side};
 use hj_msg::{Join, Partner, Partners, Store};
-use hj_rows::{NumberedRows, is_joined, partners_of};
+use hj_rows::{NumberedRows, partners_of};
 use hj_value::SharedRow;
 use std::alloc::Global;
 use std::collections::BTreeMap;
@@ -132,14 +130,10 @@ impl OrderedStore {
         let mut found = Partners::new(self.alloc);
         let mut last = 0;
         for key in self.index.keys.range(band(number, self.within)) {
-            if let Some(row) = joining_row(
-                &self.rows,
-                self.index.reserved,
-                *key,
-                side,
-                against,
-                join,
-            ) {
+            if let Some(row) = self
+                .index
+                .joining_row(&self.rows, *key, side, against, join)
+            {
                 if key.1 < last {
                     return self.probe_sorted(number, side, against, join);
                 }
@@ -166,57 +160,15 @@ impl OrderedStore {
         requires number { number_at self.now.other against.now ≡ Some number }
         ensures { IfOk result (λ partners. partners ≡ settled_matches (J.predicate join.now) side against.now self.now.rows) }
     {
-        partners_of(self.alloc, self.sorted_rows(number, side, against, join)?)
-    }
-
-    /// Finds the settled rows near a number that join with a row of the other stream, by their numbers of arrival.
-    fn sorted_rows<J: Join<SharedRow>>(
-        &self,
-        number: i64,
-        side: Side,
-        against: &SharedRow,
-        join: &J,
-    ) -> Result<BTreeMap<u64, SharedRow>, Memory>
-        requires suits { JoinsNear self.now.own self.now.other self.now.within (J.predicate join.now) side }
-        requires number { number_at self.now.other against.now ≡ Some number }
-        ensures { IfOk result (λ rows. map partner_of rows.entries ≡ settled_matches (J.predicate join.now) side against.now self.now.rows) }
-    {
         let mut rows = BTreeMap::new(self.alloc);
         for key in self.index.keys.range(band(number, self.within)) {
-            if let Some(row) = joining_row(
-                &self.rows,
-                self.index.reserved,
-                *key,
-                side,
-                against,
-                join,
-            ) {
+            if let Some(row) = self
+                .index
+                .joining_row(&self.rows, *key, side, against, join)
+            {
                 rows.insert(key.1, row.share()?)?;
             }
         }
-        Ok(rows)
-    }
-}
-
-/// Returns the row for which a key stands in the index, where it is settled and joins with a row of the other side.
-#[inline(always)]
-fn joining_row<'a, J: Join<SharedRow>>(
-    rows: &'a NumberedRows<SharedRow>,
-    reserved: Option<OrderedKey>,
-    key: OrderedKey,
-    side: Side,
-    against: &SharedRow,
-    join: &J,
-) -> Option<&'a SharedRow>
-    ensures { option_copied result ≡ joining (λ row. joins (J.predicate join.now) side row against.now) (rest_of (rows_in rows.now) reserved key) }
-{
-    if reserved == Some(key) {
-        return None;
-    }
-    let rest = rows.get(key.1)?;
-    if rest.settled && is_joined(side, &rest.row, against, join) {
-        Some(&rest.row)
-    } else {
-        None
+        partners_of(self.alloc, rows)
     }
 }

@@ -50,7 +50,7 @@ impl KeyChains {
     /// Finds the place that holds the row of a number, wherever it is.
     // Called, so that what is mostly done stays short.
     #[inline(never)]
-    fn find_behind(&self, no: u64) -> Option<usize>
+    pub(super) fn find_behind(&self, no: u64) -> Option<usize>
         requires { AreChained self.now }
         ensures { FindsRow no self.now.places.items result }
     {

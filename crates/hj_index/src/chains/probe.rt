@@ -73,7 +73,14 @@ impl KeyChains {
         requires chained { AreChained self.now }
         ensures { IfOk result (λ partners. partners ≡ settled_matches (J.predicate join.now) side against.now (rows_in self.now)) }
     {
-        partners_of(alloc, self.sorted_rows(alloc, side, against, join)?)
+        let mut rows = BTreeMap::new(alloc);
+        for at in 0..self.places.len() {
+            let place = &self.places[at];
+            if let Some(row) = joining_row(&place.rest, side, against, join) {
+                rows.insert(place.no, row.share()?)?;
+            }
+        }
+        partners_of(alloc, rows)
     }
 
     /// Puts the settled rows of a key that join with a row of the other stream into an empty list of partners, from the last place on
@@ -108,27 +115,5 @@ impl KeyChains {
         }
         found.reverse();
         Ok(())
-    }
-
-    /// Finds the settled rows that join with a row of the other stream, by their numbers, whatever the order in which they stand.
-    #[cold]
-    fn sorted_rows<J: Join<SharedRow>>(
-        &self,
-        alloc: Global,
-        side: Side,
-        against: &SharedRow,
-        join: &J,
-    ) -> Result<BTreeMap<u64, SharedRow>, Memory>
-        requires chained { AreChained self.now }
-        ensures { IfOk result (λ rows. map partner_of rows.entries ≡ settled_matches (J.predicate join.now) side against.now (rows_in self.now)) }
-    {
-        let mut rows = BTreeMap::new(alloc);
-        for at in 0..self.places.len() {
-            let place = &self.places[at];
-            if let Some(row) = joining_row(&place.rest, side, against, join) {
-                rows.insert(place.no, row.share()?)?;
-            }
-        }
-        Ok(rows)
     }
 }

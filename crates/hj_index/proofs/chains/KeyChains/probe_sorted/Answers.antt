@@ -3,8 +3,8 @@ use Rattle.std.specs.Option.{option_copied}
 use Rattle.std.proofs.lemmas.Option.{slice_get_read}
 use Rattle.hj_msg.specs.Store.{joins}
 use Rattle.hj_index.proofs.ChainSorts.{sort-joined, sort-passed, sort-starts, IsSorting}
-use Rattle.hj_index.proofs.chains.KeyChains.sorted_rows.Goals as goal
-use Rattle.hj_index.proofs.chains.KeyChains.sorted_rows.Goals.{in-Some+in_ok-share+in_ok-insert+in-Some-1, in-Some+in_ok-share+in_ok-insert+in-None-1, in_default}
+use Rattle.hj_index.proofs.chains.KeyChains.probe_sorted.Goals as goal
+use Rattle.hj_index.proofs.chains.KeyChains.probe_sorted.Goals.{in-Some+in_ok-share+in_ok-insert+in-Some-1, in-Some+in_ok-share+in_ok-insert+in-None-1, in_default}
 
 pub loop-at-init : goal.loop-at-init
 loop-at-init g c =

@@ -1,6 +1,6 @@
 use Rattle.hj_msg.specs.Store.{joins}
 use Rattle.hj_index.proofs.ChainSorts.{IsSorting}
-use Rattle.hj_index.proofs.chains.KeyChains.sorted_rows.Given as goal
+use Rattle.hj_index.proofs.chains.KeyChains.probe_sorted.Given as goal
 
 -- what was found, with what is left of the places, is all that joins
 abbrev pub invariant-loop-at : goal.invariant-loop-at

@@ -7,7 +7,7 @@ use Rattle.hj_rows.specs.NumberedRows.{rows_in}
 use Rattle.hj_index.specs.OrderedIndex.{key_cmp, number_at, AreWithin, OrderedKey}
 use Rattle.hj_index.specs.OrderedStore.{JoinsNear, OrderedRows}
 use Rattle.hj_index.proofs.Banding.{near_sort_passed, near_sorted, sorts_first}
-use Rattle.hj_index.proofs.ordered_store.OrderedStore.sorted_rows.Goals as goal
+use Rattle.hj_index.proofs.ordered_store.OrderedStore.probe_sorted.Goals as goal
 
 pub loop-key-init : goal.loop-key-init
 loop-key-init g c =

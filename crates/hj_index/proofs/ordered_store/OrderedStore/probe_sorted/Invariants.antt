@@ -2,7 +2,7 @@ use Rattle.hj_msg.specs.Store.{joins, settled_matches}
 use Rattle.hj_rows.specs.NumberedRows.{rows_in}
 use Rattle.hj_index.proofs.Banding.{places_left}
 use Rattle.hj_rows.proofs.SortedProbes.{Sorts}
-use Rattle.hj_index.proofs.ordered_store.OrderedStore.sorted_rows.Given as goal
+use Rattle.hj_index.proofs.ordered_store.OrderedStore.probe_sorted.Given as goal
 
 -- what was found, with what is left of the band, is all that joins
 abbrev pub invariant-loop-key : goal.invariant-loop-key
