@@ -1,5 +1,5 @@
 -- What puts leave in the journals.
-use Rattle.std.proofs.Common.{◌≡◌, ℕ, ◌+◌, List, [], ◌∷◌, ◌++◌, length, map, Option, Some, refl, ap, ap₂, sym, ◌∙◌, arith, append-nil, append_assoc, length-append}
+use Rattle.std.proofs.Common.{◌≡◌, ℕ, ◌+◌, List, [], ◌∷◌, ◌++◌, length, map, Option, None, Some, IfNone, refl, ap, sym, ◌∙◌, arith, append-nil, append_assoc, length-append}
 use Rattle.std.specs.List.{flat_map}
 use Rattle.std.specs.Option.{option_to_list}
 use Rattle.std.proofs.lemmas.List.{map-append}
@@ -10,10 +10,18 @@ use Rattle.hj_base.specs.Journals.{Entry, put, taken}
 use Rattle.hj_msg.specs.declared.message.Msg.{Msg}
 use Rattle.hj_msg.specs.declared.message.Report.{Report}
 use Rattle.hj_msg.specs.Turns.{only_at}
-use Rattle.hj_core.specs.declared.sends.Sends.{Sends}
 use Rattle.hj_worker.specs.Outgoing.{Outgoing, leftwards, rightwards, reported, Journals, with_put, with_puts, with_take, entries_in}
-use Rattle.hj_worker.specs.Hands.{things_of}
-use Rattle.hj_worker.specs.Turning.{Puts}
+use Rattle.hj_link.specs.Seen.{EndSeen}
+use Rattle.hj_worker.specs.declared.answers.Place.{Place}
+use Rattle.hj_worker.specs.declared.answers.Place.TheVariants.{Link, Reports}
+use Rattle.hj_worker.specs.declared.ends.WorkerEnds.{WorkerEnds}
+use Rattle.hj_worker.specs.Hands.{things_to_right}
+use Rattle.hj_worker.specs.Seen.{full_looks}
+use Rattle.hj_worker.specs.Turning.{AreBlocked, Puts}
+
+pub if_none : {X A B : Type 0} (o : Option X) → IfNone o A → (A → B) → IfNone o B
+if_none None is then = then is
+if_none (Some x) is then = tt
 
 module _ {P : Type 0} where
   -- what one thing puts at each place
@@ -102,48 +110,63 @@ module _ {P : Type 0} where
   puts-rightwards number js [] = ap (λ l. record js { right = l }) (sym (append-nil js.right))
   puts-rightwards number js (m ∷ ms) = puts-rightwards number (with_put number js (rightwards m)) ms ∙ ap (λ l. record js { right = l }) (append_assoc js.right (put number m ∷ []) (map (put number) ms))
 
-  puts-messages : (number : ℕ) (js : Journals P) (ls rs : List (Msg P)) → with_puts number js (map leftwards ls ++ map rightwards rs) ≡ record js { left = js.left ++ map (put number) ls; right = js.right ++ map (put number) rs }
-  puts-messages number js ls rs =
-      fold-append (with_put number) js (map leftwards ls) (map rightwards rs) ∙ ap (λ ks. with_puts number ks (map rightwards rs)) (puts-leftwards number js ls)
-      ∙ puts-rightwards number (record js { left = js.left ++ map (put number) ls }) rs
+  -- Where some things were put before, the others that are put behind them are put behind all.
+  pub puts-behind : (number : ℕ) (js mid new : Journals P) (xs ys : List (Outgoing P)) → mid ≡ with_puts number js xs → new ≡ with_puts number mid ys → new ≡ with_puts number js (xs ++ ys)
+  puts-behind number js mid new xs ys before is = is ∙ ap (λ j. with_puts number j ys) before ∙ puts-append number js xs ys
+
+  pub stops-behind : (number : ℕ) (js mid new : Journals P) (xs ys others : List (Outgoing P)) → mid ≡ with_puts number js xs → Puts number ys mid others new → Puts number (xs ++ ys) js others new
+  stops-behind number js mid new xs ys others before puts = record {
+    done = xs ++ puts.done;
+    all = ap (λ zs. xs ++ zs) puts.all ∙ sym (append_assoc xs puts.done others);
+    journals = puts-behind number js mid new xs puts.done before puts.journals;
+  }
+
+  -- what one place has more, where a message to the left was put, or more to the right
+  pub left-put : (number : ℕ) (js : Journals P) (left : List (Entry (Msg P))) (ms : List (Msg P)) → left ≡ js.left ++ map (put number) ms → record js { left = left } ≡ with_puts number js (map leftwards ms)
+  left-put number js left ms is = ap (λ l. record js { left = l }) is ∙ sym (puts-leftwards number js ms)
+
+  right-put : (number : ℕ) (js : Journals P) (right : List (Entry (Msg P))) (ms : List (Msg P)) → right ≡ js.right ++ map (put number) ms → record js { right = right } ≡ with_puts number js (map rightwards ms)
+  right-put number js right ms is = ap (λ r. record js { right = r }) is ∙ sym (puts-rightwards number js ms)
 
   -- the second message to the right finds it full
-  pub second_blocked : (number : ℕ) (js : Journals P) (left right right' : List (Entry (Msg P))) (sends : Sends P) (m : Msg P)
-      → left ≡ js.left ++ map (put number) (option_to_list sends.to_left) → right ≡ js.right ++ map (put number) (option_to_list sends.to_right) → sends.to_right_then ≡ Some m → right' ≡ right
-      → Puts number (things_of sends) js (rightwards m ∷ map reported (option_to_list sends.entry)) (record { left = left; right = right'; reports = js.reports })
-  second_blocked number js left right right' sends m lefts_put rights_put is same =
-      let ls = option_to_list sends.to_left in
-      let rs = option_to_list sends.to_right in
-      let es = map {B = Outgoing P} reported (option_to_list sends.entry) in
+  pub second_blocked : (number : ℕ) (js : Journals P) (right right' : List (Entry (Msg P))) (first second : Option (Msg P)) (entry : Option (Report P)) (m : Msg P)
+      → right ≡ js.right ++ map (put number) (option_to_list first) → second ≡ Some m → right' ≡ right
+      → Puts number (things_to_right first second entry) js (rightwards m ∷ map reported (option_to_list entry)) (record js { right = right' })
+  second_blocked number js right right' first second entry m first_put is same =
+      let rs = option_to_list first in
+      let es = map {B = Outgoing P} reported (option_to_list entry) in
       record {
-        done = map leftwards ls ++ map rightwards rs;
+        done = map rightwards rs;
         all =
-            ap (λ (o : Option (Msg P)). map leftwards ls ++ (map rightwards (rs ++ option_to_list o) ++ es)) is
-            ∙ ap (λ xs. map leftwards ls ++ (xs ++ es)) (map-append {B = Outgoing P} rightwards rs (m ∷ []))
-            ∙ ap (λ xs. map leftwards ls ++ xs) (append_assoc (map rightwards rs) (rightwards m ∷ []) es)
-            ∙ sym (append_assoc (map leftwards ls) (map rightwards rs) (rightwards m ∷ es));
-        journals = ap₂ (λ l r. record js { left = l; right = r }) lefts_put (same ∙ rights_put) ∙ sym (puts-messages number js ls rs);
+            ap (λ (o : Option (Msg P)). map rightwards (rs ++ option_to_list o) ++ es) is
+            ∙ ap (λ xs. xs ++ es) (map-append {B = Outgoing P} rightwards rs (m ∷ []))
+            ∙ append_assoc (map rightwards rs) (rightwards m ∷ []) es;
+        journals = right-put number js right' rs (same ∙ first_put);
       }
 
   -- the report finds its queue full
-  pub report_blocked : (number : ℕ) (js : Journals P) (left right right' : List (Entry (Msg P))) (reports : List (Entry (Report P))) (sends : Sends P) (r : Report P)
-      → left ≡ js.left ++ map (put number) (option_to_list sends.to_left) → right ≡ js.right ++ map (put number) (option_to_list sends.to_right)
-      → right' ≡ right ++ map (put number) (option_to_list sends.to_right_then) → sends.entry ≡ Some r → reports ≡ js.reports
-      → Puts number (things_of sends) js (reported r ∷ []) (record { left = left; right = right'; reports = reports })
-  report_blocked number js left right right' reports sends r lefts_put rights_put then_put is same =
-      let ls = option_to_list sends.to_left in
-      let rs = option_to_list sends.to_right in
-      let ts = option_to_list sends.to_right_then in
+  pub report_blocked : (number : ℕ) (js : Journals P) (right right' : List (Entry (Msg P))) (reports : List (Entry (Report P))) (first second : Option (Msg P)) (entry : Option (Report P)) (r : Report P)
+      → right ≡ js.right ++ map (put number) (option_to_list first) → right' ≡ right ++ map (put number) (option_to_list second) → entry ≡ Some r → reports ≡ js.reports
+      → Puts number (things_to_right first second entry) js (reported r ∷ []) (record js { right = right'; reports = reports })
+  report_blocked number js right right' reports first second entry r first_put second_put is same =
+      let rs = option_to_list first in
+      let ts = option_to_list second in
       let rights_are : right' ≡ js.right ++ map (put number) (rs ++ ts)
-      = then_put ∙ ap (λ xs. xs ++ map (put number) ts) rights_put ∙ append_assoc js.right (map (put number) rs) (map (put number) ts) ∙ ap (λ xs. js.right ++ xs) (sym (map-append (put number) rs ts)) in
+      = second_put ∙ ap (λ xs. xs ++ map (put number) ts) first_put ∙ append_assoc js.right (map (put number) rs) (map (put number) ts) ∙ ap (λ xs. js.right ++ xs) (sym (map-append (put number) rs ts)) in
       record {
-        done = map leftwards ls ++ map rightwards (rs ++ ts);
-        all =
-            ap (λ (o : Option (Report P)). map leftwards ls ++ (map rightwards (rs ++ ts) ++ map reported (option_to_list o))) is
-            ∙ sym (append_assoc (map leftwards ls) (map rightwards (rs ++ ts)) (reported r ∷ []));
-        journals = ap₂ (λ l rs'. record { left = l; right = rs'; reports = reports }) lefts_put rights_are
-            ∙ ap (λ es. record { left = js.left ++ map (put number) ls; right = js.right ++ map (put number) (rs ++ ts); reports = es }) same ∙ sym (puts-messages number js ls (rs ++ ts));
+        done = map rightwards (rs ++ ts);
+        all = ap (λ (o : Option (Report P)). map rightwards (rs ++ ts) ++ map reported (option_to_list o)) is;
+        journals = ap (λ es. record js { right = right'; reports = es }) same ∙ right-put number js right' (rs ++ ts) rights_are;
       }
+
+  -- A place is found full after the message to the left was put as it would be before: that put is no look that finds one full.
+  pub blocked-behind_left : (old : WorkerEnds P) (left : EndSeen (Msg P)) (new : WorkerEnds P) (place : Place) (items : List (Outgoing P)) → left.full_looks ≡ old.left.full_looks → AreBlocked place items (record old { left = left }) new → AreBlocked place items old new
+  blocked-behind_left old left new place items same blocked = record { first = blocked.first; later = blocked.later; are = blocked.are; at = blocked.at; full = blocked.full ∙ ap (λ n. n + 1) (looks place) }
+    where
+      looks : (place : Place) → full_looks place (record old { left = left }) ≡ full_looks place old
+      looks (Link Left) = same
+      looks (Link Right) = refl
+      looks Reports = refl
 
   -- a put or a take is one entry more
   pub entries-put : (number : ℕ) (js : Journals P) (item : Outgoing P) → entries_in (with_put number js item) ≡ entries_in js + 1

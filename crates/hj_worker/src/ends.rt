@@ -29,7 +29,7 @@ pub struct Unput<P> {
 impl<P: Drop> WorkerEnds<P> {
     ghost use Rattle.std.specs.Prelude.{ℕ};
     ghost use Rattle.hj_base.specs.declared.numbers.Side.TheVariants.{Left as OnLeft, Right as OnRight};
-    ghost use Rattle.hj_worker.specs.Hands.{things_of};
+    ghost use Rattle.hj_worker.specs.Hands.{things_of, things_to_right};
     ghost use Rattle.hj_worker.specs.Outgoing.{passed, with_puts};
     ghost use Rattle.hj_worker.specs.Seen.{journals_of};
     ghost use Rattle.hj_worker.specs.Turning.{KeepsLinks, Puts, AreBlocked, FindsNone, Takes, LeavesInHand};
@@ -103,8 +103,8 @@ impl<P: Drop> WorkerEnds<P> {
             to_right_then,
             entry,
         } = sends;
-        if let Some(message) = self.left.put_some(turn, to_left) {
-            return Some(Unput {
+        match self.left.put_some(turn, to_left) {
+            Some(message) => Some(Unput {
                 place: Place::Link(Side::Left),
                 sends: Sends {
                     to_left: Some(message),
@@ -112,8 +112,25 @@ impl<P: Drop> WorkerEnds<P> {
                     to_right_then,
                     entry,
                 },
-            });
+            }),
+            None => self.put_to_right(turn, to_right, to_right_then, entry),
         }
+    }
+
+    /// Puts what goes to the right, in order, then the report, up to the first full place. Returns the rest.
+    #[inline(always)]
+    fn put_to_right(
+        &mut self,
+        turn: u64,
+        to_right: Option<Msg<P>>,
+        to_right_then: Option<Msg<P>>,
+        entry: Option<Report<P>>,
+    ) -> Option<Unput<P>>
+        ensures links { KeepsLinks self.old self.new }
+        ensures all { IfNone result (journals_of self.new ≡ with_puts turn (journals_of self.old) (things_to_right to_right to_right_then entry)) }
+        ensures some { IfSome result (λ unput. Puts turn (things_to_right to_right to_right_then entry) (journals_of self.old) (things_of unput.sends) (journals_of self.new)) }
+        ensures blocked { IfSome result (λ unput. AreBlocked unput.place (things_of unput.sends) self.old self.new) }
+    {
         if let Some(message) = self.right.put_some(turn, to_right) {
             return Some(Unput {
                 place: Place::Link(Side::Right),
@@ -136,18 +153,16 @@ impl<P: Drop> WorkerEnds<P> {
                 },
             });
         }
-        if let Some(report) = self.reports.put_some(turn, entry) {
-            return Some(Unput {
-                place: Place::Reports,
-                sends: Sends {
-                    to_left: None,
-                    to_right: None,
-                    to_right_then: None,
-                    entry: Some(report),
-                },
-            });
-        }
-        None
+        let report = self.reports.put_some(turn, entry)?;
+        Some(Unput {
+            place: Place::Reports,
+            sends: Sends {
+                to_left: None,
+                to_right: None,
+                to_right_then: None,
+                entry: Some(report),
+            },
+        })
     }
 }
 
