@@ -1,4 +1,5 @@
 mod InPlace
 pub mod Probes
+mod PutAgain
 pub mod Rows
 pub mod SortedProbes

@@ -85,26 +85,13 @@ pub fn probe_sorted<P: Share + Drop, J: Join<P>>(
 ) -> Result<Partners<P>, Memory>
     ensures { IfOk result (λ partners. partners ≡ settled_matches (J.predicate join.now) side against.now (rows_in rows.now)) }
 {
-    partners_of(alloc, sorted_rows(alloc, rows, side, against, join)?)
-}
-
-/// Finds the settled rows of `side` that join with `against`, a row of the other side, by their numbers.
-fn sorted_rows<P: Share + Drop, J: Join<P>>(
-    alloc: Global,
-    rows: &NumberedRows<P>,
-    side: Side,
-    against: &P,
-    join: &J,
-) -> Result<BTreeMap<u64, P>, Memory>
-    ensures { IfOk result (λ found. map partner_of found.entries ≡ settled_matches (J.predicate join.now) side against.now (rows_in rows.now)) }
-{
     let mut found = BTreeMap::new(alloc);
     for (no, place) in rows.places.iter() {
         if let Some(row) = joining_row(place, side, against, join) {
             found.insert(*no, row.share()?)?;
         }
     }
-    Ok(found)
+    partners_of(alloc, found)
 }
 
 /// Gives rows, each under the number of its arrival, as partners in order of these numbers.

@@ -7,22 +7,19 @@ use Rattle.hj_rows.proofs.Rows.{entry-absent, entry-found, held-at, holds-absent
 use Rattle.hj_rows.proofs.InPlace.{emptied-length, emptied-swept}
 use Rattle.hj_rows.proofs.numbered.NumberedRows.remove.Goals as goal
 
-pub returns-in_default-clause-held : goal.returns-in_default-clause-held
-returns-in_default-clause-held g c =
-    sym (holds-absent c.args.no c.args.self.now.places.entries (sym c.get_mut.ensures.value ∙ ap option_copied_mut c.in_default.is))
-
-pub returns-in_default-clause-rows : goal.returns-in_default-clause-rows
-returns-in_default-clause-rows g c =
-    let absent : lookup (nat_eq c.args.no) c.args.self.now.places.entries ≡ None = sym c.get_mut.ensures.value ∙ ap option_copied_mut c.in_default.is in
-    rw c.get_mut.follows.holds-at-none (sym (without-absent c.args.no (rows_of c.args.self.now.places.entries) (holds-absent c.args.no c.args.self.now.places.entries absent)))
-
-pub returns-in_default-clause-distinct : goal.returns-in_default-clause-distinct
-returns-in_default-clause-distinct g c = rw c.get_mut.follows.holds-at-none (rows-distinct c.args.self.now.places.entries c.get_mut.ensures.unique)
-
-pub returns-in_default-clause-taken : goal.returns-in_default-clause-taken
-returns-in_default-clause-taken g c =
-    let absent : lookup (nat_eq c.args.no) c.args.self.now.places.entries ≡ None = sym c.get_mut.ensures.value ∙ ap option_copied_mut c.in_default.is in
-    ap (option_map (λ (entry : Resting g.row.P.Denot). entry.row)) (sym (entry-absent c.args.no c.args.self.now.places.entries absent))
+pub returns-in_default : goal.returns-in_default
+returns-in_default g c =
+    let k = c.args.no in
+    let es = c.args.self.now.places.entries in
+    let absent : lookup (nat_eq k) es ≡ None = sym c.get_mut.ensures.value ∙ ap option_copied_mut c.in_default.is in
+    rw c.get_mut.follows.holds-at-none (record {
+      taken = ap (option_map (λ (entry : Resting g.row.P.Denot). entry.row)) (sym (entry-absent k es absent));
+      held = sym (holds-absent k es absent);
+      rows = sym (without-absent k (rows_of es) (holds-absent k es absent));
+      few = omega arith;
+      places = λ long at row e. e;
+      distinct = rows-distinct es c.get_mut.ensures.unique;
+    })
 
 pub returns-in_default-take-clause-taken : goal.returns-in_default-take-clause-taken
 returns-in_default-take-clause-taken g c =

@@ -1,22 +1,22 @@
-use Rattle.std.proofs.Common.{◌≡◌, nat_eq, None, sym, ap, ◌∙◌}
+use Rattle.std.proofs.Common.{refl, sym, ap, ◌∙◌}
 use Rattle.std.specs.Option.{option_copied_mut}
-use Rattle.std.specs.Map.{lookup}
 use Rattle.hj_rows.specs.Places.{place_rows, rows_of}
 use Rattle.hj_rows.proofs.Rows.{rows-distinct, held-at, settled-at, holds-absent, settled-absent}
 use Rattle.hj_rows.proofs.InPlace.{settled-stays}
 use Rattle.hj_rows.proofs.numbered.NumberedRows.settle.Goals as goal
 
-pub returns-in_default-clause-held : goal.returns-in_default-clause-held
-returns-in_default-clause-held g c =
-    sym (holds-absent c.args.no c.args.self.now.places.entries (sym c.get_mut.ensures.value ∙ ap option_copied_mut c.in_default.is))
-
-pub returns-in_default-clause-rows : goal.returns-in_default-clause-rows
-returns-in_default-clause-rows g c =
-    let absent : lookup (nat_eq c.args.no) c.args.self.now.places.entries ≡ None = sym c.get_mut.ensures.value ∙ ap option_copied_mut c.in_default.is in
-    rw c.get_mut.follows.holds-at-none (sym (settled-absent c.args.no (rows_of c.args.self.now.places.entries) (holds-absent c.args.no c.args.self.now.places.entries absent)))
-
-pub returns-in_default-clause-distinct : goal.returns-in_default-clause-distinct
-returns-in_default-clause-distinct g c = rw c.get_mut.follows.holds-at-none (rows-distinct c.args.self.now.places.entries c.get_mut.ensures.unique)
+pub returns-in_default : goal.returns-in_default
+returns-in_default g c =
+    let k = c.args.no in
+    let es = c.args.self.now.places.entries in
+    let absent = holds-absent k es (sym c.get_mut.ensures.value ∙ ap option_copied_mut c.in_default.is) in
+    rw c.get_mut.follows.holds-at-none (record {
+      held = sym absent;
+      rows = sym (settled-absent k (rows_of es) absent);
+      places = refl;
+      room = refl;
+      distinct = rows-distinct es c.get_mut.ensures.unique;
+    })
 
 pub returns-clause-held : goal.returns-clause-held
 returns-clause-held g c =

@@ -1,7 +1,7 @@
 use Rattle.std.proofs.Common.{sym, ap, ◌∙◌, Some}
 use Rattle.hj_msg.specs.Store.{joins}
 use Rattle.hj_rows.proofs.SortedProbes.{sorts-passed, sorts-joined, sorts-nothing}
-use Rattle.hj_rows.proofs.list_store.sorted_rows.Goals as goal
+use Rattle.hj_rows.proofs.list_store.probe_sorted.Goals as goal
 
 pub loop-no-init : goal.loop-no-init
 loop-no-init g c =

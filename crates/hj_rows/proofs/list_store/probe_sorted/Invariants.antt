@@ -1,7 +1,7 @@
 use Rattle.hj_msg.specs.Store.{joins, settled_matches}
 use Rattle.hj_rows.specs.Places.{rows_of}
 use Rattle.hj_rows.proofs.SortedProbes.{Sorts}
-use Rattle.hj_rows.proofs.list_store.sorted_rows.Given as goal
+use Rattle.hj_rows.proofs.list_store.probe_sorted.Given as goal
 
 abbrev pub invariant-loop-no : goal.invariant-loop-no
 invariant-loop-no g l =
