@@ -1,6 +1,6 @@
-//! Joins two streams of rows under a query, and writes each pair once, in one order; joins these pairs with a third stream; writes the
-//! steps of a join, and checks such steps and an output; writes the canonical text of a query; and sums up the join of two streams
-//! that a seed determines.
+//! Joins two streams of rows under a query, and writes each pair once, in one order, or as it is met; joins these pairs with a third
+//! stream; writes the steps of a join, and checks such steps and an output; writes the canonical text of a query; and sums up the join
+//! of two streams that a seed determines.
 #![tactic(auto)]
 
 use hj_base::OpenGate;

@@ -20,7 +20,7 @@ use Rattle.hj_opening.specs.Streams.{IsBegunUnder}
 use Rattle.hj_opening.specs.TwoJoins.{AcceptsBoth, IsTwiceRole}
 use Rattle.hj_opening.specs.Words.{TwiceNames, named}
 
--- the note of a second query, where that of the reading is this one
+-- the note of a second query that wasn't got, by the note that its reading gave
 abbrev pub second_note : Note → TwiceNote
 second_note (why.BadQuery found) = note.BadSecondQuery found
 second_note other = note.Common other

@@ -15,7 +15,7 @@ use std::alloc::Global;
 /// How many bytes one read asks for.
 const MOST_IN_READ: usize = 4_096;
 
-/// How many bytes make a text no query, whatever follows.
+/// A text that has so many bytes is no query, whatever follows.
 const TOO_MANY: usize = MOST_BYTES + 1;
 
 /// Gets the query of a join: that of `equi`, or the one that is read under a name. The error is the note that says why there is

@@ -107,7 +107,7 @@ fn read_second<O: Outside>(alloc: Global, name: &str, outside: &mut O) -> Result
     }
 }
 
-/// Gives the note of a second query, where that of the reading is this one.
+/// Gives the note of a second query that wasn't got, by the note that its reading gave.
 fn second_note(note: Note) -> TwiceNote
     ensures { result ≡ second_note note }
 {

@@ -4,7 +4,7 @@ use hj_crew::Ran;
 use hj_notes::Note;
 use hj_value::SharedRow;
 
-/// How an order ended whose join threads make.
+/// How an order ended whose join is made on threads.
 #[derive(Drop)]
 pub struct OrderEnd {
     /// Well, or for the reason that the note gives.

@@ -53,19 +53,20 @@ pub struct Served {
 /// in which order its steps come where no thread turns a core. `equi W LEFT RIGHT` joins two streams of rows, each a time and a
 /// key, on equal keys, over windows of the last W rows of each side. `check QUERY` writes the canonical text of a query. `gen N
 /// KEYS SEED W` makes two streams of N rows each in memory, joins them as `equi W` does, and writes one line that sums the join up.
-/// `trace QUERY LEFT RIGHT` writes the line of each step of such a join, as one thread makes it alone. `verify QUERY LEFT RIGHT TRACE
-/// OUTPUT` checks that a trace spells a whole run of the join, and that an output is its text. `twice QUERY LEFT RIGHT QUERY THIRD`
-/// joins two streams under the first query, and then, under the second one, the pairs of this join with a third stream: a pair is a row
-/// of the second join's left stream, the time of its later row and then the fields of both rows. The options hold for each of the two
-/// joins, and `out` gets the lines of the second one.
+/// `raw QUERY LEFT RIGHT` joins as `join` does on threads, but writes the pairs as the cores meet them, with marks between them. `trace
+/// QUERY LEFT RIGHT` writes the line of each step of such a join, as one thread makes it alone. `verify QUERY LEFT RIGHT TRACE OUTPUT`
+/// checks that a trace spells a whole run of the join, and that an output is its text. `twice QUERY LEFT RIGHT QUERY THIRD` joins two
+/// streams under the first query, and then, under the second one, the pairs of this join with a third stream: a pair is a row of the
+/// second join's left stream, the time of its later row and then the fields of both rows. The options hold for each of the two joins,
+/// and `out` gets the lines of the second one.
 ///
 /// `parties` has what starts the threads, and a gate, which is passed before each step of a core. `outside` opens and reads the
 /// streams, `out` gets the joined lines, the text or the line, and `notes` a line that says why a run didn't end well. The statuses:
 /// 0 done, 1 the words are no order, 2 the text is no query, or a second query doesn't fit the first, 3 a bad record, 4 a stream
 /// couldn't be opened or read, 5 `out` failed, 6 memory ran out, 7 more events than the limit, 8 the trace or the output isn't right.
 /// The lines are those of the pairs of the sequential sliding-window join (Kang, Naughton and Viglas, ICDE 2003) over the streams'
-/// numbered events, each once, in its order, whatever the options. The call waits for the threads that it starts; the check of a query,
-/// and a join with no threads, is done by `serve_serial`.
+/// numbered events, each once, and but for `raw` in its order, whatever the options. The call waits for the threads that it starts; the
+/// check of a query, and a join with no threads, is done by `serve_serial`.
 pub fn serve<T: Threads + Wait + Clock + Sync, O: Outside, K: Sink, N: Sink, G: Gate + Sync>(
     alloc: Global,
     words: &[String],
@@ -152,7 +153,7 @@ fn serve_order<T: Threads + Wait + Clock + Sync, O: Outside, K: Sink, N: Sink, G
     }
 }
 
-/// Runs an order whose chain threads turn by a plan.
+/// Runs an order on threads, by a plan.
 fn run_on_threads<T: Threads + Wait + Clock + Sync, O: Outside, K: Sink, G: Gate + Sync>(
     alloc: Global,
     order: ThreadsOrder<'_>,
@@ -173,7 +174,7 @@ fn run_on_threads<T: Threads + Wait + Clock + Sync, O: Outside, K: Sink, G: Gate
     }
 }
 
-/// Writes the note of words that were read as no order.
+/// Writes the note that says why no order was read.
 fn refused<N: Sink>(notes: &mut N, note: Note) -> Served
     ensures status { result.status ≡ status_of note }
     ensures no_run { result.ran ≡ None }
