@@ -1,6 +1,7 @@
 ghost use Rattle.std.specs.Prelude.{◌≡◌, ◌<◌, ◌^◌, ◌++◌, OnOk};
 ghost use Rattle.hj_msg.specs.Core.{sends};
-ghost use Rattle.hj_trace.specs.Messages.{messages_text};
+ghost use Rattle.hj_msg.specs.Driver.{message_of, port_of};
+ghost use Rattle.hj_trace.specs.Messages.{message_text, messages_text};
 ghost use Rattle.hj_trace.specs.Puts.{event_leftward, event_rightward};
 
 use crate::messages::push_message;
@@ -15,22 +16,9 @@ pub const NOTHING: &str = "-";
 pub fn push_event_leftward<P>(text: &mut Vec<u8>, event: &Event<P>) -> Result<(), Memory>
     ensures { OnOk result (text.new.items ≡ text.old.items ++ messages_text (event_leftward event.now)) }
 {
-    match event {
-        Event::Arrive {
-            side: Side::Right,
-            no,
-            ..
-        } => push_numbered(text, "S", no.0),
-        Event::Expire {
-            side: Side::Left,
-            of,
-            ..
-        } => push_numbered(text, "ExpR", of.0),
-        Event::Quiet {
-            side: Side::Right,
-            no,
-        } => push_numbered(text, "QuietR", no.0),
-        _ => push_words(text, NOTHING),
+    match port_of(event) {
+        Side::Left => push_words(text, NOTHING),
+        Side::Right => push_message_of(text, event),
     }
 }
 
@@ -38,23 +26,64 @@ pub fn push_event_leftward<P>(text: &mut Vec<u8>, event: &Event<P>) -> Result<()
 pub fn push_event_rightward<P>(text: &mut Vec<u8>, event: &Event<P>) -> Result<(), Memory>
     ensures { OnOk result (text.new.items ≡ text.old.items ++ messages_text (event_rightward event.now)) }
 {
+    match port_of(event) {
+        Side::Left => push_message_of(text, event),
+        Side::Right => push_words(text, NOTHING),
+    }
+}
+
+/// Returns the port on which an event's message is put.
+fn port_of<P>(event: &Event<P>) -> Side
+    ensures { result ≡ port_of event.now }
+{
     match event {
+        Event::Arrive { side, .. } | Event::Quiet { side, .. } => *side,
+        Event::Expire {
+            side: Side::Left,
+            ..
+        } => Side::Right,
+        Event::Expire {
+            side: Side::Right,
+            ..
+        } => Side::Left,
+    }
+}
+
+/// Appends the text of an event's message.
+fn push_message_of<P>(text: &mut Vec<u8>, event: &Event<P>) -> Result<(), Memory>
+    ensures { OnOk result (text.new.items ≡ text.old.items ++ message_text (message_of event.now)) }
+{
+    let (kind, no) = match event {
         Event::Arrive {
             side: Side::Left,
             no,
             ..
-        } => push_numbered(text, "R", no.0),
+        } => ("R", no),
+        Event::Arrive {
+            side: Side::Right,
+            no,
+            ..
+        } => ("S", no),
+        Event::Expire {
+            side: Side::Left,
+            of,
+            ..
+        } => ("ExpR", of),
         Event::Expire {
             side: Side::Right,
             of,
             ..
-        } => push_numbered(text, "ExpS", of.0),
+        } => ("ExpS", of),
         Event::Quiet {
             side: Side::Left,
             no,
-        } => push_numbered(text, "QuietL", no.0),
-        _ => push_words(text, NOTHING),
-    }
+        } => ("QuietL", no),
+        Event::Quiet {
+            side: Side::Right,
+            no,
+        } => ("QuietR", no),
+    };
+    push_numbered(text, kind, no.0)
 }
 
 /// Appends the text of what a core of this place among `cores` puts to the left for a message.
