@@ -3,3 +3,4 @@ pub mod ByRaw
 pub mod ByRun
 pub mod Planned
 pub mod Ran
+pub mod Refused

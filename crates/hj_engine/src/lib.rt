@@ -2,6 +2,7 @@
 #![tactic(auto)]
 
 mod crew;
+mod ended;
 mod lines;
 mod raw;
 mod run;

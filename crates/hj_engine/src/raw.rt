@@ -9,7 +9,8 @@ ghost use Rattle.hj_stream.specs.RawJoining.{JoinsRaw};
 ghost use Rattle.hj_engine.specs.ShowingRaw.{ShowsRaw};
 
 use crate::crew::QueryRun;
-use hj_base::{Gate, Memory, Outside, Sink};
+use crate::ended::EndedJoin;
+use hj_base::{Gate, Outside, Sink};
 use hj_crew::{CrewPlan, Ran};
 use hj_event::Merger;
 use hj_query::Query;
@@ -89,14 +90,6 @@ fn join_merged<T: Threads + Wait + Clock + Sync, O: Outside, K: Sink, G: Gate + 
     (joined.ended, ran)
 }
 
-/// Holds how a join ended, and what it ran between.
-#[derive(Drop)]
-struct EndedRawJoin<'f, 'd, O: Outside, K: Sink> {
-    ended: Outcome,
-    feed: EventFeed<'f, O>,
-    drain: RawLineDrain<'d, K>,
-}
-
 /// Joins the events of a feed that gave none yet, writes the pairs as they are met, and leaves the run in `ran`.
 // The run stands apart, since what the feed and the drain leave behind their references is known only where nothing that owns
 // memory is dropped with them.
@@ -107,7 +100,7 @@ fn join_feed<'f, 'd, T: Threads + Wait + Clock + Sync, O: Outside, K: Sink, G: G
     feed: EventFeed<'f, O>,
     drain: RawLineDrain<'d, K>,
     ran: &mut Option<Ran<SharedRow>>,
-) -> EndedRawJoin<'f, 'd, O, K>
+) -> EndedJoin<'f, O, RawLineDrain<'d, K>>
     requires unasked { (limit : ℕ) × IsUnasked query.now limit feed }
     ensures same_outside { result.feed.outside.ghost_name ≡ feed.entry.outside.ghost_name }
     ensures same_out { result.drain.out.ghost_name ≡ drain.entry.out.ghost_name }
@@ -124,16 +117,12 @@ fn join_feed<'f, 'd, T: Threads + Wait + Clock + Sync, O: Outside, K: Sink, G: G
 {
     let run = QueryRun { alloc, query, plan };
     let (result, feed, drain) = run.run_raw(feed, drain);
-    match result {
-        Ok(made) => {
-            let ended = raw_outcome_of(made.fin(), &feed, &drain);
-            *ran = Some(made);
-            EndedRawJoin { ended, feed, drain }
-        }
-        Err(Memory) => {
-            *ran = None;
-            let ended = Outcome::Memory;
-            EndedRawJoin { ended, feed, drain }
-        }
-    }
+    let Ok(made) = result else {
+        *ran = None;
+        let ended = Outcome::Memory;
+        return EndedJoin { ended, feed, drain };
+    };
+    let ended = raw_outcome_of(made.fin(), &feed, &drain);
+    *ran = Some(made);
+    EndedJoin { ended, feed, drain }
 }

@@ -8,8 +8,9 @@ ghost use Rattle.hj_stream.specs.Joining.{CountsSinkFault, Joins, JoinsBy};
 ghost use Rattle.hj_engine.specs.Showing.{ShowsJoin, ShowsJoinBy};
 
 use crate::crew::QueryRun;
+use crate::ended::EndedJoin;
 use crate::lines::LineJoin;
-use hj_base::{Gate, Memory, Outside, Sink};
+use hj_base::{Gate, Outside, Sink};
 use hj_crew::{CrewPlan, Ran};
 use hj_event::Merger;
 use hj_query::Query;
@@ -113,14 +114,6 @@ fn join_merged<L: PairLine, T: Threads + Wait + Clock + Sync, O: Outside, K: Sin
     (joined.ended, ran)
 }
 
-/// Holds how a join on threads ended, and what it ran between.
-#[derive(Drop)]
-struct EndedJoin<'f, 'd, O: Outside, K: Sink, L: PairLine> {
-    ended: Outcome,
-    feed: EventFeed<'f, O>,
-    drain: LineDrain<'d, K, L>,
-}
-
 /// Joins the events of a feed that gave none yet, writes the line of each pair, and leaves the run in `ran`.
 // The run stands apart, since what the feed and the drain leave behind their references is known only where nothing that owns
 // memory is dropped with them.
@@ -139,7 +132,7 @@ fn join_feed<
     feed: EventFeed<'f, O>,
     drain: LineDrain<'d, K, L>,
     ran: &mut Option<Ran<SharedRow>>,
-) -> EndedJoin<'f, 'd, O, K, L>
+) -> EndedJoin<'f, O, LineDrain<'d, K, L>>
     requires unasked { (limit : ℕ) × IsUnasked query.now limit feed }
     ensures same_outside { result.feed.outside.ghost_name ≡ feed.entry.outside.ghost_name }
     ensures same_out { result.drain.out.ghost_name ≡ drain.entry.out.ghost_name }
@@ -156,16 +149,12 @@ fn join_feed<
 {
     let run = QueryRun { alloc, query, plan };
     let (result, feed, drain) = run.run_in_order(feed, drain);
-    match result {
-        Ok(made) => {
-            let ended = outcome_of(made.fin(), &feed, &drain);
-            *ran = Some(made);
-            EndedJoin { ended, feed, drain }
-        }
-        Err(Memory) => {
-            *ran = None;
-            let ended = Outcome::Memory;
-            EndedJoin { ended, feed, drain }
-        }
-    }
+    let Ok(made) = result else {
+        *ran = None;
+        let ended = Outcome::Memory;
+        return EndedJoin { ended, feed, drain };
+    };
+    let ended = outcome_of(made.fin(), &feed, &drain);
+    *ran = Some(made);
+    EndedJoin { ended, feed, drain }
 }
