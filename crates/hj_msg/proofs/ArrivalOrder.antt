@@ -16,7 +16,8 @@ use Rattle.hj_msg.specs.Driver.{DriverTurn, admission, receipt, closing, admitte
 use Rattle.hj_msg.specs.Run.{Run, IsRun, close_of, port_journal}
 use Rattle.hj_msg.proofs.Members.{Contains-cut, find, any_of}
 use Rattle.hj_msg.proofs.Counts.{count}
-use Rattle.hj_msg.proofs.CrossingLemmas.{count-only_if, count-both}
+use Rattle.hj_msg.proofs.TurnPuts.{count-only_if, count-both, mark_sent}
+use Rattle.hj_msg.proofs.MarksOnce.{mark_goes}
 use Rattle.hj_msg.proofs.Orders.{before, before-open, before-prefix, any-prefix, before-not_self}
 use Rattle.hj_msg.proofs.Sides.{is_quiet, is_mark, is_close, goes_with, sends_on}
 use Rattle.hj_msg.proofs.Ports.{event_puts, turn_puts, in_turns, in_order}
@@ -24,17 +25,7 @@ use Rattle.hj_msg.proofs.Directions.{port_end, port_is, reached, along}
 use Rattle.hj_msg.proofs.Settling.{of_way, any_one}
 use Rattle.hj_msg.proofs.Expiries.{shown}
 
--- what is marked is sent on once, and alone
-pub mark_sent : {P : Type 0} (side : Side) (number place n : ℕ) (m : Msg P) → count (is_mark side number) (sends_on side place n m) ≡ cond (is_mark side number m) 1 0
-mark_sent Left number place n (R other row) = omega arith
-mark_sent Left number place n (QuietL other) = omega arith
-mark_sent Left number place n (S other row) = count-both (is_mark Left number) (nat_lt (place + 1) n) (place == 0) (AckS other) (EndS other) refl refl
-mark_sent Left number place n other = refl
-mark_sent Right number place n (S other row) = omega arith
-mark_sent Right number place n (QuietR other) = omega arith
-mark_sent Right number place n (R other row) = count-only_if (is_mark Right number) (is_last place n) (EndR other) refl
-mark_sent Right number place n other = refl
-
+-- what is marked is sent on alone
 quiet_sent : {P : Type 0} (side : Side) (number place n : ℕ) (m : Msg P) → count (is_quiet side number) (sends_on side place n m) ≡ cond (is_quiet side number m) 1 0
 quiet_sent Left number place n (QuietL other) = omega arith
 quiet_sent Left number place n (S other row) = count-both (is_quiet Left number) (nat_lt (place + 1) n) (place == 0) (AckS other) (EndS other) refl refl
@@ -50,14 +41,6 @@ mark_apart Left p number place n other e = absurd (true≢false (sym e))
 mark_apart Right p number place n (S at row) e = rw e refl
 mark_apart Right p number place n (QuietR at) e = rw e refl
 mark_apart Right p number place n other e = absurd (true≢false (sym e))
-
-pub mark_goes : {P : Type 0} (side : Side) (number : ℕ) (m : Msg P) → is_mark side number m ≡ true → goes_with side m ≡ true
-mark_goes Left number (R at row) e = refl
-mark_goes Left number (QuietL at) e = refl
-mark_goes Left number other e = absurd (true≢false (sym e))
-mark_goes Right number (S at row) e = refl
-mark_goes Right number (QuietR at) e = refl
-mark_goes Right number other e = absurd (true≢false (sym e))
 
 quiet_goes : {P : Type 0} (side : Side) (number : ℕ) (m : Msg P) → is_quiet side number m ≡ true → goes_with side m ≡ true
 quiet_goes Left number (QuietL at) e = refl

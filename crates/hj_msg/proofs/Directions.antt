@@ -1,5 +1,5 @@
 -- The ways of the messages: which end they are taken at, and in which order they go from core to core.
-use Rattle.std.proofs.Common.{◌≡◌, ℕ, zero, suc, ◌+◌, ◌-◌, ◌<◌, ◌≤◌, Bool, true, false, cond, ◌||◌, ◌==◌, nat_lt, List, [], ◌∷◌, ◌++◌, map, refl, ap, ap₂, sym, ◌∙◌, subst, arith, append-nil, add-one, Some, None, Option, ◌⊎◌, inl, inr, true≢false}
+use Rattle.std.proofs.Common.{◌≡◌, ℕ, zero, suc, ◌+◌, ◌-◌, ◌<◌, ◌≤◌, Bool, true, false, cond, ◌||◌, ◌==◌, List, [], ◌∷◌, ◌++◌, map, refl, ap, ap₂, sym, ◌∙◌, subst, arith, append-nil, add-one, Some, None, Option, ◌⊎◌, inl, inr, true≢false}
 use Rattle.std.specs.Option.{IfSome, option_to_list}
 use Rattle.std.specs.List.{flat_map, AllByRecursion, list_any}
 use Rattle.std.proofs.lemmas.List.{map-append}
@@ -9,47 +9,25 @@ use Rattle.hj_base.specs.declared.numbers.Side.{Side}
 use Rattle.hj_base.specs.declared.numbers.Side.TheVariants.{Left, Right}
 use Rattle.hj_base.specs.Journals.{Entry, IsPrefix, puts, takes, put, taken}
 use Rattle.hj_msg.specs.declared.message.Msg.{Msg}
-use Rattle.hj_msg.specs.declared.message.Msg.TheVariants.{R, AckS, EndS, S, EndR}
-use Rattle.hj_msg.specs.declared.event.Event.TheVariants.{Arrive, Expire, Quiet}
-use Rattle.hj_msg.specs.Core.{State, empty_state, after, sends, is_last}
+use Rattle.hj_msg.specs.declared.message.Msg.TheVariants.{AckS}
+use Rattle.hj_msg.specs.Core.{State, empty_state, after}
 use Rattle.hj_msg.specs.Turns.{Turn, IsCut, AreWhole, all_of, handled, at_left, at_right, only_at}
-use Rattle.hj_msg.specs.Driver.{DriverTurn, admission, receipt, closing}
-use Rattle.hj_msg.specs.Run.{Run, IsRun, at_port, port_journal}
-use Rattle.hj_msg.proofs.Counts.{count, count-append, count-prefix, count-flat_map-none}
-use Rattle.hj_msg.proofs.Ends.{takes-append, puts-left, puts-right, takes-puts}
-use Rattle.hj_msg.proofs.CrossingLemmas.{PutsOnly, all_put, count-only_if, count-both, count-port-none}
+use Rattle.hj_msg.specs.Run.{Run, IsRun, port_journal}
+use Rattle.hj_msg.proofs.Counts.{count, count-append, count-prefix}
+use Rattle.hj_msg.proofs.Ends.{takes-append, takes-puts}
+use Rattle.hj_msg.proofs.TurnPuts.{all_put, against_unput, against_unsent, count-port-none, end_on, put_none, puts_end, puts_on}
 use Rattle.hj_msg.proofs.Orders.{before, any-prefix, before-prefix, Lifts, lifted, lifted-any}
-use Rattle.hj_msg.proofs.Sides.{goes_right, goes_left, goes_with, sends_on, Reaches}
+use Rattle.hj_msg.proofs.Sides.{opposite, goes_right, goes_left, goes_with, sends_on, Reaches}
 
 abbrev pub is_AckS : {P : Type 0} → ℕ → Msg P → Bool
 is_AckS number (AckS at) = at.0 == number
 is_AckS number other = false
 
-sends-left : {P : Type 0} (place n : ℕ) (message : Msg P) → count goes_right (sends place n message).left ≡ 0
-sends-left place n (R at row) = count-only_if goes_right (is_last place n) (EndR at) refl
-sends-left place n other = refl
-
--- what stands on a link, to either side, goes that way
-all_turns-left : {P : Type 0} (place n : ℕ) (turns : List (Turn P)) → AllByRecursion (PutsOnly place n) turns → AllByRecursion (λ turn. count goes_right turn.to_left ≡ 0) turns
-all_turns-left place n [] all = tt
-all_turns-left place n (turn ∷ turns) all = (omega (arith, count-prefix goes_right all.0.left, sends-left place n turn.message), all_turns-left place n turns all.1)
-
-port-left : {P : Type 0} (number : ℕ) (turn : DriverTurn P) → count goes_right (puts (at_port Right number turn)) ≡ 0
-port-left n (admission (Arrive other Left row)) = refl
-port-left n (admission (Arrive other Right row)) = refl
-port-left n (admission (Expire other Left of)) = refl
-port-left n (admission (Expire other Right of)) = refl
-port-left n (admission (Quiet other Left)) = refl
-port-left n (admission (Quiet other Right)) = refl
-port-left n (receipt Left message) = refl
-port-left n (receipt Right message) = refl
-port-left n closing = refl
-
 -- a message is taken at the end to which it goes
 pub record TakenAt {P : Type 0} (here there : Turn P → List (Entry (Msg P))) (turn : Turn P) : Type 0 where
   pub one : (takes (here turn) ≡ turn.message ∷ []) × (takes (there turn) ≡ []) ⊎ (takes (here turn) ≡ []) × (takes (there turn) ≡ turn.message ∷ [])
 
-pub taken_left : {P : Type 0} (turn : Turn P) → TakenAt at_left at_right turn
+taken_left : {P : Type 0} (turn : Turn P) → TakenAt at_left at_right turn
 taken_left turn = record { one = go turn.end }
   where
     go : (end : Side) → (takes (only_at end Left (taken turn.number turn.message) ++ map (put turn.number) turn.to_left) ≡ turn.message ∷ []) × (takes (only_at end Right (taken turn.number turn.message) ++ map (put turn.number) turn.to_right) ≡ [])
@@ -120,118 +98,56 @@ sent_by {P} p' q' p q to f lifts whole cut all is h = go cut is h
         let none : list_any q' (to turn) ≡ true → before p' q' (to turn) ≡ false = λ g. sym (before-prefix p' q' is g) ∙ (lifts turn.message).apart (holds g) in
         made (turn ∷ []) (to turn) (append-nil (to turn)) (λ g. rw (holds g) (none g)) (λ g. rw (holds g) refl) h
 
-whole_to_right : {P : Type 0} (matches : P → P → Bool) (place n : ℕ) (state : State P) (turns : List (Turn P)) → AreWhole matches place n state turns → AllByRecursion (λ turn. turn.to_right ≡ (sends place n turn.message).right) turns
-whole_to_right matches place n state [] whole = tt
-whole_to_right matches place n state (turn ∷ turns) whole = (whole.0.right, whole_to_right matches place n (after place n state turn.message) turns whole.1)
+whole_on : {P : Type 0} (side : Side) (matches : P → P → Bool) (place n : ℕ) (state : State P) (turns : List (Turn P)) → AreWhole matches place n state turns → AllByRecursion (λ turn. puts_on side turn ≡ sends_on side place n turn.message) turns
+whole_on side matches place n state [] whole = tt
+whole_on Left matches place n state (turn ∷ turns) whole = (whole.0.right, whole_on Left matches place n (after place n state turn.message) turns whole.1)
+whole_on Right matches place n state (turn ∷ turns) whole = (whole.0.left, whole_on Right matches place n (after place n state turn.message) turns whole.1)
 
-whole_to_left : {P : Type 0} (matches : P → P → Bool) (place n : ℕ) (state : State P) (turns : List (Turn P)) → AreWhole matches place n state turns → AllByRecursion (λ turn. turn.to_left ≡ (sends place n turn.message).left) turns
-whole_to_left matches place n state [] whole = tt
-whole_to_left matches place n state (turn ∷ turns) whole = (whole.0.left, whole_to_left matches place n (after place n state turn.message) turns whole.1)
+cut_on : {P : Type 0} (side : Side) (place n : ℕ) (cut : Option (Turn P)) → IfSome cut (IsCut place n) → IfSome cut (λ turn. IsPrefix (puts_on side turn) (sends_on side place n turn.message))
+cut_on side place n None is = tt
+cut_on Left place n (Some turn) is = is.right
+cut_on Right place n (Some turn) is = is.left
 
-cut_to_right : {P : Type 0} (place n : ℕ) (cut : Option (Turn P)) → IfSome cut (IsCut place n) → IfSome cut (λ turn. IsPrefix turn.to_right (sends place n turn.message).right)
-cut_to_right place n None is = tt
-cut_to_right place n (Some turn) is = is.right
-
-cut_to_left : {P : Type 0} (place n : ℕ) (cut : Option (Turn P)) → IfSome cut (IsCut place n) → IfSome cut (λ turn. IsPrefix turn.to_left (sends place n turn.message).left)
-cut_to_left place n None is = tt
-cut_to_left place n (Some turn) is = is.left
-
-sends-right : {P : Type 0} (place n : ℕ) (message : Msg P) → count goes_left (sends place n message).right ≡ 0
-sends-right place n (S at row) = count-both goes_left (nat_lt (place + 1) n) (place == 0) (AckS at) (EndS at) refl refl
-sends-right place n other = refl
-
-all_turns-right : {P : Type 0} (place n : ℕ) (turns : List (Turn P)) → AllByRecursion (PutsOnly place n) turns → AllByRecursion (λ turn. count goes_left turn.to_right ≡ 0) turns
-all_turns-right place n [] all = tt
-all_turns-right place n (turn ∷ turns) all = (omega (arith, count-prefix goes_left all.0.right, sends-right place n turn.message), all_turns-right place n turns all.1)
-
-port-right : {P : Type 0} (number : ℕ) (turn : DriverTurn P) → count goes_left (puts (at_port Left number turn)) ≡ 0
-port-right n (admission (Arrive other Left row)) = refl
-port-right n (admission (Arrive other Right row)) = refl
-port-right n (admission (Expire other Left of)) = refl
-port-right n (admission (Expire other Right of)) = refl
-port-right n (admission (Quiet other Left)) = refl
-port-right n (admission (Quiet other Right)) = refl
-port-right n (receipt Left message) = refl
-port-right n (receipt Right message) = refl
-port-right n closing = refl
-
-taken_right : {P : Type 0} (turn : Turn P) → TakenAt at_right at_left turn
-taken_right turn = record { one = elim (taken_left turn).one [ inl is ↦ inr (is.1, is.0) | inr is ↦ inl (is.1, is.0) ] }
+pub taken_at : {P : Type 0} (side : Side) (turn : Turn P) → TakenAt (end_on (opposite side)) (end_on side) turn
+taken_at Left turn = taken_left turn
+taken_at Right turn = record { one = elim (taken_left turn).one [ inl is ↦ inr (is.1, is.0) | inr is ↦ inl (is.1, is.0) ] }
 
 module _ {P : Type 0} (run : Run P) (is : IsRun run) where
-  pub right_end_goes_left : (k : ℕ) → k ≤ run.cores → count goes_right (puts (run.link k).right) ≡ 0
+  -- What stands on a link goes the way of its end: what the right end puts goes left, and what the left end puts goes right.
+  right_end_goes_left : (k : ℕ) → k ≤ run.cores → count goes_right (puts (run.link k).right) ≡ 0
   right_end_goes_left k within = go (dec_lt k run.cores)
     where
       go : Dec (k < run.cores) → count goes_right (puts (run.link k).right) ≡ 0
-      go (yes low) = rw ((is.steps k low).left, puts-left (all_of (is.turns k))) (count-flat_map-none goes_right (λ turn. turn.to_left) (all_of (is.turns k)) (all_turns-left k run.cores (all_of (is.turns k)) (all_put (is.steps k low))))
-      go (no high) = let last : k ≡ run.cores = omega arith in rw (last, is.right_port) (count-port-none goes_right Right port-left is.log)
+      go (yes low) = rw (is.steps k low).left (put_none Right goes_right k run.cores (against_unsent Right k run.cores) (all_of (is.turns k)) (all_put (is.steps k low)))
+      go (no high) = let last : k ≡ run.cores = omega arith in rw (last, is.right_port) (count-port-none goes_right Right (against_unput Right) is.log)
 
-  -- what goes right came, in its order, from the left neighbour
-  pub came_right : (k : ℕ) (low : k < run.cores) (p q : Msg P → Bool) → ((m : Msg P) → goes_right m ≡ false → p m ≡ false) → ((m : Msg P) → goes_right m ≡ false → q m ≡ false)
-      → list_any q (handled (is.turns k)) ≡ true → Sent p q p q (handled (is.turns k)) (puts (run.link k).left)
-  came_right k low p q of_p of_q h =
-      let none : count goes_right (takes (flat_map at_right (all_of (is.turns k)))) ≡ 0
-      = omega (arith, ap (λ j. count goes_right (takes j)) (is.steps k low).right, count-prefix goes_right (is.links (k + 1) (omega arith)).leftwards.taken, right_end_goes_left (k + 1) (omega arith)) in
-      let same = taken_here at_left at_right goes_right p q taken_left of_p of_q (all_of (is.turns k)) none in
-      let prefix : IsPrefix (takes (flat_map at_left (all_of (is.turns k)))) (puts (run.link k).left)
-      = subst (λ j. IsPrefix (takes j) (puts (run.link k).left)) (is.steps k low).left (is.links k (omega arith)).rightwards.taken in
-      let there : list_any q (takes (flat_map at_left (all_of (is.turns k)))) ≡ true = same.has ∙ h in
-      record { order = sym same.order ∙ sym (before-prefix p q prefix there); has = any-prefix q prefix there }
+  left_end_goes_right : (k : ℕ) → k ≤ run.cores → count goes_left (puts (run.link k).left) ≡ 0
+  left_end_goes_right zero within = rw is.left_port (count-port-none goes_left Left (against_unput Left) is.log)
+  left_end_goes_right (suc k) within = rw (← add-one k, (is.steps k within).right) (put_none Left goes_left k run.cores (against_unsent Left k run.cores) (all_of (is.turns k)) (all_put (is.steps k within)))
 
-  pub sent_right : (k : ℕ) (low : k < run.cores) (p' q' p q : Msg P → Bool) → ((m : Msg P) → Lifts p' q' p q (λ m. (sends k run.cores m).right) m)
-      → list_any q' (puts (run.link (k + 1)).left) ≡ true → Sent p' q' p q (puts (run.link (k + 1)).left) (handled (is.turns k))
-  sent_right k low p' q' p q lifts h =
-      let are : puts (run.link (k + 1)).left ≡ flat_map (λ turn. turn.to_right) (all_of (is.turns k)) = ap puts (is.steps k low).right ∙ puts-right (all_of (is.turns k)) in
-      let sent = sent_by p' q' p q (λ turn. turn.to_right) (λ m. (sends k run.cores m).right) lifts (is.turns k).whole (is.turns k).cut
-      (whole_to_right run.matches k run.cores empty_state (is.turns k).whole (is.steps k low).whole) (cut_to_right k run.cores (is.turns k).cut (is.steps k low).cut) (sym (ap (list_any q') are) ∙ h) in
-      record { order = ap (before p' q') are ∙ sent.order; has = sent.has }
+  -- so a core takes nothing that goes the way of a side at the end at which it puts that
+  pub none_taken : (side : Side) (k : ℕ) → k < run.cores → count (goes_with side) (takes (flat_map (end_on side) (all_of (is.turns k)))) ≡ 0
+  none_taken Left k low = omega (
+    arith,
+    ap (λ j. count goes_right (takes j)) (is.steps k low).right,
+    count-prefix goes_right (is.links (k + 1) (omega arith)).leftwards.taken,
+    right_end_goes_left (k + 1) (omega arith),
+  )
+  none_taken Right k low = omega (
+    arith,
+    ap (λ j. count goes_left (takes j)) (is.steps k low).left,
+    count-prefix goes_left (is.links k (omega arith)).rightwards.taken,
+    left_end_goes_right k (omega arith),
+  )
 
-  -- from core to core
-  pub passed_right : (k : ℕ) (low : k + 1 < run.cores) (p' q' p q : Msg P → Bool) → ((m : Msg P) → goes_right m ≡ false → p' m ≡ false) → ((m : Msg P) → goes_right m ≡ false → q' m ≡ false)
-      → ((m : Msg P) → Lifts p' q' p q (λ m. (sends k run.cores m).right) m)
-      → list_any q' (handled (is.turns (k + 1))) ≡ true → Sent p' q' p q (handled (is.turns (k + 1))) (handled (is.turns k))
-  passed_right k low p' q' p q of_p of_q lifts h =
-      let came = came_right (k + 1) low p' q' of_p of_q h in
-      let sent = sent_right k (omega arith) p' q' p q lifts came.has in
-      record { order = came.order ∙ sent.order; has = sent.has }
-
-  pub left_end_goes_right : (k : ℕ) → k ≤ run.cores → count goes_left (puts (run.link k).left) ≡ 0
-  left_end_goes_right zero within = rw is.left_port (count-port-none goes_left Left port-right is.log)
-  left_end_goes_right (suc k) within = rw (← add-one k, (is.steps k within).right, puts-right (all_of (is.turns k)))
-      (count-flat_map-none goes_left (λ turn. turn.to_right) (all_of (is.turns k)) (all_turns-right k run.cores (all_of (is.turns k)) (all_put (is.steps k within))))
-
-  -- what goes left came, in its order, from the right neighbour
-  pub came_left : (k : ℕ) (low : k < run.cores) (p q : Msg P → Bool) → ((m : Msg P) → goes_left m ≡ false → p m ≡ false) → ((m : Msg P) → goes_left m ≡ false → q m ≡ false)
-      → list_any q (handled (is.turns k)) ≡ true → Sent p q p q (handled (is.turns k)) (puts (run.link (k + 1)).right)
-  came_left k low p q of_p of_q h =
-      let none : count goes_left (takes (flat_map at_left (all_of (is.turns k)))) ≡ 0
-      = omega (arith, ap (λ j. count goes_left (takes j)) (is.steps k low).left, count-prefix goes_left (is.links k (omega arith)).rightwards.taken, left_end_goes_right k (omega arith)) in
-      let same = taken_here at_right at_left goes_left p q taken_right of_p of_q (all_of (is.turns k)) none in
-      let prefix : IsPrefix (takes (flat_map at_right (all_of (is.turns k)))) (puts (run.link (k + 1)).right)
-      = subst (λ j. IsPrefix (takes j) (puts (run.link (k + 1)).right)) (is.steps k low).right (is.links (k + 1) (omega arith)).leftwards.taken in
-      let there : list_any q (takes (flat_map at_right (all_of (is.turns k)))) ≡ true = same.has ∙ h in
-      record { order = sym same.order ∙ sym (before-prefix p q prefix there); has = any-prefix q prefix there }
-
-  pub sent_left : (k : ℕ) (low : k < run.cores) (p' q' p q : Msg P → Bool) → ((m : Msg P) → Lifts p' q' p q (λ m. (sends k run.cores m).left) m)
-      → list_any q' (puts (run.link k).right) ≡ true → Sent p' q' p q (puts (run.link k).right) (handled (is.turns k))
-  sent_left k low p' q' p q lifts h =
-      let are : puts (run.link k).right ≡ flat_map (λ turn. turn.to_left) (all_of (is.turns k)) = ap puts (is.steps k low).left ∙ puts-left (all_of (is.turns k)) in
-      let sent = sent_by p' q' p q (λ turn. turn.to_left) (λ m. (sends k run.cores m).left) lifts (is.turns k).whole (is.turns k).cut
-      (whole_to_left run.matches k run.cores empty_state (is.turns k).whole (is.steps k low).whole) (cut_to_left k run.cores (is.turns k).cut (is.steps k low).cut) (sym (ap (list_any q') are) ∙ h) in
-      record { order = ap (before p' q') are ∙ sent.order; has = sent.has }
-
-  pub passed_left : (k : ℕ) (low : k + 1 < run.cores) (p' q' p q : Msg P → Bool) → ((m : Msg P) → goes_left m ≡ false → p' m ≡ false) → ((m : Msg P) → goes_left m ≡ false → q' m ≡ false)
-      → ((m : Msg P) → Lifts p' q' p q (λ m. (sends (k + 1) run.cores m).left) m)
-      → list_any q' (handled (is.turns k)) ≡ true → Sent p' q' p q (handled (is.turns k)) (handled (is.turns (k + 1)))
-  passed_left k low p' q' p q of_p of_q lifts h =
-      let came = came_left k (omega arith) p' q' of_p of_q h in
-      let sent = sent_left (k + 1) low p' q' p q lifts came.has in
-      record { order = came.order ∙ sent.order; has = sent.has }
-
-  -- The same for the way of either side. The port at which the rows of a side are put:
+  -- The port at which the rows of a side are put, and the end at which the core before, or the driver, puts them for a core:
   abbrev pub port_end : Side → List (Entry (Msg P))
   port_end Left = (run.link 0).left
   port_end Right = (run.link run.cores).right
+
+  abbrev pub before_core : Side → ℕ → List (Entry (Msg P))
+  before_core Left k = (run.link k).left
+  before_core Right k = (run.link (k + 1)).right
 
   pub port_is : (side : Side) → port_end side ≡ port_journal side is.log
   port_is Left = is.left_port
@@ -258,22 +174,53 @@ module _ {P : Type 0} (run : Run P) (is : IsRun run) where
   neighbours Right others near far at_near at_far Q to_right to_left =
       let e : far + 1 ≡ near = omega (arith, at_near.0, at_far.0) in subst (λ a. Q Right a far) e (to_left far (omega (arith, e, at_near.1)))
 
+  -- before the first core they are put at the port, and before any other by the one before
+  pub before_first : (side : Side) (k : ℕ) → Reaches run.cores side 0 k → before_core side k ≡ port_end side
+  before_first Left k at = ap (λ a. (run.link a).left) at.0
+  before_first Right k at = ap (λ a. (run.link a).right) at.0
+
+  pub before_next : (side : Side) (others near far : ℕ) → Reaches run.cores side others near → Reaches run.cores side (suc others) far
+      → before_core side far ≡ flat_map (end_on side) (all_of (is.turns near))
+  before_next side others near far at_near at_far =
+      neighbours side others near far at_near at_far (λ side near far. before_core side far ≡ flat_map (end_on side) (all_of (is.turns near)))
+      (λ k low. (is.steps k (omega arith)).right) (λ k low. (is.steps (k + 1) low).left)
+
+  -- and there the core takes them, in order
+  pub taken_before : (side : Side) (k : ℕ) → k < run.cores → IsPrefix (takes (flat_map (end_on (opposite side)) (all_of (is.turns k)))) (puts (before_core side k))
+  taken_before Left k low = subst (λ j. IsPrefix (takes j) (puts (run.link k).left)) (is.steps k low).left (is.links k (omega arith)).rightwards.taken
+  taken_before Right k low = subst (λ j. IsPrefix (takes j) (puts (run.link (k + 1)).right)) (is.steps k low).right (is.links (k + 1) (omega arith)).leftwards.taken
+
+  came : (side : Side) (k : ℕ) → k < run.cores → (p q : Msg P → Bool) → ((m : Msg P) → goes_with side m ≡ false → p m ≡ false) → ((m : Msg P) → goes_with side m ≡ false → q m ≡ false)
+      → list_any q (handled (is.turns k)) ≡ true → Sent p q p q (handled (is.turns k)) (puts (before_core side k))
+  came side k low p q of_p of_q h =
+      let same = taken_here (end_on (opposite side)) (end_on side) (goes_with side) p q (taken_at side) of_p of_q (all_of (is.turns k)) (none_taken side k low) in
+      let prefix = taken_before side k low in
+      let there : list_any q (takes (flat_map (end_on (opposite side)) (all_of (is.turns k)))) ≡ true = same.has ∙ h in
+      record { order = sym same.order ∙ sym (before-prefix p q prefix there); has = any-prefix q prefix there }
+
+  sent : (side : Side) (others near far : ℕ) → Reaches run.cores side others near → Reaches run.cores side (suc others) far
+      → (p' q' p q : Msg P → Bool) → ((m : Msg P) → Lifts p' q' p q (λ m. sends_on side near run.cores m) m)
+      → list_any q' (puts (before_core side far)) ≡ true → Sent p' q' p q (puts (before_core side far)) (handled (is.turns near))
+  sent side others near far at_near at_far p' q' p q lifts h =
+      let low = low_of side others near at_near in
+      let are : puts (before_core side far) ≡ flat_map (puts_on side) (all_of (is.turns near)) = ap puts (before_next side others near far at_near at_far) ∙ puts_end side (all_of (is.turns near)) in
+      let made = sent_by p' q' p q (puts_on side) (λ m. sends_on side near run.cores m) lifts (is.turns near).whole (is.turns near).cut
+      (whole_on side run.matches near run.cores empty_state (is.turns near).whole (is.steps near low).whole) (cut_on side near run.cores (is.turns near).cut (is.steps near low).cut) (sym (ap (list_any q') are) ∙ h) in
+      record { order = ap (before p' q') are ∙ made.order; has = made.has }
+
+  -- from core to core
   pub passed_on : (side : Side) (others near far : ℕ) → Reaches run.cores side others near → Reaches run.cores side (suc others) far
       → (p' q' p q : Msg P → Bool) → ((m : Msg P) → goes_with side m ≡ false → p' m ≡ false) → ((m : Msg P) → goes_with side m ≡ false → q' m ≡ false)
       → ((m : Msg P) → Lifts p' q' p q (λ m. sends_on side near run.cores m) m)
       → list_any q' (handled (is.turns far)) ≡ true → Sent p' q' p q (handled (is.turns far)) (handled (is.turns near))
-  passed_on side others near far at_near at_far p' q' p q =
-      neighbours side others near far at_near at_far
-      (λ side near far. ((m : Msg P) → goes_with side m ≡ false → p' m ≡ false) → ((m : Msg P) → goes_with side m ≡ false → q' m ≡ false)
-      → ((m : Msg P) → Lifts p' q' p q (λ m. sends_on side near run.cores m) m)
-      → list_any q' (handled (is.turns far)) ≡ true → Sent p' q' p q (handled (is.turns far)) (handled (is.turns near)))
-      (λ k low of_p of_q lifts h. passed_right k low p' q' p q of_p of_q lifts h)
-      (λ k low of_p of_q lifts h. passed_left k low p' q' p q of_p of_q lifts h)
+  passed_on side others near far at_near at_far p' q' p q of_p of_q lifts h =
+      let there = came side far (low_of side (suc others) far at_far) p' q' of_p of_q h in
+      let here = sent side others near far at_near at_far p' q' p q lifts there.has in
+      record { order = there.order ∙ here.order; has = here.has }
 
   pub entered : (side : Side) (k : ℕ) → Reaches run.cores side 0 k → (p q : Msg P → Bool) → ((m : Msg P) → goes_with side m ≡ false → p m ≡ false) → ((m : Msg P) → goes_with side m ≡ false → q m ≡ false)
       → list_any q (handled (is.turns k)) ≡ true → Sent p q p q (handled (is.turns k)) (puts (port_end side))
-  entered Left k at p q of_p of_q h = subst (λ a. Sent p q p q (handled (is.turns k)) (puts (run.link a).left)) at.0 (came_right k at.1 p q of_p of_q h)
-  entered Right k at p q of_p of_q h = subst (λ a. Sent p q p q (handled (is.turns k)) (puts (run.link a).right)) at.0 (came_left k at.1 p q of_p of_q h)
+  entered side k at p q of_p of_q h = subst (λ j. Sent p q p q (handled (is.turns k)) (puts j)) (before_first side k at) (came side k (low_of side 0 k at) p q of_p of_q h)
 
   -- what all cores send on comes to each core in the order in which it was put at the port
   pub along : (side : Side) (p q : Msg P → Bool) → ((m : Msg P) → goes_with side m ≡ false → p m ≡ false) → ((m : Msg P) → goes_with side m ≡ false → q m ≡ false)

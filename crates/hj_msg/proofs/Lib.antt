@@ -41,6 +41,7 @@ mod Sides
 pub mod Sorting
 mod States
 mod Stores
+mod TurnPuts
 mod Waits
 pub mod Windows
 pub mod WithinPunctuation

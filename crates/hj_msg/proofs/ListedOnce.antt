@@ -11,10 +11,11 @@ use Rattle.hj_msg.specs.Core.{State, InFlight, empty_state, after, is_home, is_l
 use Rattle.hj_msg.specs.Turns.{handled}
 use Rattle.hj_msg.specs.Run.{Run, IsRun}
 use Rattle.hj_msg.proofs.Counts.{count, count-append}
-use Rattle.hj_msg.proofs.CrossingLemmas.{handled_S_once}
+use Rattle.hj_msg.proofs.MarksOnce.{row_goes, row_once}
+use Rattle.hj_msg.proofs.TurnPuts.{row_sent}
 use Rattle.hj_msg.proofs.Orders.{before, before-any, before-other, front_before, front_count}
 use Rattle.hj_msg.proofs.Directions.{is_AckS}
-use Rattle.hj_msg.proofs.Settling.{row_goes, row_sent, row_before, comes, ack_order, acks_behind, settle_order}
+use Rattle.hj_msg.proofs.Settling.{row_before, comes, ack_order, acks_behind, settle_order}
 use Rattle.hj_msg.proofs.Stores.{flies, rests_settled}
 use Rattle.hj_msg.proofs.States.{flies_came, flies_no_more, settled_tells}
 use Rattle.hj_msg.proofs.Sorting.{count-sort}
@@ -203,7 +204,7 @@ module _ {P : Type 0} (run : Run P) (is : IsRun run) (i j : ℕ) where
           let behind : before (is_S j) (is_AckS j) (handled (is.turns (suc k))) ≡ true
           = subst (λ a. before (is_S j) (is_AckS j) (handled (is.turns a)) ≡ true) (add-one k) (acks_behind run is k j next (subst (λ a. list_any (is_AckS j) (handled (is.turns a)) ≡ true) (sym (add-one k)) has_ack)) in
           let in_front : before (is_S j) (is_AckS j) front ≡ true = front_before (is_S j) (is_AckS j) front (at.message ∷ at.back) acked (sym (ap (before (is_S j) (is_AckS j)) at.parts) ∙ behind) in
-          let once : count (is_S j) front ≤ 1 = front_count (is_S j) front (at.message ∷ at.back) (subst (λ ms. count (is_S j) ms ≤ 1) at.parts (handled_S_once run is j (suc k) low)) in
+          let once : count (is_S j) front ≤ 1 = front_count (is_S j) front (at.message ∷ at.back) (subst (λ ms. count (is_S j) ms ≤ 1) at.parts (row_once run is Right j (suc k) low)) in
           absurd (true≢false (sym h ∙ flies_no_more j (suc k) run.cores front (omega arith) acked in_front once))
 
   pub found_settled : (k : ℕ) → k < run.cores → (front : List (Msg P)) → Front (is_R i) (handled (is.turns k)) front → rests_settled j (state_after k run.cores front).right ≡ true → SettledRight k

@@ -1,94 +1,77 @@
--- Each core handles what is marked under a number at most once.
-use Rattle.std.proofs.Common.{◌≡◌, ℕ, zero, suc, ◌+◌, ◌-◌, ◌<◌, ◌≤◌, Bool, true, cond, ◌==◌, List, [], ◌∷◌, arith, add-one}
-use Rattle.std.specs.List.{AllByRecursion}
+-- Each core handles what is marked under a number at most once, and each row.
+use Rattle.std.proofs.Common.{◌≡◌, ℕ, zero, suc, ◌+◌, ◌<◌, ◌≤◌, Bool, true, List, map, refl, ap, sym, arith, true≢false}
+use Rattle.std.specs.List.{flat_map}
 use Rattle.hj_base.specs.declared.numbers.Side.{Side}
 use Rattle.hj_base.specs.declared.numbers.Side.TheVariants.{Left, Right}
-use Rattle.hj_base.specs.Journals.{puts}
-use Rattle.hj_msg.specs.declared.event.Event.TheVariants.{Arrive, Expire, Quiet}
+use Rattle.hj_base.specs.Journals.{puts, takes}
 use Rattle.hj_msg.specs.declared.message.Msg.{Msg}
-use Rattle.hj_msg.specs.Event.{number}
+use Rattle.hj_msg.specs.declared.message.Msg.TheVariants.{R, S, QuietL, QuietR}
 use Rattle.hj_msg.specs.Turns.{Turn, all_of, handled}
-use Rattle.hj_msg.specs.Driver.{DriverTurn, admission, receipt, closing, admitted}
-use Rattle.hj_msg.specs.Run.{Run, IsRun, at_port}
-use Rattle.hj_msg.proofs.Counts.{count, count-prefix, count-flat_map-le}
-use Rattle.hj_msg.proofs.Ends.{puts-left, puts-right}
-use Rattle.hj_msg.proofs.CrossingLemmas.{PutsOnly, all_put, count-port, events_once, handled_is}
-use Rattle.hj_msg.proofs.Sides.{is_mark, goes_right, goes_left}
-use Rattle.hj_msg.proofs.Directions.{right_end_goes_left, left_end_goes_right}
-use Rattle.hj_msg.proofs.ArrivalOrder.{mark_sent, mark_goes}
+use Rattle.hj_msg.specs.Run.{Run, IsRun}
+use Rattle.hj_msg.proofs.Counts.{count, count-prefix}
+use Rattle.hj_msg.proofs.Ends.{count-takes}
+use Rattle.hj_msg.proofs.TurnPuts.{all_put, count-goes, end_on, mark_put_once, mark_sent, put_once}
+use Rattle.hj_msg.proofs.Sides.{is_mark, is_row, opposite, goes_with, Reaches}
+use Rattle.hj_msg.proofs.Directions.{before_core, before_first, before_next, low_of, nearer, none_taken, port_is, reached, taken_before}
 
-count-goes : {P : Type 0} (p goes : Msg P → Bool) → ((m : Msg P) → p m ≡ true → goes m ≡ true) → (ms : List (Msg P)) → count p ms ≤ count goes ms
-count-goes p goes ways [] = omega arith
-count-goes p goes ways (m ∷ ms) = grind (arith, ways m, count-goes p goes ways ms)
+-- what is marked goes the way of its side, and a row is
+pub mark_goes : {P : Type 0} (side : Side) (number : ℕ) (m : Msg P) → is_mark side number m ≡ true → goes_with side m ≡ true
+mark_goes Left number (R at row) e = refl
+mark_goes Left number (QuietL at) e = refl
+mark_goes Left number other e = absurd (true≢false (sym e))
+mark_goes Right number (S at row) e = refl
+mark_goes Right number (QuietR at) e = refl
+mark_goes Right number other e = absurd (true≢false (sym e))
 
-to_right : {P : Type 0} (at place n : ℕ) (turns : List (Turn P)) → AllByRecursion (PutsOnly place n) turns → AllByRecursion (λ turn. count (is_mark Left at) turn.to_right ≤ cond (is_mark Left at turn.message) 1 0) turns
-to_right at place n [] all = tt
-to_right at place n (turn ∷ turns) all = (omega (arith, count-prefix (is_mark Left at) all.0.right, mark_sent Left at place n turn.message), to_right at place n turns all.1)
+row_marked : {P : Type 0} (side : Side) (number : ℕ) (m : Msg P) → is_row side number m ≡ true → is_mark side number m ≡ true
+row_marked Left number (R at row) e = e
+row_marked Left number other e = absurd (true≢false (sym e))
+row_marked Right number (S at row) e = e
+row_marked Right number other e = absurd (true≢false (sym e))
 
-to_left : {P : Type 0} (at place n : ℕ) (turns : List (Turn P)) → AllByRecursion (PutsOnly place n) turns → AllByRecursion (λ turn. count (is_mark Right at) turn.to_left ≤ cond (is_mark Right at turn.message) 1 0) turns
-to_left at place n [] all = tt
-to_left at place n (turn ∷ turns) all = (omega (arith, count-prefix (is_mark Right at) all.0.left, mark_sent Right at place n turn.message), to_left at place n turns all.1)
+pub row_goes : {P : Type 0} (side : Side) (number : ℕ) (m : Msg P) → is_row side number m ≡ true → goes_with side m ≡ true
+row_goes side number m e = mark_goes side number m (row_marked side number m e)
 
-port-mark : {P : Type 0} (side : Side) (at entry_number : ℕ) (turn : DriverTurn P) → count (is_mark side at) (puts (at_port side entry_number turn)) ≤ count (λ event. number event == at) (admitted (turn ∷ []))
-port-mark Left at n (admission (Arrive other Left row)) = omega arith
-port-mark Left at n (admission (Arrive other Right row)) = omega arith
-port-mark Left at n (admission (Expire other Left of)) = omega arith
-port-mark Left at n (admission (Expire other Right of)) = omega arith
-port-mark Left at n (admission (Quiet other Left)) = omega arith
-port-mark Left at n (admission (Quiet other Right)) = omega arith
-port-mark Left at n (receipt Left message) = omega arith
-port-mark Left at n (receipt Right message) = omega arith
-port-mark Left at n closing = omega arith
-port-mark Right at n (admission (Arrive other Left row)) = omega arith
-port-mark Right at n (admission (Arrive other Right row)) = omega arith
-port-mark Right at n (admission (Expire other Left of)) = omega arith
-port-mark Right at n (admission (Expire other Right of)) = omega arith
-port-mark Right at n (admission (Quiet other Left)) = omega arith
-port-mark Right at n (admission (Quiet other Right)) = omega arith
-port-mark Right at n (receipt Left message) = omega arith
-port-mark Right at n (receipt Right message) = omega arith
-port-mark Right at n closing = omega arith
+-- the messages that turns handle were taken at the one end or at the other
+pub takes_both : {P : Type 0} (side : Side) (p : Msg P → Bool) (turns : List (Turn P))
+    → count p (takes (flat_map (end_on side) turns)) + count p (takes (flat_map (end_on (opposite side)) turns)) ≡ count p (map (λ turn. turn.message) turns)
+takes_both Left p turns = omega (arith, count-takes p turns)
+takes_both Right p turns = count-takes p turns
 
 module _ {P : Type 0} (run : Run P) (is : IsRun run) where
-  handled_left : (at k : ℕ) → k < run.cores → count (is_mark Left at) (handled (is.turns k)) ≤ count (is_mark Left at) (puts (run.link k).left)
-  handled_left at k low =
+  -- What a core handles came from the core before, or from the driver; and this handled it, or put it once.
+  handled_came : (side : Side) (at k : ℕ) → k < run.cores → count (is_mark side at) (handled (is.turns k)) ≤ count (is_mark side at) (puts (before_core run is side k))
+  handled_came side at k low =
       omega (
         arith,
-        handled_is run is (is_mark Left at) k low,
-        count-prefix (is_mark Left at) (is.links k (omega arith)).rightwards.taken,
-        count-prefix (is_mark Left at) (is.links (k + 1) (omega arith)).leftwards.taken,
-        count-goes (is_mark Left at) goes_right (mark_goes Left at) (puts (run.link (k + 1)).right),
-        right_end_goes_left run is (k + 1) (omega arith),
+        takes_both side (is_mark side at) (all_of (is.turns k)),
+        count-goes (is_mark side at) (goes_with side) (mark_goes side at) (takes (flat_map (end_on side) (all_of (is.turns k)))),
+        none_taken run is side k low,
+        count-prefix (is_mark side at) (taken_before run is side k low),
       )
 
-  handled_right : (at k : ℕ) → k < run.cores → count (is_mark Right at) (handled (is.turns k)) ≤ count (is_mark Right at) (puts (run.link (k + 1)).right)
-  handled_right at k low =
+  once : (side : Side) (at others k : ℕ) → Reaches run.cores side others k → count (is_mark side at) (handled (is.turns k)) ≤ 1
+  once side at zero k reaches =
       omega (
         arith,
-        handled_is run is (is_mark Right at) k low,
-        count-prefix (is_mark Right at) (is.links k (omega arith)).rightwards.taken,
-        count-prefix (is_mark Right at) (is.links (k + 1) (omega arith)).leftwards.taken,
-        count-goes (is_mark Right at) goes_left (mark_goes Right at) (puts (run.link k).left),
-        left_end_goes_right run is k (omega arith),
+        handled_came side at k (low_of run is side 0 k reaches),
+        ap (λ journal. count (is_mark side at) (puts journal)) (before_first run is side k reaches),
+        ap (λ journal. count (is_mark side at) (puts journal)) (port_is run is side),
+        mark_put_once run is side at,
       )
-
-  put_left : (at k : ℕ) → k ≤ run.cores → count (is_mark Left at) (puts (run.link k).left) ≤ 1
-  put_left at zero within = rw is.left_port (omega (arith, count-port (is_mark Left at) at Left (port-mark Left at) is.log, events_once run is at))
-  put_left at (suc k) within =
-      let sent : count (is_mark Left at) (puts (run.link (k + 1)).left) ≤ count (is_mark Left at) (handled (is.turns k))
-      = rw ((is.steps k within).right, puts-right (all_of (is.turns k))) (count-flat_map-le (is_mark Left at) (λ turn. turn.to_right) (λ turn. turn.message) (all_of (is.turns k)) (to_right at k run.cores (all_of (is.turns k)) (all_put (is.steps k within)))) in
-      rw (← add-one k) (omega (arith, sent, handled_left at k within, put_left at k (omega arith)))
-
-  put_right : (at d k : ℕ) → k + d ≡ run.cores → count (is_mark Right at) (puts (run.link k).right) ≤ 1
-  put_right at zero k last =
-      let here : k ≡ run.cores = omega arith in
-      rw (here, is.right_port) (omega (arith, count-port (is_mark Right at) at Right (port-mark Right at) is.log, events_once run is at))
-  put_right at (suc d) k last =
-      let low : k < run.cores = omega arith in
-      let sent : count (is_mark Right at) (puts (run.link k).right) ≤ count (is_mark Right at) (handled (is.turns k))
-      = rw ((is.steps k low).left, puts-left (all_of (is.turns k))) (count-flat_map-le (is_mark Right at) (λ turn. turn.to_left) (λ turn. turn.message) (all_of (is.turns k)) (to_left at k run.cores (all_of (is.turns k)) (all_put (is.steps k low)))) in
-      omega (arith, sent, handled_right at k low, put_right at d (k + 1) (omega arith))
+  once side at (suc others) k reaches =
+      let near = nearer run is side others k reaches in
+      let low = low_of run is side others near.0 near.1 in
+      omega (
+        arith,
+        handled_came side at k (low_of run is side (suc others) k reaches),
+        ap (λ journal. count (is_mark side at) (puts journal)) (before_next run is side others near.0 k near.1 reaches),
+        put_once side (is_mark side at) near.0 run.cores (mark_sent side at near.0 run.cores) (all_of (is.turns near.0)) (all_put (is.steps near.0 low)),
+        once side at others near.0 near.1,
+      )
 
   pub mark_once : (side : Side) (at k : ℕ) → k < run.cores → count (is_mark side at) (handled (is.turns k)) ≤ 1
-  mark_once Left at k low = omega (arith, handled_left at k low, put_left at k (omega arith))
-  mark_once Right at k low = omega (arith, handled_right at k low, put_right at (run.cores - (k + 1)) (k + 1) (omega arith))
+  mark_once side at k low = let reaches = reached run is side k low in once side at reaches.0 k reaches.1
+
+  pub row_once : (side : Side) (at k : ℕ) → k < run.cores → count (is_row side at) (handled (is.turns k)) ≤ 1
+  row_once side at k low = omega (arith, count-goes (is_row side at) (is_mark side at) (row_marked side at) (handled (is.turns k)), mark_once side at k low)

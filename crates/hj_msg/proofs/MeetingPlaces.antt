@@ -22,7 +22,7 @@ use Rattle.hj_msg.specs.Meeting.{number_of}
 use Rattle.hj_msg.proofs.Counts.{count}
 use Rattle.hj_msg.proofs.Members.{Contains-head, find}
 use Rattle.hj_msg.proofs.Numbered.{same_number}
-use Rattle.hj_msg.proofs.CrossingLemmas.{handled_R_once, handled_S_once}
+use Rattle.hj_msg.proofs.MarksOnce.{row_once}
 use Rattle.hj_msg.proofs.Orders.{before, before-any, front_is, front_has, front_before, front_count}
 use Rattle.hj_msg.proofs.Sorting.{sorted}
 use Rattle.hj_msg.proofs.Sides.{opposite, row_message, is_row, is_ending, is_expiry, Reaches, resting, partners_of, row_of}
@@ -60,10 +60,6 @@ one_first n Left k other at there = at.0 ∙ sym there.0
 one_first n Right k other at there = omega (arith, at.0, there.0)
 
 module _ {P : Type 0} (run : Run P) (is : IsRun run) where
-  pub row_once : (side : Side) (number k : ℕ) → k < run.cores → count (is_row side number) (handled (is.turns k)) ≤ 1
-  row_once Left number k low = handled_R_once run is number k low
-  row_once Right number k low = handled_S_once run is number k low
-
   -- a report of an arrival, with what was handled before
   pub record AtRow (side : Side) (k : ℕ) (at : EventNo) (row : P) (partners : List (Partner P)) : Type 0 where
     pub front : List (Msg P)
@@ -80,7 +76,7 @@ module _ {P : Type 0} (run : Run P) (is : IsRun run) where
       let tells = tells_row side run.matches (state_after k run.cores told.front) told.message at row partners told.told in
       let message : Msg P = row_message side at row in
       let parts : handled (is.turns k) ≡ told.front ++ message ∷ told.back = told.is ∙ ap (λ m. told.front ++ m ∷ told.back) tells.message in
-      let once : count (is_row side at.0) (told.front ++ message ∷ told.back) ≤ 1 = subst (λ ms. count (is_row side at.0) ms ≤ 1) parts (row_once side at.0 k low) in
+      let once : count (is_row side at.0) (told.front ++ message ∷ told.back) ≤ 1 = subst (λ ms. count (is_row side at.0) ms ≤ 1) parts (row_once run is side at.0 k low) in
       record {
         front = told.front;
         back = told.back;
@@ -162,7 +158,7 @@ module _ {P : Type 0} (run : Run P) (is : IsRun run) where
       not_yet = sym (here.order (is_expiry (opposite side) j)) ∙ not_expired run is side k low pair valid here.has
 
       once : count (is_row (opposite side) j) here.front ≤ 1
-      once = front_count (is_row (opposite side) j) here.front (row_message side (number_of side pair) row ∷ here.back) (subst (λ ms. count (is_row (opposite side) j) ms ≤ 1) here.parts (row_once (opposite side) j k low))
+      once = front_count (is_row (opposite side) j) here.front (row_message side (number_of side pair) row ∷ here.back) (subst (λ ms. count (is_row (opposite side) j) ms ≤ 1) here.parts (row_once run is (opposite side) j k low))
 
       go : (others : ℕ) → Reaches run.cores side others k → rests_settled j (resting (opposite side) (state_after k run.cores here.front)) ≡ true
       go zero at =

@@ -27,7 +27,7 @@ use Rattle.hj_msg.proofs.Orders.{before, front_is, front_has}
 use Rattle.hj_msg.proofs.Reports.{puts-reports}
 use Rattle.hj_msg.proofs.ListedOnce.{Front, Flying, SettledRight, SettledLeft, count_left, why_left, count_right, why_right, flying_settled, flying_flying, left_right}
 use Rattle.hj_msg.proofs.Sides.{is_row, partners_of}
-use Rattle.hj_msg.proofs.MeetingPlaces.{row_once}
+use Rattle.hj_msg.proofs.MarksOnce.{row_once}
 
 -- how often a report lists the pair of i and j, where it is a report of the row of this side
 abbrev lists_by : {P : Type 0} → Side → ℕ → ℕ → Report P → ℕ

@@ -33,7 +33,8 @@ use Rattle.hj_msg.proofs.Rows.{arrived}
 use Rattle.hj_msg.proofs.Origins.{fly_origin, rest_origin}
 use Rattle.hj_msg.proofs.Expiries.{expired}
 use Rattle.hj_msg.proofs.RowBeforeExpiry.{expires_behind}
-use Rattle.hj_msg.proofs.MeetingPlaces.{AtRow, at_row, row_once, passes_row}
+use Rattle.hj_msg.proofs.MarksOnce.{row_once}
+use Rattle.hj_msg.proofs.MeetingPlaces.{AtRow, at_row, passes_row}
 use Rattle.hj_msg.proofs.ListedOnce.{Front, found_flying, has_R_below}
 use Rattle.hj_msg.proofs.Sorting.{from_sorted}
 use Rattle.hj_msg.proofs.Sides.{opposite, row_message, is_row, is_expiry, resting}

@@ -41,23 +41,14 @@ turn_puts side test turn = list_any test (of_turn side turn)
 
 puts-at_port : {P : Type 0} (side : Side) (number : ℕ) (turn : DriverTurn P) → puts (at_port side number turn) ≡ of_turn side turn
 puts-at_port Left number (admission (Arrive at Left row)) = refl
-puts-at_port Left number (admission (Arrive at Right row)) = refl
 puts-at_port Left number (admission (Expire at Left of)) = refl
-puts-at_port Left number (admission (Expire at Right of)) = refl
 puts-at_port Left number (admission (Quiet at Left)) = refl
-puts-at_port Left number (admission (Quiet at Right)) = refl
 puts-at_port Left number (receipt Left message) = refl
-puts-at_port Left number (receipt Right message) = refl
-puts-at_port Left number closing = refl
 puts-at_port Right number (admission (Arrive at Left row)) = refl
-puts-at_port Right number (admission (Arrive at Right row)) = refl
 puts-at_port Right number (admission (Expire at Left of)) = refl
-puts-at_port Right number (admission (Expire at Right of)) = refl
 puts-at_port Right number (admission (Quiet at Left)) = refl
-puts-at_port Right number (admission (Quiet at Right)) = refl
 puts-at_port Right number (receipt Left message) = refl
-puts-at_port Right number (receipt Right message) = refl
-puts-at_port Right number closing = refl
+puts-at_port side number turn = refl
 
 -- a turn puts no more than one message there
 record IsOneAtMost {X : Type 0} (xs : List X) : Type 0 where
@@ -65,17 +56,12 @@ record IsOneAtMost {X : Type 0} (xs : List X) : Type 0 where
 
 event_once : {P : Type 0} (side : Side) (event : Event P) → IsOneAtMost (of_event side event)
 event_once Left (Arrive at Left row) = record { is = inr (R at row, refl) }
-event_once Left (Arrive at Right row) = record { is = inl refl }
-event_once Left (Expire at Left of) = record { is = inl refl }
 event_once Left (Expire at Right of) = record { is = inr (ExpS of, refl) }
 event_once Left (Quiet at Left) = record { is = inr (QuietL at, refl) }
-event_once Left (Quiet at Right) = record { is = inl refl }
-event_once Right (Arrive at Left row) = record { is = inl refl }
 event_once Right (Arrive at Right row) = record { is = inr (S at row, refl) }
 event_once Right (Expire at Left of) = record { is = inr (ExpR of, refl) }
-event_once Right (Expire at Right of) = record { is = inl refl }
-event_once Right (Quiet at Left) = record { is = inl refl }
 event_once Right (Quiet at Right) = record { is = inr (QuietR at, refl) }
+event_once side event = record { is = inl refl }
 
 turn_once : {P : Type 0} (side : Side) (turn : DriverTurn P) → IsOneAtMost (of_turn side turn)
 turn_once side (admission event) = event_once side event
@@ -148,40 +134,26 @@ pub close_no_expiry : (P : Type 0) (side : Side) (number : ℕ) → is_expiry {P
 close_no_expiry P Left number = refl
 close_no_expiry P Right number = refl
 
--- the event that puts a row, or an expiry
-pub puts_row : {P : Type 0} (side : Side) (at : ℕ) (row : P) → event_puts side (is_row side at) (Arrive (record { 0 = at }) side row) ≡ true
-puts_row Left at row = grind (arith, nat_tests)
-puts_row Right at row = grind (arith, nat_tests)
-
+-- the event that puts an expiry
 pub puts_expiry : (P : Type 0) (side : Side) (at of : ℕ) → event_puts {P = P} side (is_expiry (opposite side) of) (Expire (record { 0 = at }) (opposite side) (record { 0 = of })) ≡ true
 puts_expiry P Left at of = grind (arith, nat_tests)
 puts_expiry P Right at of = grind (arith, nat_tests)
 
 pub row_of_event : {P : Type 0} (side : Side) (at : ℕ) (event : Event P) → event_puts side (is_row side at) event ≡ true → number event ≡ at
 row_of_event Left at (Arrive other Left row) e = grind (arith, nat_tests, e)
-row_of_event Left at (Arrive other Right row) e = absurd (true≢false (sym e))
 row_of_event Left at (Expire other Left of) e = absurd (true≢false (sym e))
-row_of_event Left at (Expire other Right of) e = absurd (true≢false (sym e))
 row_of_event Left at (Quiet other Left) e = absurd (true≢false (sym e))
-row_of_event Left at (Quiet other Right) e = absurd (true≢false (sym e))
 row_of_event Right at (Arrive other Right row) e = grind (arith, nat_tests, e)
-row_of_event Right at (Arrive other Left row) e = absurd (true≢false (sym e))
 row_of_event Right at (Expire other Left of) e = absurd (true≢false (sym e))
-row_of_event Right at (Expire other Right of) e = absurd (true≢false (sym e))
 row_of_event Right at (Quiet other Left) e = absurd (true≢false (sym e))
-row_of_event Right at (Quiet other Right) e = absurd (true≢false (sym e))
+row_of_event side at event e = absurd (true≢false (sym e))
 
 pub expiry_of_event : {P : Type 0} (side : Side) (of : ℕ) (event : Event P) → event_puts side (is_expiry (opposite side) of) event ≡ true
     → (at : ℕ) × (event ≡ Expire (record { 0 = at }) (opposite side) (record { 0 = of }))
 expiry_of_event Left of (Expire at Right other) e = let same : other.0 ≡ of = grind (arith, nat_tests, e) in (at.0, ap (λ k. Expire at Right (record { 0 = k })) same)
-expiry_of_event Left of (Expire at Left other) e = absurd (true≢false (sym e))
 expiry_of_event Left of (Arrive at Left row) e = absurd (true≢false (sym e))
-expiry_of_event Left of (Arrive at Right row) e = absurd (true≢false (sym e))
 expiry_of_event Left of (Quiet at Left) e = absurd (true≢false (sym e))
-expiry_of_event Left of (Quiet at Right) e = absurd (true≢false (sym e))
 expiry_of_event Right of (Expire at Left other) e = let same : other.0 ≡ of = grind (arith, nat_tests, e) in (at.0, ap (λ k. Expire at Left (record { 0 = k })) same)
-expiry_of_event Right of (Expire at Right other) e = absurd (true≢false (sym e))
 expiry_of_event Right of (Arrive at Left row) e = absurd (true≢false (sym e))
-expiry_of_event Right of (Arrive at Right row) e = absurd (true≢false (sym e))
 expiry_of_event Right of (Quiet at Left) e = absurd (true≢false (sym e))
-expiry_of_event Right of (Quiet at Right) e = absurd (true≢false (sym e))
+expiry_of_event side of event e = absurd (true≢false (sym e))

@@ -12,14 +12,15 @@ use Rattle.hj_msg.specs.declared.message.Msg.{Msg}
 use Rattle.hj_msg.specs.Turns.{handled}
 use Rattle.hj_msg.specs.Driver.{DriverTurn, admission, receipt, closing, is_take, took, HasComeOut}
 use Rattle.hj_msg.specs.Run.{Run, IsRun, LogEntry, at_port, port_journal}
-use Rattle.hj_msg.proofs.ComesOut.{took-from_came_out_left, took-from_came_out_right}
+use Rattle.hj_msg.proofs.ComesOut.{took-from_came_out}
 use Rattle.hj_msg.proofs.Counts.{count, count-list_any}
 use Rattle.hj_msg.proofs.Orders.{before, before-any, before-other}
 use Rattle.hj_msg.proofs.Sides.{opposite, is_row, is_expiry, goes_with, sends_on, Reaches}
 use Rattle.hj_msg.proofs.Ports.{turn_puts, in_turns, close_no_expiry, expiry_of_event}
 use Rattle.hj_msg.proofs.Directions.{port_end, port_is, entered, nearer}
 use Rattle.hj_msg.proofs.Waits.{Waits, waits_left, waits_right, never_opposed}
-use Rattle.hj_msg.proofs.Settling.{row_sent, expiry_sent, expiry_goes, of_way, none_of, comes, row_before}
+use Rattle.hj_msg.proofs.TurnPuts.{row_sent}
+use Rattle.hj_msg.proofs.Settling.{expiry_sent, expiry_goes, of_way, none_of, comes, row_before}
 
 -- the first element that passes a test
 record First {X : Type 0} (t : X → Bool) (xs : List X) : Type 0 where
@@ -49,23 +50,14 @@ took_there {P} port test (entry ∷ log) h = go port entry.turn h (took_there po
         → (took port test (map (λ entry. entry.turn) log) ≡ true → 1 ≤ count test (takes (port_journal port log)))
         → 1 ≤ count test (takes (at_port port entry.number turn ++ port_journal port log))
     go Left (admission (Arrive at Left row)) h deeper = deeper h
-    go Left (admission (Arrive at Right row)) h deeper = deeper h
     go Left (admission (Expire at Left of)) h deeper = deeper h
-    go Left (admission (Expire at Right of)) h deeper = deeper h
     go Left (admission (Quiet at Left)) h deeper = deeper h
-    go Left (admission (Quiet at Right)) h deeper = deeper h
     go Left (receipt Left message) h deeper = grind (arith, h, deeper)
-    go Left (receipt Right message) h deeper = deeper h
-    go Left closing h deeper = deeper h
     go Right (admission (Arrive at Left row)) h deeper = deeper h
-    go Right (admission (Arrive at Right row)) h deeper = deeper h
     go Right (admission (Expire at Left of)) h deeper = deeper h
-    go Right (admission (Expire at Right of)) h deeper = deeper h
     go Right (admission (Quiet at Left)) h deeper = deeper h
-    go Right (admission (Quiet at Right)) h deeper = deeper h
-    go Right (receipt Left message) h deeper = deeper h
     go Right (receipt Right message) h deeper = grind (arith, h, deeper)
-    go Right closing h deeper = deeper h
+    go port turn h deeper = deeper h
 
 -- a turn of the driver that puts an expiry
 record PutsExpiry {P : Type 0} (side : Side) (of : ℕ) (turn : DriverTurn P) : Type 0 where
@@ -74,8 +66,8 @@ record PutsExpiry {P : Type 0} (side : Side) (of : ℕ) (turn : DriverTurn P) : 
   came_out : (earlier : List (DriverTurn P)) → HasComeOut event earlier → took side (is_row (opposite side) of) earlier ≡ true
 
 took_before : {P : Type 0} (side : Side) (at of : ℕ) (earlier : List (DriverTurn P)) → HasComeOut (Expire (record { 0 = at }) (opposite side) (record { 0 = of })) earlier → took side (is_row (opposite side) of) earlier ≡ true
-took_before Left at of earlier h = took-from_came_out_right of earlier h
-took_before Right at of earlier h = took-from_came_out_left of earlier h
+took_before Left at of earlier h = took-from_came_out Right of earlier h
+took_before Right at of earlier h = took-from_came_out Left of earlier h
 
 puts_expiry : {P : Type 0} (side : Side) (of : ℕ) (turn : DriverTurn P) → turn_puts side (is_expiry (opposite side) of) turn ≡ true → PutsExpiry side of turn
 puts_expiry {P} side of (admission event) e =

@@ -12,13 +12,14 @@ use Rattle.hj_msg.specs.declared.message.Msg.TheVariants.{R, AckS, EndS, ExpS, S
 use Rattle.hj_msg.specs.Messages.{is_R, is_S, is_EndR, is_EndS, is_ExpR, is_ExpS}
 use Rattle.hj_msg.specs.Core.{sends, only_if}
 use Rattle.hj_msg.specs.Turns.{handled}
-use Rattle.hj_msg.specs.Driver.{DriverTurn, admission, receipt, closing}
+use Rattle.hj_msg.specs.Driver.{DriverTurn, admission, receipt}
 use Rattle.hj_msg.specs.Run.{Run, IsRun, at_port}
 use Rattle.hj_msg.proofs.Counts.{count, count-list_any}
-use Rattle.hj_msg.proofs.CrossingLemmas.{count-port-none, sends-right-R, sends-left-S}
+use Rattle.hj_msg.proofs.TurnPuts.{count-port-none, row_sent}
+use Rattle.hj_msg.proofs.MarksOnce.{row_goes}
 use Rattle.hj_msg.proofs.Orders.{before, before-any, before-other, before-not_self, before-or, any-or, Lifts}
 use Rattle.hj_msg.proofs.Sides.{opposite, is_row, is_ending, is_expiry, goes_right, goes_left, goes_with, sends_on, Reaches, settles_at_once}
-use Rattle.hj_msg.proofs.Directions.{is_AckS, Sent, passed_right, port_end, port_is, entered, nearer, neighbours, passed_on, along}
+use Rattle.hj_msg.proofs.Directions.{is_AckS, Sent, port_end, port_is, entered, nearer, neighbours, passed_on, along}
 use Rattle.hj_msg.proofs.Waits.{waits_right, waits_left, never_opposed}
 
 -- what a core sends right for a right row, and left for a left row
@@ -36,11 +37,7 @@ sends-R : {P : Type 0} (p : Msg P → Bool) (ends : Bool) (end : Msg P) → coun
 sends-R p true end = omega arith
 sends-R p false end = refl
 
--- what a core sends on: each row, each expiry, and each ending, which the first core adds to each row that it settles
-pub row_sent : {P : Type 0} (side : Side) (number place n : ℕ) (m : Msg P) → count (is_row side number) (sends_on side place n m) ≡ cond (is_row side number m) 1 0
-row_sent Left number place n m = sends-right-R number place n m
-row_sent Right number place n m = sends-left-S number place n m
-
+-- what a core sends on: each row (`row_sent`), each expiry, and each ending, which the first core adds to each row that it settles
 pub expiry_sent : {P : Type 0} (side : Side) (number place n : ℕ) (m : Msg P) → count (is_expiry (opposite side) number) (sends_on side place n m) ≡ cond (is_expiry (opposite side) number m) 1 0
 expiry_sent {P} Left number place n (S at row) = grind (arith, sends-S {P = P} (is_ExpS number) (nat_lt (place + 1) n) (place == 0) (AckS at) (EndS at))
 expiry_sent Left number place n (ExpS at) = omega arith
@@ -98,12 +95,6 @@ of_way goes p ways m away = go (p m) refl
     go : (b : Bool) → p m ≡ b → p m ≡ false
     go true e = absurd (true≢false (sym (ways m e) ∙ away))
     go false e = e
-
-pub row_goes : {P : Type 0} (side : Side) (number : ℕ) (m : Msg P) → is_row side number m ≡ true → goes_with side m ≡ true
-row_goes Left number (R at row) e = refl
-row_goes Left number other e = absurd (true≢false (sym e))
-row_goes Right number (S at row) e = refl
-row_goes Right number other e = absurd (true≢false (sym e))
 
 AckS_goes : {P : Type 0} (number : ℕ) (m : Msg P) → is_AckS number m ≡ true → goes_right m ≡ true
 AckS_goes number (AckS at) e = refl
@@ -199,7 +190,7 @@ module _ {P : Type 0} (run : Run P) (is : IsRun run) where
   pub ack_order : (k i j : ℕ) → k + 1 < run.cores → list_any (is_R i) (handled (is.turns (k + 1))) ≡ true
       → Sent (is_AckS j) (is_R i) (is_S j) (is_R i) (handled (is.turns (k + 1))) (handled (is.turns k))
   ack_order k i j low h =
-      passed_right run is k low (is_AckS j) (is_R i) (is_S j) (is_R i) (of_way goes_right (is_AckS j) (AckS_goes j)) (of_way goes_right (is_R i) (row_goes Left i))
+      passed_on run is Left k k (k + 1) (refl, omega arith) (omega arith, low) (is_AckS j) (is_R i) (is_S j) (is_R i) (of_way goes_right (is_AckS j) (AckS_goes j)) (of_way goes_right (is_R i) (row_goes Left i))
       (lifts_row Left (is_AckS j) (is_S j) i k run.cores (acks_right j k run.cores low)) h
 
   -- S j comes before its acknowledgement
@@ -211,23 +202,14 @@ module _ {P : Type 0} (run : Run P) (is : IsRun run) where
 
   no_ending_put : (side : Side) (number turn_number : ℕ) (turn : DriverTurn P) → count (is_ending (opposite side) number) (puts (at_port side turn_number turn)) ≡ 0
   no_ending_put Left j n (admission (Arrive other Left row)) = refl
-  no_ending_put Left j n (admission (Arrive other Right row)) = refl
   no_ending_put Left j n (admission (Expire other Left of)) = refl
-  no_ending_put Left j n (admission (Expire other Right of)) = refl
   no_ending_put Left j n (admission (Quiet other Left)) = refl
-  no_ending_put Left j n (admission (Quiet other Right)) = refl
   no_ending_put Left j n (receipt Left message) = refl
-  no_ending_put Left j n (receipt Right message) = refl
-  no_ending_put Left j n closing = refl
   no_ending_put Right i n (admission (Arrive other Left row)) = refl
-  no_ending_put Right i n (admission (Arrive other Right row)) = refl
   no_ending_put Right i n (admission (Expire other Left of)) = refl
-  no_ending_put Right i n (admission (Expire other Right of)) = refl
   no_ending_put Right i n (admission (Quiet other Left)) = refl
-  no_ending_put Right i n (admission (Quiet other Right)) = refl
   no_ending_put Right i n (receipt Left message) = refl
-  no_ending_put Right i n (receipt Right message) = refl
-  no_ending_put Right i n closing = refl
+  no_ending_put side number n turn = refl
 
   -- the first core that the rows of a side reach handles no ending of the opposite side
   no_ending_first : (side : Side) (first number : ℕ) → Reaches run.cores side 0 first → list_any (is_ending (opposite side) number) (handled (is.turns first)) ≡ false

@@ -11,10 +11,11 @@ use Rattle.hj_msg.specs.Turns.{Turn, all_of, handled, at_left, at_right, only_at
 use Rattle.hj_msg.specs.Run.{Run, IsRun}
 use Rattle.hj_msg.proofs.Counts.{count, count-append, count-prefix}
 use Rattle.hj_msg.proofs.Ends.{puts-append, takes-append, puts-puts, takes-puts}
-use Rattle.hj_msg.proofs.CrossingLemmas.{PutsOnly, all_put, never_both}
+use Rattle.hj_msg.proofs.TurnPuts.{PutsOnly, all_put, puts_on, puts_only}
+use Rattle.hj_msg.proofs.CrossingLemmas.{never_both}
 use Rattle.hj_msg.proofs.Orders.{before}
-use Rattle.hj_msg.proofs.Directions.{right_end_goes_left, left_end_goes_right}
-use Rattle.hj_msg.proofs.Sides.{goes_right, goes_left}
+use Rattle.hj_msg.proofs.Directions.{none_taken}
+use Rattle.hj_msg.proofs.Sides.{opposite, goes_right, goes_left, sends_on}
 
 -- at some moment of a journal a message of p was taken, and none of q put
 pub record Waits {P : Type 0} (p q : Msg P → Bool) (journal : List (Entry (Msg P))) : Type 0 where
@@ -33,41 +34,31 @@ record EndOf {P : Type 0} (goes : Msg P → Bool) (end there : Turn P → List (
   all_puts : puts (end turn) ≡ to turn
   taken : goes turn.message ≡ true → count goes (takes (there turn)) ≡ 0 → takes take ≡ turn.message ∷ []
 
-end_right : {P : Type 0} (turn : Turn P) → EndOf goes_left at_right at_left (λ turn. turn.to_right) turn
-end_right {P} turn = record {
-  take = only_at turn.end Right (taken turn.number turn.message);
-  rest = map (put turn.number) turn.to_right;
+-- the entries of a turn at one of its ends, where it put these messages
+abbrev entries_at : {P : Type 0} → Side → (Turn P → List (Msg P)) → Turn P → List (Entry (Msg P))
+entries_at end to turn = only_at turn.end end (taken turn.number turn.message) ++ map (put turn.number) (to turn)
+
+end_at : {P : Type 0} (end : Side) (goes : Msg P → Bool) (to other : Turn P → List (Msg P)) (turn : Turn P) → EndOf goes (entries_at end to) (entries_at (opposite end) other) to turn
+end_at {P} end goes to other turn = record {
+  take = only_at turn.end end (taken turn.number turn.message);
+  rest = map (put turn.number) (to turn);
   is = refl;
-  no_puts = none turn.end;
-  all_puts = puts-append (only_at turn.end Right (taken turn.number turn.message)) (map (put turn.number) turn.to_right) ∙ ap₂ (λ xs ys. xs ++ ys) (none turn.end) (puts-puts turn.number turn.to_right);
-  taken = λ goes away. here turn.end goes away;
+  no_puts = none turn.end end;
+  all_puts = puts-append (only_at turn.end end (taken turn.number turn.message)) (map (put turn.number) (to turn)) ∙ ap₂ (λ xs ys. xs ++ ys) (none turn.end end) (puts-puts turn.number (to turn));
+  taken = λ passes away. here turn.end end passes away;
 }
   where
-    none : (end : Side) → puts (only_at end Right (taken turn.number turn.message)) ≡ []
-    none Left = refl
-    none Right = refl
+    none : (its end : Side) → puts (only_at its end (taken turn.number turn.message)) ≡ []
+    none Left Left = refl
+    none Left Right = refl
+    none Right Left = refl
+    none Right Right = refl
 
-    here : (end : Side) → goes_left turn.message ≡ true → count goes_left (takes (only_at end Left (taken turn.number turn.message) ++ map (put turn.number) turn.to_left)) ≡ 0 → takes (only_at end Right (taken turn.number turn.message)) ≡ turn.message ∷ []
-    here Left goes away = absurd (grind (arith, goes, away, ap (count goes_left) (takes-puts turn.number turn.to_left)))
-    here Right goes away = refl
-
-end_left : {P : Type 0} (turn : Turn P) → EndOf goes_right at_left at_right (λ turn. turn.to_left) turn
-end_left {P} turn = record {
-  take = only_at turn.end Left (taken turn.number turn.message);
-  rest = map (put turn.number) turn.to_left;
-  is = refl;
-  no_puts = none turn.end;
-  all_puts = puts-append (only_at turn.end Left (taken turn.number turn.message)) (map (put turn.number) turn.to_left) ∙ ap₂ (λ xs ys. xs ++ ys) (none turn.end) (puts-puts turn.number turn.to_left);
-  taken = λ goes away. here turn.end goes away;
-}
-  where
-    none : (end : Side) → puts (only_at end Left (taken turn.number turn.message)) ≡ []
-    none Left = refl
-    none Right = refl
-
-    here : (end : Side) → goes_right turn.message ≡ true → count goes_right (takes (only_at end Right (taken turn.number turn.message) ++ map (put turn.number) turn.to_right)) ≡ 0 → takes (only_at end Left (taken turn.number turn.message)) ≡ turn.message ∷ []
-    here Left goes away = refl
-    here Right goes away = absurd (grind (arith, goes, away, ap (count goes_right) (takes-puts turn.number turn.to_right)))
+    here : (its end : Side) → goes turn.message ≡ true → count goes (takes (only_at its (opposite end) (taken turn.number turn.message) ++ map (put turn.number) (other turn))) ≡ 0 → takes (only_at its end (taken turn.number turn.message)) ≡ turn.message ∷ []
+    here Left Left passes away = refl
+    here Right Right passes away = refl
+    here Left Right passes away = absurd (grind (arith, passes, away, ap (count goes) (takes-puts turn.number (other turn))))
+    here Right Left passes away = absurd (grind (arith, passes, away, ap (count goes) (takes-puts turn.number (other turn))))
 
 waits_behind : {P : Type 0} (p q : Msg P → Bool) (first rest : List (Entry (Msg P))) → count q (puts first) ≡ 0 → Waits p q rest → Waits p q (first ++ rest)
 waits_behind p q first rest none wait = record {
@@ -107,36 +98,26 @@ waits {P} goes end there to p q source ends of_p (turn ∷ turns) all away has n
         let later : list_any p (map (λ (turn : Turn P). turn.message) turns) ≡ true = grind (arith, has, e) in
         waits_behind p q (end turn) (flat_map end turns) (omega (arith, ap (count q) (ends turn).all_puts, all.0 source_none)) (deeper (omega (arith, split)) later tail)
 
-not_both : {P : Type 0} (run : Run P) (is : IsRun run) (k : ℕ) → k ≤ run.cores → (p q : Msg P → Bool) → Waits p q (run.link k).left → Waits q p (run.link k).right → ⊥
-not_both run is k within p q here there = never_both (run.link k) (is.links k within) p q here.front here.back there.front there.back here.is there.is here.took here.none there.took there.none
-
-puts_from_right : {P : Type 0} (place n : ℕ) (q source : Msg P → Bool) → ((m : Msg P) → source m ≡ false → count q (sends place n m).right ≡ 0)
-    → (turns : List (Turn P)) → AllByRecursion (PutsOnly place n) turns → AllByRecursion (λ turn. source turn.message ≡ false → count q turn.to_right ≡ 0) turns
-puts_from_right place n q source from [] all = tt
-puts_from_right place n q source from (turn ∷ turns) all = (λ e. omega (arith, count-prefix q all.0.right, from turn.message e), puts_from_right place n q source from turns all.1)
-
-puts_from_left : {P : Type 0} (place n : ℕ) (q source : Msg P → Bool) → ((m : Msg P) → source m ≡ false → count q (sends place n m).left ≡ 0)
-    → (turns : List (Turn P)) → AllByRecursion (PutsOnly place n) turns → AllByRecursion (λ turn. source turn.message ≡ false → count q turn.to_left ≡ 0) turns
-puts_from_left place n q source from [] all = tt
-puts_from_left place n q source from (turn ∷ turns) all = (λ e. omega (arith, count-prefix q all.0.left, from turn.message e), puts_from_left place n q source from turns all.1)
+puts_from : {P : Type 0} (side : Side) (place n : ℕ) (q source : Msg P → Bool) → ((m : Msg P) → source m ≡ false → count q (sends_on side place n m) ≡ 0)
+    → (turns : List (Turn P)) → AllByRecursion (PutsOnly place n) turns → AllByRecursion (λ turn. source turn.message ≡ false → count q (puts_on side turn) ≡ 0) turns
+puts_from side place n q source from [] all = tt
+puts_from side place n q source from (turn ∷ turns) all = (λ e. omega (arith, count-prefix q (puts_only side all.0), from turn.message e), puts_from side place n q source from turns all.1)
 
 module _ {P : Type 0} (run : Run P) (is : IsRun run) where
   -- core k handled p, which goes left, and no source of q before it; so it took p before it put q
   pub waits_right : (k : ℕ) (low : k < run.cores) (p q source : Msg P → Bool) → ((m : Msg P) → p m ≡ true → goes_left m ≡ true) → ((m : Msg P) → source m ≡ false → count q (sends k run.cores m).right ≡ 0)
       → list_any p (handled (is.turns k)) ≡ true → before source p (handled (is.turns k)) ≡ false → Waits p q (run.link (k + 1)).left
   waits_right k low p q source of_p from has none =
-      let away : count goes_left (takes (flat_map at_left (all_of (is.turns k)))) ≡ 0
-      = omega (arith, ap (λ j. count goes_left (takes j)) (is.steps k low).left, count-prefix goes_left (is.links k (omega arith)).rightwards.taken, left_end_goes_right run is k (omega arith)) in
       subst (λ j. Waits p q j) (sym (is.steps k low).right)
-      (waits goes_left at_right at_left (λ turn. turn.to_right) p q source end_right of_p (all_of (is.turns k)) (puts_from_right k run.cores q source from (all_of (is.turns k)) (all_put (is.steps k low))) away has none)
+      (waits goes_left at_right at_left (λ turn. turn.to_right) p q source (end_at Right goes_left (λ turn. turn.to_right) (λ turn. turn.to_left)) of_p (all_of (is.turns k))
+      (puts_from Left k run.cores q source from (all_of (is.turns k)) (all_put (is.steps k low))) (none_taken run is Right k low) has none)
 
   pub waits_left : (k : ℕ) (low : k < run.cores) (p q source : Msg P → Bool) → ((m : Msg P) → p m ≡ true → goes_right m ≡ true) → ((m : Msg P) → source m ≡ false → count q (sends k run.cores m).left ≡ 0)
       → list_any p (handled (is.turns k)) ≡ true → before source p (handled (is.turns k)) ≡ false → Waits p q (run.link k).right
   waits_left k low p q source of_p from has none =
-      let away : count goes_right (takes (flat_map at_right (all_of (is.turns k)))) ≡ 0
-      = omega (arith, ap (λ j. count goes_right (takes j)) (is.steps k low).right, count-prefix goes_right (is.links (k + 1) (omega arith)).leftwards.taken, right_end_goes_left run is (k + 1) (omega arith)) in
       subst (λ j. Waits p q j) (sym (is.steps k low).left)
-      (waits goes_right at_left at_right (λ turn. turn.to_left) p q source end_left of_p (all_of (is.turns k)) (puts_from_left k run.cores q source from (all_of (is.turns k)) (all_put (is.steps k low))) away has none)
+      (waits goes_right at_left at_right (λ turn. turn.to_left) p q source (end_at Left goes_right (λ turn. turn.to_left) (λ turn. turn.to_right)) of_p (all_of (is.turns k))
+      (puts_from Right k run.cores q source from (all_of (is.turns k)) (all_put (is.steps k low))) (none_taken run is Left k low) has none)
 
   pub never_opposed : (k : ℕ) → k ≤ run.cores → (p q : Msg P → Bool) → Waits p q (run.link k).left → Waits q p (run.link k).right → ⊥
-  never_opposed k within p q here there = not_both run is k within p q here there
+  never_opposed k within p q here there = never_both (run.link k) (is.links k within) p q here.front here.back there.front there.back here.is there.is here.took here.none there.took there.none
