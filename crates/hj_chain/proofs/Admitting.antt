@@ -7,7 +7,7 @@ use Rattle.hj_msg.specs.declared.feed.Given.{Given}
 use Rattle.hj_msg.specs.declared.feed.Given.TheVariants as given
 use Rattle.hj_msg.specs.declared.message.Msg.{Msg}
 use Rattle.hj_msg.specs.Event.{IsWellFormed}
-use Rattle.hj_msg.specs.Feed.{FeedState, event_in}
+use Rattle.hj_msg.specs.Feed.{Answers, FeedState, event_in}
 use Rattle.hj_msg.specs.Driver.{DriverTurn, admission, admitted, message_of, port_of}
 use Rattle.hj_driver.specs.declared.answers.Admitted.{Admitted}
 use Rattle.hj_driver.specs.declared.answers.Admitted.TheVariants as admitted_as
@@ -75,11 +75,11 @@ module _ {P J : Type 0} (predicate : J → P → P → Bool) (opened now : Conte
   admitting-free one found next_one asked none = waits_for one found next_one asked ∙ none
 
   pub admitting-did : (one : Event P) (found : Option Why) → chain.next ≡ Some (given.Event one) → Asked one found → found ≡ None
-      → (answer : FeedAnswer P) (driver : DriverState) (result : Admitted P) (port : Side) (message : Msg P) (count : ℕ) (links : List (Queues (Msg P))) (later : Option (Given P)) → Answered result → result ≡ admitted_as.Send port message
+      → (answer : FeedAnswer P) (driver : DriverState) (result : Admitted P) (port : Side) (message : Msg P) (count : ℕ) (links : List (Queues (Msg P))) (later told : Option (Given P)) → Answered result → result ≡ admitted_as.Send port message
       → ((l : List (DriverTurn P)) → StandsFor chain.driver l → IsWellFormed (admitted l ++ event ∷ []) → OnTrue (is_send result) (StandsFor driver (l ++ admission event ∷ [])))
-      → driver.flight ≡ chain.driver.flight → count ≡ length chain.cores → links ≡ put_in port count message chain.links → later ≡ if_there answer
+      → driver.flight ≡ chain.driver.flight → count ≡ length chain.cores → links ≡ put_in port count message chain.links → later ≡ told → told ≡ if_there answer
       → StepsTo (predicate now.join) Admit answer now.state Did (record chain { driver = driver; links = links; next = later })
-  admitting-did one found next_one asked none answer driver result port message count links later answered sends stands_new same all put later_is =
+  admitting-did one found next_one asked none answer driver result port message count links later told answered sends stands_new same all put later_is told_is =
       let free = waits_for one found next_one asked ∙ none in
       let s = sent chain.driver past event stood well driver port message free same (subst Answered sends answered)
       (λ l before fine. subst (λ (a : Admitted P). OnTrue (is_send a) (StandsFor driver (l ++ admission event ∷ []))) sends (stands_new l before fine)) in
@@ -88,7 +88,7 @@ module _ {P J : Type 0} (predicate : J → P → P → Bool) (opened now : Conte
       let new : ChainState P = record chain { driver = driver; links = links; next = later } in
       subst (λ (c : Contents P J). StepsTo (predicate c.join) Admit answer c.state Did new) is
       (admit-did matches chain going_on.going answer event new next free
-      (ap (λ (g : Option (Given P)). record chain { driver = driver; links = links; next = g }) later_is ∙ ap₂ (λ (d : DriverState) (ls : List (Queues (Msg P))). record chain { driver = d; links = ls; next = if_there answer }) s.state links_are))
+      (ap (λ (g : Option (Given P)). record chain { driver = driver; links = links; next = g }) (later_is ∙ told_is) ∙ ap₂ (λ (d : DriverState) (ls : List (Queues (Msg P))). record chain { driver = d; links = ls; next = if_there answer }) s.state links_are))
 
 -- where no answer of the feed is known, it is asked
 pub asking-did : {P J : Type 0} (predicate : J → P → P → Bool) (opened now : Contents P J) → opened ≡ now → IsGoing predicate now → opened.state.next ≡ None → (answer : FeedAnswer P)
@@ -98,9 +98,17 @@ asking-did {P} {J} predicate opened now is goes none answer =
     subst (λ (c : Contents P J). StepsTo (predicate c.join) Admit answer c.state Did (record opened.state { next = Some answer.given })) is
     (asks-did (predicate opened.join) opened.state going answer (record opened.state { next = Some answer.given }) none refl)
 
--- The feed is asked where an event is put and the next one is there, and where no answer is known.
-pub asks-event : {P : Type 0} (A B : Type 0) (next : Option (Given P)) (event : Event P) (ready : Bool) → next ≡ Some (given.Event event) → MatchBool ready A B → MatchBool (asks Admit next ready) A B
-asks-event {P} A B next event ready is a = subst (λ (g : Option (Given P)). MatchBool (asks Admit g ready) A B) (sym is) a
+-- what a feed answers, by its states
+abbrev pub AnswersFrom : {P : Type 0} → FeedState → Given P → FeedState → Type 0
+AnswersFrom before given after = Answers given before after
 
-pub asks-first : {P : Type 0} (A B : Type 0) (next : Option (Given P)) (ready : Bool) → next ≡ None → A → MatchBool (asks Admit next ready) A B
-asks-first {P} A B next ready is a = subst (λ (g : Option (Given P)). MatchBool (asks Admit g ready) A B) (sym is) a
+-- The feed is asked where an event is put and the next one is there, and where no answer is known.
+module _ {P F : Type 0} (gives : F → Given P → F → Type 0) (next : Option (Given P)) (answer : FeedAnswer P) (from to : F) where
+  abbrev Told : Bool → Type 0
+  Told asked = MatchBool asked (gives from answer.given to) (to ≡ from)
+
+  pub asks-event : (event : Event P) → next ≡ Some (given.Event event) → Told answer.ready → Told (asks Admit next answer.ready)
+  asks-event event is gave = subst (λ (g : Option (Given P)). Told (asks Admit g answer.ready)) (sym is) gave
+
+  pub asks-first : next ≡ None → gives from answer.given to → Told (asks Admit next answer.ready)
+  asks-first is gave = subst (λ (g : Option (Given P)). Told (asks Admit g answer.ready)) (sym is) gave

@@ -70,6 +70,14 @@ if-going : {X : Type 0} (b : Bool) (o : Option X) (x : X) → cond b None o ≡ 
 if-going true o x is = absurd (cc)
 if-going false o x is = is
 
+-- Where pairs are given, the rest stays.
+module _ {P J : Type 0} (old new : Contents P J) (others : new ≡ record old { kept = new.kept }) where
+  pub join-stays : new.join ≡ old.join
+  join-stays = ap (λ (c : Contents P J). c.join) others
+
+  pub state-stays : new.state ≡ old.state
+  state-stays = ap (λ (c : Contents P J). c.state) others
+
 module _ {P J : Type 0} (predicate : J → P → P → Bool) (now new : Contents P J) (others : new ≡ record now { kept = new.kept }) where
   -- one pair of the kept ones is given
   pub stood-more : (schedule : List Actor) (events : List (Event P)) (given : ℕ) (lists : List (List (Report P))) (stood : Stood predicate now schedule events given lists) (pair : Pair P) → next_pair stood.stands ≡ Some pair

@@ -32,6 +32,10 @@ turned {X} x xs place (suc from) is =
     let less : suc from - 1 ≡ place - 1 = omega (arith, is) in
     ap₂ (λ (j k : ℕ). drop j xs ++ take k xs) same less
 
+-- where one thing is said of an answer and another one seen, the two are the same
+pub seen-so : {X : Type 0} (answer said seen : X) → answer ≡ said → answer ≡ seen → said ≡ seen
+seen-so answer said seen is was = sym is ∙ was
+
 module _ {X : Type 0} (test : X → Bool) where
   single : (x : X) (b : Bool) → test x ≡ b → filter test (x ∷ []) ≡ cond b (x ∷ []) []
   single x b is = ap (λ c. cond c (x ∷ []) []) is
@@ -58,6 +62,14 @@ module _ {X : Type 0} (test : X → Bool) where
       step true deeper = deeper
       step false deeper = deeper
 
+  -- it is the first one where none in front of it passes
+  pub found-first : (xs : List X) (i : ℕ) (x : X) → slice_get xs i ≡ Some x → test x ≡ true → filter test (take i xs) ≡ [] → (m : ℕ) → i < m → Some x ≡ slice_get (filter test (take m xs)) 0
+  found-first xs i x is passes none m low = sym (subst (λ (k : ℕ). slice_get (filter test (take m xs)) k ≡ Some x) (ap length none) (found xs i x is passes m low))
+
+  -- where all were looked at, those that passed are all that pass
+  pub passed-all : (xs : List X) (i count : ℕ) → length xs ≤ i → count ≡ length (filter test (take i xs)) → count ≡ length (filter test xs)
+  passed-all xs i count low is = is ∙ ap (λ l. length (filter test l)) (take-whole xs i low)
+
   -- of two lists one behind the other the first that passes is that of the front, if there is one
   pub first-of-both : (xs ys : List X) → slice_get (filter test xs) 0 ≡ None → slice_get (filter test (xs ++ ys)) 0 ≡ slice_get (filter test ys) 0
   first-of-both xs ys none = ap (λ l. slice_get l 0) (filter-append test xs ys) ∙ behind (filter test xs) none
@@ -73,12 +85,13 @@ module _ {X : Type 0} (test : X → Bool) where
       front [] some = absurd (cc)
       front (y ∷ l) some = some
 
-  pub first-round : (xs ys : List X) (o : Option X) → slice_get (filter test xs) 0 ≡ None → o ≡ slice_get (filter test ys) 0 → o ≡ slice_get (filter test (xs ++ ys)) 0
-  first-round xs ys o none is = is ∙ sym (first-of-both xs ys none)
+  -- `front` is the front list as it was looked over, and `first` the first that passes there
+  pub first-round : (front xs ys : List X) (first o : Option X) → front ≡ xs → first ≡ slice_get (filter test front) 0 → first ≡ None → o ≡ slice_get (filter test ys) 0 → o ≡ slice_get (filter test (xs ++ ys)) 0
+  first-round front xs ys first o same found none is = is ∙ sym (first-of-both xs ys (ap (λ l. slice_get (filter test l) 0) (sym same) ∙ sym found ∙ none))
 
-  pub first-behind : (xs ys : List X) (o : Option X) → slice_get (filter test xs) 0 ≡ o → (o ≡ None → ⊥) → o ≡ slice_get (filter test (xs ++ ys)) 0
-  first-behind xs ys None is some = absurd (some refl)
-  first-behind xs ys (Some x) is some = sym (first-of-front xs ys x is)
+  pub first-behind : (front xs ys : List X) (first : Option X) → front ≡ xs → first ≡ slice_get (filter test front) 0 → (first ≡ None → ⊥) → first ≡ slice_get (filter test (xs ++ ys)) 0
+  first-behind front xs ys None same found some = absurd (some refl)
+  first-behind front xs ys (Some x) same found some = sym (first-of-front xs ys x (ap (λ l. slice_get (filter test l) 0) (sym same) ∙ sym found))
 
   -- no more pass than there are
   pub filtered : (i : ℕ) (xs : List X) → length (filter test (take i xs)) ≤ i

@@ -1,5 +1,5 @@
 -- No actor is enabled exactly where the chain is done or over.
-use Rattle.std.proofs.Common.{◌≡◌, ◌≢◌, ◌↔◌, ◌⊎◌, inl, inr, ℕ, zero, suc, ◌≤◌, Bool, true, false, cond, List, [], ◌∷◌, length, take, filter, Option, Some, None, refl, ap, sym, ◌∙◌, arith, true≢false}
+use Rattle.std.proofs.Common.{◌≡◌, ◌≢◌, ◌↔◌, ◌⊎◌, inl, inr, ℕ, ◌≤◌, Bool, true, false, cond, List, [], ◌∷◌, length, filter, Option, Some, None, refl, ap, sym, ◌∙◌, arith, true≢false}
 use Rattle.std.specs.List.{slice_get}
 use Rattle.std.specs.Option.{is_none}
 use Rattle.hj_msg.specs.declared.event.Event.{Event}
@@ -22,13 +22,6 @@ none-left test (x ∷ xs) none = rw (none x) (none-left test xs none)
 no-length : {X : Type 0} (xs : List X) → length xs ≡ 0 → xs ≡ []
 no-length [] none = refl
 no-length (x ∷ xs) none = absurd (omega (arith, none))
-
--- all of a list
-pub take-whole : {X : Type 0} (xs : List X) (i : ℕ) → length xs ≤ i → take i xs ≡ xs
-take-whole [] zero long = refl
-take-whole [] (suc i) long = refl
-take-whole (x ∷ xs) zero long = absurd (omega (arith, long))
-take-whole {X} (x ∷ xs) (suc i) long = ap (λ (l : List X). x ∷ l) (take-whole xs i (omega (arith, long)))
 
 some-cause : (o : Option NotNow) → o ≢ None → is_none o ≡ false
 some-cause None some = absurd (some refl)

@@ -128,6 +128,13 @@ pub port-spares : (port : Side) → needs_memory (at_port port) ≡ false
 port-spares Left = refl
 port-spares Right = refl
 
+-- the ports stand behind the driver's put
+pub left-there : {P J : Type 0} (chain : Contents P J) → StandsThere chain 1 PortLeft
+left-there chain = record { stands = refl; behind = refl }
+
+pub right-there : {P J : Type 0} (chain : Contents P J) → StandsThere chain 2 PortRight
+right-there chain = record { stands = refl; behind = refl }
+
 -- a sweep goes on
 module _ {P J : Type 0} (predicate : J → P → P → Bool) (first at : ℕ) (before moved : Bool) (begun now new : Contents P J) (actor : Actor) (more : Sweeps predicate first before begun at moved now) (there : StandsThere now at actor) where
   pub sweep-past : (is_enabled now.state actor ≡ false) × (new ≡ now) → Sweeps predicate first before begun (at + 1) moved new

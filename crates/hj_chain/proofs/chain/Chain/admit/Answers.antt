@@ -5,7 +5,7 @@ use Rattle.hj_driver.specs.declared.answers.Admitted.TheVariants.{Send}
 use Rattle.hj_chain.specs.Chain.{Contents, FeedAnswer}
 use Rattle.hj_chain.specs.Steps.{asks}
 use Rattle.hj_chain.specs.declared.actor.Actor.TheVariants.{Admit}
-use Rattle.hj_chain.proofs.Admitting.{going_from, admitting-log, admitting-waits, admitting-free, admitting-did, asking-did, asks-event, asks-first}
+use Rattle.hj_chain.proofs.Admitting.{AnswersFrom, going_from, admitting-log, admitting-waits, admitting-free, admitting-did, asking-did, asks-event, asks-first}
 use Rattle.hj_chain.proofs.Advancing.{goes-unasked, same-join, same-kept, steps-unasked, unheard}
 use Rattle.hj_chain.proofs.Opening.{in_links, room_port}
 use Rattle.hj_chain.proofs.Goings.{goes-did}
@@ -16,7 +16,7 @@ returns-in_default-clause-step g c = record {
   answer = record { ready = g.F.Feed.ready c.args.feed.now; given = c.next.result };
   ready = refl;
   chain = asking-did g.J.Join.predicate _ _ c.self.view_is (going_from g.J.Join.predicate _ _ c.requires.goes c.requires.going) c.in_default.is (record { ready = g.F.Feed.ready c.args.feed.now; given = c.next.result });
-  feed = asks-first _ _ c.args.self.now.state.next (g.F.Feed.ready c.args.feed.now) (ap (λ (k : Contents g.row.P.Denot g.row.J.Denot). k.state.next) (sym c.self.view_is) ∙ c.in_default.is) c.next.ensures.gives;
+  feed = asks-first g.F.Feed.gives c.args.self.now.state.next (record { ready = g.F.Feed.ready c.args.feed.now; given = c.next.result }) c.args.feed.now c.next.new.self (ap (λ (k : Contents g.row.P.Denot g.row.J.Denot). k.state.next) (sym c.self.view_is) ∙ c.in_default.is) c.next.ensures.gives;
 }
 
 pub returns-in_default-clause-goes : goal.returns-in_default-clause-goes
@@ -25,7 +25,7 @@ returns-in_default-clause-goes g c =
     goes-did g.J.Join.predicate c.args.self.now _ Admit (ap (λ (k : Contents g.row.P.Denot g.row.J.Denot). k.join) c.self.view_is) (g.F.Feed.state c.args.feed.now) (g.F.Feed.state c.next.new.self) c.requires.goes answer
     (asking-did g.J.Join.predicate _ _ c.self.view_is (going_from g.J.Join.predicate _ _ c.requires.goes c.requires.going) c.in_default.is answer)
     (ap (λ (k : Contents g.row.P.Denot g.row.J.Denot). k.collector) c.self.view_is, ap (λ (k : Contents g.row.P.Denot g.row.J.Denot). k.kept) c.self.view_is)
-    (asks-first _ _ c.args.self.now.state.next (g.F.Feed.ready c.args.feed.now) (ap (λ (k : Contents g.row.P.Denot g.row.J.Denot). k.state.next) (sym c.self.view_is) ∙ c.in_default.is) c.next.ensures.answers)
+    (asks-first AnswersFrom c.args.self.now.state.next answer (g.F.Feed.state c.args.feed.now) (g.F.Feed.state c.next.new.self) (ap (λ (k : Contents g.row.P.Denot g.row.J.Denot). k.state.next) (sym c.self.view_is) ∙ c.in_default.is) c.next.ensures.answers)
 
 pub returns-in_default-given-clause-step : goal.returns-in_default-given-clause-step
 returns-in_default-given-clause-step g c =
@@ -76,9 +76,9 @@ returns-clause-step g c =
       ready = told.2.ready;
       chain =
           admitting-did g.J.Join.predicate _ _ c.self.view_is (going_from g.J.Join.predicate _ _ c.requires.goes c.requires.going) c.in-Event-given.event (sym c.replace.ensures.value ∙ c.in-Some-replace.is ∙ ap (λ (x : Given g.row.P.Denot). Some x) c.in-Event-given.is)
-          c.in-Event.event c.waits.result (c.in-Some.is ∙ ap (λ (x : Given g.row.P.Denot). Some x) c.in-Event.is) c.waits.ensures.log c.in_default-waits.is told.0 c.admit_now-port.new.self (Send c.admit_now-port.result.0 c.admit_now-port.result.1) c.admit_now-port.result.0 c.admit_now-port.result.1 c.len.result _ _ c.admit_now-port.ensures.answer refl c.admit_now-port.ensures.sent
-          c.admit_now-port.ensures.flight (c.len.ensures ∙ c.self.inside.cores.ok.0 ∙ sym (length-map c.self.inside.cores.items _)) c.put_in.ensures (c.replace.ensures.after ∙ told.1);
-      feed = asks-event _ _ c.args.self.now.state.next c.in-Event.event told.0.ready (ap (λ (k : Contents g.row.P.Denot g.row.J.Denot). k.state.next) (sym c.self.view_is) ∙ (c.in-Some.is ∙ ap (λ (x : Given g.row.P.Denot). Some x) c.in-Event.is)) told.2.gave;
+          c.in-Event.event c.waits.result (c.in-Some.is ∙ ap (λ (x : Given g.row.P.Denot). Some x) c.in-Event.is) c.waits.ensures.log c.in_default-waits.is told.0 c.admit_now-port.new.self (Send c.admit_now-port.result.0 c.admit_now-port.result.1) c.admit_now-port.result.0 c.admit_now-port.result.1 c.len.result c.put_in.new.self c.replace.new.dest c.next_if_there.result c.admit_now-port.ensures.answer refl c.admit_now-port.ensures.sent
+          c.admit_now-port.ensures.flight (c.len.ensures ∙ c.self.inside.cores.ok.0 ∙ sym (length-map c.self.inside.cores.items _)) c.put_in.ensures c.replace.ensures.after told.1;
+      feed = asks-event g.F.Feed.gives c.args.self.now.state.next told.0 c.args.feed.now c.next_if_there.new.feed c.in-Event.event (ap (λ (k : Contents g.row.P.Denot g.row.J.Denot). k.state.next) (sym c.self.view_is) ∙ (c.in-Some.is ∙ ap (λ (x : Given g.row.P.Denot). Some x) c.in-Event.is)) told.2.gave;
     }
 
 pub returns-clause-goes : goal.returns-clause-goes
@@ -86,7 +86,7 @@ returns-clause-goes g c =
     let told = c.next_if_there.ensures in
     goes-did g.J.Join.predicate c.args.self.now _ Admit (ap (λ (k : Contents g.row.P.Denot g.row.J.Denot). k.join) c.self.view_is) (g.F.Feed.state c.args.feed.now) (g.F.Feed.state c.next_if_there.new.feed) c.requires.goes told.0
     (admitting-did g.J.Join.predicate _ _ c.self.view_is (going_from g.J.Join.predicate _ _ c.requires.goes c.requires.going) c.in-Event-given.event (sym c.replace.ensures.value ∙ c.in-Some-replace.is ∙ ap (λ (x : Given g.row.P.Denot). Some x) c.in-Event-given.is)
-    c.in-Event.event c.waits.result (c.in-Some.is ∙ ap (λ (x : Given g.row.P.Denot). Some x) c.in-Event.is) c.waits.ensures.log c.in_default-waits.is told.0 c.admit_now-port.new.self (Send c.admit_now-port.result.0 c.admit_now-port.result.1) c.admit_now-port.result.0 c.admit_now-port.result.1 c.len.result _ _ c.admit_now-port.ensures.answer refl c.admit_now-port.ensures.sent
-    c.admit_now-port.ensures.flight (c.len.ensures ∙ c.self.inside.cores.ok.0 ∙ sym (length-map c.self.inside.cores.items _)) c.put_in.ensures (c.replace.ensures.after ∙ told.1))
+    c.in-Event.event c.waits.result (c.in-Some.is ∙ ap (λ (x : Given g.row.P.Denot). Some x) c.in-Event.is) c.waits.ensures.log c.in_default-waits.is told.0 c.admit_now-port.new.self (Send c.admit_now-port.result.0 c.admit_now-port.result.1) c.admit_now-port.result.0 c.admit_now-port.result.1 c.len.result c.put_in.new.self c.replace.new.dest c.next_if_there.result c.admit_now-port.ensures.answer refl c.admit_now-port.ensures.sent
+    c.admit_now-port.ensures.flight (c.len.ensures ∙ c.self.inside.cores.ok.0 ∙ sym (length-map c.self.inside.cores.items _)) c.put_in.ensures c.replace.ensures.after told.1)
     (ap (λ (k : Contents g.row.P.Denot g.row.J.Denot). k.collector) c.self.view_is, ap (λ (k : Contents g.row.P.Denot g.row.J.Denot). k.kept) c.self.view_is)
-    (asks-event _ _ c.args.self.now.state.next c.in-Event.event told.0.ready (ap (λ (k : Contents g.row.P.Denot g.row.J.Denot). k.state.next) (sym c.self.view_is) ∙ (c.in-Some.is ∙ ap (λ (x : Given g.row.P.Denot). Some x) c.in-Event.is)) told.2.says)
+    (asks-event AnswersFrom c.args.self.now.state.next told.0 (g.F.Feed.state c.args.feed.now) (g.F.Feed.state c.next_if_there.new.feed) c.in-Event.event (ap (λ (k : Contents g.row.P.Denot g.row.J.Denot). k.state.next) (sym c.self.view_is) ∙ (c.in-Some.is ∙ ap (λ (x : Given g.row.P.Denot). Some x) c.in-Event.is)) told.2.says)

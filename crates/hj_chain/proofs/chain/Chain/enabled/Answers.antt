@@ -1,13 +1,12 @@
-use Rattle.std.proofs.Common.{◌≡◌, ◌+◌, ◌≤◌, ℕ, List, Some, [], ◌∷◌, length, filter, take, ap, sym, ◌∙◌, subst, refl, arith, length-append}
+use Rattle.std.proofs.Common.{false, true, ◌≡◌, ◌+◌, ◌≤◌, ℕ, Some, [], ◌∷◌, length, filter, take, ap, sym, ◌∙◌, subst, refl, arith, length-append}
 use Rattle.std.specs.List.{slice_get}
 use Rattle.std.proofs.lemmas.List.{length-map}
 use Rattle.hj_core.specs.Contents.{state_of}
-use Rattle.hj_chain.specs.declared.actor.Actor.{Actor}
 use Rattle.hj_chain.specs.Chain.{Contents}
 use Rattle.hj_chain.specs.Serial.{actors, is_enabled}
 use Rattle.hj_chain.proofs.ActorOrder.{length-actors}
-use Rattle.hj_chain.proofs.NoneEnabled.{none_enabled, take-whole}
-use Rattle.hj_chain.proofs.Looking.{filtered, one-more, none-more}
+use Rattle.hj_chain.proofs.NoneEnabled.{none_enabled}
+use Rattle.hj_chain.proofs.Looking.{filtered, one-more, none-more, passed-all, seen-so}
 use Rattle.hj_chain.proofs.chain.Chain.enabled.Goals as goal
 use Rattle.hj_chain.proofs.chain.Chain.enabled.Goals.{then-is_enabled, else-is_enabled}
 
@@ -37,7 +36,7 @@ loop-place-preserved g c =
             arith,
             w.count-is,
             c.loop-place.invariant,
-            ap length (one-more (is_enabled c.args.self.now.state) all c.loop-place.place c.at.result here (sym c.is_enabled.ensures ∙ w.if-is_enabled.true) (c.loop-place.place + 1) refl),
+            ap length (one-more (is_enabled c.args.self.now.state) all c.loop-place.place c.at.result here (seen-so c.is_enabled.result (is_enabled c.args.self.now.state c.at.result) true c.is_enabled.ensures w.if-is_enabled.true) (c.loop-place.place + 1) refl),
             length-append (filter (is_enabled c.args.self.now.state) (take c.loop-place.place all)) (c.at.result ∷ []),
           )
       | else-is_enabled w ↦
@@ -45,7 +44,7 @@ loop-place-preserved g c =
             arith,
             w.count-is,
             c.loop-place.invariant,
-            ap length (none-more (is_enabled c.args.self.now.state) all c.loop-place.place c.at.result here (sym c.is_enabled.ensures ∙ w.if-is_enabled.false) (c.loop-place.place + 1) refl),
+            ap length (none-more (is_enabled c.args.self.now.state) all c.loop-place.place c.at.result here (seen-so c.is_enabled.result (is_enabled c.args.self.now.state c.at.result) false c.is_enabled.ensures w.if-is_enabled.false) (c.loop-place.place + 1) refl),
           )
     ]
 
@@ -56,4 +55,4 @@ returns-clause-none g c = λ schedule events given stands.
     let whole : length all ≤ c.loop-place.place = omega (arith, c.loop-place.auto.place-end, c.count-place-end.ensures, ap (λ (m : ℕ). length (actors m)) n) in
     none_enabled g.J.Join.predicate c.args.self.now schedule events given stands
     (subst (λ (k : Contents g.row.P.Denot g.row.J.Denot). 1 ≤ k.state.driver.flight) c.self.view_is c.self.invariant.flight)
-    c.loop-place.count (c.loop-place.invariant ∙ ap (λ (l : List Actor). length (filter (is_enabled c.args.self.now.state) l)) (take-whole all c.loop-place.place whole))
+    c.loop-place.count (passed-all (is_enabled c.args.self.now.state) all c.loop-place.place c.loop-place.count whole c.loop-place.invariant)

@@ -1,10 +1,10 @@
-use Rattle.std.proofs.Common.{◌≡◌, ◌+◌, ◌-◌, ℕ, Some, length, filter, take, drop, ap, sym, ◌∙◌, subst, arith}
+use Rattle.std.proofs.Common.{false, true, ◌≡◌, ◌+◌, ◌-◌, ℕ, Some, length, drop, ap, sym, ◌∙◌, subst, arith}
 use Rattle.std.specs.List.{slice_get}
 use Rattle.std.proofs.lemmas.List.{length-map}
 use Rattle.hj_core.specs.Contents.{state_of}
 use Rattle.hj_chain.specs.Chain.{Contents}
 use Rattle.hj_chain.specs.Serial.{actors, is_enabled}
-use Rattle.hj_chain.proofs.Looking.{at-dropped, found, none-more}
+use Rattle.hj_chain.proofs.Looking.{at-dropped, found-first, none-more, seen-so}
 use Rattle.hj_chain.proofs.chain.Chain.first_enabled.Goals as goal
 
 pub returns-then-is_enabled : goal.returns-then-is_enabled
@@ -15,8 +15,8 @@ returns-then-is_enabled g c =
     let i : ℕ = c.loop-place.place - c.args.from in
     let here : slice_get all c.loop-place.place ≡ Some c.at-actor.result = subst (λ (m : ℕ). slice_get (actors m) c.loop-place.place ≡ Some c.at-actor.result) n c.at-actor.ensures.actor in
     let there : slice_get (drop c.args.from all) i ≡ Some c.at-actor.result = at-dropped all c.args.from c.loop-place.place i (omega (arith, c.loop-place.auto.place)) ∙ here in
-    let stands = found test (drop c.args.from all) i c.at-actor.result there (sym c.is_enabled.ensures ∙ c.if-is_enabled.true) (c.args.to - c.args.from) (omega (arith, c.loop-place-test.true, c.loop-place.auto.place)) in
-    sym (subst (λ (k : ℕ). slice_get (filter test (take (c.args.to - c.args.from) (drop c.args.from all))) k ≡ Some c.at-actor.result) (ap length c.loop-place.invariant) stands)
+    let passes : test c.at-actor.result ≡ true = seen-so c.is_enabled.result (test c.at-actor.result) true c.is_enabled.ensures c.if-is_enabled.true in
+    found-first test (drop c.args.from all) i c.at-actor.result there passes c.loop-place.invariant (c.args.to - c.args.from) (omega (arith, c.loop-place-test.true, c.loop-place.auto.place))
 
 pub loop-place-preserved : goal.loop-place-preserved
 loop-place-preserved g c =
@@ -25,4 +25,4 @@ loop-place-preserved g c =
     let i : ℕ = c.loop-place.place - c.args.from in
     let here : slice_get all c.loop-place.place ≡ Some c.at-actor.result = subst (λ (m : ℕ). slice_get (actors m) c.loop-place.place ≡ Some c.at-actor.result) n c.at-actor.ensures.actor in
     let there : slice_get (drop c.args.from all) i ≡ Some c.at-actor.result = at-dropped all c.args.from c.loop-place.place i (omega (arith, c.loop-place.auto.place)) ∙ here in
-    none-more (is_enabled c.args.self.now.state) (drop c.args.from all) i c.at-actor.result there (sym c.is_enabled.ensures ∙ c.if-is_enabled.false) (c.loop-place.place + 1 - c.args.from) (omega (arith, c.loop-place.auto.place)) ∙ c.loop-place.invariant
+    none-more (is_enabled c.args.self.now.state) (drop c.args.from all) i c.at-actor.result there (seen-so c.is_enabled.result (is_enabled c.args.self.now.state c.at-actor.result) false c.is_enabled.ensures c.if-is_enabled.false) (c.loop-place.place + 1 - c.args.from) (omega (arith, c.loop-place.auto.place)) ∙ c.loop-place.invariant

@@ -1,8 +1,6 @@
-use Rattle.std.proofs.Common.{◌≡◌, ◌-◌, ℕ, List, length, filter, take, drop, ap, sym, ◌∙◌, arith}
-use Rattle.std.specs.List.{slice_get}
+use Rattle.std.proofs.Common.{◌≡◌, ◌-◌, ℕ, length, take, drop, ap, sym, ◌∙◌, arith}
 use Rattle.std.proofs.lemmas.List.{length-map, length-drop}
 use Rattle.hj_core.specs.Contents.{state_of}
-use Rattle.hj_chain.specs.declared.actor.Actor.{Actor}
 use Rattle.hj_chain.specs.Chain.{Contents}
 use Rattle.hj_chain.specs.Serial.{actors, is_enabled}
 use Rattle.hj_chain.proofs.Looking.{first-behind, first-round, take-whole}
@@ -15,8 +13,7 @@ returns-in-None g c =
     let test = is_enabled c.args.self.now.state in
     let back : take (c.count.result - c.args.place) (drop c.args.place all) ≡ drop c.args.place all =
     take-whole (drop c.args.place all) (c.count.result - c.args.place) (omega (arith, c.count.ensures, ap (λ (m : ℕ). length (actors m)) n, length-drop c.args.place all)) in
-    first-round test (drop c.args.place all) (take (c.args.place - c.args.passed) (drop c.args.passed all)) c.first_enabled-in-None.result
-    (ap (λ (l : List Actor). slice_get (filter test l) 0) (sym back) ∙ sym c.first_enabled.ensures ∙ c.in-None.is) c.first_enabled-in-None.ensures
+    first-round test _ (drop c.args.place all) (take (c.args.place - c.args.passed) (drop c.args.passed all)) c.first_enabled.result c.first_enabled-in-None.result back c.first_enabled.ensures c.in-None.is c.first_enabled-in-None.ensures
 
 pub returns-in_default : goal.returns-in_default
 returns-in_default g c =
@@ -25,4 +22,4 @@ returns-in_default g c =
     let test = is_enabled c.args.self.now.state in
     let back : take (c.count.result - c.args.place) (drop c.args.place all) ≡ drop c.args.place all =
     take-whole (drop c.args.place all) (c.count.result - c.args.place) (omega (arith, c.count.ensures, ap (λ (m : ℕ). length (actors m)) n, length-drop c.args.place all)) in
-    first-behind test (drop c.args.place all) (take (c.args.place - c.args.passed) (drop c.args.passed all)) c.first_enabled.result (ap (λ (l : List Actor). slice_get (filter test l) 0) (sym back) ∙ sym c.first_enabled.ensures) c.in_default.not-None
+    first-behind test _ (drop c.args.place all) (take (c.args.place - c.args.passed) (drop c.args.passed all)) c.first_enabled.result back c.first_enabled.ensures c.in_default.not-None

@@ -8,6 +8,7 @@ use Rattle.hj_chain.specs.Serial.{RunsSerially, by_draw}
 use Rattle.hj_chain.proofs.Sweeping.{named-by-draw}
 use Rattle.hj_chain.proofs.ChosenActors.{chosen-enabled}
 use Rattle.hj_collect.proofs.Giving.{was-kept}
+use Rattle.hj_chain.proofs.Draining.{join-stays, state-stays}
 use Rattle.hj_chain.proofs.Goings.{enabled_going}
 use Rattle.hj_chain.proofs.FewSteps.{to_come}
 use Rattle.hj_chain.proofs.SerialRuns.{release-settles, running-begins, running-ends-done, running-ends-over, running-over, running-refused, running-release, running-step, step-fewer, step-settled, was-going}
@@ -19,7 +20,7 @@ returns-then-eq g c =
     let refused : c.release.result ≡ Refused = search rules in
     record {
       runs = running-refused g.F.Feed.gives g.F.Feed.ready g.D.Drain.takes g.F.Feed.state g.J.Join.predicate (chooser.Seeded c.args.seed) c.args.self.now c.args.feed.now c.args.drain.now (by_draw c.new-lcg.result) c.args.self.now c.args.feed.now c.args.drain.now (running-begins g.F.Feed.gives g.F.Feed.ready g.D.Drain.takes g.F.Feed.state g.J.Join.predicate (chooser.Seeded c.args.seed) c.args.self.now c.args.feed.now c.args.drain.now c.requires (by_draw c.new-lcg.result) (ap by_draw c.new-lcg.ensures)) c.release.new.self c.release.new.drain c.release.ensures.others c.release.result c.release.ensures.releases refused;
-      join = ap (λ (k : Contents g.row.P.Denot g.row.J.Denot). k.join) c.release.ensures.others;
+      join = join-stays c.args.self.now c.release.new.self c.release.ensures.others;
       goes = c.release.ensures.goes (g.F.Feed.state c.args.feed.now) c.requires;
     }
 
@@ -52,7 +53,7 @@ returns-then-eq-3 g c =
           other c.loop-actor.invariant.settled c.step_past.ensures.goes (by_draw c.draw.new.self) (ap by_draw c.draw.ensures.held) tt)
           c.release-in-Collect.new.self c.release-in-Collect.new.drain c.release-in-Collect.ensures.others c.release-in-Collect.result c.release-in-Collect.ensures.releases
           refused;
-      join = ap (λ (k : Contents g.row.P.Denot g.row.J.Denot). k.join) c.release-in-Collect.ensures.others ∙ c.step_past.ensures.join ∙ c.loop-actor.invariant.running.join;
+      join = join-stays c.step_past.new.self c.release-in-Collect.new.self c.release-in-Collect.ensures.others ∙ c.step_past.ensures.join ∙ c.loop-actor.invariant.running.join;
       goes = c.release-in-Collect.ensures.goes (g.F.Feed.state c.step_past.new.feed) c.step_past.ensures.goes;
     }
 
@@ -61,7 +62,7 @@ loop-actor-smaller-else-eq-3 g c =
     let other : c.step_past.result ≢ Memory = search rules in
     subst (λ (s : ChainState g.row.P.Denot). to_come (length s.cores) s + (4 * length s.cores + 4) * (g.F.Feed.state c.step_past.new.feed).remaining
     < to_come (length c.loop-actor.self.state.cores) c.loop-actor.self.state + (4 * length c.loop-actor.self.state.cores + 4) * (g.F.Feed.state c.loop-actor.feed).remaining)
-    (ap (λ (k : Contents g.row.P.Denot g.row.J.Denot). k.state) (sym c.release-in-Collect.ensures.others))
+    (sym (state-stays c.step_past.new.self c.release-in-Collect.new.self c.release-in-Collect.ensures.others))
     (step-fewer g.F.Feed.gives g.F.Feed.ready g.D.Drain.takes g.F.Feed.state g.J.Join.predicate (chooser.Seeded c.args.seed) c.args.self.now c.args.feed.now c.args.drain.now (by_draw c.loop-actor.lcg) c.loop-actor.self c.loop-actor.feed c.loop-actor.drain c.loop-actor.invariant.running c.in-Some.actor (named-by-draw c.loop-actor.self.state (g.F.Feed.ready c.loop-actor.feed) c.loop-actor.lcg c.draw.new.self c.draw.result (Some c.in-Some.actor) c.draw.ensures.number c.draw.ensures.held (c.in-Some.ensures (g.F.Feed.ready c.loop-actor.feed) c.would_wait.ensures)) c.step_past.result c.step_past.new.self c.step_past.new.feed c.step_past.ensures.step c.step_past.ensures.gathers c.step_past.ensures.join other c.step_past.ensures.answers)
 
 pub loop-actor-preserved-else-eq-3 : goal.loop-actor-preserved-else-eq-3

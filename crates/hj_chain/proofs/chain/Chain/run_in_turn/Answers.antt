@@ -6,9 +6,11 @@ use Rattle.hj_chain.specs.Serial.{from_place}
 use Rattle.hj_chain.specs.Sweep.{Puts, Sweeps}
 use Rattle.hj_chain.specs.Sweep as sweep
 use Rattle.hj_collect.proofs.Giving.{was-kept}
+use Rattle.hj_chain.proofs.Draining.{join-stays}
 use Rattle.hj_chain.proofs.SerialRuns.{release-settles, running-begins, running-ends-over, running-refused, running-release}
 use Rattle.hj_chain.proofs.Sweeping.{sweeping-at}
 use Rattle.hj_chain.proofs.Swept.{collects-end, is-going, moves-sweeps, put-ends, put-on, round-again, round-falls, round-fewer, round-most, round-was, sweeps-over}
+use Rattle.hj_chain.proofs.Trying.{left-there, right-there}
 use Rattle.hj_chain.proofs.chain.Chain.run_in_turn.Goals as goal
 
 pub returns-then-eq : goal.returns-then-eq
@@ -16,7 +18,7 @@ returns-then-eq g c =
     let refused : c.release.result ≡ Refused = search rules in
     record {
       runs = running-refused g.F.Feed.gives g.F.Feed.ready g.D.Drain.takes g.F.Feed.state g.J.Join.predicate chooser.InTurn c.args.self.now c.args.feed.now c.args.drain.now (from_place 0) c.args.self.now c.args.feed.now c.args.drain.now (running-begins g.F.Feed.gives g.F.Feed.ready g.D.Drain.takes g.F.Feed.state g.J.Join.predicate chooser.InTurn c.args.self.now c.args.feed.now c.args.drain.now c.requires (from_place 0) refl) c.release.new.self c.release.new.drain c.release.ensures.others c.release.result c.release.ensures.releases refused;
-      join = ap (λ (k : Contents g.row.P.Denot g.row.J.Denot). k.join) c.release.ensures.others;
+      join = join-stays c.args.self.now c.release.new.self c.release.ensures.others;
       goes = c.release.ensures.goes (g.F.Feed.state c.args.feed.now) c.requires;
     }
 
@@ -28,7 +30,7 @@ returns-then-self g c =
       runs = running-ends-over g.F.Feed.gives g.F.Feed.ready g.D.Drain.takes g.F.Feed.state g.J.Join.predicate chooser.InTurn c.args.self.now c.args.feed.now c.args.drain.now (from_place 0) c.release.new.self c.args.feed.now c.release.new.drain
           (running-release g.F.Feed.gives g.F.Feed.ready g.D.Drain.takes g.F.Feed.state g.J.Join.predicate chooser.InTurn c.args.self.now c.args.feed.now c.args.drain.now (from_place 0) c.args.self.now c.args.feed.now c.args.drain.now (running-begins g.F.Feed.gives g.F.Feed.ready g.D.Drain.takes g.F.Feed.state g.J.Join.predicate chooser.InTurn c.args.self.now c.args.feed.now c.args.drain.now c.requires (from_place 0) refl) c.release.new.self c.release.new.drain c.release.ensures.others c.release.result c.release.ensures.releases kept (c.release.ensures.goes (g.F.Feed.state c.args.feed.now) c.requires))
           (ap (λ (k : Contents g.row.P.Denot g.row.J.Denot). k.state.over) (sym c.self.view_is) ∙ c.if-self.true);
-      join = ap (λ (k : Contents g.row.P.Denot g.row.J.Denot). k.join) c.release.ensures.others;
+      join = join-stays c.args.self.now c.release.new.self c.release.ensures.others;
       goes = c.release.ensures.goes (g.F.Feed.state c.args.feed.now) c.requires;
     }
 
@@ -62,7 +64,7 @@ returns-then-not-try_ends g c =
     let put = put-on g.F.Feed.gives g.F.Feed.ready g.D.Drain.takes g.F.Feed.state g.J.Join.predicate c.args.self.now c.args.feed.now c.args.drain.now c.loop-sweep.feed c.loop-sweep.sweep.moved c.loop-sweep.self c.loop-sweep.drain c.loop-sweep.invariant c.try_put.new.sweep.moved c.try_put.new.self c.try_put.new.feed
     (subst (λ (b : Bool). Puts g.F.Feed.gives g.F.Feed.ready g.F.Feed.state g.J.Join.predicate c.loop-sweep.sweep.moved c.loop-sweep.self c.loop-sweep.feed b c.try_put.new.sweep.moved c.try_put.new.self c.try_put.new.feed) c.loop-sweep-test.true c.try_put.ensures.puts) in
     let ports : Sweeps g.J.Join.predicate 1 c.try_put.new.sweep.moved c.try_put.new.self 3 c.try_port-in-loop-sweep.new.sweep.moved c.try_port-in-loop-sweep.new.self =
-    c.try_port-in-loop-sweep.ensures.sweeps 1 2 c.try_put.new.sweep.moved c.try_put.new.self (record { stands = refl; behind = refl }) (c.try_port.ensures.sweeps 1 1 c.try_put.new.sweep.moved c.try_put.new.self (record { stands = refl; behind = refl }) sweep.starts) in
+    c.try_port-in-loop-sweep.ensures.sweeps 1 2 c.try_put.new.sweep.moved c.try_put.new.self (right-there c.try_port.new.self) (c.try_port.ensures.sweeps 1 1 c.try_put.new.sweep.moved c.try_put.new.self (left-there c.try_put.new.self) sweep.starts) in
     sweeps-over g.F.Feed.gives g.F.Feed.ready g.D.Drain.takes g.F.Feed.state g.J.Join.predicate c.args.self.now c.args.feed.now c.args.drain.now c.try_put.new.feed 1 c.try_put.new.sweep.moved c.try_put.new.self c.loop-sweep.drain put.swept (omega arith) c.try_ends.new.self (c.try_ends.ensures.runs_out c.if-not-try_ends.true 1 c.try_put.new.sweep.moved c.try_put.new.self ports)
 
 pub returns-in-Some : goal.returns-in-Some
@@ -70,7 +72,7 @@ returns-in-Some g c =
     let put = put-on g.F.Feed.gives g.F.Feed.ready g.D.Drain.takes g.F.Feed.state g.J.Join.predicate c.args.self.now c.args.feed.now c.args.drain.now c.loop-sweep.feed c.loop-sweep.sweep.moved c.loop-sweep.self c.loop-sweep.drain c.loop-sweep.invariant c.try_put.new.sweep.moved c.try_put.new.self c.try_put.new.feed
     (subst (λ (b : Bool). Puts g.F.Feed.gives g.F.Feed.ready g.F.Feed.state g.J.Join.predicate c.loop-sweep.sweep.moved c.loop-sweep.self c.loop-sweep.feed b c.try_put.new.sweep.moved c.try_put.new.self c.try_put.new.feed) c.loop-sweep-test.true c.try_put.ensures.puts) in
     let ports : Sweeps g.J.Join.predicate 1 c.try_put.new.sweep.moved c.try_put.new.self 3 c.try_port-in-loop-sweep.new.sweep.moved c.try_port-in-loop-sweep.new.self =
-    c.try_port-in-loop-sweep.ensures.sweeps 1 2 c.try_put.new.sweep.moved c.try_put.new.self (record { stands = refl; behind = refl }) (c.try_port.ensures.sweeps 1 1 c.try_put.new.sweep.moved c.try_put.new.self (record { stands = refl; behind = refl }) sweep.starts) in
+    c.try_port-in-loop-sweep.ensures.sweeps 1 2 c.try_put.new.sweep.moved c.try_put.new.self (right-there c.try_port.new.self) (c.try_port.ensures.sweeps 1 1 c.try_put.new.sweep.moved c.try_put.new.self (left-there c.try_put.new.self) sweep.starts) in
     let yes : c.try_ends.result ≡ true = c.if-not-try_ends.false in
     let same : length c.try_ends.new.self.state.cores ≡ length c.try_port-in-loop-sweep.new.self.state.cores = c.try_ends.ensures.cores yes in
     let n = length c.try_ends.new.self.state.cores in
@@ -85,7 +87,7 @@ loop-sweep-smaller g c =
     let put = put-on g.F.Feed.gives g.F.Feed.ready g.D.Drain.takes g.F.Feed.state g.J.Join.predicate c.args.self.now c.args.feed.now c.args.drain.now c.loop-sweep.feed c.loop-sweep.sweep.moved c.loop-sweep.self c.loop-sweep.drain c.loop-sweep.invariant c.try_put.new.sweep.moved c.try_put.new.self c.try_put.new.feed
     (subst (λ (b : Bool). Puts g.F.Feed.gives g.F.Feed.ready g.F.Feed.state g.J.Join.predicate c.loop-sweep.sweep.moved c.loop-sweep.self c.loop-sweep.feed b c.try_put.new.sweep.moved c.try_put.new.self c.try_put.new.feed) c.loop-sweep-test.true c.try_put.ensures.puts) in
     let ports : Sweeps g.J.Join.predicate 1 c.try_put.new.sweep.moved c.try_put.new.self 3 c.try_port-in-loop-sweep.new.sweep.moved c.try_port-in-loop-sweep.new.self =
-    c.try_port-in-loop-sweep.ensures.sweeps 1 2 c.try_put.new.sweep.moved c.try_put.new.self (record { stands = refl; behind = refl }) (c.try_port.ensures.sweeps 1 1 c.try_put.new.sweep.moved c.try_put.new.self (record { stands = refl; behind = refl }) sweep.starts) in
+    c.try_port-in-loop-sweep.ensures.sweeps 1 2 c.try_put.new.sweep.moved c.try_put.new.self (right-there c.try_port.new.self) (c.try_port.ensures.sweeps 1 1 c.try_put.new.sweep.moved c.try_put.new.self (left-there c.try_put.new.self) sweep.starts) in
     let yes : c.try_ends.result ≡ true = c.if-not-try_ends.false in
     let same : length c.try_ends.new.self.state.cores ≡ length c.try_port-in-loop-sweep.new.self.state.cores = c.try_ends.ensures.cores yes in
     let n = length c.try_ends.new.self.state.cores in
@@ -103,7 +105,7 @@ loop-sweep-preserved g c =
     let put = put-on g.F.Feed.gives g.F.Feed.ready g.D.Drain.takes g.F.Feed.state g.J.Join.predicate c.args.self.now c.args.feed.now c.args.drain.now c.loop-sweep.feed c.loop-sweep.sweep.moved c.loop-sweep.self c.loop-sweep.drain c.loop-sweep.invariant c.try_put.new.sweep.moved c.try_put.new.self c.try_put.new.feed
     (subst (λ (b : Bool). Puts g.F.Feed.gives g.F.Feed.ready g.F.Feed.state g.J.Join.predicate c.loop-sweep.sweep.moved c.loop-sweep.self c.loop-sweep.feed b c.try_put.new.sweep.moved c.try_put.new.self c.try_put.new.feed) c.loop-sweep-test.true c.try_put.ensures.puts) in
     let ports : Sweeps g.J.Join.predicate 1 c.try_put.new.sweep.moved c.try_put.new.self 3 c.try_port-in-loop-sweep.new.sweep.moved c.try_port-in-loop-sweep.new.self =
-    c.try_port-in-loop-sweep.ensures.sweeps 1 2 c.try_put.new.sweep.moved c.try_put.new.self (record { stands = refl; behind = refl }) (c.try_port.ensures.sweeps 1 1 c.try_put.new.sweep.moved c.try_put.new.self (record { stands = refl; behind = refl }) sweep.starts) in
+    c.try_port-in-loop-sweep.ensures.sweeps 1 2 c.try_put.new.sweep.moved c.try_put.new.self (right-there c.try_port.new.self) (c.try_port.ensures.sweeps 1 1 c.try_put.new.sweep.moved c.try_put.new.self (left-there c.try_put.new.self) sweep.starts) in
     let yes : c.try_ends.result ≡ true = c.if-not-try_ends.false in
     let same : length c.try_ends.new.self.state.cores ≡ length c.try_port-in-loop-sweep.new.self.state.cores = c.try_ends.ensures.cores yes in
     let n = length c.try_ends.new.self.state.cores in
