@@ -112,6 +112,20 @@ module _ {O : Type 0} {outside : OutsideGhosts O} (query : QueryParts) (n flight
     rest_there join goes uses =
         subst (λ (f : Feeding). Checking query n flight start (number + 1) new f used output) (sym rest_seen) (next_line query n flight start number chain new from to actor trace output on line made last_roles beside.others used join goes uses)
 
+-- a line was read beside the feed, and its step was made between the two reads
+pub whole_line : {O : Type 0} {outside : OutsideGhosts O} (query : QueryParts) (n flight : ℕ) (start : Feeding) (number : ℕ) (chain new : Contents Row QueryParts) (from to : AlwaysReady O outside) (trace : TextStreamState) (output : OutputCheck)
+    (under : Checking query n flight start number chain (feeding from) trace output) (first : EventFeed O outside) → ReadsBeside {O = O} {outside = outside} role.Trace from.feed first → (there : TextStreamState) (actor : Actor)
+    → ReadsMaker (Ok actor) number under.lines (fresh role.Trace) (start.roles role.Trace) there (outside.state first.outside.now there.role)
+    → (line said : List ℕ) → Made {O = O} {outside = outside} actor chain new (over first) to line → said ≡ line → new.join ≡ chain.join → GoesWith holds chain (state_of {O = O} {outside = outside} (over first))
+    → (last : EventFeed O outside) → ReadsBeside {O = O} {outside = outside} role.Trace to.feed last → (used : TextStreamState)
+    → ((text : List ℕ) → Uses false text (fresh role.Trace) (start.roles role.Trace) there ((feeding to).roles there.role) → Uses false (text ++ said) (fresh role.Trace) (start.roles role.Trace) used (outside.state last.outside.now used.role))
+    → Checking query n flight start (number + 1) new (feeding (over last)) used output
+whole_line {O} {outside} query n flight start number chain new from to trace output under first front there actor reads line said made same join goes last back used rest =
+    let on = maker_there {O = O} {outside = outside} query n flight start number chain from trace output under first front there actor reads in
+    let still = maker_still {O = O} {outside = outside} query n flight start number chain new (over first) to actor there output on line made in
+    rest_there {O = O} {outside = outside} query n flight start number chain new (over first) to actor there output on line made last back used join goes
+    (subst (λ (l : List ℕ). Uses false ((on.so.lines ++ (actor_text actor ++ 44 ∷ [])) ++ l) (fresh role.Trace) (start.roles role.Trace) used (outside.state last.outside.now used.role)) same (rest _ still))
+
 -- ---- the pairs that are due were compared
 
 module _ {O : Type 0} {outside : OutsideGhosts O} (query : QueryParts) (n flight : ℕ) (start : Feeding) (number : ℕ) (chain new : Contents Row QueryParts) (from : AlwaysReady O outside) (trace : TextStreamState) (output compared : OutputCheck)

@@ -1,15 +1,14 @@
-use Rattle.std.proofs.Common.{◌++◌, ◌∷◌, [], false, ℕ, List, refl, subst}
+use Rattle.std.proofs.Common.{◌++◌, ◌∷◌, [], ℕ, List, refl, subst}
 use Rattle.std.specs.Prelude.{Err}
 use Rattle.std.proofs.lemmas.Result.{err_from_is_err_and}
 use Rattle.hj_base.specs.declared.outside.Role.TheVariants as role
 use Rattle.hj_msg.specs.Feed.{events_in}
 use Rattle.hj_trace.specs.Actors.{actor_text}
-use Rattle.hj_trace.specs.Stream.{Uses}
 use Rattle.hj_verify.specs.Checked.{fresh}
 use Rattle.hj_verify.specs.Lines.{ReadsRest}
 use Rattle.hj_verify.proofs.FeedBeside.{over, state_beside}
 use Rattle.hj_verify.proofs.Kept.{kept_made, kept_maker, kept_output, kept_rest}
-use Rattle.hj_verify.proofs.LineSteps.{due_fewer, due_line, line_fewer, maker_still, maker_stops, maker_there, rest_stops, rest_there, step_stops}
+use Rattle.hj_verify.proofs.LineSteps.{due_fewer, due_line, line_fewer, maker_still, maker_stops, maker_there, rest_stops, step_stops, whole_line}
 use Rattle.hj_verify.proofs.Made.{if_ok}
 use Rattle.hj_verify.proofs.line.check_line.Goals as goal
 
@@ -89,12 +88,9 @@ returns-in-Collect g c =
           if_ok c.next_pairs.result
           (due_fewer c.make_step.new.chain.state c.next_pairs.new.chain.state _ _ _ c.next_pairs.ensures.state (state_beside {O = g.row.O.Denot} {outside = g.O.Outside} role.Output c.next_rest.new.feed c.next_pairs.new.feed c.next_pairs.ensures.beside) (line_fewer {O = g.row.O.Denot} {outside = g.O.Outside} c.args.chain.now c.make_step.new.chain c.in_ok-actor.actor c.args.feed.now c.next_maker.new.feed c.make_step.new.feed c.next_rest.new.feed c.next_maker.ensures.beside c.next_rest.ensures.beside c.requires.goes c.in_ok-make_step.ensures.makes.step c.in_ok-make_step.ensures.answers));
       checks = λ query n flight start under not_done.
-          let reads = c.in_ok-actor.ensures.reads under.lines (fresh role.Trace) (start.roles role.Trace) under.trace_used in
-          let on = maker_there {O = g.row.O.Denot} {outside = g.O.Outside} query n flight start c.args.number c.args.chain.now c.args.feed.now c.args.texts.now.trace c.args.texts.now.output under c.next_maker.new.feed c.next_maker.ensures.beside c.next_maker.new.trace c.in_ok-actor.actor reads in
-          let made = c.in_ok-make_step.ensures.makes in
-          let still = maker_still {O = g.row.O.Denot} {outside = g.O.Outside} query n flight start c.args.number c.args.chain.now c.make_step.new.chain (over c.next_maker.new.feed) c.make_step.new.feed c.in_ok-actor.actor c.next_maker.new.trace c.args.texts.now.output on c.make_step.new.line.items made in
-          let rest = subst (λ (l : List ℕ). Uses false ((on.so.lines ++ (actor_text c.in_ok-actor.actor ++ 44 ∷ [])) ++ l) (fresh role.Trace) (start.roles role.Trace) c.next_rest.new.trace (g.O.Outside.state c.next_rest.new.feed.outside.now c.next_rest.new.trace.role)) c.deref.ensures.value (c.in_ok-next_rest.ensures.reads _ (fresh role.Trace) (start.roles role.Trace) still) in
-          let next = rest_there {O = g.row.O.Denot} {outside = g.O.Outside} query n flight start c.args.number c.args.chain.now c.make_step.new.chain (over c.next_maker.new.feed) c.make_step.new.feed c.in_ok-actor.actor c.next_maker.new.trace c.args.texts.now.output on c.make_step.new.line.items made c.next_rest.new.feed c.next_rest.ensures.beside c.next_rest.new.trace c.make_step.ensures.join kept_1.goes rest in
+          let next = whole_line {O = g.row.O.Denot} {outside = g.O.Outside} query n flight start c.args.number c.args.chain.now c.make_step.new.chain c.args.feed.now c.make_step.new.feed c.args.texts.now.trace c.args.texts.now.output under c.next_maker.new.feed c.next_maker.ensures.beside c.next_maker.new.trace c.in_ok-actor.actor
+          (c.in_ok-actor.ensures.reads under.lines (fresh role.Trace) (start.roles role.Trace) under.trace_used) c.make_step.new.line.items _ c.in_ok-make_step.ensures.makes c.deref.ensures.value c.make_step.ensures.join kept_1.goes c.next_rest.new.feed c.next_rest.ensures.beside c.next_rest.new.trace
+          (λ text. c.in_ok-next_rest.ensures.reads text (fresh role.Trace) (start.roles role.Trace)) in
           due_line {O = g.row.O.Denot} {outside = g.O.Outside} query n flight start c.args.number c.make_step.new.chain c.next_pairs.new.chain (over c.next_rest.new.feed) c.next_rest.new.trace c.args.texts.now.output c.next_pairs.new.output next c.next_pairs.new.feed c.next_pairs.ensures.beside c.next_pairs.ensures.state c.next_pairs.ensures.join c.next_pairs.result
           (c.next_pairs.ensures.checks next.schedule (events_in next.fed.answers) next.given next.pairs (fresh role.Output) (start.roles role.Output) next.gave next.agrees);
     }
@@ -109,11 +105,7 @@ returns-in_default g c =
       are_open = kept_3.are_open;
       fewer = line_fewer {O = g.row.O.Denot} {outside = g.O.Outside} c.args.chain.now c.make_step.new.chain c.in_ok-actor.actor c.args.feed.now c.next_maker.new.feed c.make_step.new.feed c.next_rest.new.feed c.next_maker.ensures.beside c.next_rest.ensures.beside c.requires.goes c.in_ok-make_step.ensures.makes.step c.in_ok-make_step.ensures.answers;
       checks = λ query n flight start under not_done.
-          let reads = c.in_ok-actor.ensures.reads under.lines (fresh role.Trace) (start.roles role.Trace) under.trace_used in
-          let on = maker_there {O = g.row.O.Denot} {outside = g.O.Outside} query n flight start c.args.number c.args.chain.now c.args.feed.now c.args.texts.now.trace c.args.texts.now.output under c.next_maker.new.feed c.next_maker.ensures.beside c.next_maker.new.trace c.in_ok-actor.actor reads in
-          let made = c.in_ok-make_step.ensures.makes in
-          let still = maker_still {O = g.row.O.Denot} {outside = g.O.Outside} query n flight start c.args.number c.args.chain.now c.make_step.new.chain (over c.next_maker.new.feed) c.make_step.new.feed c.in_ok-actor.actor c.next_maker.new.trace c.args.texts.now.output on c.make_step.new.line.items made in
-          let rest = subst (λ (l : List ℕ). Uses false ((on.so.lines ++ (actor_text c.in_ok-actor.actor ++ 44 ∷ [])) ++ l) (fresh role.Trace) (start.roles role.Trace) c.next_rest.new.trace (g.O.Outside.state c.next_rest.new.feed.outside.now c.next_rest.new.trace.role)) c.deref.ensures.value (c.in_ok-next_rest.ensures.reads _ (fresh role.Trace) (start.roles role.Trace) still) in
-          let next = rest_there {O = g.row.O.Denot} {outside = g.O.Outside} query n flight start c.args.number c.args.chain.now c.make_step.new.chain (over c.next_maker.new.feed) c.make_step.new.feed c.in_ok-actor.actor c.next_maker.new.trace c.args.texts.now.output on c.make_step.new.line.items made c.next_rest.new.feed c.next_rest.ensures.beside c.next_rest.new.trace c.make_step.ensures.join kept_1.goes rest in
-          next;
+          whole_line {O = g.row.O.Denot} {outside = g.O.Outside} query n flight start c.args.number c.args.chain.now c.make_step.new.chain c.args.feed.now c.make_step.new.feed c.args.texts.now.trace c.args.texts.now.output under c.next_maker.new.feed c.next_maker.ensures.beside c.next_maker.new.trace c.in_ok-actor.actor
+          (c.in_ok-actor.ensures.reads under.lines (fresh role.Trace) (start.roles role.Trace) under.trace_used) c.make_step.new.line.items _ c.in_ok-make_step.ensures.makes c.deref.ensures.value c.make_step.ensures.join kept_1.goes c.next_rest.new.feed c.next_rest.ensures.beside c.next_rest.new.trace
+          (λ text. c.in_ok-next_rest.ensures.reads text (fresh role.Trace) (start.roles role.Trace));
     }
