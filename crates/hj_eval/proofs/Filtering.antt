@@ -8,7 +8,6 @@ use Rattle.std.specs.declared.cmp.Ordering.TheVariants.{Less, Equal, Greater}
 use Rattle.std.proofs.lemmas.Bool.Decides.{nat_tests}
 use Rattle.std.proofs.lemmas.Cmp.{int_ranked}
 use Rattle.std.proofs.lemmas.Int.{ints}
-use Rattle.std.proofs.Math.IntN.{neg_ℤ}
 use Rattle.hj_base.specs.declared.numbers.Side.{Side}
 use Rattle.hj_base.specs.declared.numbers.Side.TheVariants.{Left, Right}
 use Rattle.hj_value.specs.declared.column.Column.{Column}
@@ -46,14 +45,6 @@ key-monotone (negsuc m) (negsuc n) e = omega (arith, ints)
 key-greatest : (x : ℤ) → key_of x ≤ 2 ^ 64 - 1
 key-greatest (pos m) = omega arith
 key-greatest (negsuc m) = omega arith
-
-key-below : (x : ℤ) → x ≤ℤ neg_ℤ (pos (2 ^ 63)) → key_of x ≡ 0
-key-below (pos m) e = omega (arith, ints)
-key-below (negsuc m) e = omega (arith, ints)
-
-key-above : (x : ℤ) → pos (2 ^ 63) ≤ℤ x → key_of x ≡ 2 ^ 64 - 1
-key-above (pos m) e = omega (arith, ints)
-key-above (negsuc m) e = omega (arith, ints)
 
 -- numbers of 128 bits are enough for a key
 pub key-saturated : (x : ℤ) → key_of (saturate_to_bits 127 x) ≡ key_of x
