@@ -3,15 +3,6 @@ use Rattle.std.proofs.Common.{◌≡◌, ℕ, zero, suc, ◌-◌, ◌≤◌, Boo
 use Rattle.hj_index.specs.declared.chains.RowPlace.{RowPlace}
 use Rattle.hj_index.specs.KeyChains.{counted_on, has_key, last_place}
 
-last-within : (key : ℕ) (places : List RowPlace) → last_place key places ≤ length places
-last-within key [] = omega arith
-last-within key (place ∷ places) = by (has_key key place) (last_place key places) (last-within key places)
-  where
-    by : (b : Bool) (n : ℕ) → n ≤ length places → counted_on b n ≤ suc (length places)
-    by true zero h = omega arith
-    by false zero h = omega arith
-    by b (suc n) h = omega (arith, h)
-
 pub last-popped : (key : ℕ) (place : RowPlace) (places : List RowPlace) → last_place key (place ∷ places) - 1 ≡ last_place key places
 last-popped key place places = by (has_key key place) (last_place key places)
   where

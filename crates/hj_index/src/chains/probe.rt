@@ -1,8 +1,7 @@
-ghost use Rattle.std.specs.Prelude.{◌≡◌, [], Some, List, map, nat_eq, true, IfOk, OnOk};
+ghost use Rattle.std.specs.Prelude.{◌≡◌, [], Some, List, nat_eq, true, IfOk, OnOk};
 ghost use Rattle.std.specs.HashMap.{get};
 ghost use Rattle.hj_value.specs.declared.field.Field.{Field};
 ghost use Rattle.hj_msg.specs.Store.{joins, settled_matches};
-ghost use Rattle.hj_rows.specs.Places.{partner_of};
 ghost use Rattle.hj_index.specs.KeyChains.{known_place, rows_in, AreChained};
 ghost use Rattle.hj_index.specs.Keys.{key_at};
 
