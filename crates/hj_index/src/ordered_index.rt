@@ -110,7 +110,7 @@ impl OrderedIndex {
 
     /// Returns the row for which a key stands, where it is settled and joins with a row of the other side.
     #[inline(always)]
-    pub(crate) fn joining_row<'a, J: Join<SharedRow>>(
+    pub(crate) fn joining<'a, J: Join<SharedRow>>(
         &self,
         rows: &'a NumberedRows<SharedRow>,
         key: OrderedKey,

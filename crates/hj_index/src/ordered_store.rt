@@ -107,33 +107,13 @@ impl<J: Join<SharedRow>> Store<SharedRow, J> for OrderedStore {
         against: &SharedRow,
         join: &J,
     ) -> Result<Partners<SharedRow>, Memory> {
-        match number_at(against.row(), self.other) {
-            Some(number) => self.probe_band(number, side, against, join),
-            None => Ok(Partners::new(self.alloc)),
-        }
-    }
-}
-
-impl OrderedStore {
-    /// Probes the rows that are near a number, from the lowest on.
-    fn probe_band<J: Join<SharedRow>>(
-        &self,
-        number: i64,
-        side: Side,
-        against: &SharedRow,
-        join: &J,
-    ) -> Result<Partners<SharedRow>, Memory>
-        requires suits { JoinsNear self.now.own self.now.other self.now.within (J.predicate join.now) side }
-        requires number { number_at self.now.other against.now ≡ Some number }
-        ensures { IfOk result (λ partners. partners ≡ settled_matches (J.predicate join.now) side against.now self.now.rows) }
-    {
         let mut found = Partners::new(self.alloc);
+        let Some(number) = number_at(against.row(), self.other) else {
+            return Ok(found);
+        };
         let mut last = 0;
         for key in self.index.keys.range(band(number, self.within)) {
-            if let Some(row) = self
-                .index
-                .joining_row(&self.rows, *key, side, against, join)
-            {
+            if let Some(row) = self.index.joining(&self.rows, *key, side, against, join) {
                 if key.1 < last {
                     return self.probe_sorted(number, side, against, join);
                 }
@@ -146,7 +126,9 @@ impl OrderedStore {
         }
         Ok(found)
     }
+}
 
+impl OrderedStore {
     /// Probes the rows that are near a number where those that join don't stand in order of their numbers of arrival.
     #[cold]
     fn probe_sorted<J: Join<SharedRow>>(
@@ -162,10 +144,7 @@ impl OrderedStore {
     {
         let mut rows = BTreeMap::new(self.alloc);
         for key in self.index.keys.range(band(number, self.within)) {
-            if let Some(row) = self
-                .index
-                .joining_row(&self.rows, *key, side, against, join)
-            {
+            if let Some(row) = self.index.joining(&self.rows, *key, side, against, join) {
                 rows.insert(key.1, row.share()?)?;
             }
         }

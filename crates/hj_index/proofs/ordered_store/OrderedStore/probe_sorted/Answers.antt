@@ -23,7 +23,7 @@ loop-key-preserved-in_ok-insert-2 g c =
     let s = c.self.inside in
     near_sorted (rows_in s.rows) s.index.reserved c.in-Some.key.now c.loop-key.key-iterator c.next.new.self c.in-Some.ensures.steps
     (λ row. joins (g.J.Join.predicate c.args.join.now) c.args.side row c.args.against.now) (settled_matches (g.J.Join.predicate c.args.join.now) c.args.side c.args.against.now (rows_in s.rows))
-    c.in_ok-share.field-0 (sym c.in-Some-joining_row.ensures ∙ ap Some (sym c.in_ok-share.ensures)) c.loop-key.rows.entries c.insert.new.self.entries c.loop-key.invariant c.in_ok-insert.ensures.entries c.in_ok-insert.ensures.updates.0
+    c.in_ok-share.field-0 (sym c.in-Some-joining.ensures ∙ ap Some (sym c.in_ok-share.ensures)) c.loop-key.rows.entries c.insert.new.self.entries c.loop-key.invariant c.in_ok-insert.ensures.entries c.in_ok-insert.ensures.updates.0
 
 pub loop-key-preserved : goal.loop-key-preserved
 loop-key-preserved g c =

@@ -3,7 +3,7 @@ use Rattle.hj_msg.specs.Store.{joins, settled_matches}
 use Rattle.hj_rows.specs.NumberedRows.{rows_in}
 use Rattle.hj_index.proofs.Banding.{places_left}
 use Rattle.hj_rows.proofs.Probes.{number, Finds}
-use Rattle.hj_index.proofs.ordered_store.OrderedStore.probe_band.Given as goal
+use Rattle.hj_index.proofs.ordered_store.OrderedStoreStoreSharedRow.probe.Given as goal
 
 -- what was found, with what is left of the band, is all that joins; and what was found isn't above the last number
 abbrev pub invariant-loop-key : goal.invariant-loop-key
