@@ -304,16 +304,16 @@ module _ (own : ℕ) (rows : Rows) (index : OrderedIndex) (ordered : AreOrdered 
         let k = has_key entry found (passing entry.settled (test entry.row) e) in
         found_listed rows (row_keys index.reserved band_keys) k.0 entry (subst (λ n. entry_at n rows ≡ Some entry) (sym k.2) found) k.1)
 
-    -- what a probe finds before its first step
-    pub finds_first : (found : List (Partner (List Field))) (keys : List OrderedKey) → IsStrictlySortedBy key_cmp index.keys.keys → found ≡ [] → keys ≡ band_keys → Finds test target found (places_left rows index.reserved keys)
-    finds_first found keys in_order none all =
-        subst (λ keys. Finds test target found (places_left rows index.reserved keys)) (sym all)
+    -- what a probe finds before its first step, where it goes over these keys
+    pub finds_first : (found : List (Partner (List Field))) (keys among : List OrderedKey) → IsStrictlySortedBy key_cmp index.keys.keys → found ≡ [] → keys ≡ among → among ≡ band_keys → Finds test target found (places_left rows index.reserved keys)
+    finds_first found keys among in_order none same all =
+        subst (λ keys. Finds test target found (places_left rows index.reserved keys)) (sym (same ∙ all))
         (subst (λ goal. Finds test goal found (places_left rows index.reserved band_keys)) (band_suffices in_order)
         (finds-nothing test found (places_left rows index.reserved band_keys) (places_left rows index.reserved band_keys) none refl))
 
-    pub sorts_first : (found : List (ℕ × List Field)) (keys : List OrderedKey) → IsStrictlySortedBy key_cmp index.keys.keys → found ≡ [] → keys ≡ band_keys → Sorts test target found (places_left rows index.reserved keys)
-    sorts_first found keys in_order none all =
-        subst (λ keys. Sorts test target found (places_left rows index.reserved keys)) (sym all)
+    pub sorts_first : (found : List (ℕ × List Field)) (keys among : List OrderedKey) → IsStrictlySortedBy key_cmp index.keys.keys → found ≡ [] → keys ≡ among → among ≡ band_keys → Sorts test target found (places_left rows index.reserved keys)
+    sorts_first found keys among in_order none same all =
+        subst (λ keys. Sorts test target found (places_left rows index.reserved keys)) (sym (same ∙ all))
         (subst (λ goal. Sorts test goal found (places_left rows index.reserved band_keys)) (band_suffices in_order)
         (sorts-nothing test found (places_left rows index.reserved band_keys) (places_left rows index.reserved band_keys) none refl (places_distinct rows (row_keys index.reserved band_keys) (arrivals_differ in_order))))
 
@@ -330,14 +330,18 @@ module _ (rows : Rows) (reserved : Option OrderedKey) (key : OrderedKey) (before
   skipped e = ap (places_left rows reserved) is ∙ ap (λ b. places_at rows (cond (not b) (key ∷ row_keys reserved keys) (row_keys reserved keys))) e
 
   module _ (test : List Field → Bool) (goal : List (Partner (List Field))) where
-    pub near_sort_passed : (found : List (ℕ × List Field)) → joining test (rest_of rows reserved key) ≡ None → Sorts test goal found (places_left rows reserved before) → Sorts test goal found (places_left rows reserved keys)
+    pub near_sort_passed : (found : List (ℕ × List Field)) → None ≡ joining test (rest_of rows reserved key) → Sorts test goal found (places_left rows reserved before) → Sorts test goal found (places_left rows reserved keys)
     near_sort_passed found none sorts = by (is_key key reserved) refl
       where
         by : (b : Bool) → is_key key reserved ≡ b → Sorts test goal found (places_left rows reserved keys)
         by true e = subst (Sorts test goal found) (skipped e) sorts
-        by false e = sorts-passed test goal found key.1 (rest_of rows reserved key) (places_left rows reserved before) (places_left rows reserved keys) none (seen e) sorts
+        by false e = sorts-passed test goal found key.1 (rest_of rows reserved key) (places_left rows reserved before) (places_left rows reserved keys) (sym none) (seen e) sorts
 
-    module _ (row : List Field) (some : joining test (rest_of rows reserved key) ≡ Some row) where
+    -- `row` is shared from the one that joins
+    module _ (row joins : List Field) (is_there : Some joins ≡ joining test (rest_of rows reserved key)) (same : row ≡ joins) where
+      some : joining test (rest_of rows reserved key) ≡ Some row
+      some = sym is_there ∙ ap Some (sym same)
+
       -- a row that joins stands there under its key
       no_place : is_key key reserved ≡ false
       no_place = by (is_key key reserved) refl

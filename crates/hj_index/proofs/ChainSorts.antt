@@ -1,5 +1,5 @@
 -- A probe of all places, whose numbers stand in any order.
-use Rattle.std.proofs.Common.{◌≡◌, ℕ, zero, suc, ◌+◌, ◌≤◌, Bool, false, cond, nat_eq, List, [], ◌∷◌, None, Some, Option, length, map, drop, slice_get, arith, refl, ap, subst, ◌∙◌}
+use Rattle.std.proofs.Common.{◌≡◌, ℕ, zero, suc, ◌+◌, ◌≤◌, Bool, false, cond, nat_eq, List, [], ◌∷◌, None, Some, Option, length, map, drop, slice_get, arith, refl, sym, ap, subst, ◌∙◌}
 use Rattle.std.specs.BTreeMap.{insert_entry, is_at}
 use Rattle.std.specs.Cmp.{nat_eq_equiv}
 use Rattle.std.specs.List.{AllByRecursion, IsDistinct}
@@ -55,16 +55,17 @@ module _ (test : List Field → Bool) (places : List RowPlace) where
   before-empty : (at : ℕ) (place : RowPlace) → slice_get places at ≡ Some place → place.rest ≡ None → left_at at places ≡ left_at (suc at) places
   before-empty at place e is = ap (λ ps. full_places (rows_at ps)) (drop-at places at place e) ∙ rw is refl
 
-  pub sort-passed : (rows : List (ℕ × List Field)) (at : ℕ) (place : RowPlace) → slice_get places at ≡ Some place → joining test place.rest ≡ None → IsSorting rows at → IsSorting rows (at + 1)
-  sort-passed rows at place e none sorting = subst (IsSorting rows) (let n : suc at ≡ at + 1 = omega arith in n) (by place.rest refl none)
+  -- `found` is what was found at a place
+  pub sort-passed : (rows : List (ℕ × List Field)) (at : ℕ) (place : RowPlace) (found : Option (List Field)) → slice_get places at ≡ Some place → found ≡ joining test place.rest → found ≡ None → IsSorting rows at → IsSorting rows (at + 1)
+  sort-passed rows at place found e is none sorting = subst (IsSorting rows) (let n : suc at ≡ at + 1 = omega arith in n) (by place.rest refl (sym is ∙ none))
     where
       by : (rest : Option (RestingRow (List Field))) → place.rest ≡ rest → joining test rest ≡ None → IsSorting rows (suc at)
       by None is none = subst (Sorts test (by_number (matches test places)) rows) (before-empty at place e is) sorting
       by (Some rest) is none = sorts-passed test (by_number (matches test places)) rows place.no (Some rest) (left_at at places) (left_at (suc at) places) none (before at place rest e is) sorting
 
-  pub sort-joined : (rows new : List (ℕ × List Field)) (at : ℕ) (place : RowPlace) (row : List Field) → slice_get places at ≡ Some place → joining test place.rest ≡ Some row → IsSorting rows at
+  pub sort-joined : (rows new : List (ℕ × List Field)) (at : ℕ) (place : RowPlace) (found : Option (List Field)) (row : List Field) → slice_get places at ≡ Some place → found ≡ joining test place.rest → found ≡ Some row → IsSorting rows at
       → new ≡ insert_entry nat_cmp rows place.no row → ((k : ℕ) → lookup (is_at (nat_cmp k)) new ≡ cond (is_at (nat_cmp place.no) k) (Some row) (lookup (is_at (nat_cmp k)) rows)) → IsSorting new (at + 1)
-  sort-joined rows new at place row e some sorting inserts looks = subst (IsSorting new) (let n : suc at ≡ at + 1 = omega arith in n) (by place.rest refl some)
+  sort-joined rows new at place found row e is some sorting inserts looks = subst (IsSorting new) (let n : suc at ≡ at + 1 = omega arith in n) (by place.rest refl (sym is ∙ some))
     where
       by : (rest : Option (RestingRow (List Field))) → place.rest ≡ rest → joining test rest ≡ Some row → IsSorting new (suc at)
       by None is some = absurd cc

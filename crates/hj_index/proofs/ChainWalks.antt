@@ -155,28 +155,28 @@ module _ (test : List Field → Bool) (own key base : ℕ) (places : List RowPla
             before = (linked.placed at place e).linked key (key-is key place (ap (has_key key) (sym same) ∙ there.2));
           }
 
-  pub walk-falls : (found : Found) (next : ℕ) (place : RowPlace) → IsSeen found next → nth_place (next - base) places ≡ Some place → place.before < next
-  walk-falls found next place seen e = let s = stands next place seen.1 e in omega (arith, s.next_is, s.before, last-cut key s.at places)
+  pub walk-falls : (found : Found) (next : ℕ) (place : RowPlace) → IsSeen found next → Some place ≡ nth_place (next - base) places → place.before < next
+  walk-falls found next place seen e = let s = stands next place seen.1 (sym e) in omega (arith, s.next_is, s.before, last-cut key s.at places)
 
   goes-on : (found : Found) (next : ℕ) (place : RowPlace) (s : Stands next place) → reverse found ≡ matches test (drop s.at places) → IsSeen found place.before
   goes-on found next place s seen =
       subst (λ n. (reverse found ≡ matches test (drop n places)) × (last_place key (take n places) ≡ n)) (sym s.before) (seen ∙ sym (skipped s.at), last-again-cut key s.at places)
 
-  pub walk-passed : (found : Found) (next : ℕ) (place : RowPlace) → IsSeen found next → nth_place (next - base) places ≡ Some place → joining test place.rest ≡ None → IsSeen found place.before
+  pub walk-passed : (found : Found) (next : ℕ) (place : RowPlace) → IsSeen found next → Some place ≡ nth_place (next - base) places → None ≡ joining test place.rest → IsSeen found place.before
   walk-passed found next place seen e none =
-      let s = stands next place seen.1 e in
-      goes-on found next place s (seen.0 ∙ (ap (λ n. matches test (drop n places)) s.next_is ∙ sym (ap (matches test) (drop-at places s.at place s.is_there) ∙ matches-passed test place (drop (suc s.at) places) none)))
+      let s = stands next place seen.1 (sym e) in
+      goes-on found next place s (seen.0 ∙ (ap (λ n. matches test (drop n places)) s.next_is ∙ sym (ap (matches test) (drop-at places s.at place s.is_there) ∙ matches-passed test place (drop (suc s.at) places) (sym none))))
 
-  pub walk-joined : (found pushed : Found) (next : ℕ) (place : RowPlace) (row : List Field) → IsSeen found next → nth_place (next - base) places ≡ Some place → joining test place.rest ≡ Some row → pushed ≡ found ++ partner place.no row ∷ [] → IsSeen pushed place.before
+  pub walk-joined : (found pushed : Found) (next : ℕ) (place : RowPlace) (row : List Field) → IsSeen found next → Some place ≡ nth_place (next - base) places → Some row ≡ joining test place.rest → pushed ≡ found ++ partner place.no row ∷ [] → IsSeen pushed place.before
   walk-joined found pushed next place row seen e some grown =
-      let s = stands next place seen.1 e in
+      let s = stands next place seen.1 (sym e) in
       goes-on pushed next place s (
       ap reverse grown ∙ (reverse-append found (partner place.no row ∷ [])
-      ∙ (ap (λ ps. partner place.no row ∷ ps) (seen.0 ∙ ap (λ n. matches test (drop n places)) s.next_is) ∙ sym (ap (matches test) (drop-at places s.at place s.is_there) ∙ matches-joined test place (drop (suc s.at) places) row some)))
+      ∙ (ap (λ ps. partner place.no row ∷ ps) (seen.0 ∙ ap (λ n. matches test (drop n places)) s.next_is) ∙ sym (ap (matches test) (drop-at places s.at place s.is_there) ∙ matches-joined test place (drop (suc s.at) places) row (sym some))))
       )
 
-  pub walk-ends : (found : Found) (next : ℕ) → IsSeen found next → nth_place (next - base) places ≡ None → reverse found ≡ matches test places
-  walk-ends found next seen e = by (next - base) seen e
+  pub walk-ends : (found : Found) (next : ℕ) → IsSeen found next → None ≡ nth_place (next - base) places → reverse found ≡ matches test places
+  walk-ends found next seen e = by (next - base) seen (sym e)
     where
       by : (n : ℕ) → (reverse found ≡ matches test (drop n places)) × (last_place key (take n places) ≡ n) → nth_place n places ≡ None → reverse found ≡ matches test places
       by zero seen e = seen.0

@@ -1,5 +1,5 @@
 -- The rows of an ordered store and their keys, through the changes of the rows.
-use Rattle.std.proofs.Common.{◌≡◌, ℕ, Bool, true, false, not, ◌&&◌, ◌||◌, cond, nat_eq, List, [], ◌∷◌, None, Some, Option, option_map, option_and_then, refl, sym, ap, ◌∙◌}
+use Rattle.std.proofs.Common.{◌≡◌, ℕ, Bool, true, false, not, ◌&&◌, ◌||◌, cond, nat_eq, List, [], ◌∷◌, None, Some, Option, option_map, option_and_then, refl, sym, ap, subst, ◌∙◌}
 use Rattle.std.proofs.lemmas.Bool.{eqb-true, eqb-false}
 use Rattle.hj_value.specs.declared.field.Field.{Field}
 use Rattle.hj_msg.specs.Store.{Resting, with_entry, with_settled, without_entry, AreDistinct}
@@ -68,10 +68,11 @@ module _ (own : ℕ) (rows : List (Resting (List Field))) (index new : OrderedIn
     indexed = λ key. ordered.indexed key ∙ ap (λ (row : Option (List Field)). is_key key (option_and_then (key_of own key.1) row)) (sym (row-settled n rows key.1));
   }
 
-  pub put_ordered : (x : Resting (List Field)) → AreDistinct (with_entry x rows)
+  pub put_ordered : (x : Resting (List Field)) (put : List (Resting (List Field))) → put ≡ with_entry x rows → AreDistinct put
       → ((key : OrderedKey) → stands new key ≡ (is_key key (key_of own x.no x.row) || (not (is_key key (key_at own rows x.no)) && stands index key)))
-      → AreOrdered own (with_entry x rows) new
-  put_ordered x distinct change = record { distinct = distinct; indexed = λ key. change key ∙ by key (nat_eq x.no key.1) refl }
+      → AreOrdered own put new
+  put_ordered x put is distinct change =
+      subst (λ (held : List (Resting (List Field))). AreOrdered own held new) (sym is) (record { distinct = subst AreDistinct is distinct; indexed = λ key. change key ∙ by key (nat_eq x.no key.1) refl })
     where
       old : Option (List Field)
       old = row_at x.no rows

@@ -11,5 +11,5 @@ returns-in_default g c =
     let test : List Field → Bool = λ row. joins (g.J.Join.predicate c.args.join.now) c.args.side row c.args.against.now in
     c.requires.empty
     ∙ (walk-ends test s.own c.args.key s.base s.places.items (get nat_eq s.last) c.requires.key c.requires.chained.nearly.linked [] c.last_of-last.result
-    (walk-starts test s.own c.args.key s.base s.places.items (get nat_eq s.last) c.requires.key c.requires.chained.nearly.linked [] c.last_of-last.result refl c.last_of-last.ensures) (sym c.in_default.ensures)
+    (walk-starts test s.own c.args.key s.base s.places.items (get nat_eq s.last) c.requires.key c.requires.chained.nearly.linked [] c.last_of-last.result refl c.last_of-last.ensures) c.in_default.ensures
     ∙ sym (matches-sorted test s.places.items (c.requires.chained.nearly.ascending c.requires.ascending)))

@@ -19,12 +19,12 @@ loop-at-preserved g c =
       | in-Some+in_ok-share+in_ok-insert+in-Some-1 w ↦
           subst (λ rows_now. IsSorting (λ row. joins (g.J.Join.predicate c.args.join.now) c.args.side row c.args.against.now) places.items rows_now.entries (c.loop-at.at + 1)) (sym w.rows-is)
           (sort-joined (λ row. joins (g.J.Join.predicate c.args.join.now) c.args.side row c.args.against.now) places.items c.loop-at.rows.entries w.insert.new.self.entries c.loop-at.at c.index-place.result.now
-          w.in_ok-share.field-0 there (sym c.joining_row.ensures ∙ (ap option_copied w.in-Some.is ∙ ap Some (sym w.in_ok-share.ensures))) c.loop-at.invariant w.in_ok-insert.ensures.entries w.in_ok-insert.ensures.updates.0)
+          (option_copied c.joining_row.result) w.in_ok-share.field-0 there c.joining_row.ensures (ap option_copied w.in-Some.is ∙ ap Some (sym w.in_ok-share.ensures)) c.loop-at.invariant w.in_ok-insert.ensures.entries w.in_ok-insert.ensures.updates.0)
       | in-Some+in_ok-share+in_ok-insert+in-None-1 w ↦
           subst (λ rows_now. IsSorting (λ row. joins (g.J.Join.predicate c.args.join.now) c.args.side row c.args.against.now) places.items rows_now.entries (c.loop-at.at + 1)) (sym w.rows-is)
           (sort-joined (λ row. joins (g.J.Join.predicate c.args.join.now) c.args.side row c.args.against.now) places.items c.loop-at.rows.entries w.insert.new.self.entries c.loop-at.at c.index-place.result.now
-          w.in_ok-share.field-0 there (sym c.joining_row.ensures ∙ (ap option_copied w.in-Some.is ∙ ap Some (sym w.in_ok-share.ensures))) c.loop-at.invariant w.in_ok-insert.ensures.entries w.in_ok-insert.ensures.updates.0)
+          (option_copied c.joining_row.result) w.in_ok-share.field-0 there c.joining_row.ensures (ap option_copied w.in-Some.is ∙ ap Some (sym w.in_ok-share.ensures)) c.loop-at.invariant w.in_ok-insert.ensures.entries w.in_ok-insert.ensures.updates.0)
       | in_default w ↦
           subst (λ rows_now. IsSorting (λ row. joins (g.J.Join.predicate c.args.join.now) c.args.side row c.args.against.now) places.items rows_now.entries (c.loop-at.at + 1)) (sym w.rows-is)
-          (sort-passed (λ row. joins (g.J.Join.predicate c.args.join.now) c.args.side row c.args.against.now) places.items c.loop-at.rows.entries c.loop-at.at c.index-place.result.now there (sym c.joining_row.ensures ∙ ap option_copied w.in_default.is) c.loop-at.invariant)
+          (sort-passed (λ row. joins (g.J.Join.predicate c.args.join.now) c.args.side row c.args.against.now) places.items c.loop-at.rows.entries c.loop-at.at c.index-place.result.now (option_copied c.joining_row.result) there c.joining_row.ensures (ap option_copied w.in_default.is) c.loop-at.invariant)
     ]

@@ -1,4 +1,4 @@
-use Rattle.std.proofs.Common.{◌≡◌, [], ◌∷◌, ◌++◌, ℤ, true, None, Some, rules, sym, ap, subst, ◌∙◌}
+use Rattle.std.proofs.Common.{◌≡◌, ℤ, true, None, Some, rules, sym, ap, subst, ◌∙◌}
 use Rattle.std.specs.BTreeMap.Range.{range_contains}
 use Rattle.std.specs.Int.{w64}
 use Rattle.std.specs.Prelude.{FitsSigned}
@@ -8,7 +8,7 @@ use Rattle.hj_rows.specs.NumberedRows.{rows_in}
 use Rattle.hj_index.specs.OrderedIndex.{key_cmp, number_at, AreWithin, OrderedKey}
 use Rattle.hj_index.specs.OrderedStore.{JoinsNear, OrderedRows}
 use Rattle.hj_index.proofs.Banding.{finds_first, near_pushed, no_number_joins}
-use Rattle.hj_rows.proofs.Probes.{none-above, partner}
+use Rattle.hj_rows.proofs.Probes.{none-above}
 use Rattle.hj_index.proofs.ordered_store.OrderedStoreStoreSharedRow.probe.Goals as goal
 
 pub returns-in_default : goal.returns-in_default
@@ -26,8 +26,8 @@ loop-key-init g c =
     let its : number_at s.other c.args.against.now ≡ Some number = sym (c.number_at.ensures ∙ ap (number_at s.other) c.row.ensures) ∙ c.in-Some.is in (
       finds_first s.own (rows_in s.rows) s.index c.self.invariant c.band.result.0 c.band.result.1 s.other s.within (g.J.Join.predicate c.args.join.now) c.args.side
           (subst (λ (store : OrderedRows). JoinsNear store.own store.other store.within (g.J.Join.predicate c.args.join.now) c.args.side) (sym c.self.view_is) c.requires) c.args.against.now number its
-          (subst (λ (near : ℤ). (key : OrderedKey) → AreWithin s.within key.0 near → range_contains key_cmp c.band.result.0 c.band.result.1 key ≡ true) (to_z-of_z w64 number fits) c.band.ensures.all) c.new-found.result c.into_iter-key-iterator.result
-          c.range-key-items.ensures.ordered c.new-found.ensures (c.into_iter-key-iterator.ensures.into_iter_gives ∙ c.range-key-items.ensures.between tt),
+          (subst (λ (near : ℤ). (key : OrderedKey) → AreWithin s.within key.0 near → range_contains key_cmp c.band.result.0 c.band.result.1 key ≡ true) (to_z-of_z w64 number fits) c.band.ensures.all) c.new-found.result c.into_iter-key-iterator.result _
+          c.range-key-items.ensures.ordered c.new-found.ensures c.into_iter-key-iterator.ensures.into_iter_gives (c.range-key-items.ensures.between tt),
       none-above c.new-found.result 0 c.new-found.ensures,
     )
 
@@ -36,5 +36,5 @@ loop-key-preserved-in-Some-joining g c =
     let s = c.self.inside in
     near_pushed (rows_in s.rows) s.index.reserved c.in-Some-key.key.now c.loop-key.key-iterator c.next.new.self c.in-Some-key.ensures.steps
     (λ row. joins (g.J.Join.predicate c.args.join.now) c.args.side row c.args.against.now) (settled_matches (g.J.Join.predicate c.args.join.now) c.args.side c.args.against.now (rows_in s.rows))
-    c.in-Some-joining.row.now (sym c.in-Some-joining.ensures) c.loop-key.found c.push.new.self c.loop-key.last c.loop-key.invariant.0 c.loop-key.invariant.1 c.if-key-last.false
-    (c.in_ok-push.ensures.ok ∙ ap (λ row. c.loop-key.found ++ partner c.in-Some-key.key.now.1 row ∷ []) c.in_ok-share.ensures)
+    c.in_ok-share.field-0 c.in-Some-joining.row.now c.in-Some-joining.ensures c.in_ok-share.ensures c.loop-key.found c.push.new.self c.loop-key.last c.loop-key.invariant.0 c.loop-key.invariant.1 c.if-key-last.false
+    c.in_ok-push.ensures.ok
