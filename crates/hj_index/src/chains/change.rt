@@ -35,6 +35,7 @@ impl KeyChains {
     }
 
     /// Puts another row in the place of one.
+    #[cold]
     pub(super) fn replace(&mut self, at: usize, no: u64, row: SharedRow, settled: bool)
         requires chain_room { 0 < spare self.old.last }
         requires chained { AreChained self.old }
