@@ -46,95 +46,74 @@ pub(crate) fn is_done<P: Drop>(rt: &impl Abort, ran: Option<Ran<P>>) {
     assert!(rt; matches!(ran.fin(), Fin::Done));
 }
 
-/// Joins the streams left and right, and tells how that ends.
-pub(crate) fn joined<R: Abort + Threads + Wait + Clock + Sync, O: Outside, K: Sink, G: Gate + Sync>(
-    rt: &R,
-    alloc: Global,
-    case: Case<'_>,
-    mode: &Mode<'_, R, G>,
-    outside: &mut O,
-    sink: &mut K,
-) -> Outcome
-    requires { AreUnbegun (O.state outside.old) }
-{
-    let query = query_of(rt, alloc, case.query);
-    let limit = u64::from(number(rt, Some(case.limit)));
-    start_two(rt, outside);
-    let ended = match mode {
-        Mode::Serial(plan) => join_serial(alloc, &query, plan, limit, outside, sink),
-        Mode::Threads(plan) => {
-            let (ended, ran) = join_threads(alloc, &query, plan, limit, outside, sink);
-            is_done(rt, ran);
-            ended
-        }
-    };
-    drop(query);
-    ended
+/// A case, and how it is run.
+#[derive(Drop)]
+pub(crate) struct CaseRun<'a, R, G> {
+    pub(crate) rt: &'a R,
+    pub(crate) alloc: Global,
+    pub(crate) case: Case<'a>,
+    pub(crate) mode: Mode<'a, R, G>,
 }
 
-/// Joins the streams left and right, and their pairs with the third stream, and tells how that ends.
-fn joined_twice<R: Abort + Threads + Wait + Clock + Sync, O: Outside, K: Sink, G: Gate + Sync>(
-    rt: &R,
-    alloc: Global,
-    case: Case<'_>,
-    mode: &Mode<'_, R, G>,
-    outside: &mut O,
-    sink: &mut K,
-) -> TwiceOutcome
-    requires { AreUnbegun (O.state outside.old) }
-{
-    let first = query_of(rt, alloc, case.query);
-    let second = query_of(rt, alloc, case.second);
-    assert!(rt; fits(&first, &second));
-    start_two(rt, outside);
-    start(rt, outside, Role::Third, "third");
-    let joins = TwoJoins {
-        first: &first,
-        second: &second,
-        limit: u64::from(number(rt, Some(case.limit))),
-    };
-    let ended = join_twice(alloc, joins, mode, outside, sink);
-    drop(first);
-    drop(second);
-    ended
-}
+impl<R: Abort + Threads + Wait + Clock + Sync, G: Gate + Sync> CaseRun<'_, R, G> {
+    /// Joins the streams left and right, and tells how that ends.
+    pub(crate) fn joined<O: Outside, K: Sink>(&self, outside: &mut O, sink: &mut K) -> Outcome
+        requires { AreUnbegun (O.state outside.old) }
+    {
+        let query = query_of(self.rt, self.alloc, self.case.query);
+        let limit = self.limit();
+        start_two(self.rt, outside);
+        let ended = match &self.mode {
+            Mode::Serial(plan) => join_serial(self.alloc, &query, plan, limit, outside, sink),
+            Mode::Threads(plan) => {
+                let (ended, ran) = join_threads(self.alloc, &query, plan, limit, outside, sink);
+                is_done(self.rt, ran);
+                ended
+            }
+        };
+        drop(query);
+        ended
+    }
 
-/// Makes the join of a case, or its two joins, and tells how that ends.
-fn ended<R: Abort + Threads + Wait + Clock + Sync, O: Outside, K: Sink, G: Gate + Sync>(
-    rt: &R,
-    alloc: Global,
-    case: Case<'_>,
-    mode: &Mode<'_, R, G>,
-    outside: &mut O,
-    sink: &mut K,
-) -> String
-    requires { AreUnbegun (O.state outside.old) }
-{
-    let text = if case.second.is_empty() {
-        let ended = joined(rt, alloc, case, mode, outside, sink);
-        format!(in alloc; "{ended:?}")
-    } else {
-        let ended = joined_twice(rt, alloc, case, mode, outside, sink);
-        format!(in alloc; "{ended:?}")
-    };
-    text.expect(rt, "memory")
-}
+    /// Joins the streams left and right, and their pairs with the third stream, and tells how that ends.
+    fn joined_twice<O: Outside, K: Sink>(&self, outside: &mut O, sink: &mut K) -> TwiceOutcome
+        requires { AreUnbegun (O.state outside.old) }
+    {
+        let first = query_of(self.rt, self.alloc, self.case.query);
+        let second = query_of(self.rt, self.alloc, self.case.second);
+        assert!(self.rt; fits(&first, &second));
+        start_two(self.rt, outside);
+        start(self.rt, outside, Role::Third, "third");
+        let joins = TwoJoins {
+            first: &first,
+            second: &second,
+            limit: self.limit(),
+        };
+        let ended = join_twice(self.alloc, joins, &self.mode, outside, sink);
+        drop(first);
+        drop(second);
+        ended
+    }
 
-/// Makes the join of a case, or its two joins, in a way, and looks how that ends.
-fn make<R: Abort + Threads + Wait + Clock + Sync, O: Outside, K: Sink, G: Gate + Sync>(
-    rt: &R,
-    alloc: Global,
-    way: &str,
-    case: Case<'_>,
-    gate: &G,
-    outside: &mut O,
-    sink: &mut K,
-)
-    requires { AreUnbegun (O.state outside.old) }
-{
-    let mode = mode_of(rt, way, gate);
-    let found = ended(rt, alloc, case, &mode, outside, sink);
-    assert_eq!(rt; found.as_str(), case.ended, "{way}");
+    /// Makes the join of the case, or its two joins, in the way of this name, and looks how that ends.
+    fn make<O: Outside, K: Sink>(&self, way: &str, outside: &mut O, sink: &mut K)
+        requires { AreUnbegun (O.state outside.old) }
+    {
+        let text = if self.case.second.is_empty() {
+            let ended = self.joined(outside, sink);
+            format!(in self.alloc; "{ended:?}")
+        } else {
+            let ended = self.joined_twice(outside, sink);
+            format!(in self.alloc; "{ended:?}")
+        };
+        let found = text.expect(self.rt, "memory");
+        assert_eq!(self.rt; found.as_str(), self.case.ended, "{way}");
+    }
+
+    /// Tells how many events the case takes at most.
+    fn limit(&self) -> u64 {
+        u64::from(number(self.rt, Some(self.case.limit)))
+    }
 }
 
 /// Holds a sink to have the text of a case.
@@ -154,7 +133,13 @@ pub(crate) fn run<R: Abort + Threads + Wait + Clock + Sync, G: Gate + Sync>(
     let case = case_of(rt, line);
     let mut outside = streams_of(rt, alloc, case);
     let mut sink = MemSink::new(alloc, 100);
-    make(rt, alloc, way, case, gate, &mut outside, &mut sink);
+    let run = CaseRun {
+        rt,
+        alloc,
+        case,
+        mode: mode_of(rt, way, gate),
+    };
+    run.make(way, &mut outside, &mut sink);
     is_written(rt, alloc, &sink, case);
     drop(outside);
     drop(sink);

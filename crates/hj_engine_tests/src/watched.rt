@@ -4,7 +4,7 @@ ghost use Rattle.hj_base.specs.MemOutside.{role_at, told_under};
 ghost use Rattle.hj_engine_tests.specs.Begun.{AreUnbegun};
 
 use crate::cases::{Case, case_of, mode_of, streams_of};
-use crate::runs::joined;
+use crate::runs::CaseRun;
 use hj_base::{Got, MemOutside, MemSink, OpenGate, Opened, Outside, Put, Role, Sink};
 use std::alloc::Global;
 use std::cell::Cell;
@@ -66,8 +66,13 @@ fn watch<R: Abort + Threads + Wait + Clock + Sync>(
 ) -> String
     requires { AreUnbegun (role_at outside.old.streams) }
 {
-    let mode = mode_of(rt, "serial 4 32", &OpenGate);
-    let ended = joined(rt, alloc, case, &mode, outside, sink);
+    let run = CaseRun {
+        rt,
+        alloc,
+        case,
+        mode: mode_of(rt, "serial 4 32", &OpenGate),
+    };
+    let ended = run.joined(outside, sink);
     format!(in alloc; "{ended:?}, {:?}", outside.seen).expect(rt, "memory")
 }
 
