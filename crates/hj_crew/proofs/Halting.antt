@@ -1,5 +1,5 @@
 -- A run that halted, and may go on.
-use Rattle.std.proofs.Common.{◌≡◌, ℕ, Bool, List, [], length, ap, arith}
+use Rattle.std.proofs.Common.{◌≡◌, ℕ, Bool, List, [], length, ap, subst, arith}
 use Rattle.std.specs.List.{AllZip}
 use Rattle.std.proofs.lemmas.List.{length-map, nil_from_length}
 use Rattle.std.proofs.lemmas.Slice.Zip.{AllZip-long}
@@ -8,6 +8,7 @@ use Rattle.hj_msg.specs.declared.feed.Given.{Given}
 use Rattle.hj_msg.specs.Feed.{FeedState}
 use Rattle.hj_collect.specs.Collector.{CollectorState}
 use Rattle.hj_raw.specs.Items.{TakenReport}
+use Rattle.hj_desk.specs.declared.caller.Caller.{Caller}
 use Rattle.hj_desk.specs.Caller.{GoesRound, answer_of}
 use Rattle.hj_desk.proofs.Going.{goes-stands}
 use Rattle.hj_crew.specs.declared.drive.Halt.{Halt}
@@ -21,6 +22,11 @@ use Rattle.hj_crew.specs.Teams.{TeamStays}
 -- where nothing was there before, nothing is there
 pub stays-empty : {P J S : Type 0} (old new : List (Team P J S)) → old ≡ [] → AllZip TeamStays old new → new ≡ []
 stays-empty old new none same = nil_from_length new (omega (arith, AllZip-long TeamStays old new same, ap length none))
+
+-- how a run went, by what halted it
+pub round-as : {P F O : Type 0} (gives : F → Given P → F → Type 0) (state : F → FeedState) (gave : O → ℕ → List (TakenReport P) → Bool → Drained → O → Type 0) (rests : O → CollectorState → Type 0) (old new : Caller P F O) (halt told : Halt) → halt ≡ told
+    → GoesRound gives state gave rests (round_of halt) old new → GoesRound gives state gave rests (round_of told) old new
+round-as gives state gave rests old new halt told is goes = subst (λ (h : Halt). GoesRound gives state gave rests (round_of h) old new) is goes
 
 module _ {P J S F O : Type 0} (gives : F → Given P → F → Type 0) (state : F → FeedState) (gave : O → ℕ → List (TakenReport P) → Bool → Drained → O → Type 0) (rests : O → CollectorState → Type 0) (begun back : BegunRun P J S F O) (halt : Halt)
     (goes : GoesRound gives state gave rests (round_of halt) begun.caller back.caller) (teams : AllZip TeamStays begun.teams.items back.teams.items) where

@@ -29,6 +29,10 @@ its_turns {P} predicate worker left right reports at_left at_right of_reports to
   λ put. took.2.0 (ended (subst (λ (s : EndSeen (Report P)). Contains (puts s.journal) Ended) (sym of_reports) put)),
 )
 
+-- an end that came into a list without any
+pub one-held : {P : Type 0} (before after : List (EndSeen (Msg P))) (end : EndSeen (Msg P)) → before ≡ [] → after ≡ before ++ end ∷ [] → after ≡ end ∷ []
+one-held {P} before after end none pushed = pushed ∙ ap (λ (l : List (EndSeen (Msg P))). l ++ end ∷ []) none
+
 -- All workers handed in their ends, behind the left end of a desk, and its right end is behind them: these are the ends of the chain
 -- that they form.
 module _ {P J : Type 0} (desk : Desk P) (workers : List (WorkerSeen P J)) (first ends : ChainEnds P) (given : GivesEnds workers ends first) (left : first.left.items ≡ desk.ports.left ∷ []) (no_right : first.right.items ≡ [])

@@ -2,6 +2,7 @@ pub mod Chained
 pub mod ClosedLinks
 pub mod Dealing
 pub mod Halting
+pub mod Handing
 pub mod HandingIn
 pub mod InOrder
 pub mod Keeping

@@ -5,6 +5,7 @@ use Rattle.std.proofs.lemmas.List.{get_or_append_left, get_or_at, length-map, le
 use Rattle.hj_msg.specs.declared.message.Msg.{Msg}
 use Rattle.hj_msg.specs.declared.message.Report.{Report}
 use Rattle.hj_link.specs.Seen.{EndSeen}
+use Rattle.hj_worker.specs.declared.ends.WorkerEnds.{WorkerEnds}
 use Rattle.hj_worker.specs.Seen.{WorkerSeen}
 use Rattle.hj_crew.specs.declared.ends.ChainEnds.{ChainEnds}
 use Rattle.hj_crew.specs.declared.team.Team.{Team}
@@ -40,6 +41,16 @@ module _ {P J : Type 0} (workers : List (WorkerSeen P J)) (old new : ChainEnds P
 -- no worker
 pub gives-none : {P J : Type 0} (ends : ChainEnds P) → GivesEnds {P = P} {J = J} [] ends ends
 gives-none ends = record { left = sym (append-nil ends.left.items); right = sym (append-nil ends.right.items); senders = sym (append-nil ends.senders.items); receivers = refl }
+
+-- one worker, over the last end of each list
+pub gives-one : {P J : Type 0} (worker : WorkerSeen P J) (left right : EndSeen (Msg P)) (reports : EndSeen (Report P)) (old new : ChainEnds P) → worker.ends ≡ record { left = left; right = right; reports = reports }
+    → old.right.items ≡ new.right.items ++ left ∷ [] → old.left.items ≡ new.left.items ++ right ∷ [] → old.senders.items ≡ new.senders.items ++ reports ∷ [] → new.receivers ≡ old.receivers → GivesEnds (worker ∷ []) old new
+gives-one {P} worker left right reports old new ends lefts rights senders receivers = record {
+  left = rights ∙ ap (λ (e : WorkerEnds P). new.left.items ++ e.right ∷ []) (sym ends);
+  right = lefts ∙ ap (λ (e : WorkerEnds P). new.right.items ++ e.left ∷ []) (sym ends);
+  senders = senders ∙ ap (λ (e : WorkerEnds P). new.senders.items ++ e.reports ∷ []) (sym ends);
+  receivers = receivers;
+}
 
 -- one worker more
 pub gives-more : {P J : Type 0} (worker : WorkerSeen P J) (workers : List (WorkerSeen P J)) (first old new : ChainEnds P) → GivesEnds workers first old → GivesEnds (worker ∷ []) old new → GivesEnds (worker ∷ workers) first new

@@ -1,7 +1,8 @@
 -- Workers stay those of their cores, on their links.
-use Rattle.std.proofs.Common.{◌≡◌, ℕ, zero, suc, ◌<◌, List, [], ◌∷◌, ◌++◌, length, get_or, set, take, drop, refl, ap, ◌∙◌, arith, append-nil}
+use Rattle.std.proofs.Common.{◌≡◌, ℕ, zero, suc, ◌<◌, List, [], ◌∷◌, ◌++◌, length, get_or, set, take, drop, refl, ap, sym, subst, ◌∙◌, arith, append-nil}
 use Rattle.std.specs.List.{AllZip}
 use Rattle.std.proofs.lemmas.List.{drop_all, take_all}
+use Rattle.std.proofs.lemmas.Slice.Zip.{AllZip-long}
 use Rattle.hj_worker.specs.Seen.{WorkerSeen}
 use Rattle.hj_worker.specs.Turning.{StaysItself}
 use Rattle.hj_crew.specs.declared.team.Team.{Team}
@@ -59,3 +60,9 @@ module _ {P J S : Type 0} where
 
   pub team-stays-on : (first second third : Team P J S) → TeamStays first second → TeamStays second third → TeamStays first third
   team-stays-on first second third one two = related-trans StaysItself stays-on first.workers.items second.workers.items third.workers.items one two
+
+  -- teams that were lent as a slice, and written back
+  pub lent-stay : (teams lent turned : List (Team P J S)) (n : ℕ) → lent ≡ teams → AllZip TeamStays lent turned → n ≡ length teams → AllZip TeamStays teams (take n (turned ++ drop (length turned) teams))
+  lent-stay teams lent turned n is same long =
+      let stayed : AllZip TeamStays teams turned = subst (λ (l : List (Team P J S)). AllZip TeamStays l turned) is same in
+      subst (AllZip TeamStays teams) (sym (written_back teams turned n (AllZip-long TeamStays teams turned stayed) long)) stayed

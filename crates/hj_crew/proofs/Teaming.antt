@@ -44,6 +44,9 @@ module _ {P J S : Type 0} where
       pub room-behind : (old new : Vec (Team P J S) Z) → AppendsTeams fewer.items old.items new.items → vec_capacity new ≡ vec_capacity old → HasRoom (length teams.items) old → vec_len new < vec_capacity new
       room-behind old new more capacity room = omega (arith, length-appended fewer.items old.items new.items more, capacity, room, less, teams.ok.0, fewer.ok.0, old.ok.0, new.ok.0)
 
+  pub same-capacity : {Z : Type 0} (old middle new : Vec (Team P J S) Z) → vec_capacity middle ≡ vec_capacity old → vec_capacity new ≡ vec_capacity middle → vec_capacity new ≡ vec_capacity old
+  same-capacity old middle new first second = second ∙ first
+
   -- one team more came back
   pub appends-with : (teams fewer old middle new : List (Team P J S)) (team back : Team P J S) → teams ≡ fewer ++ team ∷ [] → AppendsTeams fewer old middle → TeamStays team back → new ≡ middle ++ back ∷ []
       → AppendsTeams teams old new

@@ -1,8 +1,6 @@
-use Rattle.std.proofs.Common.{◌∷◌, ◌++◌, [], ◌∙◌, List, arith, ap, refl}
-use Rattle.hj_msg.specs.declared.message.Msg.{Msg}
-use Rattle.hj_link.specs.Seen.{EndSeen}
+use Rattle.std.proofs.Common.{arith, refl}
 use Rattle.hj_crew.specs.declared.ends.ChainEnds.{ChainEnds}
-use Rattle.hj_crew.proofs.HandingIn.{all-closed, all-linked, all-queued, many_left, many_senders}
+use Rattle.hj_crew.proofs.HandingIn.{all-closed, all-linked, all-queued, many_left, many_senders, one-held}
 use Rattle.hj_crew.proofs.closing.close_run.Goals as goal
 
 pub hand_in_all-requires : goal.hand_in_all-requires
@@ -20,7 +18,7 @@ close-requires g c =
     let ends = c.hand_in_all.new.ends in
     let given = c.hand_in_all.ensures.ends in
     let first : ChainEnds g.row.P.Denot = record { left = c.push_reserved.new.self; right = c.args.room.right; senders = c.args.room.senders; receivers = desk.reports } in
-    let left = c.push_reserved.ensures.items ∙ ap (λ (l : List (EndSeen (Msg g.row.P.Denot))). l ++ desk.ports.left ∷ []) room.left.empty in
+    let left = one-held c.args.room.left.items c.push_reserved.new.self.items desk.ports.left room.left.empty c.push_reserved.ensures.items in
     let pushed = c.push_reserved-2.ensures.items in
     record {
       linked = all-linked desk workers first ends given left room.right.empty room.senders.empty refl c.push_reserved-2.new.self.items pushed c.requires.chain;
@@ -32,6 +30,6 @@ close-requires g c =
 pub returns-clause-closed : goal.returns-clause-closed
 returns-clause-closed g c =
     let first : ChainEnds g.row.P.Denot = record { left = c.push_reserved.new.self; right = c.args.room.right; senders = c.args.room.senders; receivers = c.args.desk.reports } in
-    let left = c.push_reserved.ensures.items ∙ ap (λ (l : List (EndSeen (Msg g.row.P.Denot))). l ++ c.args.desk.ports.left ∷ []) c.requires.room.left.empty in
+    let left = one-held c.args.room.left.items c.push_reserved.new.self.items c.args.desk.ports.left c.requires.room.left.empty c.push_reserved.ensures.items in
     all-closed c.args.desk c.args.workers.items first c.hand_in_all.new.ends c.hand_in_all.ensures.ends left c.requires.room.right.empty c.requires.room.senders.empty refl c.push_reserved-2.new.self.items
     c.push_reserved-2.ensures.items g.J.Join.predicate c.hand_in_all.ensures.turns c.close.result c.close.ensures.links c.close.ensures.queues c.close.ensures.links_agree c.close.ensures.queues_agree

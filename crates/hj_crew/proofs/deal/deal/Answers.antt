@@ -1,10 +1,11 @@
-use Rattle.std.proofs.Common.{◌≡◌, ◌++◌, ◌∷◌, [], List, ◌∙◌, ap, arith, get_or, set, sym, take}
-use Rattle.std.proofs.lemmas.List.{get_or-map, length-map, map-set, take-set}
+use Rattle.std.proofs.Common.{◌≡◌, ◌++◌, ◌∷◌, [], List, ◌∙◌, ap, arith, get_or, set, take}
+use Rattle.std.proofs.lemmas.List.{length-map, map-set, take-set}
 use Rattle.hj_worker.specs.Seen.{WorkerSeen}
 use Rattle.hj_crew.specs.declared.team.Team.{Team}
 use Rattle.hj_crew.specs.Deal.{gathered}
 use Rattle.hj_crew.specs.Teams.{workers_in}
 use Rattle.hj_crew.proofs.Dealing.{gathered-with}
+use Rattle.hj_crew.proofs.Handing.{one-worker_more}
 use Rattle.hj_crew.proofs.deal.deal.Goals as goal
 
 pub returns-clause-dealt : goal.returns-clause-dealt
@@ -14,8 +15,7 @@ returns-clause-dealt g c =
     let at = c.args.team in
     let new : Team g.row.P.Denot g.row.J.Denot g.row.S.Denot = record { workers = c.push.new.self } in
     let held : List (List (WorkerSeen g.row.P.Denot g.row.J.Denot)) = workers_in teams in
-    let grown : new.workers.items ≡ get_or held at [] ++ c.args.worker ∷ [] =
-    c.in_ok-push.ensures.items ∙ ap (λ (l : List (WorkerSeen g.row.P.Denot g.row.J.Denot)). l ++ c.args.worker ∷ []) (sym (get_or-map contents teams at c.index-teams-team.result [] c.requires.in_range)) in
+    let grown : new.workers.items ≡ get_or held at [] ++ c.args.worker ∷ [] = one-worker_more teams at c.index-teams-team.result new.workers.items c.args.worker c.requires.in_range c.in_ok-push.ensures.items in
     ap (λ (hands : List (List (WorkerSeen g.row.P.Denot g.row.J.Denot))). gathered hands) (map-set contents teams at new ∙ ap (set held at) grown)
     ∙ gathered-with held at c.args.worker (omega (arith, length-map teams contents, c.requires.in_range)) c.requires.empty
 

@@ -1,10 +1,11 @@
-use Rattle.std.proofs.Common.{◌≡◌, ◌∷◌, ◌++◌, [], ◌∙◌, List, append-nil, append_assoc, ap, ap₂, arith, length, length-append, reverse, sym}
+use Rattle.std.proofs.Common.{◌≡◌, ◌∷◌, ◌++◌, [], List, ap, ap₂, arith, length}
 use Rattle.std.specs.Vec.Iter.{into_iter_items}
-use Rattle.std.proofs.lemmas.List.{length-reverse, nil_from_length}
+use Rattle.std.proofs.lemmas.List.{nil_from_length}
 use Rattle.hj_worker.specs.Seen.{WorkerSeen}
 use Rattle.hj_crew.specs.declared.team.Team.{Team}
 use Rattle.hj_crew.specs.Deal.{gathered}
 use Rattle.hj_crew.specs.Teams.{workers_in}
+use Rattle.hj_crew.proofs.Handing.{gathers-all, gathers-many, gathers-on, longer}
 use Rattle.hj_crew.proofs.deal.gather.Goals as goal
 
 pub loop-team-init : goal.loop-team-init
@@ -19,16 +20,8 @@ loop-team-init g c =
 
 pub take_over-requires : goal.take_over-requires
 take_over-requires g c =
-    let team = c.in-Some.team in
-    let after = into_iter_items c.next.new.self in
-    let next : into_iter_items c.loop-team.team-iterator ≡ team ∷ after = c.in-Some.ensures.steps.0 in
-    omega (
-      arith,
-      c.loop-team.invariant.room,
-      ap (λ (teams : List (Team g.row.P.Denot g.row.J.Denot g.row.S.Denot)). length (gathered (workers_in teams))) next,
-      length-append (reverse team.workers.items) (gathered (workers_in after)),
-      length-reverse team.workers.items,
-    )
+    let next : into_iter_items c.loop-team.team-iterator ≡ c.in-Some.team ∷ into_iter_items c.next.new.self = c.in-Some.ensures.steps.0 in
+    omega (arith, c.loop-team.invariant.room, gathers-many (into_iter_items c.loop-team.team-iterator) (into_iter_items c.next.new.self) c.in-Some.team next)
 
 pub loop-team-preserved : goal.loop-team-preserved
 loop-team-preserved g c =
@@ -37,30 +30,14 @@ loop-team-preserved g c =
     let after = into_iter_items c.next.new.self in
     let next : before ≡ team ∷ after = c.in-Some.ensures.steps.0 in
     let held = c.loop-team.workers.items in
+    let now = c.take_over.new.workers.items in
     record {
-      all =
-          ap (λ (l : List (WorkerSeen g.row.P.Denot g.row.J.Denot)). l ++ gathered (workers_in after)) c.take_over.ensures.workers
-          ∙ append_assoc held (reverse team.workers.items) (gathered (workers_in after))
-          ∙ ap (λ (teams : List (Team g.row.P.Denot g.row.J.Denot g.row.S.Denot)). held ++ gathered (workers_in teams)) (sym next)
-          ∙ c.loop-team.invariant.all;
-      room =
-          omega (
-            arith,
-            c.loop-team.invariant.room,
-            c.take_over.ensures.capacity,
-            ap length c.take_over.ensures.workers,
-            length-append held (reverse team.workers.items),
-            ap (λ (teams : List (Team g.row.P.Denot g.row.J.Denot g.row.S.Denot)). length (gathered (workers_in teams))) next,
-            length-append (reverse team.workers.items) (gathered (workers_in after)),
-            length-reverse team.workers.items,
-          );
+      all = gathers-on before after team next held now (gathered (workers_in c.args.teams.items)) c.take_over.ensures.workers c.loop-team.invariant.all;
+      room = omega (arith, c.loop-team.invariant.room, c.take_over.ensures.capacity, longer held now team.workers.items c.take_over.ensures.workers, gathers-many before after team next);
     }
 
 pub returns : goal.returns
 returns g c =
     let left = into_iter_items c.loop-team.team-iterator in
     let none : left ≡ [] = nil_from_length left (omega (arith, c.in-None.ensures.steps.0)) in
-    let held = c.loop-team.workers.items in
-    sym (append-nil held)
-    ∙ ap (λ (teams : List (Team g.row.P.Denot g.row.J.Denot g.row.S.Denot)). held ++ gathered (workers_in teams)) (sym none)
-    ∙ c.loop-team.invariant.all
+    gathers-all left c.loop-team.workers.items (gathered (workers_in c.args.teams.items)) none c.loop-team.invariant.all

@@ -1,9 +1,8 @@
-use Rattle.std.proofs.Common.{◌≡◌, ◌++◌, ◌∷◌, [], ◌∙◌, ap, refl, sym}
+use Rattle.std.proofs.Common.{◌≡◌, [], refl}
 use Rattle.hj_msg.specs.declared.message.Msg.{Msg}
 use Rattle.hj_msg.specs.declared.message.Report.{Report}
 use Rattle.hj_link.specs.Seen.{EndSeen}
-use Rattle.hj_worker.specs.Seen.{WorkerSeen}
-use Rattle.hj_crew.proofs.MadeTeams.{last-of}
+use Rattle.hj_crew.proofs.MadeTeams.{gives-one, last-of}
 use Rattle.hj_crew.proofs.making.last_worker.Goals as goal
 
 pub new-requires-clause-left : goal.new-requires-clause-left
@@ -21,10 +20,5 @@ new-requires-clause-reports g c =
 
 pub returns-clause-ends : goal.returns-clause-ends
 returns-clause-ends g c =
-    let same = sym c.new.ensures in
-    record {
-      left = c.in-Some-pop.ensures.items ∙ ap (λ (w : WorkerSeen g.row.P.Denot g.row.J.Denot). c.pop-2.new.self.items ++ w.ends.right ∷ []) same;
-      right = c.in-Some.ensures.items ∙ ap (λ (w : WorkerSeen g.row.P.Denot g.row.J.Denot). c.pop.new.self.items ++ w.ends.left ∷ []) same;
-      senders = c.in-Some-pop-2.ensures.items ∙ ap (λ (w : WorkerSeen g.row.P.Denot g.row.J.Denot). c.pop-3.new.self.items ++ w.ends.reports ∷ []) same;
-      receivers = refl;
-    }
+    gives-one c.new.result c.in-Some.left c.in-Some-pop.right c.in-Some-pop-2.reports c.args.ends.now (record c.args.ends.now { left = c.pop-2.new.self; right = c.pop.new.self; senders = c.pop-3.new.self }) (λ i. (c.new.ensures i).ends)
+    c.in-Some.ensures.items c.in-Some-pop.ensures.items c.in-Some-pop-2.ensures.items refl

@@ -1,11 +1,7 @@
-use Rattle.std.proofs.Common.{◌∙◌, List, refl, subst, sym}
+use Rattle.std.proofs.Common.{refl}
 use Rattle.std.specs.Prelude.{vec_capacity}
-use Rattle.std.specs.List.{AllZip}
-use Rattle.std.proofs.lemmas.Slice.Zip.{AllZip-long}
-use Rattle.hj_crew.specs.declared.team.Team.{Team}
-use Rattle.hj_crew.specs.Teams.{TeamStays}
-use Rattle.hj_crew.proofs.Staying.{written_back}
-use Rattle.hj_crew.proofs.Teaming.{appends-none_of, appends-with, as-long, comes-back, fewer-are_own, fewer-come_back, fewer-fit, none-left, room-behind, some-own}
+use Rattle.hj_crew.proofs.Staying.{lent-stay}
+use Rattle.hj_crew.proofs.Teaming.{appends-none_of, appends-with, as-long, comes-back, fewer-are_own, fewer-come_back, fewer-fit, none-left, room-behind, same-capacity, some-own}
 use Rattle.hj_crew.proofs.begun.BegunRun.+start_from_last.Goals as goal
 
 pub drive-requires-clause-stands : goal.drive-requires-clause-stands
@@ -17,13 +13,9 @@ drive-requires-clause-few g t c = c.requires.cores
 pub returns-in_default : goal.returns-in_default
 returns-in_default g t c =
     let begun = c.args.self.now in
-    let turned = c.drive.new.own in
-    let same : AllZip TeamStays begun.own.items turned =
-    subst (λ (teams : List (Team g.row.P.Denot g.row.J.Denot g.row.S.Denot)). AllZip TeamStays teams turned) c.as_mut_slice.ensures.value c.drive.ensures.own in
-    let written = written_back begun.own.items turned begun.own.len (AllZip-long TeamStays begun.own.items turned same) begun.own.ok.0 in
     record {
       goes = c.drive.ensures.goes;
-      own = subst (AllZip TeamStays begun.own.items) (sym written) same;
+      own = lent-stay begun.own.items _ c.drive.new.own begun.own.len c.as_mut_slice.ensures.value c.drive.ensures.own begun.own.ok.0;
       own_capacity = refl {a = vec_capacity begun.own};
       none = none-left c.pop.new.self c.in_default.ensures.cases.1;
       teams_capacity = c.in_default.ensures.capacity;
@@ -60,9 +52,11 @@ returns g t c =
     record {
       goes = given.goes;
       own = back.1;
-      own_capacity = c.take_back-back.ensures.capacity ∙ given.own_capacity ∙ c.keep_refused-child.ensures.capacity;
+      own_capacity =
+          same-capacity c.args.self.now.own c.keep_refused-child.new.own c.take_back-back.new.own c.keep_refused-child.ensures.capacity
+          (same-capacity c.keep_refused-child.new.own c.start_from_last-halt.new.self.own c.take_back-back.new.own given.own_capacity c.take_back-back.ensures.capacity);
       none = given.none;
-      teams_capacity = given.teams_capacity ∙ c.in-Some.ensures.capacity;
+      teams_capacity = same-capacity c.args.self.now.teams c.pop.new.self c.start_from_last-halt.new.self.teams c.in-Some.ensures.capacity given.teams_capacity;
       done = appends-with c.args.self.now.teams.items c.pop.new.self.items c.args.self.now.done.items c.start_from_last-halt.new.self.done.items c.push_reserved.new.self.items c.in-Some.team c.take_back-back.result c.in-Some.ensures.items given.done back.0 c.push_reserved.ensures.items;
-      done_capacity = c.push_reserved.ensures.capacity ∙ given.done_capacity;
+      done_capacity = same-capacity c.args.self.now.done c.start_from_last-halt.new.self.done c.push_reserved.new.self given.done_capacity c.push_reserved.ensures.capacity;
     }
