@@ -126,21 +126,24 @@ quiets_at Right driver = driver.right_quiets
 
 -- What is put joins its list; everything else of the driver stays.
 module _ {P : Type 0} where
-  arrivals-put : (side : Side) (put : Event P) (driver : DriverState) → arrivals_at side (after_put put driver) ≡ arrivals_at side driver ++ cons_option (arrival_after side put []) []
+  arrivals-put : (side : Side) (put : Event P) (driver : DriverState)
+      → arrivals_at side (after_put put driver) ≡ arrivals_at side driver ++ cons_option (arrival_after side put []) []
   arrivals-put Left (Arrive at Left row) driver = refl
   arrivals-put Right (Arrive at Right row) driver = refl
   arrivals-put side (Expire at Left of) driver = sym (append-nil (arrivals_at side driver))
   arrivals-put side (Quiet at Left) driver = sym (append-nil (arrivals_at side driver))
   arrivals-put side put driver = sym (append-nil (arrivals_at side driver))
 
-  expiries-put : (side : Side) (put : Event P) (driver : DriverState) → expiries_at side (after_put put driver) ≡ expiries_at side driver ++ cons_option (expiry_after side put []) []
+  expiries-put : (side : Side) (put : Event P) (driver : DriverState)
+      → expiries_at side (after_put put driver) ≡ expiries_at side driver ++ cons_option (expiry_after side put []) []
   expiries-put Left (Expire at Left of) driver = refl
   expiries-put Right (Expire at Right of) driver = refl
   expiries-put side (Arrive at Left row) driver = sym (append-nil (expiries_at side driver))
   expiries-put side (Quiet at Left) driver = sym (append-nil (expiries_at side driver))
   expiries-put side put driver = sym (append-nil (expiries_at side driver))
 
-  quiets-put : (side : Side) (put : Event P) (driver : DriverState) → quiets_at side (after_put put driver) ≡ quiets_at side driver ++ cons_option (quiet_after side put []) []
+  quiets-put : (side : Side) (put : Event P) (driver : DriverState)
+      → quiets_at side (after_put put driver) ≡ quiets_at side driver ++ cons_option (quiet_after side put []) []
   quiets-put Left (Quiet at Left) driver = refl
   quiets-put Right (Quiet at Right) driver = refl
   quiets-put side (Arrive at Left row) driver = sym (append-nil (quiets_at side driver))

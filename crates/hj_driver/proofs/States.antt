@@ -46,8 +46,10 @@ abbrev pub with_numbers : (List EventNo → List EventNo) → LeavingState → L
 with_numbers f leaving = record leaving { numbers = f leaving.numbers }
 
 -- what a message changes, where it and what was kept before it are known by equations
-pub taken : {P : Type 0} {m known : Msg P} {old kept new : DriverState} (port : Side) → m ≡ known → kept ≡ old → new ≡ after_take port known kept → new ≡ after_take port m old
-taken {P} {known = known} {old = old} port is_known is_old is = is ∙ ap (λ (d : DriverState). after_take port known d) is_old ∙ ap (λ (x : Msg P). after_take port x old) (sym is_known)
+pub taken : {P : Type 0} {m known : Msg P} {old kept new : DriverState} (port : Side) → m ≡ known → kept ≡ old
+    → new ≡ after_take port known kept → new ≡ after_take port m old
+taken {P} {known = known} {old = old} port is_known is_old is =
+    is ∙ ap (λ (d : DriverState). after_take port known d) is_old ∙ ap (λ (x : Msg P). after_take port x old) (sym is_known)
 
 -- no other message changes anything
 idle : (d : DriverState) → d ≡ state d.flight (filter_map (λ x. Some x) d.left_arrivals) (filter (λ x. true) d.left_expiries) (filter_map (λ x. Some x) d.right_arrivals) (filter (λ x. true) d.right_expiries) (filter (λ x. true) d.left_quiets) (filter (λ x. true) d.right_quiets) d.closes
@@ -111,7 +113,8 @@ same_lane = record { fewer = omega arith; room = refl }
 pub same_leaving : {leaving : LeavingState} → LeavesNoMore leaving leaving
 same_leaving = record { fewer = omega arith; room = refl }
 
-pub room_stays : {flight : ℕ} {l r l2 r2 : LaneState} {lq rq lq2 rq2 : LeavingState} → HasRoom flight l r lq rq → HasNoMore l l2 → HasNoMore r r2 → LeavesNoMore lq lq2 → LeavesNoMore rq rq2 → HasRoom flight l2 r2 lq2 rq2
+pub room_stays : {flight : ℕ} {l r l2 r2 : LaneState} {lq rq lq2 rq2 : LeavingState} → HasRoom flight l r lq rq → HasNoMore l l2
+    → HasNoMore r r2 → LeavesNoMore lq lq2 → LeavesNoMore rq rq2 → HasRoom flight l2 r2 lq2 rq2
 room_stays room left right left_quiets right_quiets = record {
   left_room = left.room ∙ room.left_room;
   right_room = right.room ∙ room.right_room;

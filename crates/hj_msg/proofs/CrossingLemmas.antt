@@ -139,7 +139,8 @@ apart_S_R i j other e = refl
 
 module _ {P : Type 0} (run : Run P) (is : IsRun run) where
   -- At a moment of a core, its end has taken a row of a side where the front has it, and puts no row of the other side that the front hasn't.
-  took : (side : Side) (number k : ℕ) → k < run.cores → (front back : List (Turn P)) → all_of (is.turns k) ≡ front ++ back → 1 ≤ count (is_row side number) (map (λ turn. turn.message) front)
+  took : (side : Side) (number k : ℕ) → k < run.cores → (front back : List (Turn P)) → all_of (is.turns k) ≡ front ++ back
+      → 1 ≤ count (is_row side number) (map (λ turn. turn.message) front)
       → 1 ≤ count (is_row side number) (takes (flat_map (end_on (opposite side)) front))
   took side number k low front back e some =
       let all_takes : takes (flat_map (end_on side) (all_of (is.turns k))) ≡ takes (flat_map (end_on side) front) ++ takes (flat_map (end_on side) back)
@@ -183,4 +184,5 @@ module _ {P : Type 0} (run : Run P) (is : IsRun run) where
       ]
 
   pub handles_once : HandlesOnce is
-  handles_once k at low = (rw (← count_is (is_R at) (handled (is.turns k))) (row_once run is Left at k low), rw (← count_is (is_S at) (handled (is.turns k))) (row_once run is Right at k low))
+  handles_once k at low =
+      (rw (← count_is (is_R at) (handled (is.turns k))) (row_once run is Left at k low), rw (← count_is (is_S at) (handled (is.turns k))) (row_once run is Right at k low))

@@ -98,12 +98,16 @@ sent_by {P} p' q' p q to f lifts whole cut all is h = go cut is h
         let none : list_any q' (to turn) ≡ true → before p' q' (to turn) ≡ false = λ g. sym (before-prefix p' q' is g) ∙ (lifts turn.message).apart (holds g) in
         made (turn ∷ []) (to turn) (append-nil (to turn)) (λ g. rw (holds g) (none g)) (λ g. rw (holds g) refl) h
 
-whole_on : {P : Type 0} (side : Side) (matches : P → P → Bool) (place n : ℕ) (state : State P) (turns : List (Turn P)) → AreWhole matches place n state turns → AllByRecursion (λ turn. puts_on side turn ≡ sends_on side place n turn.message) turns
+whole_on : {P : Type 0} (side : Side) (matches : P → P → Bool) (place n : ℕ) (state : State P) (turns : List (Turn P))
+    → AreWhole matches place n state turns → AllByRecursion (λ turn. puts_on side turn ≡ sends_on side place n turn.message) turns
 whole_on side matches place n state [] whole = tt
-whole_on Left matches place n state (turn ∷ turns) whole = (whole.0.right, whole_on Left matches place n (after place n state turn.message) turns whole.1)
-whole_on Right matches place n state (turn ∷ turns) whole = (whole.0.left, whole_on Right matches place n (after place n state turn.message) turns whole.1)
+whole_on Left matches place n state (turn ∷ turns) whole =
+    (whole.0.right, whole_on Left matches place n (after place n state turn.message) turns whole.1)
+whole_on Right matches place n state (turn ∷ turns) whole =
+    (whole.0.left, whole_on Right matches place n (after place n state turn.message) turns whole.1)
 
-cut_on : {P : Type 0} (side : Side) (place n : ℕ) (cut : Option (Turn P)) → IfSome cut (IsCut place n) → IfSome cut (λ turn. IsPrefix (puts_on side turn) (sends_on side place n turn.message))
+cut_on : {P : Type 0} (side : Side) (place n : ℕ) (cut : Option (Turn P)) → IfSome cut (IsCut place n)
+    → IfSome cut (λ turn. IsPrefix (puts_on side turn) (sends_on side place n turn.message))
 cut_on side place n None is = tt
 cut_on Left place n (Some turn) is = is.right
 cut_on Right place n (Some turn) is = is.left
@@ -118,12 +122,15 @@ module _ {P : Type 0} (run : Run P) (is : IsRun run) where
   right_end_goes_left k within = go (dec_lt k run.cores)
     where
       go : Dec (k < run.cores) → count goes_right (puts (run.link k).right) ≡ 0
-      go (yes low) = rw (is.steps k low).left (put_none Right goes_right k run.cores (against_unsent Right k run.cores) (all_of (is.turns k)) (all_put (is.steps k low)))
-      go (no high) = let last : k ≡ run.cores = omega arith in rw (last, is.right_port) (count-port-none goes_right Right (against_unput Right) is.log)
+      go (yes low) =
+          rw (is.steps k low).left (put_none Right goes_right k run.cores (against_unsent Right k run.cores) (all_of (is.turns k)) (all_put (is.steps k low)))
+      go (no high) =
+          let last : k ≡ run.cores = omega arith in rw (last, is.right_port) (count-port-none goes_right Right (against_unput Right) is.log)
 
   left_end_goes_right : (k : ℕ) → k ≤ run.cores → count goes_left (puts (run.link k).left) ≡ 0
   left_end_goes_right zero within = rw is.left_port (count-port-none goes_left Left (against_unput Left) is.log)
-  left_end_goes_right (suc k) within = rw (← add-one k, (is.steps k within).right) (put_none Left goes_left k run.cores (against_unsent Left k run.cores) (all_of (is.turns k)) (all_put (is.steps k within)))
+  left_end_goes_right (suc k) within =
+      rw (← add-one k, (is.steps k within).right) (put_none Left goes_left k run.cores (against_unsent Left k run.cores) (all_of (is.turns k)) (all_put (is.steps k within)))
 
   -- so a core takes nothing that goes the way of a side at the end at which it puts that
   pub none_taken : (side : Side) (k : ℕ) → k < run.cores → count (goes_with side) (takes (flat_map (end_on side) (all_of (is.turns k)))) ≡ 0
@@ -186,11 +193,15 @@ module _ {P : Type 0} (run : Run P) (is : IsRun run) where
       (λ k low. (is.steps k (omega arith)).right) (λ k low. (is.steps (k + 1) low).left)
 
   -- and there the core takes them, in order
-  pub taken_before : (side : Side) (k : ℕ) → k < run.cores → IsPrefix (takes (flat_map (end_on (opposite side)) (all_of (is.turns k)))) (puts (before_core side k))
-  taken_before Left k low = subst (λ j. IsPrefix (takes j) (puts (run.link k).left)) (is.steps k low).left (is.links k (omega arith)).rightwards.taken
-  taken_before Right k low = subst (λ j. IsPrefix (takes j) (puts (run.link (k + 1)).right)) (is.steps k low).right (is.links (k + 1) (omega arith)).leftwards.taken
+  pub taken_before : (side : Side) (k : ℕ) → k < run.cores
+      → IsPrefix (takes (flat_map (end_on (opposite side)) (all_of (is.turns k)))) (puts (before_core side k))
+  taken_before Left k low =
+      subst (λ j. IsPrefix (takes j) (puts (run.link k).left)) (is.steps k low).left (is.links k (omega arith)).rightwards.taken
+  taken_before Right k low =
+      subst (λ j. IsPrefix (takes j) (puts (run.link (k + 1)).right)) (is.steps k low).right (is.links (k + 1) (omega arith)).leftwards.taken
 
-  came : (side : Side) (k : ℕ) → k < run.cores → (p q : Msg P → Bool) → ((m : Msg P) → goes_with side m ≡ false → p m ≡ false) → ((m : Msg P) → goes_with side m ≡ false → q m ≡ false)
+  came : (side : Side) (k : ℕ) → k < run.cores → (p q : Msg P → Bool) → ((m : Msg P) → goes_with side m ≡ false → p m ≡ false)
+      → ((m : Msg P) → goes_with side m ≡ false → q m ≡ false)
       → list_any q (handled (is.turns k)) ≡ true → Sent p q p q (handled (is.turns k)) (puts (before_core side k))
   came side k low p q of_p of_q h =
       let same = taken_here (end_on (opposite side)) (end_on side) (goes_with side) p q (taken_at side) of_p of_q (all_of (is.turns k)) (none_taken side k low) in
@@ -220,7 +231,8 @@ module _ {P : Type 0} (run : Run P) (is : IsRun run) where
 
   pub entered : (side : Side) (k : ℕ) → Reaches run.cores side 0 k → (p q : Msg P → Bool) → ((m : Msg P) → goes_with side m ≡ false → p m ≡ false) → ((m : Msg P) → goes_with side m ≡ false → q m ≡ false)
       → list_any q (handled (is.turns k)) ≡ true → Sent p q p q (handled (is.turns k)) (puts (port_end side))
-  entered side k at p q of_p of_q h = subst (λ j. Sent p q p q (handled (is.turns k)) (puts j)) (before_first side k at) (came side k (low_of side 0 k at) p q of_p of_q h)
+  entered side k at p q of_p of_q h =
+      subst (λ j. Sent p q p q (handled (is.turns k)) (puts j)) (before_first side k at) (came side k (low_of side 0 k at) p q of_p of_q h)
 
   -- what all cores send on comes to each core in the order in which it was put at the port
   pub along : (side : Side) (p q : Msg P → Bool) → ((m : Msg P) → goes_with side m ≡ false → p m ≡ false) → ((m : Msg P) → goes_with side m ≡ false → q m ≡ false)

@@ -40,7 +40,8 @@ takes_both Right p turns = count-takes p turns
 
 module _ {P : Type 0} (run : Run P) (is : IsRun run) where
   -- What a core handles came from the core before, or from the driver; and this handled it, or put it once.
-  handled_came : (side : Side) (at k : ℕ) → k < run.cores → count (is_mark side at) (handled (is.turns k)) ≤ count (is_mark side at) (puts (before_core run is side k))
+  handled_came : (side : Side) (at k : ℕ) → k < run.cores
+      → count (is_mark side at) (handled (is.turns k)) ≤ count (is_mark side at) (puts (before_core run is side k))
   handled_came side at k low =
       omega (
         arith,
@@ -74,4 +75,5 @@ module _ {P : Type 0} (run : Run P) (is : IsRun run) where
   mark_once side at k low = let reaches = reached run is side k low in once side at reaches.0 k reaches.1
 
   pub row_once : (side : Side) (at k : ℕ) → k < run.cores → count (is_row side at) (handled (is.turns k)) ≤ 1
-  row_once side at k low = omega (arith, count-goes (is_row side at) (is_mark side at) (row_marked side at) (handled (is.turns k)), mark_once side at k low)
+  row_once side at k low =
+      omega (arith, count-goes (is_row side at) (is_mark side at) (row_marked side at) (handled (is.turns k)), mark_once side at k low)

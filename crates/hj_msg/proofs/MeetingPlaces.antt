@@ -158,7 +158,8 @@ module _ {P : Type 0} (run : Run P) (is : IsRun run) where
       not_yet = sym (here.order (is_expiry (opposite side) j)) ∙ not_expired run is side k low pair valid here.has
 
       once : count (is_row (opposite side) j) here.front ≤ 1
-      once = front_count (is_row (opposite side) j) here.front (row_message side (number_of side pair) row ∷ here.back) (subst (λ ms. count (is_row (opposite side) j) ms ≤ 1) here.parts (row_once run is (opposite side) j k low))
+      once =
+          front_count (is_row (opposite side) j) here.front (row_message side (number_of side pair) row ∷ here.back) (subst (λ ms. count (is_row (opposite side) j) ms ≤ 1) here.parts (row_once run is (opposite side) j k low))
 
       go : (others : ℕ) → Reaches run.cores side others k → rests_settled j (resting (opposite side) (state_after k run.cores here.front)) ≡ true
       go zero at =

@@ -33,7 +33,8 @@ in_prefix {xs = xs} x prefix h = subst (λ zs. Contains zs x) (sym prefix.is) (C
 
 taken_somewhere : {P : Type 0} (turns : List (Turn P)) (m : Msg P) → Contains (map (λ turn. turn.message) turns) m → Contains (takes (flat_map at_left turns)) m ⊎ Contains (takes (flat_map at_right turns)) m
 taken_somewhere [] m h = absurd (Contains-nil m h)
-taken_somewhere {P} (turn ∷ turns) m h = go (Contains-cons_cases turn.message m (map (λ turn. turn.message) turns) h) (taken_at Left turn).one (taken_somewhere turns m)
+taken_somewhere {P} (turn ∷ turns) m h =
+    go (Contains-cons_cases turn.message m (map (λ turn. turn.message) turns) h) (taken_at Left turn).one (taken_somewhere turns m)
   where
     l : takes (flat_map at_left (turn ∷ turns)) ≡ takes (at_left turn) ++ takes (flat_map at_left turns)
     l = takes-append (at_left turn) (flat_map at_left turns)
@@ -64,7 +65,8 @@ Contains-one : {X : Type 0} (x y : X) → Contains (x ∷ []) y → x ≡ y
 Contains-one x y h = elim (Contains-cons_cases x y [] h) [ inl e ↦ e | inr k ↦ absurd (Contains-nil y k) ]
 
 -- a core sends on only the row that it handled
-sent_row : {P : Type 0} (side : Side) (place n : ℕ) (m : Msg P) (at : EventNo) (row : P) → Contains (sends_on side place n m) (row_message side at row) → m ≡ row_message side at row
+sent_row : {P : Type 0} (side : Side) (place n : ℕ) (m : Msg P) (at : EventNo) (row : P)
+    → Contains (sends_on side place n m) (row_message side at row) → m ≡ row_message side at row
 sent_row Right place n (R num other) at row h = absurd (let e = Contains-only_if (is_last place n) (EndR num) (S at row) h in cc)
 sent_row Right place n (S num other) at row h = Contains-one (S num other) (S at row) h
 sent_row Right place n (EndR num) at row h = absurd (let e = Contains-one (EndR num) (S at row) h in cc)
@@ -83,8 +85,10 @@ sent_row Left place n (QuietL num) at row h = absurd (let e = Contains-one (Quie
 sent_row Left place n CloseL at row h = absurd (let e = Contains-one CloseL (R at row) h in cc)
 sent_row Left place n other at row h = absurd (Contains-nil (R at row) h)
 
-from_turns : {P : Type 0} (side : Side) (place n : ℕ) (turns : List (Turn P)) (at : EventNo) (row : P) → AllByRecursion (PutsOnly place n) turns
-    → Contains (flat_map (puts_on side) turns) (row_message side at row) → Contains (map (λ turn. turn.message) turns) (row_message side at row)
+from_turns : {P : Type 0} (side : Side) (place n : ℕ) (turns : List (Turn P)) (at : EventNo) (row : P)
+    → AllByRecursion (PutsOnly place n) turns
+    → Contains (flat_map (puts_on side) turns) (row_message side at row)
+    → Contains (map (λ turn. turn.message) turns) (row_message side at row)
 from_turns side place n [] at row all h = absurd (Contains-nil (row_message side at row) h)
 from_turns side place n (turn ∷ turns) at row all h = elim (Contains-append_cases (puts_on side turn) (flat_map (puts_on side) turns) (row_message side at row) h) [
   | inl k ↦ subst (λ m. Contains (turn.message ∷ map (λ turn. turn.message) turns) m) (sent_row side place n turn.message at row (in_prefix (row_message side at row) (puts_only side all.0) k)) (Contains-head turn.message (map (λ turn. turn.message) turns))
@@ -92,24 +96,30 @@ from_turns side place n (turn ∷ turns) at row all h = elim (Contains-append_ca
 ]
 
 -- the driver puts a row only for its arrival
-arrival : {P : Type 0} (side : Side) (num at : EventNo) (other row : P) → row_message side num other ≡ row_message side at row → Arrive num side other ≡ Arrive at side row
+arrival : {P : Type 0} (side : Side) (num at : EventNo) (other row : P) → row_message side num other ≡ row_message side at row
+    → Arrive num side other ≡ Arrive at side row
 arrival Left num at other row same = cc
 arrival Right num at other row same = cc
 
-put_now : {P : Type 0} (side : Side) (number : ℕ) (turn : DriverTurn P) (at : EventNo) (row : P) → Contains (puts (at_port side number turn)) (row_message side at row) → Contains (admitted (turn ∷ [])) (Arrive at side row)
-put_now Left number (admission (Arrive num Left other)) at row h = subst (λ event. Contains (Arrive num Left other ∷ []) event) (arrival Left num at other row (Contains-one (R num other) (R at row) h)) (Contains-head (Arrive num Left other) [])
+put_now : {P : Type 0} (side : Side) (number : ℕ) (turn : DriverTurn P) (at : EventNo) (row : P)
+    → Contains (puts (at_port side number turn)) (row_message side at row) → Contains (admitted (turn ∷ [])) (Arrive at side row)
+put_now Left number (admission (Arrive num Left other)) at row h =
+    subst (λ event. Contains (Arrive num Left other ∷ []) event) (arrival Left num at other row (Contains-one (R num other) (R at row) h)) (Contains-head (Arrive num Left other) [])
 put_now Left number (admission (Expire num Right of)) at row h = absurd (let e = Contains-one (ExpS of) (R at row) h in cc)
 put_now Left number (admission (Quiet num Left)) at row h = absurd (let e = Contains-one (QuietL num) (R at row) h in cc)
 put_now Left number (receipt Left message) at row h = absurd (Contains-nil (R at row) h)
 put_now Left number closing at row h = absurd (let e = Contains-one CloseL (R at row) h in cc)
-put_now Right number (admission (Arrive num Right other)) at row h = subst (λ event. Contains (Arrive num Right other ∷ []) event) (arrival Right num at other row (Contains-one (S num other) (S at row) h)) (Contains-head (Arrive num Right other) [])
+put_now Right number (admission (Arrive num Right other)) at row h =
+    subst (λ event. Contains (Arrive num Right other ∷ []) event) (arrival Right num at other row (Contains-one (S num other) (S at row) h)) (Contains-head (Arrive num Right other) [])
 put_now Right number (admission (Expire num Left of)) at row h = absurd (let e = Contains-one (ExpR of) (S at row) h in cc)
 put_now Right number (admission (Quiet num Right)) at row h = absurd (let e = Contains-one (QuietR num) (S at row) h in cc)
 put_now Right number (receipt Left message) at row h = absurd (Contains-nil (S at row) h)
 put_now Right number closing at row h = absurd (let e = Contains-one CloseR (S at row) h in cc)
 put_now side number turn at row h = absurd (Contains-nil (row_message side at row) h)
 
-from_port : {P : Type 0} (side : Side) (log : List (LogEntry P)) (at : EventNo) (row : P) → Contains (puts (port_journal side log)) (row_message side at row) → Contains (admitted (map (λ entry. entry.turn) log)) (Arrive at side row)
+from_port : {P : Type 0} (side : Side) (log : List (LogEntry P)) (at : EventNo) (row : P)
+    → Contains (puts (port_journal side log)) (row_message side at row)
+    → Contains (admitted (map (λ entry. entry.turn) log)) (Arrive at side row)
 from_port side [] at row h = absurd (Contains-nil (row_message side at row) h)
 from_port side (entry ∷ log) at row h =
     let here = at_port side entry.number entry.turn in
@@ -125,20 +135,23 @@ row_goes_with Left at row = refl
 row_goes_with Right at row = refl
 
 -- what turns handled was taken at the one end or at the other
-taken_either : {P : Type 0} (side : Side) (turns : List (Turn P)) (m : Msg P) → Contains (map (λ turn. turn.message) turns) m → Contains (takes (flat_map (end_on side) turns)) m ⊎ Contains (takes (flat_map (end_on (opposite side)) turns)) m
+taken_either : {P : Type 0} (side : Side) (turns : List (Turn P)) (m : Msg P) → Contains (map (λ turn. turn.message) turns) m
+    → Contains (takes (flat_map (end_on side) turns)) m ⊎ Contains (takes (flat_map (end_on (opposite side)) turns)) m
 taken_either Left turns m h = elim (taken_somewhere turns m h) [ inl there ↦ inr there | inr there ↦ inl there ]
 taken_either Right turns m h = taken_somewhere turns m h
 
 module _ {P : Type 0} (run : Run P) (is : IsRun run) where
   -- a row that is handled was put by the core before, or by the driver
-  put_before : (side : Side) (k : ℕ) → k < run.cores → (at : EventNo) (row : P) → Contains (handled (is.turns k)) (row_message side at row) → Contains (puts (before_core run is side k)) (row_message side at row)
+  put_before : (side : Side) (k : ℕ) → k < run.cores → (at : EventNo) (row : P) → Contains (handled (is.turns k)) (row_message side at row)
+      → Contains (puts (before_core run is side k)) (row_message side at row)
   put_before side k low at row h = elim (taken_either side (all_of (is.turns k)) (row_message side at row) h) [
     | inl there ↦ absurd (no_member (goes_with side) (takes (flat_map (end_on side) (all_of (is.turns k)))) (row_message side at row) there (row_goes_with side at row) (none_taken run is side k low))
     | inr there ↦ in_prefix (row_message side at row) (taken_before run is side k low) there
   ]
 
   -- every row that is handled is that of an arrival
-  arrived_at : (side : Side) (others k : ℕ) → Reaches run.cores side others k → (at : EventNo) (row : P) → Contains (handled (is.turns k)) (row_message side at row) → Contains run.events (Arrive at side row)
+  arrived_at : (side : Side) (others k : ℕ) → Reaches run.cores side others k → (at : EventNo) (row : P)
+      → Contains (handled (is.turns k)) (row_message side at row) → Contains run.events (Arrive at side row)
   arrived_at side zero k reaches at row h =
       let at_port : Contains (puts (port_journal side is.log)) (row_message side at row)
       = subst (λ j. Contains (puts j) (row_message side at row)) (before_first run is side k reaches ∙ port_is run is side) (put_before side k (low_of run is side 0 k reaches) at row h) in

@@ -38,7 +38,8 @@ record EndOf {P : Type 0} (goes : Msg P → Bool) (end there : Turn P → List (
 abbrev entries_at : {P : Type 0} → Side → (Turn P → List (Msg P)) → Turn P → List (Entry (Msg P))
 entries_at end to turn = only_at turn.end end (taken turn.number turn.message) ++ map (put turn.number) (to turn)
 
-end_at : {P : Type 0} (end : Side) (goes : Msg P → Bool) (to other : Turn P → List (Msg P)) (turn : Turn P) → EndOf goes (entries_at end to) (entries_at (opposite end) other) to turn
+end_at : {P : Type 0} (end : Side) (goes : Msg P → Bool) (to other : Turn P → List (Msg P)) (turn : Turn P)
+    → EndOf goes (entries_at end to) (entries_at (opposite end) other) to turn
 end_at {P} end goes to other turn = record {
   take = only_at turn.end end (taken turn.number turn.message);
   rest = map (put turn.number) (to turn);
@@ -54,7 +55,9 @@ end_at {P} end goes to other turn = record {
     none Right Left = refl
     none Right Right = refl
 
-    here : (its end : Side) → goes turn.message ≡ true → count goes (takes (only_at its (opposite end) (taken turn.number turn.message) ++ map (put turn.number) (other turn))) ≡ 0 → takes (only_at its end (taken turn.number turn.message)) ≡ turn.message ∷ []
+    here : (its end : Side) → goes turn.message ≡ true
+        → count goes (takes (only_at its (opposite end) (taken turn.number turn.message) ++ map (put turn.number) (other turn))) ≡ 0
+        → takes (only_at its end (taken turn.number turn.message)) ≡ turn.message ∷ []
     here Left Left passes away = refl
     here Right Right passes away = refl
     here Left Right passes away = absurd (grind (arith, passes, away, ap (count goes) (takes-puts turn.number (other turn))))
@@ -98,10 +101,13 @@ waits {P} goes end there to p q source ends of_p (turn ∷ turns) all away has n
         let later : list_any p (map (λ (turn : Turn P). turn.message) turns) ≡ true = grind (arith, has, e) in
         waits_behind p q (end turn) (flat_map end turns) (omega (arith, ap (count q) (ends turn).all_puts, all.0 source_none)) (deeper (omega (arith, split)) later tail)
 
-puts_from : {P : Type 0} (side : Side) (place n : ℕ) (q source : Msg P → Bool) → ((m : Msg P) → source m ≡ false → count q (sends_on side place n m) ≡ 0)
-    → (turns : List (Turn P)) → AllByRecursion (PutsOnly place n) turns → AllByRecursion (λ turn. source turn.message ≡ false → count q (puts_on side turn) ≡ 0) turns
+puts_from : {P : Type 0} (side : Side) (place n : ℕ) (q source : Msg P → Bool)
+    → ((m : Msg P) → source m ≡ false → count q (sends_on side place n m) ≡ 0)
+    → (turns : List (Turn P)) → AllByRecursion (PutsOnly place n) turns
+    → AllByRecursion (λ turn. source turn.message ≡ false → count q (puts_on side turn) ≡ 0) turns
 puts_from side place n q source from [] all = tt
-puts_from side place n q source from (turn ∷ turns) all = (λ e. omega (arith, count-prefix q (puts_only side all.0), from turn.message e), puts_from side place n q source from turns all.1)
+puts_from side place n q source from (turn ∷ turns) all =
+    (λ e. omega (arith, count-prefix q (puts_only side all.0), from turn.message e), puts_from side place n q source from turns all.1)
 
 module _ {P : Type 0} (run : Run P) (is : IsRun run) where
   -- core k handled p, which goes left, and no source of q before it; so it took p before it put q
@@ -120,4 +126,5 @@ module _ {P : Type 0} (run : Run P) (is : IsRun run) where
       (puts_from Right k run.cores q source from (all_of (is.turns k)) (all_put (is.steps k low))) (none_taken run is Left k low) has none)
 
   pub never_opposed : (k : ℕ) → k ≤ run.cores → (p q : Msg P → Bool) → Waits p q (run.link k).left → Waits q p (run.link k).right → ⊥
-  never_opposed k within p q here there = never_both (run.link k) (is.links k within) p q here.front here.back there.front there.back here.is there.is here.took here.none there.took there.none
+  never_opposed k within p q here there =
+      never_both (run.link k) (is.links k within) p q here.front here.back there.front there.back here.is there.is here.took here.none there.took there.none

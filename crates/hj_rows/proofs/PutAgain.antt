@@ -17,8 +17,10 @@ pub record IsPutAgain {P : Type 0} (k : ℕ) (rest : RestingRow P) (es last : Pl
   pub no_longer : length last ≤ length es
 
 pub put_again : {P S : Type 0} (k : ℕ) (rest : RestingRow P) (m : IndexMap ℕ (Option (RestingRow P)) S) (new last : Places P) (held : Option (Option (RestingRow P)))
-    → is_empty_place (lookup (nat_eq k) m.entries) ≡ true → new ≡ insert_entry nat_eq m.entries k (Some rest) → IsDistinct nat_eq (keys_of new)
-    → held ≡ Some (Some rest) → IfSome held (λ place. last ≡ insert_entry nat_eq (remove_entry (nat_eq k) new) k place) → IsPutAgain k rest m.entries last
+    → is_empty_place (lookup (nat_eq k) m.entries) ≡ true → new ≡ insert_entry nat_eq m.entries k (Some rest)
+    → IsDistinct nat_eq (keys_of new)
+    → held ≡ Some (Some rest) → IfSome held (λ place. last ≡ insert_entry nat_eq (remove_entry (nat_eq k) new) k place)
+    → IsPutAgain k rest m.entries last
 put_again {P} k rest m new last held empty puts unique there moves =
     let found = found-empty (lookup (nat_eq k) m.entries) empty in
     let distinct : IsDistinct nat_eq (keys_of m.entries) = subst (IsDistinct nat_eq) (ap keys_of puts ∙ keys-insert_entry-present nat_eq m k (Some rest) (ap is_some found)) unique in

@@ -111,10 +111,12 @@ module _ {P : Type 0} where
   puts-rightwards number js (m ∷ ms) = puts-rightwards number (with_put number js (rightwards m)) ms ∙ ap (λ l. record js { right = l }) (append_assoc js.right (put number m ∷ []) (map (put number) ms))
 
   -- Where some things were put before, the others that are put behind them are put behind all.
-  pub puts-behind : (number : ℕ) (js mid new : Journals P) (xs ys : List (Outgoing P)) → mid ≡ with_puts number js xs → new ≡ with_puts number mid ys → new ≡ with_puts number js (xs ++ ys)
+  pub puts-behind : (number : ℕ) (js mid new : Journals P) (xs ys : List (Outgoing P)) → mid ≡ with_puts number js xs
+      → new ≡ with_puts number mid ys → new ≡ with_puts number js (xs ++ ys)
   puts-behind number js mid new xs ys before is = is ∙ ap (λ j. with_puts number j ys) before ∙ puts-append number js xs ys
 
-  pub stops-behind : (number : ℕ) (js mid new : Journals P) (xs ys others : List (Outgoing P)) → mid ≡ with_puts number js xs → Puts number ys mid others new → Puts number (xs ++ ys) js others new
+  pub stops-behind : (number : ℕ) (js mid new : Journals P) (xs ys others : List (Outgoing P)) → mid ≡ with_puts number js xs
+      → Puts number ys mid others new → Puts number (xs ++ ys) js others new
   stops-behind number js mid new xs ys others before puts = record {
     done = xs ++ puts.done;
     all = ap (λ zs. xs ++ zs) puts.all ∙ sym (append_assoc xs puts.done others);
@@ -122,10 +124,12 @@ module _ {P : Type 0} where
   }
 
   -- what one place has more, where a message to the left was put, or more to the right
-  pub left-put : (number : ℕ) (js : Journals P) (left : List (Entry (Msg P))) (ms : List (Msg P)) → left ≡ js.left ++ map (put number) ms → record js { left = left } ≡ with_puts number js (map leftwards ms)
+  pub left-put : (number : ℕ) (js : Journals P) (left : List (Entry (Msg P))) (ms : List (Msg P)) → left ≡ js.left ++ map (put number) ms
+      → record js { left = left } ≡ with_puts number js (map leftwards ms)
   left-put number js left ms is = ap (λ l. record js { left = l }) is ∙ sym (puts-leftwards number js ms)
 
-  right-put : (number : ℕ) (js : Journals P) (right : List (Entry (Msg P))) (ms : List (Msg P)) → right ≡ js.right ++ map (put number) ms → record js { right = right } ≡ with_puts number js (map rightwards ms)
+  right-put : (number : ℕ) (js : Journals P) (right : List (Entry (Msg P))) (ms : List (Msg P)) → right ≡ js.right ++ map (put number) ms
+      → record js { right = right } ≡ with_puts number js (map rightwards ms)
   right-put number js right ms is = ap (λ r. record js { right = r }) is ∙ sym (puts-rightwards number js ms)
 
   -- the second message to the right finds it full
@@ -146,7 +150,8 @@ module _ {P : Type 0} where
 
   -- the report finds its queue full
   pub report_blocked : (number : ℕ) (js : Journals P) (right right' : List (Entry (Msg P))) (reports : List (Entry (Report P))) (first second : Option (Msg P)) (entry : Option (Report P)) (r : Report P)
-      → right ≡ js.right ++ map (put number) (option_to_list first) → right' ≡ right ++ map (put number) (option_to_list second) → entry ≡ Some r → reports ≡ js.reports
+      → right ≡ js.right ++ map (put number) (option_to_list first) → right' ≡ right ++ map (put number) (option_to_list second)
+      → entry ≡ Some r → reports ≡ js.reports
       → Puts number (things_to_right first second entry) js (reported r ∷ []) (record js { right = right'; reports = reports })
   report_blocked number js right right' reports first second entry r first_put second_put is same =
       let rs = option_to_list first in
@@ -160,8 +165,10 @@ module _ {P : Type 0} where
       }
 
   -- A place is found full after the message to the left was put as it would be before: that put is no look that finds one full.
-  pub blocked-behind_left : (old : WorkerEnds P) (left : EndSeen (Msg P)) (new : WorkerEnds P) (place : Place) (items : List (Outgoing P)) → left.full_looks ≡ old.left.full_looks → AreBlocked place items (record old { left = left }) new → AreBlocked place items old new
-  blocked-behind_left old left new place items same blocked = record { first = blocked.first; later = blocked.later; are = blocked.are; at = blocked.at; full = blocked.full ∙ ap (λ n. n + 1) (looks place) }
+  pub blocked-behind_left : (old : WorkerEnds P) (left : EndSeen (Msg P)) (new : WorkerEnds P) (place : Place) (items : List (Outgoing P))
+      → left.full_looks ≡ old.left.full_looks → AreBlocked place items (record old { left = left }) new → AreBlocked place items old new
+  blocked-behind_left old left new place items same blocked =
+      record { first = blocked.first; later = blocked.later; are = blocked.are; at = blocked.at; full = blocked.full ∙ ap (λ n. n + 1) (looks place) }
     where
       looks : (place : Place) → full_looks place (record old { left = left }) ≡ full_looks place old
       looks (Link Left) = same

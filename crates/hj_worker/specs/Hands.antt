@@ -21,7 +21,8 @@ module _ {P : Type 0} where
 
   -- those of an answer of which nothing goes to the left
   abbrev pub things_to_right : Option (Msg P) → Option (Msg P) → Option (Report P) → List (Outgoing P)
-  things_to_right to_right to_right_then entry = things_of (record { to_left = None; to_right = to_right; to_right_then = to_right_then; entry = entry })
+  things_to_right to_right to_right_then entry =
+      things_of (record { to_left = None; to_right = to_right; to_right_then = to_right_then; entry = entry })
 
   abbrev pub in_hand : Hand P → InHand P
   in_hand Nothing = unput []

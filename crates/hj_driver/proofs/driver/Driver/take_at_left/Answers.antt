@@ -5,16 +5,20 @@ use Rattle.hj_driver.proofs.States.{at_left-other, fewer_arrivals, fewer_expirie
 use Rattle.hj_driver.proofs.driver.Driver.take_at_left.Goals as goal
 
 pub invariant_of-self : goal.invariant_of-self
-invariant_of-self g c = room_stays c.self.invariant same_lane (fewer_arrivals (after_departure c.in-S.no.0 Row) _ _ c.take.ensures) same_leaving same_leaving
+invariant_of-self g c =
+    room_stays c.self.invariant same_lane (fewer_arrivals (after_departure c.in-S.no.0 Row) _ _ c.take.ensures) same_leaving same_leaving
 
 pub invariant_of-self-in-EndR : goal.invariant_of-self-in-EndR
-invariant_of-self-in-EndR g c = room_stays c.self.invariant (fewer_arrivals (after_departure c.in-EndR.no.0 End) _ _ c.take-in-EndR.ensures) same_lane same_leaving same_leaving
+invariant_of-self-in-EndR g c =
+    room_stays c.self.invariant (fewer_arrivals (after_departure c.in-EndR.no.0 End) _ _ c.take-in-EndR.ensures) same_lane same_leaving same_leaving
 
 pub invariant_of-self-in-ExpR : goal.invariant_of-self-in-ExpR
-invariant_of-self-in-ExpR g c = room_stays c.self.invariant (fewer_expiries (is_other c.in-ExpR.of.0) _ _ c.take_expiry.ensures) same_lane same_leaving same_leaving
+invariant_of-self-in-ExpR g c =
+    room_stays c.self.invariant (fewer_expiries (is_other c.in-ExpR.of.0) _ _ c.take_expiry.ensures) same_lane same_leaving same_leaving
 
 pub invariant_of-self-in-QuietR : goal.invariant_of-self-in-QuietR
-invariant_of-self-in-QuietR g c = room_stays c.self.invariant same_lane same_lane same_leaving (fewer_numbers (is_other c.in-QuietR.no.0) _ _ c.take-in-QuietR.ensures)
+invariant_of-self-in-QuietR g c =
+    room_stays c.self.invariant same_lane same_lane same_leaving (fewer_numbers (is_other c.in-QuietR.no.0) _ _ c.take-in-QuietR.ensures)
 
 pub returns-in-S : goal.returns-in-S
 returns-in-S g c = taken Left c.in-S.is c.self.view_is (simp (c.take.ensures, filter-true, filter_map-some))
