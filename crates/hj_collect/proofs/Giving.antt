@@ -1,6 +1,6 @@
 -- Pairs that are taken out of those that are kept, and given to a drain, one after another.
 use Rattle.std.proofs.Common.{◌≡◌, ℕ, zero, suc, ◌+◌, ◌≤◌, true, false, List, [], ◌∷◌, ◌++◌, length, map, replicate, take, drop, slice_get, All, Contains, Some, None, Option, refl, ap, ap₂, sym, ◌∙◌, subst, arith, append_assoc, length-append}
-use Rattle.std.specs.Option.{IfSome, IfNone, IsNone, option_to_list}
+use Rattle.std.specs.Option.{IfSome, IfNone, IsNone}
 use Rattle.std.specs.List.Sorted.{IsPermutation}
 use Rattle.std.proofs.lemmas.List.{map-append, replicate-append-replicate}
 use Rattle.std.proofs.lemmas.List.Elements.{All-contains}
@@ -60,10 +60,6 @@ module _ {P : Type 0} (mark : Option Mark) where
       → IfSome result (λ pair. is_within mark (later pair) ≡ true) → (IsNone result → NoneDue mark kept) → IfNone result (left ≡ kept) → Releases mark kept result left
   releases kept left None taken first due none same = record { out = tt; none = none; unchanged = same }
   releases kept left (Some pair) taken first due none same = record { out = record { taken = taken; first = first; due = due }; none = none; unchanged = same }
-
-  pub released-out : (kept left : List (Pair P)) (result : Option (Pair P)) → Releases mark kept result left → AreTakenOut mark kept (option_to_list result) left
-  released-out kept left None releases = releases.unchanged
-  released-out kept left (Some pair) releases = (left, releases.out, refl)
 
 -- no pair is due where there is no mark
 pub no-mark : {P : Type 0} (kept : List (Pair P)) → Releases None kept None kept
@@ -130,10 +126,3 @@ module _ {P : Type 0} (mark : Option Mark) (pairs : List (Pair P)) where
         within = omega (arith, later.within);
         released = subst (λ (n : ℕ). IsPermutation (take n all ++ left) pairs) sum later.released;
       }
-
--- the first one of them
-pub first-next : {X : Type 0} (xs : List X) (i : ℕ) (x : X) → x ∷ [] ≡ take 1 (drop i xs) → slice_get xs i ≡ Some x
-first-next [] zero x is = absurd (cc)
-first-next [] (suc i) x is = absurd (cc)
-first-next (y ∷ xs) zero x is = let same : x ≡ y = cc in ap Some (sym same)
-first-next (y ∷ xs) (suc i) x is = first-next xs i x is

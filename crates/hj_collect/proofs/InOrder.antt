@@ -7,24 +7,16 @@ use Rattle.std.proofs.lemmas.List.Elements.{All-nil, All-cons, All-head, All-pus
 use Rattle.hj_msg.specs.declared.event.Pair.{Pair}
 use Rattle.hj_msg.specs.Valid.{later}
 use Rattle.hj_msg.specs.Emission.{comes_before, is_within}
-use Rattle.hj_msg.specs.Punctuation.{Mark}
+use Rattle.hj_msg.specs.Punctuation.{Mark, up_to, all}
 use Rattle.hj_collect.specs.declared.kept.KeptPair.{KeptPair}
 use Rattle.hj_collect.specs.Due.{pairs_in, AreInOrder, NoneBefore}
-use Rattle.hj_collect.proofs.DueOrder.{later_past}
 
 module _ {P : Type 0} where
   pub not_before : (p q r : Pair P) → comes_before q p ≡ false → comes_before r q ≡ false → comes_before r p ≡ false
   not_before p q r first second = grind (arith, nat_tests, first, second)
 
-  pub not_both : (p q : Pair P) → comes_before p q ≡ true → comes_before q p ≡ false
-  not_both p q before = grind (arith, nat_tests, before)
-
   pub not_itself : (p : Pair P) → comes_before p p ≡ false
   not_itself p = grind (arith, nat_tests)
-
-  -- where none comes before q, and q doesn't come before p, none comes before p
-  pub none_before_either : (p q : Pair P) (ones : List (KeptPair P)) → comes_before q p ≡ false → NoneBefore q ones → NoneBefore p ones
-  none_before_either p q ones apart each = All-weaker (λ (one : KeptPair P). comes_before one.pair q ≡ false) (λ (one : KeptPair P). comes_before one.pair p ≡ false) (λ one h. not_before p q one.pair apart h) ones each
 
   -- ---- one more at the end
 
@@ -104,6 +96,11 @@ module _ {P : Type 0} where
   abbrev pub NoneWithin : Mark → List (KeptPair P) → Type 0
   NoneWithin mark ones = All (λ (one : KeptPair P). is_within (Some mark) (later one.pair) ≡ false) ones
 
+  later_past : (mark : Mark) (p q : Pair P) → comes_before q p ≡ false → is_within (Some mark) (later p) ≡ false
+      → is_within (Some mark) (later q) ≡ false
+  later_past (up_to number) p q before beyond = grind (arith, nat_tests, before, beyond)
+  later_past all p q before beyond = beyond
+
   past : (mark : Mark) (p : Pair P) (ones : List (KeptPair P)) → NoneBefore p ones → is_within (Some mark) (later p) ≡ false → NoneWithin mark ones
   past mark p ones before beyond = All-weaker (λ (one : KeptPair P). comes_before one.pair p ≡ false) (λ (one : KeptPair P). is_within (Some mark) (later one.pair) ≡ false) (λ one h. later_past mark p one.pair h beyond) ones before
 
@@ -123,11 +120,6 @@ module _ {P : Type 0} where
   none-ordered mark one late (x ∷ rest) some is are before beyond =
       let x_beyond : is_within (Some mark) (later x.pair) ≡ false = subst (λ (k : KeptPair P). is_within (Some mark) (later k.pair) ≡ false) is beyond in
       none_both mark late (x ∷ rest) (past mark x.pair late (before x refl) x_beyond) (past mark x.pair (x ∷ rest) (none_before_first x rest are) x_beyond)
-
-  pub none-empty : (mark : Mark) (late ordered : List (KeptPair P)) → length late ≡ 0 → length ordered ≡ 0 → All (λ other. is_within (Some mark) (later other) ≡ false) (pairs_in (late ++ ordered))
-  none-empty mark [] [] h k = All-nil (λ (other : Pair P). is_within (Some mark) (later other) ≡ false)
-  none-empty mark [] (x ∷ ordered) h k = absurd (omega (arith, k))
-  none-empty mark (x ∷ late) ordered h k = absurd (omega (arith, h))
 
   -- one that is within the mark is one of them
   pub one-within : (mark : Mark) (p : Pair P) (old left : List (Pair P)) → IsPermutation old (p ∷ left) → is_within (Some mark) (later p) ≡ true → All (λ other. is_within (Some mark) (later other) ≡ false) old → ⊥

@@ -1,5 +1,4 @@
 pub mod Due
-mod DueOrder
 pub mod Emissions
 pub mod Following
 pub mod Giving

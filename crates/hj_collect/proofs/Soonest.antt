@@ -1,41 +1,20 @@
 -- A number below which is no later number of the pairs that are kept.
-use Rattle.std.proofs.Common.{◌≡◌, ◌≤◌, ℕ, false, List, [], ◌∷◌, ◌++◌, get_or, All, Some, sym, subst, arith}
+use Rattle.std.proofs.Common.{◌≡◌, ◌≤◌, ℕ, false, List, ◌∷◌, ◌++◌, All, Some, subst, arith}
 use Rattle.std.specs.List.Sorted.{IsPermutation}
 use Rattle.std.proofs.lemmas.Bool.Decides.{nat_tests}
 use Rattle.std.proofs.lemmas.List.Sorted.{IsPermutation-middle, IsPermutation-append_left, All-permutation}
-use Rattle.std.proofs.lemmas.List.Elements.{All-nil, All-tail, All-weaker, All-map, All-append}
-use Rattle.hj_msg.specs.declared.event.Pair.{Pair}
+use Rattle.std.proofs.lemmas.List.Elements.{All-tail, All-weaker, All-map}
 use Rattle.hj_msg.specs.Valid.{later}
-use Rattle.hj_msg.specs.Emission.{comes_before, is_within}
+use Rattle.hj_msg.specs.Emission.{is_within}
 use Rattle.hj_msg.specs.Punctuation.{Mark, up_to, all}
 use Rattle.hj_collect.specs.declared.kept.KeptPair.{KeptPair}
-use Rattle.hj_collect.specs.Due.{pairs_in, AreInOrder, NoneBefore, NoneSooner}
-use Rattle.hj_collect.proofs.InOrder.{none_before_first}
+use Rattle.hj_collect.specs.Due.{pairs_in, NoneSooner}
 
 past : (mark : Mark) (n m : ℕ) → n ≤ m → is_within (Some mark) n ≡ false → is_within (Some mark) m ≡ false
 past (up_to number) n m le beyond = grind (arith, nat_tests, le, beyond)
 past all n m le beyond = beyond
 
 module _ {P : Type 0} where
-  not_sooner : (p q : Pair P) → comes_before q p ≡ false → later p ≤ later q
-  not_sooner p q before = grind (arith, nat_tests, before)
-
-  -- none is sooner than one that none comes before
-  pub first_soonest : (p : Pair P) (ones : List (KeptPair P)) → NoneBefore p ones → NoneSooner (later p) ones
-  first_soonest p ones before = All-weaker (λ (one : KeptPair P). comes_before one.pair p ≡ false) (λ (one : KeptPair P). later p ≤ later one.pair) (λ one h. not_sooner p one.pair h) ones before
-
-  pub ordered_soonest : (one : KeptPair P) (ones : List (KeptPair P)) → AreInOrder ones → one ≡ get_or ones 0 one
-      → NoneSooner (later one.pair) ones
-  ordered_soonest one [] ordered is = All-nil (λ (k : KeptPair P). later one.pair ≤ later k.pair)
-  ordered_soonest one (x ∷ rest) ordered is = subst (λ (k : KeptPair P). NoneSooner (later k.pair) (x ∷ rest)) (sym is) (first_soonest x.pair (x ∷ rest) (none_before_first x rest ordered))
-
-  lower : (m n : ℕ) (ones : List (KeptPair P)) → m ≤ n → NoneSooner n ones → NoneSooner m ones
-  lower m n ones le each = All-weaker (λ (one : KeptPair P). n ≤ later one.pair) (λ (one : KeptPair P). m ≤ later one.pair) (λ one h. omega (arith, le, h)) ones each
-
-  -- both lists
-  pub both_soonest : (m n least : ℕ) (late ordered : List (KeptPair P)) → least ≤ m → least ≤ n → NoneSooner m late → NoneSooner n ordered → NoneSooner least (late ++ ordered)
-  both_soonest m n least late ordered le le' h k = All-append (λ (one : KeptPair P). least ≤ later one.pair) late ordered (lower least m late le h) (lower least n ordered le' k)
-
   -- where one is taken out
   pub fewer_late : (n : ℕ) (one : KeptPair P) (late left ordered : List (KeptPair P)) → IsPermutation late (one ∷ left) → NoneSooner n (late ++ ordered) → NoneSooner n (left ++ ordered)
   fewer_late n one late left ordered is none =
