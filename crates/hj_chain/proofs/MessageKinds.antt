@@ -6,6 +6,7 @@ use Rattle.hj_msg.specs.declared.message.Msg.{Msg}
 use Rattle.hj_msg.specs.declared.message.Msg.TheVariants.{R, AckS, EndS, ExpS, QuietL, CloseL, S, EndR, ExpR, QuietR, CloseR}
 use Rattle.hj_msg.specs.Core.{sends, only_if, is_last}
 use Rattle.hj_msg.specs.Driver.{DriverTurn, admission, receipt, closing}
+pub use Rattle.hj_msg.proofs.Sides.{goes_right}
 use Rattle.hj_chain.proofs.Counts.{count}
 use Rattle.hj_chain.proofs.Journals.{sent_at}
 
@@ -53,16 +54,7 @@ abbrev pub a_CloseR : {P : Type 0} → Msg P → Bool
 a_CloseR CloseR = true
 a_CloseR other = false
 
--- to the right, or to the left
-abbrev pub goes_right : {P : Type 0} → Msg P → Bool
-goes_right (R at row) = true
-goes_right (AckS at) = true
-goes_right (EndS at) = true
-goes_right (ExpS at) = true
-goes_right (QuietL at) = true
-goes_right CloseL = true
-goes_right other = false
-
+-- to the left; which goes to the right is told by `goes_right`
 abbrev pub goes_left : {P : Type 0} → Msg P → Bool
 goes_left (S at row) = true
 goes_left (EndR at) = true

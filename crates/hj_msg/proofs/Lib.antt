@@ -37,7 +37,7 @@ mod Reports
 mod RowBeforeExpiry
 mod Rows
 mod Settling
-mod Sides
+pub mod Sides
 pub mod Sorting
 mod States
 mod Stores
