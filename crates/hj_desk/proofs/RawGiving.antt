@@ -89,9 +89,6 @@ module _ {P D : Type 0} (takes : D → Item P → Drained → D → Type 0) wher
     answered-more Kept offers item each = all-kept answer_in offers (record { item = item; answer = Kept } ∷ []) each refl
     answered-more Refused offers item each = last-refused answer_in offers (record { item = item; answer = Refused } ∷ []) each (0, refl)
 
-    pub raw-nothing : (old : RawOutlet P D) → GivesDue (GivesRaw takes) collector Kept old old
-    raw-nothing old begun cores taken follows given = given
-
     pub raw-gives : (old now : RawOutlet P D) → GivesDue (GivesRaw takes) collector Kept old now → (left : WaitingItems P) (filled : D) (item : Item P) → now.items.items ≡ item ∷ left.items → left.mark ≡ now.items.mark → (answer : Drained) → takes now.drain item answer filled
         → GivesDue (GivesRaw takes) collector answer old (record { items = left; drain = filled })
     raw-gives old now before left filled item first marked answer took begun cores taken follows given =
