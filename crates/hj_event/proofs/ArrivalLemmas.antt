@@ -51,9 +51,6 @@ module _ (left left_behind right right_behind : Rows) where
       → arrivals_of left right ≡ cond (int_le (time_of one) (time_of other)) (then_arrivals Left one (arrivals_of left_behind (then_rows other right_behind))) (then_arrivals Right other (arrivals_of (then_rows one left_behind) right_behind))
   both_have one other is are = ap (λ (l : Rows). arrivals_of l right) is ∙ ap (arrivals_of (then_rows one left_behind)) are
 
-  right_first : (one other : List Field) → int_le (time_of one) (time_of other) ≡ false → RowLeads (Ok (Some one)) left left_behind → RowLeads (Ok (Some other)) right right_behind → arrivals_of left right ≡ then_arrivals Right other (arrivals_of (then_rows one left_behind) right_behind)
-  right_first one other lt is are = both_have one other is are ∙ ap (λ (t : Bool). cond t (then_arrivals Left one (arrivals_of left_behind (then_rows other right_behind))) (then_arrivals Right other (arrivals_of (then_rows one left_behind) right_behind))) lt
-
 -- ---- the roles
 
 read_as : (failed other : Bool) (bytes : List ℕ) (was ended : Bool) (before now : RoleState) → failed ≡ other → IsReadOn failed bytes was ended before now → IsReadOn other bytes was ended before now

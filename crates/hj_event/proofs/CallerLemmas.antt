@@ -1,12 +1,12 @@
 -- What a caller keeps of a merger from call to call: its roles are as it left them.
-use Rattle.std.proofs.Common.{◌≡◌, Bool, Option, Some, None, List, ℕ, sym, subst}
+use Rattle.std.proofs.Common.{Option, Some, None, sym, subst}
 use Rattle.hj_base.specs.declared.outside.Role.{Role}
 use Rattle.hj_base.specs.declared.outside.Role.TheVariants as role
-use Rattle.hj_base.specs.Outside.{RoleState, IsOpen, opened, Phase}
+use Rattle.hj_base.specs.Outside.{RoleState}
 use Rattle.hj_event.specs.declared.merger.Next.{Next}
 use Rattle.hj_event.specs.declared.stop.MergeEnd.{MergeEnd}
 use Rattle.hj_event.specs.Merger.{Merging, AnswersNext, AnswersFrom}
-use Rattle.hj_event.specs.Roles.{IsInStep, name_of}
+use Rattle.hj_event.specs.Roles.{IsInStep}
 
 abbrev pub InStep : Merging → (Role → RoleState) → Type 0
 InStep merging roles = IsInStep merging.sides.left.reading.ended (roles role.Left) × IsInStep merging.sides.right.reading.ended (roles role.Right)
@@ -19,9 +19,3 @@ in_step-from (Some last) answer old new before now repeats step =
 
 pub in_step-behind : (answer : Next) (old new : Merging) (before now : Role → RoleState) → AnswersNext answer old new before now → InStep old before → InStep new now
 in_step-behind answer old new before now answers step = in_step-from old.over answer old new before now answers step
-
-is_open : (phase : Phase) (name : List ℕ) (ended : Bool) → phase ≡ opened name ended → IsOpen phase
-is_open phase name ended e = subst IsOpen (sym e) tt
-
-pub open-in_step : (ended : Bool) (state : RoleState) → IsInStep ended state → IsOpen state.phase
-open-in_step ended state step = is_open state.phase (name_of state.phase) ended step.phase

@@ -49,12 +49,6 @@ pub none_left : (old new : Cutting) (portion buf : List ℕ) (taken filled lines
 none_left old new portion buf taken filled lines_end readable going within none =
     all_taken old new portion buf taken filled lines_end readable going (omega (arith, ap length none, length-take (filled - taken) (drop taken portion), length-drop taken portion))
 
--- the first bytes of a portion, up to a line's end, where none was looked at
-pub first_lines : (cutting : Cutting) (buf : List ℕ) (count lines_end : ℕ) → lines_end ≤ count → inside_after (quotes cutting.piece % 2 == 1) (take (lines_end - 1) (take count buf)) ≡ false → inside_after (quotes cutting.piece % 2 == 1) (slice_range buf 0 (lines_end - 1)) ≡ false
-first_lines cutting buf count lines_end le outside =
-    let whole : lines_end - 1 - 0 ≡ lines_end - 1 = omega arith in
-    ap (inside_after (quotes cutting.piece % 2 == 1)) (ap (λ n. take n buf) whole ∙ sym (take-take (lines_end - 1) count buf (omega arith))) ∙ outside
-
 -- the bytes up to a line's end, behind the first ones of them
 range_behind : (portion : List ℕ) (taken filled used end : ℕ) → taken + used ≤ filled → taken + used ≤ end → slice_range portion taken end ≡ take used (slice_range portion taken filled) ++ slice_range portion (taken + used) end
 range_behind portion taken filled used end fits within =

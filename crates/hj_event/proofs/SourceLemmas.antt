@@ -15,7 +15,7 @@ use Rattle.hj_event.specs.declared.row_source.Ahead.TheVariants as ahead
 use Rattle.hj_event.specs.declared.stop.ReadStep.{ReadStep}
 use Rattle.hj_event.specs.declared.stop.ReadStep.TheVariants as read_step
 use Rattle.hj_value.specs.Row.{time_of}
-use Rattle.hj_event.specs.Rows.{Rows, no_row, then_rows, put_in, is_sure, in_order, rows_in, with_time, clean, unread}
+use Rattle.hj_event.specs.Rows.{Rows, no_row, then_rows, put_in, is_sure, in_order, rows_in, with_time, unread}
 use Rattle.hj_event.specs.Sides.{ReaderState, SideState, in_front, at_its_end, cut_off, MayFollow, pieces_ahead, read_ahead, rows_ahead}
 use Rattle.hj_event.specs.Reads.{Fills}
 use Rattle.hj_event.specs.Roles.{IsReadOn, IsInStep}
@@ -23,7 +23,6 @@ use Rattle.hj_event.specs.Taking.{IsNeeded, IsReadAsNeeded, StepLeads, Wants, Ad
 use Rattle.hj_event.specs.Waiting.{AreInOrder, TakesSure, has_sure, is_held}
 use Rattle.hj_event.proofs.OrderLemmas.{as_read, sure_ahead}
 use Rattle.hj_event.proofs.WaitingLemmas.{none_first, still_unsure}
-use Rattle.hj_event.proofs.RowLemmas.{at_end_follows}
 use Rattle.hj_event.proofs.RoleLemmas.{not_read, read_more}
 
 -- ---- row by row
@@ -198,30 +197,6 @@ straight_without (Ok (Some row)) old new next waiting known kept none takes = go
 straight_without (Ok None) old new next waiting known kept none takes = ap (λ (r : ReaderState). source r (option_to_list next ++ waiting) (refused_in known)) takes
 straight_without (Err why) old new next waiting known kept none takes = record { ended = ap (λ (r : ReaderState). r.ended) takes; leads = λ stream follows. tt; wants = tt }
 
--- Where no row waits, none is known to be the next one.
-no_next : (next : Option (List Field)) (waiting : List (List Field)) (side : ReaderState) (known : Ahead) → option_to_list next ++ waiting ≡ [] → IsNextRow next side known
-no_next None waiting side known is = tt
-no_next (Some row) waiting side known is = cc
-
--- Without a slack nothing is known beside what was read.
-pub kept_without : (old new : ReaderState) (next : Option (List Field)) (waiting : List (List Field)) (known : Ahead) → KeepsBehind old next waiting known → old.slack ≡ 0 → KeepsBehind new next waiting known
-kept_without old new next waiting known kept none =
-    let nothing = kept.without none in
-    record { without = λ still. nothing; is_known = subst (λ (k : Ahead). IsKnown k new) (sym nothing.1) tt; is_next = no_next next waiting new known nothing.0 }
-
--- A read changes nothing of what is known while the stream goes on.
-pub kept_filled : (old : ReaderState) (rest : List ℕ) (ended : Bool) (next : Option (List Field)) (waiting : List (List Field)) (known : Ahead) → old.ended ≡ false → KeepsBehind old next waiting known → KeepsBehind (record old { rest = rest; ended = ended }) next waiting known
-kept_filled old rest ended next waiting known going kept = record { without = kept.without; is_known = by known kept.is_known; is_next = by_next next kept.is_next }
-  where
-    by : (k : Ahead) → IsKnown k old → IsKnown k (record old { rest = rest; ended = ended })
-    by ahead.Unknown is = tt
-    by ahead.Over is = absurd (true≢false (sym is.0 ∙ going))
-    by (ahead.Refused at why) is = tt
-
-    by_next : (n : Option (List Field)) → IsNextRow n old known → IsNextRow n (record old { rest = rest; ended = ended }) known
-    by_next None is = tt
-    by_next (Some row) is = is
-
 module _ (old new : ReaderState) (waiting : List (List Field)) where
   as_late : (slack : ℕ) (time : Option ℤ) → new.slack ≡ slack → new.time ≡ time → (stream : Stream) → rows_ahead (source new waiting None) stream ≡ in_order slack time waiting (read_ahead new stream)
   as_late slack time late great stream =
@@ -235,13 +210,6 @@ module _ (old new : ReaderState) (waiting : List (List Field)) where
         ap (in_order old.slack old.time waiting) (advances.leads stream follows)
         ∙ sym (ap (λ (s : ℕ). in_order s new.time (put_in row waiting) (read_ahead new stream)) advances.slack
         ∙ ap (λ (t : Option ℤ). in_order old.slack t (put_in row waiting) (read_ahead new stream)) advances.time.1);
-    wants = tt;
-  }
-
-  pub puts_none : Advances (Ok read_step.NoRecord) old new → SideGoesOn (Ok read_step.NoRecord) (source old waiting None) (source new waiting None)
-  puts_none advances = record {
-    ended = advances.ended;
-    leads = λ stream follows. ap (in_order old.slack old.time waiting) (advances.leads stream follows) ∙ sym (as_late old.slack old.time advances.slack advances.time stream);
     wants = tt;
   }
 
@@ -259,38 +227,6 @@ module _ (old new : ReaderState) (waiting : List (List Field)) where
     where
       no_more : List (List Field) → Rows
       no_more rows = record { rows = rows; ending = unread }
-
-  -- The record that was read is refused: the rows that wait come first.
-  pub refuses : (at : ℕ) (why : RecordFault) → Advances (Err (stop.Bad at why)) old new → SideGoesOn (Ok read_step.NoRecord) (source old waiting None) (source new waiting (Some (at, why)))
-  refuses at why advances = record {
-    ended = advances.ended;
-    leads = λ stream follows. ap (in_order old.slack old.time waiting) (advances.leads stream follows);
-    wants = tt;
-  }
-
-  pub runs_out : (after : List (List Field)) → Advances (Err stop.Memory) old new → SideGoesOn (Err stop.Memory) (source old waiting None) (source new after None)
-  runs_out after advances = record { ended = advances.ended; leads = λ stream follows. tt; wants = tt }
-
-  -- memory ran out for a row
-  pub puts_nowhere : (row : List Field) (after : List (List Field)) → Advances (Ok (read_step.Row row)) old new → SideGoesOn (Err stop.Memory) (source old waiting None) (source new after None)
-  puts_nowhere row after advances = record { ended = advances.ended; leads = λ stream follows. tt; wants = tt }
-
-  -- At the end of the stream each row that waits comes.
-  pub gives_last : (row : List Field) → Advances (Ok read_step.End) old new → SideGoesOn (Ok (read_step.Row row)) (source old (row ∷ waiting) None) (source new waiting None)
-  gives_last row advances = record {
-    ended = advances.ended;
-    leads = λ stream follows.
-        ap (in_order old.slack old.time (row ∷ waiting)) (advances.leads stream follows).0
-        ∙ ap (λ (read : Rows). then_rows row (in_order new.slack new.time waiting read)) (sym (advances.leads stream follows).1);
-    wants = tt;
-  }
-
-pub gives_end : (old new : ReaderState) → Advances (Ok read_step.End) old new → SideGoesOn (Ok read_step.End) (source old [] None) (source new [] None)
-gives_end old new advances = record {
-  ended = advances.ended;
-  leads = λ stream follows. (ap (in_order old.slack old.time []) (advances.leads stream follows).0, ap (in_order new.slack new.time []) (advances.leads stream follows).1);
-  wants = advances.wants;
-}
 
 -- ---- what is told
 
@@ -325,11 +261,6 @@ pub tells_either : (reading : ReaderState) (next : Option (List Field)) (waiting
 tells_either reading None waiting known more is first = tells_known reading waiting known (more refl) is
 tells_either reading (Some row) waiting known more is first = tells_next reading (Some row) waiting known refl first
 
--- Where more is known than of the next row, that is not known.
-pub not_next : (next : Option (List Field)) (side : ReaderState) (known : Ahead) → (known ≡ ahead.Unknown → ⊥) → IsNextRow next side known → next ≡ None
-not_next None side known more is = refl
-not_next (Some row) side known more is = absurd (more is.0)
-
 -- The first row that waits is taken as the next one, or none is sure.
 pub all_wait : (next : Option (List Field)) (slack : ℕ) (greatest : Option ℤ) (old new : List (List Field)) → TakesSure next slack greatest old new → option_to_list next ++ new ≡ old
 all_wait None slack greatest old new takes = takes.0
@@ -351,10 +282,6 @@ gives_first reading row waiting after refused none sure is =
 pub gives_next : (reading : ReaderState) (row : List Field) (waiting : List (List Field)) (known : Ahead) → IsNextRow (Some row) reading known → SideGoesOn (Ok (read_step.Row row)) (source reading (row ∷ waiting) (refused_in known)) (source reading waiting (refused_in known))
 gives_next reading row waiting known is = gives_first reading row (row ∷ waiting) waiting (refused_in known) (ap refused_in is.0) is.1 refl
 
--- No row waits, and nothing is given.
-pub gives_none : (reading : ReaderState) (waiting after : List (List Field)) (refused : Option (ℕ × RecordFault)) → (waiting ≡ []) × (after ≡ []) → SideGoesOn (Ok read_step.NoRecord) (source reading waiting refused) (source reading after refused)
-gives_none reading waiting after refused none = rw (none.0, none.1) (record { ended = refl; leads = λ stream follows. refl; wants = tt })
-
 -- All that was read is looked at: a row that waits is sure, or more bytes are wanted.
 pub looked_at : (old new : ReaderState) (waiting : List (List Field)) (refused : Option (ℕ × RecordFault)) → refused ≡ None → Advances (Ok read_step.More) old new → SideGoesOn (Ok read_step.NoRecord) (source old waiting refused) (source new waiting refused)
 looked_at old new waiting refused none advances = rw none (record {
@@ -366,37 +293,6 @@ looked_at old new waiting refused none advances = rw none (record {
 pub wants_bytes : (old new : ReaderState) (waiting : List (List Field)) (refused : Option (ℕ × RecordFault)) → refused ≡ None → AreInOrder waiting → has_sure new.slack new.time waiting ≡ false → Advances (Ok read_step.More) old new
     → SideGoesOn (Ok read_step.More) (source old waiting refused) (source new waiting refused)
 wants_bytes old new waiting refused none ordered unsure advances = rw none (wants_more old new waiting (none_first new.slack new.time waiting ordered unsure) advances)
-
--- Where all was read, the rows that wait come, and then the end.
-over_ahead : (reading : ReaderState) (waiting : List (List Field)) (refused : Option (ℕ × RecordFault)) → IsSideOver reading → refused ≡ None → (stream : Stream) → MayFollow reading.ended stream → rows_ahead (source reading waiting refused) stream ≡ record { rows = waiting; ending = clean }
-over_ahead reading waiting refused over none stream follows =
-    ap (λ (r : Option (ℕ × RecordFault)). rows_ahead (source reading waiting r) stream) none
-    ∙ (ap (rows_ahead (source reading waiting None)) (at_end_follows reading.ended stream over.0 follows) ∙ ap (in_order reading.slack reading.time waiting) over.1)
-
-pub gives_over : (reading : ReaderState) (row : List Field) (waiting after : List (List Field)) (refused : Option (ℕ × RecordFault)) → IsSideOver reading → refused ≡ None → waiting ≡ row ∷ after → SideGoesOn (Ok (read_step.Row row)) (source reading waiting refused) (source reading after refused)
-gives_over reading row waiting after refused over none is = record {
-  ended = refl;
-  leads = λ stream follows. over_ahead reading waiting refused over none stream follows ∙ (ap (λ (rows : List (List Field)). record { rows = rows; ending = clean }) is ∙ ap (then_rows row) (sym (over_ahead reading after refused over none stream follows)));
-  wants = tt;
-}
-
-pub ends_over : (reading : ReaderState) (waiting after : List (List Field)) (refused : Option (ℕ × RecordFault)) → IsSideOver reading → refused ≡ None → (waiting ≡ []) × (after ≡ []) → SideGoesOn (Ok read_step.End) (source reading waiting refused) (source reading after refused)
-ends_over reading waiting after refused over none is = record {
-  ended = refl;
-  leads = λ stream follows. (
-    over_ahead reading waiting refused over none stream follows ∙ ap (λ (rows : List (List Field)). record { rows = rows; ending = clean }) is.0,
-    over_ahead reading after refused over none stream follows ∙ ap (λ (rows : List (List Field)). record { rows = rows; ending = clean }) is.1,
-  );
-  wants = over.0;
-}
-
--- All was read.
-pub comes_to_end : (old new : ReaderState) (waiting : List (List Field)) (refused : Option (ℕ × RecordFault)) → refused ≡ None → Advances (Ok read_step.End) old new → SideGoesOn (Ok read_step.NoRecord) (source old waiting refused) (source new waiting refused)
-comes_to_end old new waiting refused none advances = rw none (record {
-  ended = advances.ended;
-  leads = λ stream follows. ap (in_order old.slack old.time waiting) (advances.leads stream follows).0 ∙ sym (ap (in_order new.slack new.time waiting) (advances.leads stream follows).1);
-  wants = tt;
-})
 
 is_over : (old new : ReaderState) → Advances (Ok read_step.End) old new → IsSideOver new
 is_over old new advances = (advances.wants, (advances.leads at_its_end (subst (λ (ended : Bool). MayFollow ended at_its_end) (sym advances.wants) refl)).1)

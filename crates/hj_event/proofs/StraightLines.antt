@@ -1,5 +1,5 @@
 -- A row that was read straight from the bytes of its line: that the piece reads so, and what taking it says.
-use Rattle.std.proofs.Common.{◌≡◌, ℕ, ◌+◌, ◌-◌, ◌≤◌, min, Bool, false, List, length, take, drop, slice_range, ℤ, Ok, Err, Some, None, inr, sym, refl, ap, subst, ◌∙◌, arith}
+use Rattle.std.proofs.Common.{◌≡◌, ℕ, ◌+◌, ◌-◌, ◌≤◌, min, Bool, false, List, length, take, drop, slice_range, ℤ, Ok, Some, None, inr, sym, refl, ap, subst, ◌∙◌, arith}
 use Rattle.std.proofs.lemmas.List.{length-take, length-take-le, take-take}
 use Rattle.std.specs.declared.option.Option.{Option}
 use Rattle.hj_value.specs.declared.column.Column.{Column}
@@ -11,10 +11,8 @@ use Rattle.hj_record.specs.Cuts.{Cuts, LeadsBy}
 use Rattle.hj_record.specs.Line.{most_in_next}
 use Rattle.hj_record.specs.Pieces.{IsPiece}
 use Rattle.hj_event.specs.declared.stop.ReadStep.TheVariants as read_step
-use Rattle.hj_event.specs.declared.stop.SideStop.TheVariants as stop
 use Rattle.hj_event.specs.Lines.{IsLineOf}
 use Rattle.hj_event.specs.Rows.{in_time, record_row, row_at, row_in_time, with_time}
-use Rattle.hj_event.specs.Sides.{ReaderState}
 use Rattle.hj_event.specs.Reads.{reading, IsReadable}
 use Rattle.hj_event.specs.Taking.{Advances, IsNextLine, is_late}
 use Rattle.hj_event.proofs.LineLemmas.{lent_lines}
@@ -63,12 +61,3 @@ module _ (columns : List Column) (slack record_no : ℕ) (time : Option ℤ) (en
       let long = length-take-le most rest (omega arith) in
       let same : take used (take most rest) ≡ take used rest = take-take used most rest (omega (arith, line.within)) in
       lent_lines old new portion taken filled used lines_end readable (cuts rest (omega (arith, line.within)) (subst IsPiece same line.piece))
-
-pub memory_advances : (old new : ReaderState) → new ≡ old → Advances (Err stop.Memory) old new
-memory_advances old new same = record {
-  ended = ap (λ (r : ReaderState). r.ended) same;
-  slack = ap (λ (r : ReaderState). r.slack) same;
-  time = ap (λ (r : ReaderState). r.time) same;
-  leads = λ _ _. tt;
-  wants = tt;
-}
