@@ -1,5 +1,5 @@
 -- The steps of the code: what is known of a chain whose fields are open, and what follows of the chain.
-use Rattle.std.proofs.Common.{◌≡◌, ◌≢◌, ℕ, ◌+◌, ◌<◌, ◌≤◌, ◌==◌, Bool, true, false, cond, List, [], ◌∷◌, ◌++◌, length, drop, get_or, Some, None, Option, refl, ap, ap₂, sym, ◌∙◌, subst, arith, true≢false, eq-eqb}
+use Rattle.std.proofs.Common.{◌≡◌, ◌≢◌, ℕ, ◌+◌, ◌<◌, ◌≤◌, ◌==◌, Bool, true, false, List, [], ◌∷◌, ◌++◌, length, drop, get_or, Some, None, Option, refl, ap, ap₂, sym, ◌∙◌, subst, arith, true≢false, eq-eqb}
 use Rattle.std.specs.Option.{option_to_list, IfSome}
 use Rattle.std.specs.declared.result.Result.{Result}
 use Rattle.std.specs.declared.result.Result.TheVariants.{Ok, Err}
@@ -23,14 +23,13 @@ use Rattle.hj_driver.specs.Driver.{DriverState}
 use Rattle.hj_driver.specs.StandsFor.{StandsFor}
 use Rattle.hj_chain.specs.declared.actor.Actor.{Actor}
 use Rattle.hj_chain.specs.declared.actor.Actor.TheVariants.{Core, Collect}
-use Rattle.hj_chain.specs.declared.actor.NotNow.{NotNow}
-use Rattle.hj_chain.specs.declared.actor.NotNow.TheVariants.{Empty, ReportsFull}
+use Rattle.hj_chain.specs.declared.actor.NotNow.TheVariants.{Empty}
 use Rattle.hj_chain.specs.declared.actor.Stepped.{Stepped}
 use Rattle.hj_chain.specs.declared.actor.Stepped.TheVariants.{Did, NotEnabled, Memory}
 use Rattle.hj_chain.specs.Queues.{Queues}
 use Rattle.hj_chain.specs.Links.{changed_at, link_at, at_port, put_in, take_out, incoming, take_in, send_out, put_rightwards, HasRoomAt}
 use Rattle.hj_chain.specs.Reports.{queue_at}
-use Rattle.hj_chain.specs.Chain.{FeedAnswer, ChainState, Contents, first, capacity, full_cause, or_empty}
+use Rattle.hj_chain.specs.Chain.{FeedAnswer, ChainState, Contents, first, capacity}
 use Rattle.hj_chain.specs.Reached.{collected_of}
 use Rattle.hj_chain.specs.Steps.{IsGoing, StepsTo, at_port as actor_at}
 use Rattle.hj_chain.specs.Taken.{HasTaken}
@@ -38,8 +37,8 @@ use Rattle.hj_chain.proofs.Ways.{length-take_in, length-put_in, lefts-put_right}
 use Rattle.hj_chain.proofs.Sending.{capacity-changed}
 use Rattle.hj_chain.proofs.Goings.{cause-going}
 use Rattle.hj_chain.proofs.Drivers.{took-state}
-use Rattle.hj_chain.proofs.Standing.{Stands, stands, first-none, first-some, log, driving, fits_both, fits_one}
-use Rattle.hj_chain.proofs.Stepping.{receive-waits, receive-did, take_in-empty, take_out-empty, or_empty-none, turn-waits, turn-enabled, turn-action, turn-no_memory, turn-did, collect-no_memory, collect-did}
+use Rattle.hj_chain.proofs.Standing.{Stands, stands, first-some, log, driving, fits_both, fits_one}
+use Rattle.hj_chain.proofs.Stepping.{receive-waits, receive-did, take_out-empty, turn-enabled, turn-action, turn-no_memory, turn-did, collect-no_memory, collect-did}
 use Rattle.hj_chain.proofs.Advancing.{unheard}
 
 -- one queue that changes, with the rest of a chain
@@ -115,14 +114,6 @@ module _ {P J : Type 0} (predicate : J → P → P → Bool) (opened now : Conte
   pub in_cores : (at place : ℕ) → at ≡ place → place < length now.state.cores → at < n
   in_cores at place same low = omega (arith, same, low, ap (λ (c : Contents P J). length c.state.cores) is)
 
-  pub has_room : (at place most : ℕ) → at ≡ place → most ≡ capacity chain.driver.flight → (length (queue_at now.state.reports place) == capacity now.state.driver.flight) ≡ false → (length (queue_at chain.reports at) == most) ≡ false
-  has_room at place most same most_is room =
-      ap₂ (λ (p m : ℕ). length (queue_at chain.reports p) == m) same most_is ∙ subst (λ (c : Contents P J). (length (queue_at c.state.reports place) == capacity c.state.driver.flight) ≡ false) (sym is) room
-
-  -- where the cores are as before, the chain is
-  pub same_cores : (cores : List (core.State P)) → cores ≡ chain.cores → record opened { state = record chain { cores = cores } } ≡ now
-  same_cores cores same = ap (λ (cs : List (core.State P)). record opened { state = record chain { cores = cs } }) same ∙ is
-
   -- a message that comes out
   pub receiving-waits : (answer : FeedAnswer P) (port : Side) (count : ℕ) (links : List (Queues (Msg P))) → count ≡ n → first (at_port port count chain.links) ≡ None → links ≡ take_out port count chain.links
       → StepsTo (predicate now.join) (actor_at port) answer now.state (NotEnabled Empty) (record chain { links = links })
@@ -179,21 +170,6 @@ module _ {P J : Type 0} (predicate : J → P → P → Bool) (opened now : Conte
   named : (actor : CoreNo → Actor) (place : CoreNo) (at : ℕ) (answer : FeedAnswer P) (result : Stepped) (new : ChainState P) → at ≡ place.0 → StepsTo matches (actor (record { 0 = at })) answer chain result new
       → StepsTo (predicate now.join) (actor place) answer now.state result new
   named actor place at answer result new is_at step = moved (actor place) answer result new (subst (λ (m : ℕ). StepsTo matches (actor (record { 0 = m })) answer chain result new) is_at step)
-
-  -- a core's turn: nothing comes in, or its reports are full, or it takes its message
-  pub turning-empty : (answer : FeedAnswer P) (place : CoreNo) (end : Side) (at : ℕ) (links : List (Queues (Msg P))) → at ≡ place.0 → at < n → first (incoming end at chain.links) ≡ None → links ≡ take_in end at chain.links
-      → StepsTo (predicate now.join) (Core place end) answer now.state (NotEnabled Empty) (record chain { links = links })
-  turning-empty answer place end at links is_at low none taken =
-      named (λ p. Core p end) place at answer (NotEnabled Empty) (record chain { links = links }) is_at
-      (turn-waits matches chain known.going answer (record { 0 = at }) end Empty (record chain { links = links }) low (or_empty-none (incoming end at chain.links) (full_cause chain at) (first-none _ none))
-      (same_links chain links (taken ∙ take_in-empty end at chain.links none)))
-
-  pub turning-held_back : (answer : FeedAnswer P) (place : CoreNo) (end : Side) (at : ℕ) (why : NotNow) (most : ℕ) → at ≡ place.0 → at < n → most ≡ capacity chain.driver.flight → (length (queue_at chain.reports at) == most) ≡ true
-      → Some why ≡ or_empty (incoming end at chain.links) (Some ReportsFull) → StepsTo (predicate now.join) (Core place end) answer now.state (NotEnabled why) chain
-  turning-held_back answer place end at why most is_at low most_is full is =
-      let cause : full_cause chain at ≡ Some ReportsFull = ap (λ b. cond b (Some ReportsFull) None) (ap (λ (m : ℕ). length (queue_at chain.reports at) == m) (sym most_is) ∙ full) in
-      named (λ p. Core p end) place at answer (NotEnabled why) chain is_at
-      (turn-waits matches chain known.going answer (record { 0 = at }) end why chain low (ap (or_empty (incoming end at chain.links)) cause ∙ sym is) refl)
 
   pub turning-begins : (place : CoreNo) (end : Side) (at : ℕ) (message : Msg P) (most : ℕ) (links : List (Queues (Msg P))) → at ≡ place.0 → place.0 < length now.state.cores → most ≡ capacity chain.driver.flight
       → (length (queue_at chain.reports at) == most) ≡ false → first (incoming end at chain.links) ≡ Some message → links ≡ take_in end at chain.links

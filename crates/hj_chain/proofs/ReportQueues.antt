@@ -1,7 +1,7 @@
 -- The queues of reports, each as the list of what stands in it.
-use Rattle.std.proofs.Common.{◌≡◌, ℕ, suc, zero, ◌+◌, ◌-◌, ◌<◌, ◌≤◌, ◌==◌, ◌++◌, false, All, List, [], ◌∷◌, length, map, set, get_or, replicate, refl, ap, sym, ◌∙◌, subst, arith, ne_eqb, length-append}
+use Rattle.std.proofs.Common.{◌≡◌, ℕ, suc, zero, ◌+◌, ◌<◌, ◌≤◌, ◌==◌, false, All, List, [], ◌∷◌, length, map, set, get_or, replicate, refl, ap, sym, ◌∙◌, subst, arith, ne_eqb}
 use Rattle.std.proofs.lemmas.List.{length-map}
-use Rattle.std.proofs.lemmas.List.Elements.{All-get_or, All-map, All-set, All-weaker}
+use Rattle.std.proofs.lemmas.List.Elements.{All-map}
 use Rattle.circular_buffer.specs.Buffer.{Buffer, buffer}
 use Rattle.hj_msg.specs.declared.message.Report.{Report}
 use Rattle.hj_chain.specs.Links.{changed_at}
@@ -26,25 +26,6 @@ pub new-reports : {P : Type 0} (n count capacity : ℕ) (buffers : List (Buffer 
 new-reports {P} n count capacity buffers is all = ap (λ (queues : List (List (Report P))). record { capacity = capacity; queues = queues }) (ap (map (λ (b : Buffer (Report P)). b.items)) is ∙ map-replicate (λ (b : Buffer (Report P)). b.items) count (buffer [] capacity) ∙ ap (λ m. replicate m []) all)
 
 -- ---- the room that each queue has at least
-
--- a report more, and room for one fewer
-pub room-put : {P : Type 0} (capacity room : ℕ) (buffers : List (Buffer (Report P))) (i : ℕ) (b c : Buffer (Report P)) (x : Report P)
-    → All (λ q. length q.items + room ≤ capacity) buffers → 0 < room → i < length buffers → b ≡ get_or buffers i b → c ≡ buffer (b.items ++ x ∷ []) b.capacity
-    → All (λ q. length q.items + (room - 1) ≤ capacity) (set buffers i c)
-room-put {P} capacity room buffers i b c x all some low at is =
-    let had : length b.items + room ≤ capacity = subst (λ (q : Buffer (Report P)). length q.items + room ≤ capacity) (sym at) (All-get_or (λ (q : Buffer (Report P)). length q.items + room ≤ capacity) buffers i b low all) in
-    let more : length c.items ≡ length b.items + 1 = ap (λ (q : Buffer (Report P)). length q.items) is ∙ length-append b.items (x ∷ []) in
-    let now : length c.items + (room - 1) ≤ capacity = omega (arith, had, more, some) in
-    All-set (λ (q : Buffer (Report P)). length q.items + (room - 1) ≤ capacity) buffers i c now
-    (All-weaker (λ (q : Buffer (Report P)). length q.items + room ≤ capacity) (λ (q : Buffer (Report P)). length q.items + (room - 1) ≤ capacity) (λ q e. omega (arith, e)) buffers all)
-
--- where a queue has fewer reports than before, the room is there still
-pub room-fewer : {P : Type 0} (capacity room : ℕ) (buffers : List (Buffer (Report P))) (i : ℕ) (b c : Buffer (Report P))
-    → All (λ q. length q.items + room ≤ capacity) buffers → i < length buffers → b ≡ get_or buffers i b → length c.items ≤ length b.items
-    → All (λ q. length q.items + room ≤ capacity) (set buffers i c)
-room-fewer {P} capacity room buffers i b c all low at fewer =
-    let had : length b.items + room ≤ capacity = subst (λ (q : Buffer (Report P)). length q.items + room ≤ capacity) (sym at) (All-get_or (λ (q : Buffer (Report P)). length q.items + room ≤ capacity) buffers i b low all) in
-    All-set (λ (q : Buffer (Report P)). length q.items + room ≤ capacity) buffers i c (omega (arith, had, fewer)) all
 
 -- where there is room, no queue is full
 pub none_full : {P : Type 0} (capacity room : ℕ) (buffers : List (Buffer (Report P))) (now : ReportQueues P) (i : ℕ)

@@ -1,5 +1,5 @@
 -- What an actor does is its step.
-use Rattle.std.proofs.Common.{◌≡◌, ℕ, zero, suc, ◌+◌, ◌<◌, ◌==◌, Bool, true, false, cond, List, [], ◌∷◌, ◌++◌, length, drop, get_or, Some, None, Option, refl, ap, sym, ◌∙◌}
+use Rattle.std.proofs.Common.{◌≡◌, ℕ, zero, suc, ◌<◌, ◌==◌, Bool, true, false, cond, List, [], ◌∷◌, ◌++◌, length, drop, get_or, Some, None, Option, refl, ap, sym, ◌∙◌}
 use Rattle.std.specs.Option.{option_map, option_to_list}
 use Rattle.std.proofs.lemmas.Bool.{lt-ltb}
 use Rattle.hj_base.specs.declared.numbers.CoreNo.{CoreNo}
@@ -22,7 +22,7 @@ use Rattle.hj_chain.specs.declared.actor.Stepped.TheVariants.{Did, NotEnabled, M
 use Rattle.hj_chain.specs.Queues.{Queues}
 use Rattle.hj_chain.specs.Links.{changed_at, link_at, at_port, put_in, take_out, incoming, take_in, send_out, take_leftwards, take_rightwards}
 use Rattle.hj_chain.specs.Reports.{queue_at}
-use Rattle.hj_chain.specs.Chain.{FeedAnswer, ChainState, Action, drives, handles, collects, first, action_of, after_action, cause_of, admit_cause, or_empty, at_core, full_cause, capacity, asks, if_there, next_action}
+use Rattle.hj_chain.specs.Chain.{FeedAnswer, ChainState, Action, drives, handles, collects, first, action_of, after_action, cause_of, admit_cause, or_empty, at_core, capacity, asks, if_there, next_action}
 use Rattle.hj_chain.specs.Steps.{StepsTo, needs_memory, at_port as actor_at}
 use Rattle.hj_chain.proofs.Goings.{cause-going}
 use Rattle.hj_chain.proofs.Standing.{first-none, first-some}
@@ -81,9 +81,6 @@ module _ {P : Type 0} (matches : P → P → Bool) (chain : ChainState P) (going
   in_chain : (place : ℕ) (other : Option NotNow) → place < n → at_core chain place other ≡ other
   in_chain place other low = ap (λ b. cond b other (Some NoSuchCore)) (lt-ltb place n low)
 
-  pub turn-waits : (place : CoreNo) (end : Side) (why : NotNow) (new : ChainState P) → place.0 < n → or_empty (incoming end place.0 chain.links) (full_cause chain place.0) ≡ Some why → new ≡ chain → StepsTo matches (Core place end) answer chain (NotEnabled why) new
-  turn-waits place end why new low is same = waits (Core place end) why new (in_chain place.0 _ low ∙ is) same
-
   pub turn-enabled : (place : CoreNo) (end : Side) (message : Msg P) → place.0 < n → first (incoming end place.0 chain.links) ≡ Some message → (length (queue_at chain.reports place.0) == capacity chain.driver.flight) ≡ false
       → cause_of chain (Core place end) ≡ None
   turn-enabled place end message low some room =
@@ -131,12 +128,3 @@ take_out-empty {M} Left n links none =
 take_out-empty {M} Right n links none =
     let nothing : (link_at links n).rightwards ≡ [] = first-none _ none in
     fixed n take_rightwards links _ (ap (λ (ms : List M). record (link_at links n) { rightwards = drop 1 ms }) nothing ∙ ap (λ (ms : List M). record (link_at links n) { rightwards = ms }) (sym nothing))
-
--- where nothing comes in, nothing is taken
-pub take_in-empty : {M : Type 0} (end : Side) (place : ℕ) (links : List (Queues M)) → first (incoming end place links) ≡ None → take_in end place links ≡ links
-take_in-empty {M} Left place links none =
-    let nothing : (link_at links place).rightwards ≡ [] = first-none _ none in
-    fixed place take_rightwards links _ (ap (λ (ms : List M). record (link_at links place) { rightwards = drop 1 ms }) nothing ∙ ap (λ (ms : List M). record (link_at links place) { rightwards = ms }) (sym nothing))
-take_in-empty {M} Right place links none =
-    let nothing : (link_at links (place + 1)).leftwards ≡ [] = first-none _ none in
-    fixed (place + 1) take_leftwards links _ (ap (λ (ms : List M). record (link_at links (place + 1)) { leftwards = drop 1 ms }) nothing ∙ ap (λ (ms : List M). record (link_at links (place + 1)) { leftwards = ms }) (sym nothing))

@@ -93,9 +93,6 @@ module _ {P : Type 0} (chain : ChainState P) where
       named-from (suc place) place (omega arith) ∙ ap (λ (l : List Actor). slice_get l 0) (filter-append test before (Admit ∷ []) ∙ ap (λ (l : List Actor). l ++ filter test (Admit ∷ [])) (round-passed test (others n) place actor is passed) ∙ sym (filter-append test later (Admit ∷ [])))
       ∙ sym (named-from (suc (suc place)) (suc place) (omega arith))
 
-  same-actor : (at : ℕ) (actor other : Actor) → slice_get (actors n) at ≡ Some actor → slice_get (actors n) at ≡ Some other → other ≡ actor
-  same-actor at actor other is is_other = let e : Some other ≡ Some actor = sym is_other ∙ is in cc
-
   -- the place that is looked at next
   pub may-be-tried : (ready : Bool) (from at : ℕ) → chosen (from_place from) ready chain ≡ chosen (from_place at) ready chain → at < length (actors n) → (would_wait ready chain ≡ true → at ≢ 0) → MayBeTried from ready chain at
   may-be-tried ready from at same low put = record {
