@@ -1,5 +1,5 @@
 -- The report that a step put is the last one that waits behind it, where one more waits.
-use Rattle.std.proofs.Common.{◌≡◌, ◌≢◌, ℕ, ◌<◌, Bool, true, false, cond, List, [], ◌∷◌, ◌++◌, length, None, Some, refl, sym, ap, subst, ◌∙◌, append-nil, append_assoc, arith, length-append, codes}
+use Rattle.std.proofs.Common.{◌≡◌, ℕ, ◌<◌, Bool, true, false, cond, List, [], ◌∷◌, ◌++◌, length, None, Some, refl, sym, ap, subst, ◌∙◌, append-nil, append_assoc, arith, length-append, codes}
 use Rattle.std.specs.List.{slice_get}
 use Rattle.std.specs.Option.{option_map}
 use Rattle.std.specs.Prelude.{MatchBool, nat_lt, option_to_list}
@@ -16,7 +16,7 @@ use Rattle.hj_chain.specs.Links.{changed_at}
 use Rattle.hj_chain.specs.Looks.{last}
 use Rattle.hj_chain.specs.Reports.{queue_at}
 use Rattle.hj_chain.specs.Steps.{GoesWith, Steps}
-use Rattle.hj_chain.proofs.Doing.{deed, in_range}
+use Rattle.hj_chain.proofs.Doing.{in_range}
 use Rattle.hj_chain.proofs.Goings.{cause-going, enabled_going, reached-state}
 use Rattle.hj_chain.proofs.Places.{get_or-changed_at}
 use Rattle.hj_chain.proofs.Shape.{shape}
@@ -47,9 +47,6 @@ module _ {P : Type 0} (matches : P → P → Bool) (chain : ChainState P) where
   of_kind None f action is = absurd (cc)
   of_kind (Some x) f action is = (x, let e : Some (f x) ≡ Some action = is in cc)
 
-  none_added : (actor : Actor) (waited : ℕ) (reports : List (List (Report P))) (action : Action P) → added_at actor waited reports ≡ None → reported matches chain action ≡ None → added_at actor waited reports ≡ reported matches chain action
-  none_added actor waited reports action none unreported = none ∙ sym unreported
-
   module _ (all : length chain.reports ≡ length chain.cores) (answer : FeedAnswer P) (action : Action P) where
     -- the report of a core behind its step
     core_reported : (place : ℕ) (o : Option (Report P)) → place < length chain.cores
@@ -68,10 +65,6 @@ module _ {P : Type 0} (matches : P → P → Bool) (chain : ChainState P) where
         subst (λ (a : Action P). added_at (Core place end) (waiting_at (Core place end) chain.reports) (after_action matches chain (Some a) answer).reports ≡ reported matches chain a) found.1
         (core_reported place.0 _ low)
     added_is (Collect place) can is = let found = of_kind _ (collects place.0) action is in subst (λ (a : Action P). None ≡ reported matches chain a) found.1 refl
-
--- an actor that finds nothing to do isn't enabled
-pub nothing_to_do : {P : Type 0} (chain : ChainState P) (actor : Actor) → action_of chain actor ≡ None → cause chain actor ≢ None
-nothing_to_do chain actor none can = let did = deed chain actor (enabled_going chain actor can) can in let e : Some did.action ≡ None = sym did.is ∙ none in cc
 
 -- The text of a step that was made is what its line says.
 module _ {P J F : Type 0} (predicate : J → P → P → Bool) (gives : F → Given P → F → Type 0) (is_ready : F → Bool) (actor : Actor) (old new : Contents P J) (from to : F) where
