@@ -67,9 +67,10 @@ module _ {P : Type 0} (chain : ChainState P) where
       let found = of_all (would_wait ready chain && nat_lt 1 (length (enabled chain))) (enabled chain) (lcg.drawn (lcg.next held) % length (drawn_from ready chain)) actor some in
       none-is (cause chain actor) (passes-one (is_enabled chain) (actors n) found.0 actor found.1)
 
-  pub within-all : (waits : Bool) (place : ℕ) (actor : Actor) → slice_get (filter (is_enabled chain) (in_turn n waits place)) 0 ≡ Some actor → place_behind n actor ≤ length (actors n)
-  within-all waits place actor some =
-      let found = placed actor (none-is (cause chain actor) (passes-one (is_enabled chain) (in_turn n waits place) 0 actor some)) in
+  -- the place behind the first enabled one is that of an actor, or the one behind all
+  pub within-all : (waits : Bool) (place : ℕ) (first : Option Actor) → first ≡ slice_get (filter (is_enabled chain) (in_turn n waits place)) 0 → (actor : Actor) → first ≡ Some actor → place_behind n actor ≤ length (actors n)
+  within-all waits place first is actor some =
+      let found = placed actor (none-is (cause chain actor) (passes-one (is_enabled chain) (in_turn n waits place) 0 actor (sym is ∙ some))) in
       omega (arith, found.behind, within (actors n) found.place actor found.stands)
 
   -- none is passed over, all the way round

@@ -1,4 +1,4 @@
-use Rattle.std.proofs.Common.{◌≡◌, ◌≤◌, ℕ, Bool, true, false, length, refl, sym, ap, subst, ◌∙◌, arith}
+use Rattle.std.proofs.Common.{◌≡◌, ◌≤◌, ℕ, Bool, true, false, length, refl, sym, ap, subst, arith}
 use Rattle.std.specs.Prelude.{◌&&◌, is_none}
 use Rattle.hj_chain.specs.Serial.{actors, chosen, place_behind}
 use Rattle.hj_chain.proofs.ChosenActors.{within-all}
@@ -20,5 +20,5 @@ pub returns-in_ok-actor-in-From-clause-within : goal.returns-in_ok-actor-in-From
 returns-in_ok-actor-in-From-clause-within g c =
     let actor = c.in_ok-actor-in-From.actor in
     let low : place_behind (length c.args.chain.now.state.cores) actor ≤ length (actors (length c.args.chain.now.state.cores)) =
-    within-all c.args.chain.now.state false c.in-From.place actor (sym c.first_from.ensures ∙ c.in_ok-actor-in-From.was) in
+    within-all c.args.chain.now.state false c.in-From.place c.first_from.result c.first_from.ensures actor c.in_ok-actor-in-From.was in
     omega (arith, low, c.place_behind.ensures, ap (λ (n : ℕ). place_behind n actor) c.cores.ensures.count)
