@@ -82,7 +82,7 @@ module _ {O : Type 0} {outside : OutsideGhosts O} (matches : List Field → List
     taken = event_in (Some first) ++ events_in under.feed.answers
 
     -- one step more, whose line was written
-    module _ (actor : Actor) (named : chosen choosing true chain ≡ Some actor) (to : AlwaysReady O outside) where
+    module _ (actor : Actor) (named : Some actor ≡ chosen choosing true chain) (to : AlwaysReady O outside) where
       module _ (state : ChainState (List Field)) (step : Steps (gives {O = O} {outside = outside}) (λ _. true) matches actor chain now stepped.Did state to) (longer : Option (List ℕ)) (sends : Appends new longer (line_text matches chain actor)) where
         abbrev asking : Bool
         asking = asks actor chain.next true
@@ -104,8 +104,8 @@ module _ {O : Type 0} {outside : OutsideGhosts O} (matches : List Field → List
             append_assoc (event_in (Some first)) (events_in under.feed.answers) (asked actor chain.next step.answer)
             ∙ ap (λ (l : Events). event_in (Some first) ++ l) (ap (λ (l : Events). events_in under.feed.answers ++ l) (sym asked_is) ∙ sym (events_both under.feed.answers fed.answers))
 
-        pub one_more : Underway (choosing_after (length chain.cores) actor choosing) state to longer
-        one_more = record {
+        pub one_more : (behind : Choosing) → behind ≡ choosing_after (length chain.cores) actor choosing → Underway behind state to longer
+        one_more behind is = record {
           feed = all;
           schedule = under.schedule ++ actor ∷ [];
           grown = under.grown ++ line_text matches chain actor;
@@ -113,9 +113,11 @@ module _ {O : Type 0} {outside : OutsideGhosts O} (matches : List Field → List
           plays = subst (λ (l : Events). PlaysOver matches n flight l (state_of to).stopped (under.schedule ++ actor ∷ []) state (under.grown ++ line_text matches chain actor)) all_taken
               (plays-step gives (λ _. true) state_of told matches actor chain state now to refl step n flight taken under.schedule under.grown under.plays);
           chooses = subst (λ (l : Events). (more : Events) → ((state_of to).stopped ≡ true → more ≡ []) → AreChosen matches (first_choosing rule) (under.schedule ++ actor ∷ []) (at_start n flight (l ++ more))) all_taken
-              (chooses-step gives (λ _. true) state_of told matches actor chain state now to refl step n flight taken under.schedule under.grown under.plays (first_choosing rule) under.chooses choosing under.stands named);
-          stands = subst (λ (l : Events). (more : Events) → ((state_of to).stopped ≡ true → more ≡ []) → choosing_behind matches (under.schedule ++ actor ∷ []) (first_choosing rule) (at_start n flight (l ++ more)) ≡ choosing_after (length chain.cores) actor choosing) all_taken
-              (stands-step gives (λ _. true) state_of told matches actor chain state now to refl step n flight taken under.schedule under.grown under.plays (first_choosing rule) under.chooses choosing under.stands named);
+              (chooses-step gives (λ _. true) state_of told matches actor chain state now to refl step n flight taken under.schedule under.grown under.plays (first_choosing rule) under.chooses choosing under.stands (sym named));
+          stands = λ more fits.
+              subst (λ (l : Events). (more : Events) → ((state_of to).stopped ≡ true → more ≡ []) → choosing_behind matches (under.schedule ++ actor ∷ []) (first_choosing rule) (at_start n flight (l ++ more)) ≡ choosing_after (length chain.cores) actor choosing) all_taken
+              (stands-step gives (λ _. true) state_of told matches actor chain state now to refl step n flight taken under.schedule under.grown under.plays (first_choosing rule) under.chooses choosing under.stands (sym named)) more fits
+              ∙ sym is;
           made = under.made ++ actor ∷ [];
           taken = under.taken ++ asked actor chain.next step.answer;
           reached = subst (λ (s : ChainState (List Field)). Reached matches n flight (under.made ++ actor ∷ []) (under.taken ++ asked actor chain.next step.answer) s) (sym step.chain.1) (steps under.made under.taken chain actor step.answer under.reached step.chain.0);
@@ -141,7 +143,7 @@ module _ {O : Type 0} {outside : OutsideGhosts O} (matches : List Field → List
                   schedule = under.schedule ++ actor ∷ [];
                   chosen = chosen-snoc matches under.schedule actor (first_choosing rule) start (under.chooses (events_in fed.answers ++ more) fits)
                       (ap (λ (c : Choosing). chosen c true (played matches under.schedule start).chain) (under.stands (events_in fed.answers ++ more) fits)
-                      ∙ (ap (λ (p : Playing (List Field)). chosen choosing true p.chain) (under.plays.played_is (events_in fed.answers ++ more) fits) ∙ named));
+                      ∙ (ap (λ (p : Playing (List Field)). chosen choosing true p.chain) (under.plays.played_is (events_in fed.answers ++ more) fits) ∙ sym named));
                   begins = record {
                     rest = sends.front.rest;
                     is = trace-snoc matches under.schedule actor start
@@ -171,9 +173,9 @@ module _ {O : Type 0} {outside : OutsideGhosts O} (matches : List Field → List
     ended_fits (Some outcome.Memory) other more may some = absurd (other refl)
 
     -- no actor is enabled
-    pub whole : 1 ≤ flight → now.feed.ended ≢ Some outcome.Memory → chosen choosing true chain ≡ None → (is_stop chain.next ≡ true → (state_of now).stopped ≡ true) → WritesLines matches rule n flight (event_in (Some first)) sent.Whole from now old new
+    pub whole : 1 ≤ flight → now.feed.ended ≢ Some outcome.Memory → None ≡ chosen choosing true chain → (is_stop chain.next ≡ true → (state_of now).stopped ≡ true) → WritesLines matches rule n flight (event_in (Some first)) sent.Whole from now old new
     whole some other none stops =
-        let done : IsDone chain = stuck_is_done matches n flight under.reached some (none-enabled chain choosing true none) in
+        let done : IsDone chain = stuck_is_done matches n flight under.reached some (none-enabled chain choosing true (sym none)) in
         let stop : chain.next ≡ Some given.Stop = none_to_come matches n flight under.reached (finished-sent chain.driver.closes done.finished) in
         let stopped : is_some now.feed.ended ≡ true = stops (ap (λ (o : Option (Given (List Field))). is_stop o) stop) in
         record {

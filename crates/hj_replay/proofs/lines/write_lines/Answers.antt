@@ -68,10 +68,8 @@ loop-actor-preserved g c =
       under = λ n flight first some flights is.
           let step = subst (λ (join : QueryParts). Steps (gives {O = g.row.O.Denot} {outside = g.O.Outside}) (λ _. true) (holds join) c.in-Some.actor c.loop-actor.chain.state from stepped.Did c.write_line.new.chain.state to) held.join (c.in-Whole.ensures.step refl) in
           let sends = subst (λ (join : QueryParts). Appends (g.K.Sink.told c.loop-actor.out) (g.K.Sink.told c.write_line.new.out) (line_text (holds join) c.loop-actor.chain.state c.in-Some.actor)) held.join c.in-Whole.ensures.sends in
-          subst (λ (choosing : Choosing). Underway (holds c.args.chain.now.join) c.args.chooser n flight first c.args.feed.now (g.K.Sink.told c.args.out.now) choosing c.write_line.new.chain.state to (g.K.Sink.told c.write_line.new.out))
-          (sym c.in-Some.ensures.behind)
-          (one_more (holds c.args.chain.now.join) c.args.chooser n flight first c.args.feed.now (g.K.Sink.told c.args.out.now) (choosing_in c.loop-actor.naming) c.loop-actor.chain.state from (g.K.Sink.told c.loop-actor.out) (held.under n flight first some flights is)
-          c.in-Some.actor (sym c.in-Some.ensures.named) to c.write_line.new.chain.state step (g.K.Sink.told c.write_line.new.out) sends);
+          one_more (holds c.args.chain.now.join) c.args.chooser n flight first c.args.feed.now (g.K.Sink.told c.args.out.now) (choosing_in c.loop-actor.naming) c.loop-actor.chain.state from (g.K.Sink.told c.loop-actor.out) (held.under n flight first some flights is)
+          c.in-Some.actor c.in-Some.ensures.named to c.write_line.new.chain.state step (g.K.Sink.told c.write_line.new.out) sends (choosing_in c.name.new.self) c.in-Some.ensures.behind;
       feed = fed_both c.args.feed.now from to held.feed c.write_line.ensures.feed;
       faults = c.in-Whole.ensures.faults ∙ held.faults;
       goes = c.write_line.ensures.goes;
@@ -90,7 +88,7 @@ returns-in_default-write_line g c =
           let sends = front_of c.write_line.result (line_text (holds c.args.chain.now.join) c.loop-actor.chain.state c.in-Some.actor) (g.K.Sink.told c.loop-actor.out) (g.K.Sink.told c.write_line.new.out) c.in_default-write_line.not-Whole
           (subst (λ (join : QueryParts). SendsPiece c.write_line.result (line_text (holds join) c.loop-actor.chain.state c.in-Some.actor) (g.K.Sink.told c.loop-actor.out) (g.K.Sink.told c.write_line.new.out)) held.join c.write_line.ensures.sends) in
           front (holds c.args.chain.now.join) c.args.chooser n flight first c.args.feed.now (g.K.Sink.told c.args.out.now) (choosing_in c.loop-actor.naming) c.loop-actor.chain.state from (g.K.Sink.told c.loop-actor.out) (held.under n flight first some flights is)
-          c.in-Some.actor (sym c.in-Some.ensures.named) to c.write_line.ensures.feed held.ran (g.K.Sink.told c.write_line.new.out) sends c.write_line.result c.in_default-write_line.not-Whole;
+          c.in-Some.actor c.in-Some.ensures.named to c.write_line.ensures.feed held.ran (g.K.Sink.told c.write_line.new.out) sends c.write_line.result c.in_default-write_line.not-Whole;
       feed = fed_both c.args.feed.now from to held.feed c.write_line.ensures.feed;
       faults = subst (λ (n : ℕ). CountsFaults c.write_line.result n (g.K.Sink.faults c.write_line.new.out)) held.faults c.write_line.ensures.faults;
     }
@@ -99,4 +97,4 @@ pub returns-clause-writes : goal.returns-clause-writes
 returns-clause-writes g c = λ n flight first some flights is.
     let held = c.loop-actor.invariant in
     whole (holds c.args.chain.now.join) c.args.chooser n flight first c.args.feed.now (g.K.Sink.told c.args.out.now) (choosing_in c.loop-actor.naming) c.loop-actor.chain.state c.loop-actor.feed (g.K.Sink.told c.loop-actor.out) (held.under n flight first some flights is)
-    flights held.ran (sym c.in_default.ensures.named) held.goes.stopped
+    flights held.ran c.in_default.ensures.named held.goes.stopped
