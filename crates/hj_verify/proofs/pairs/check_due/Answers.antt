@@ -1,9 +1,6 @@
-use Rattle.std.proofs.Common.{List, refl, ap, ◌∙◌}
+use Rattle.std.proofs.Common.{refl, ◌∙◌}
 use Rattle.std.proofs.lemmas.Result.{err_from_is_err_and}
-use Rattle.hj_value.specs.declared.field.Field.{Field}
-use Rattle.hj_query.specs.QueryParts.{QueryParts}
-use Rattle.hj_chain.specs.Chain.{Contents}
-use Rattle.hj_chain.proofs.Draining.{fewer}
+use Rattle.hj_chain.proofs.Draining.{fewer, join-stays, state-stays}
 use Rattle.hj_trace.proofs.Streams.{changes_then}
 use Rattle.hj_verify.proofs.Due.{gave_all, gave_more}
 use Rattle.hj_verify.proofs.pairs.check_due.Goals as goal
@@ -27,8 +24,8 @@ pub loop-pair-preserved : goal.loop-pair-preserved
 loop-pair-preserved g c =
     let held = c.loop-pair.invariant in
     record {
-      state = ap (λ (k : Contents (List Field) QueryParts). k.state) c.pair.ensures.others ∙ held.state;
-      join = ap (λ (k : Contents (List Field) QueryParts). k.join) c.pair.ensures.others ∙ held.join;
+      state = state-stays c.loop-pair.chain c.pair.new.self c.pair.ensures.others ∙ held.state;
+      join = join-stays c.loop-pair.chain c.pair.new.self c.pair.ensures.others ∙ held.join;
       goes = λ feed goes. c.pair.ensures.goes feed (held.goes feed goes);
       role = c.check_pair.ensures.role ∙ held.role;
       read = c.check_pair.ensures.read;

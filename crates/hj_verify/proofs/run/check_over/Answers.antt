@@ -1,4 +1,4 @@
-use Rattle.std.proofs.Common.{ℕ, [], ◌∷◌, refl, sym, ap₂, subst, ◌∙◌}
+use Rattle.std.proofs.Common.{◌≡◌, length, ℕ, [], ◌∷◌, refl, sym, ap₂, subst, ◌∙◌}
 use Rattle.std.specs.Prelude.{Err}
 use Rattle.hj_query.specs.QueryParts.{QueryParts}
 use Rattle.hj_replay.specs.declared.ready.AlwaysReady.{AlwaysReady}
@@ -39,6 +39,7 @@ returns-clause-outside g c =
 pub returns-clause-checks : goal.returns-clause-checks
 returns-clause-checks g c =
     let begins = c.in-Ok.ensures.begins in
-    let is = begins.1 ∙ ap₂ (λ (join : QueryParts) (n : ℕ). new_chain join n c.args.size.flight begins.0) c.new-join.ensures c.requires.stores.left.count in
+    let made : c.in-Ok.chain ≡ new_chain c.new-join.result (length c.args.stores.left.items) c.args.size.flight begins.0 = begins.1 in
+    let is = made ∙ ap₂ (λ (join : QueryParts) (n : ℕ). new_chain join n c.args.size.flight begins.0) c.new-join.ensures c.requires.stores.left.count in
     c.check_begun-checked.ensures.checks c.args.query.now c.args.size.cores c.args.size.flight (feeding c.args.feed.now)
     (unplayed {O = g.row.O.Denot} {outside = g.O.Outside} c.args.query.now c.args.size.cores c.args.size.flight c.requires.unasked.0 c.args.feed.now c.requires.unasked.1 c.new.new.feed begins.0 begins.2 c.args.size.some_cores c.in-Ok.chain is)
