@@ -289,15 +289,22 @@ front_cut inside (b ∷ bytes) more = by_test ((b == 10) && not inside) (front_c
     by_test true behind within = one_piece (b ∷ []) (split false bytes) (split false (bytes ++ more)) behind
     by_test false behind within = one_byte (split now bytes).pieces (split now (bytes ++ more)).pieces (split now bytes).rest (split now (bytes ++ more)).rest within
 
+-- the lines are those of the first pairs
+abbrev AreOfFirst : List (List ℕ) → Pairs → Type 0
+AreOfFirst lines pairs = (front : Pairs) × (rest : Pairs) × (pairs ≡ front ++ rest) × (lines ≡ map relay_line front)
+
+front_more : (line : List ℕ) (lines : List (List ℕ)) (pairs : Pairs) (one : Pair (List Field)) → relay_line one ≡ line → AreOfFirst lines pairs → AreOfFirst (line ∷ lines) (one ∷ pairs)
+front_more line lines pairs one same found =
+    (one ∷ found.0, found.1, ap (λ (behind : Pairs). one ∷ behind) found.2, ap (λ (first : List ℕ). first ∷ lines) (sym same) ∙ ap (λ (behind : List (List ℕ)). relay_line one ∷ behind) found.3)
+
 -- the lines that begin those of pairs are those of the first pairs
-front_pairs : (lines : List (List ℕ)) (pairs : Pairs) → IsPrefix lines (map relay_line pairs) → (front : Pairs) × (rest : Pairs) × (pairs ≡ front ++ rest) × (lines ≡ map relay_line front)
+front_pairs : (lines : List (List ℕ)) (pairs : Pairs) → IsPrefix lines (map relay_line pairs) → AreOfFirst lines pairs
 front_pairs [] pairs h = ([], pairs, refl, refl)
 front_pairs (line ∷ lines) [] h = let wrong = h.is in cc
 front_pairs (line ∷ lines) (one ∷ pairs) h =
     let same : relay_line one ≡ line = let is = h.is in cc in
     let others : map relay_line pairs ≡ lines ++ h.rest = let is = h.is in cc in
-    let found = front_pairs lines pairs (record { rest = h.rest; is = others }) in
-    (one ∷ found.0, found.1, ap (λ (behind : Pairs). one ∷ behind) found.2, ap (λ (first : List ℕ). first ∷ lines) (sym same) ∙ ap (λ (behind : List (List ℕ)). relay_line one ∷ behind) found.3)
+    front_more line lines pairs one same (front_pairs lines pairs (record { rest = h.rest; is = others }))
 
 -- ---- the whole relay
 
