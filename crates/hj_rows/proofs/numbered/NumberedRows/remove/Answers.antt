@@ -75,10 +75,10 @@ returns-clause-places g c = λ long.
 
 pub returns-in_default-take-clause-few : goal.returns-in_default-take-clause-few
 returns-in_default-take-clause-few g c =
-    let emptied = (c.get_mut.follows.holds c.take.new.self).0 ∙ rw c.take.ensures.after refl in
-    omega (arith, emptied-length c.args.no c.args.self.now.places.entries (c.get_mut.follows.lender c.take.new.self).entries emptied)
+    let same = emptied-length c.args.no c.args.self.now.places.entries (c.get_mut.follows.lender c.take.new.self).entries ((c.get_mut.follows.holds c.take.new.self).0 ∙ rw c.take.ensures.after refl) in
+    omega arith
 
 pub returns-clause-few : goal.returns-clause-few
 returns-clause-few g c =
-    let emptied = (c.get_mut.follows.holds c.take.new.self).0 ∙ rw c.take.ensures.after refl in
-    omega (arith, emptied-length c.args.no c.args.self.now.places.entries (c.get_mut.follows.lender c.take.new.self).entries emptied, c.count_empty.ensures.few)
+    let same = emptied-length c.args.no c.args.self.now.places.entries (c.get_mut.follows.lender c.take.new.self).entries ((c.get_mut.follows.holds c.take.new.self).0 ∙ rw c.take.ensures.after refl) in
+    omega (arith, c.count_empty.ensures.few)
