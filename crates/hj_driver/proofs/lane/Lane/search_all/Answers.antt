@@ -7,6 +7,6 @@ use Rattle.hj_driver.proofs.lane.Lane.search_all.Goals as goal
 pub returns : goal.returns
 returns c =
     let facts = c.binary_search_by_key.ensures in
-    let by_key = facts.position (λ (a : OutstandingArrival). a.no.0) (answers_always _ _ _ (λ f a r g called. search rules)) in
+    let by_key = facts.position (λ (a : OutstandingArrival). a.no.0) (search (rules, answers_always)) in
     let found = searched c.self.inside.arrivals.items c.self.invariant.rising c.args.no.0 _ _ c.self.inside.arrivals.ok.0 facts.bound by_key in
     rw (← c.self.view_is) (record { found = found.found; absent = found.absent })
