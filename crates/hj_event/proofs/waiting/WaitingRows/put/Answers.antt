@@ -23,7 +23,7 @@ invariant_of-self-else-is_before c =
     let fits : FitsSigned w64 c.args.time = search rules in
     let own = to_z-of_z w64 c.args.time fits ∙ c.requires in
     let test = test_is _ c.last_time.result c.is_before.result (Some (time_of c.args.row)) (last_time (timed_rows queue)) (ap Some own) c.last_time.ensures c.is_before.ensures in
-    subst (λ (rows : List TimedRow). AreTimed rows × AreWaiting (timed_rows rows) c.self.inside.late) (sym c.in_ok-push_back.ensures.items)
+    subst (λ (rows : List TimedRow). AreTimed rows × AreWaiting (timed_rows rows) c.self.inside.late) (sym {A = List TimedRow} c.in_ok-push_back.ensures.items)
     (push_timed queue c.self.inside.late _ own c.self.invariant.0 c.self.invariant.1 (test ∙ c.if-is_before.false))
 
 pub returns-then-is_before : goal.returns-then-is_before
