@@ -1,17 +1,15 @@
 -- Columns of keys through the changes of the places beside them.
-use Rattle.std.proofs.Common.{◌≡◌, ℕ, zero, suc, ◌+◌, ◌%◌, ◌≤◌, ◌<◌, true, ◌&&◌, ◌↔◌, nat_le, Result, Ok, Err, OnOk, List, [], ◌∷◌, ◌++◌, length, map, get_or, All, Some, Option, option_map, slice_get, arith, refl, sym, ap, subst, ◌∙◌}
+use Rattle.std.proofs.Common.{◌≡◌, ℕ, zero, suc, ◌%◌, ◌≤◌, ◌<◌, true, ◌&&◌, nat_le, Result, Ok, Err, OnOk, List, [], ◌∷◌, ◌++◌, length, map, get_or, All, Some, Option, option_map, slice_get, arith, refl, sym, ap, subst, ◌∙◌}
 use Rattle.std.proofs.lemmas.Bool.Decides.{nat_tests}
 use Rattle.std.proofs.lemmas.List.{length-append, length-map}
-use Rattle.std.proofs.lemmas.List.Elements.{All-weaker}
 use Rattle.std.proofs.lemmas.Simd.{map-map}
-use Rattle.hj_base.specs.declared.numbers.Side.{Side}
 use Rattle.hj_rows.specs.declared.key_filter.KeyRange.{KeyRange}
 use Rattle.hj_rows.specs.declared.place.RestingRow.{RestingRow}
 use Rattle.hj_rows.specs.Keys.{IsKeyWithin}
-use Rattle.hj_rows.specs.Places.{place_rows, StayInPlace}
+use Rattle.hj_rows.specs.Places.{place_rows}
 use Rattle.hj_rows.proofs.Rows.{Places}
 use Rattle.hj_columns.specs.declared.key_column.KeyColumn.{KeyColumn}
-use Rattle.hj_columns.specs.Columns.{filters_of, AreIn, AreLetIn, HasWholeBlocks, IsKeyColumn, Waits}
+use Rattle.hj_columns.specs.Columns.{filters_of, AreIn, AreLetIn, IsKeyColumn, Waits}
 use Rattle.hj_columns.specs.Masks.{is_in}
 use Rattle.hj_columns.specs.Store.{keys_behind}
 use Rattle.hj_columns.proofs.Listing.{agree-map, map-agree, within-length}
@@ -29,28 +27,6 @@ module _ {P F : Type 0} (key : F → P → ℕ) where
 
   pub put-waits : (places : List (Option P)) (at : ℕ) (row : P) (old new : KeyColumn F) (k : ℕ) → length places ≡ at → new.filter ≡ old.filter → k ≡ key old.filter row → slice_get new.keys.items at ≡ Some k → Waits key places row new
   put-waits places at row old new k long same is put = ap (slice_get new.keys.items) long ∙ put ∙ ap Some is ∙ ap (λ filter. Some (key filter row)) (sym same)
-
-  -- keys that were made anew, below a place
-  pub filled : (places : List (Option P)) (column : KeyColumn F) → HasWholeBlocks places column
-      → ((at : ℕ) (row : P) → at < length places → slice_get places at ≡ Some (Some row) → slice_get column.keys.items at ≡ Some (key column.filter row)) → IsKeyColumn key places column
-  filled places column room keyed = record { room = room; keyed = λ at row e. keyed at row (within-length places at (Some row) e) e }
-
-  -- rows that stay in their places
-  stays : (before after : List (Option P)) → length after ≡ length before → StayInPlace before after → (column : KeyColumn F) → IsKeyColumn key before column → IsKeyColumn key after column
-  stays before after long stay column is = record {
-    room = record { keys = let keys = is.room.keys in omega (arith, keys, long); blocks = is.room.blocks };
-    keyed = λ at row e. is.keyed at row (stay at row e);
-  }
-
-  pub all-stay : (before after : List (Option P)) (columns : List (KeyColumn F)) → length after ≡ length before → StayInPlace before after → All (IsKeyColumn key before) columns → All (IsKeyColumn key after) columns
-  all-stay before after columns long stay all = All-weaker (IsKeyColumn key before) (IsKeyColumn key after) (stays before after long stay) columns all
-
-  -- fewer places, whatever rows they have
-  roomy : (before after : List (Option P)) → length after ≤ length before → (column : KeyColumn F) → IsKeyColumn key before column → HasWholeBlocks after column
-  roomy before after few column is = record { keys = let keys = is.room.keys in omega (arith, keys, few); blocks = is.room.blocks }
-
-  pub all-roomy : (before after : List (Option P)) (columns : List (KeyColumn F)) → length after ≤ length before → All (IsKeyColumn key before) columns → All (HasWholeBlocks after) columns
-  all-roomy before after columns few all = All-weaker (IsKeyColumn key before) (HasWholeBlocks after) (roomy before after few) columns all
 
   get-append : {A : Type 0} (xs : List A) (x y : A) (k : ℕ) → slice_get (xs ++ x ∷ []) k ≡ Some y → (P : Type 0) → (slice_get xs k ≡ Some y → P) → (k ≡ length xs → x ≡ y → P) → P
   get-append [] x y zero e P first last = last refl (some_same x y e)
@@ -118,19 +94,6 @@ module _ {P F : Type 0} (key : F → P → ℕ) where
 pub length-places : {P : Type 0} (es : Places P) → length (place_rows es) ≡ length es
 length-places {P} es = length-map es (λ (place : ℕ × Option (RestingRow P)). option_map (λ rest. rest.row) place.1)
 
--- a store with no rows
-pub empty-column : {P F : Type 0} (key : F → P → ℕ) (places : List (Option P)) (column : KeyColumn F) → places ≡ [] → column.keys.items ≡ [] → IsKeyColumn key places column
-empty-column {P} {F} key places column none empty = subst (λ (ps : List (Option P)). IsKeyColumn key ps column) (sym none) (record {
-  room = record { keys = omega arith; blocks = ap (λ (keys : List ℕ). length keys % 64) empty };
-  keyed = λ at row e. absurd (no_place at row e);
-})
-  where
-    no_place : (at : ℕ) (row : P) → slice_get [] at ≡ Some (Some row) → ⊥
-    no_place at row e = cc
-
-pub fewer-places : {P : Type 0} (before after : Places P) (a b : ℕ) → a ≡ length before → b ≡ length after → length after ≤ length before + 1 → (b ≡ a + 1 → ⊥) → length (place_rows after) ≤ length (place_rows before)
-fewer-places before after a b ea eb few apart = grind (arith, length-places before, length-places after)
-
 -- the keys that stand behind the last place wait for a row
 pub waits-behind : {P F : Type 0} (key : F → P → ℕ) (places : List (Option P)) (columns : List (KeyColumn F)) (row : P) → keys_behind places columns ≡ map (λ filter. Some (key filter row)) (filters_of columns) → All (Waits key places row) columns
 waits-behind {P} {F} key places columns row e =
@@ -141,14 +104,6 @@ pub behind-waits : {P F : Type 0} (key : F → P → ℕ) (places : List (Option
 behind-waits {P} {F} key places columns row waits =
     map-agree (λ (column : KeyColumn F). slice_get column.keys.items (length places)) (λ (column : KeyColumn F). Some (key column.filter row)) columns waits
     ∙ sym (map-map (λ (filter : F). Some (key filter row)) (λ (column : KeyColumn F). column.filter) columns)
-
--- probes may be made by the same joins, where the filters are the same
-pub suits-kept : {F : Type 0} (K : F → Type 0) (new old : Side) (after before : List F) (side : Side) → new ≡ old → after ≡ before
-    → ((new ≡ side) × All K after) ↔ ((old ≡ side) × All K before)
-suits-kept {F} K new old after before side same kept = (
-  λ s. (sym same ∙ s.0, subst (λ (fs : List F). All K fs) kept s.1),
-  λ s. (same ∙ s.0, subst (λ (fs : List F). All K fs) (sym kept) s.1),
-)
 
 pub on-ok-then : {T E P Q : Type 0} (r : Result T E) → (P → Q) → OnOk r P → OnOk r Q
 on-ok-then (Ok x) more p = more p

@@ -70,12 +70,3 @@ module _ (test : List Field → Bool) (places : List RowPlace) where
       by : (rest : Option (RestingRow (List Field))) → place.rest ≡ rest → joining test rest ≡ Some row → IsSorting new (suc at)
       by None is some = absurd cc
       by (Some rest) is some = sorts-joined test (by_number (matches test places)) rows new place.no (Some rest) (left_at at places) (left_at (suc at) places) row some (before at place rest e is) sorting inserts looks
-
-  drop-past : (ps : List RowPlace) (at : ℕ) → length ps ≤ at → drop at ps ≡ []
-  drop-past [] zero le = refl
-  drop-past [] (suc at) le = refl
-  drop-past (p ∷ ps) zero le = absurd (omega (arith, le))
-  drop-past (p ∷ ps) (suc at) le = drop-past ps at (omega (arith, le))
-
-  pub sorted-all : (rows : List (ℕ × List Field)) (at : ℕ) → length places ≤ at → (sorting : IsSorting rows at) → Sorts test (by_number (matches test places)) rows []
-  sorted-all rows at over sorting = subst (Sorts test (by_number (matches test places)) rows) (ap (λ ps. full_places (rows_at ps)) (drop-past places at over)) sorting

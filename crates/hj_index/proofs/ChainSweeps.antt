@@ -149,27 +149,6 @@ linking-moved own start rising items last count at l more place rest e some new 
     numbers-moved [] others = ap (λ n. n ∷ number_list others) numbered
     numbers-moved (first ∷ done) others = ap (λ ns. first.no ∷ ns) (numbers-moved done others)
 
--- at last, none is left
-pub record Linked (own : ℕ) (start : List RowPlace) (rising : Bool) (items : List RowPlace) (last : ℕ → Option ℕ) : Type 0 where
-  pub rows : rows_at items ≡ rows_at start
-  pub linked : AreLinked own 0 items last
-  pub full : length items ≡ length (rows_at items)
-  pub ascending : rising ≡ true → IsAscending 0 items
-
-pub linking-ends : (own : ℕ) (start : List RowPlace) (rising : Bool) (items : List RowPlace) (last : ℕ → Option ℕ) (count at : ℕ) → Linking own start rising items last count at → length start ≤ at → Linked own start rising items last
-linking-ends own start rising items last count at l over = by l.left refl
-  where
-    by : (left : List RowPlace) → l.left ≡ left → Linked own start rising items last
-    by [] is =
-        let all : items ≡ l.done = l.items_are ∙ ap (λ left. left ++ l.done) is in
-        let whole : l.done ++ l.left ≡ items = ap (λ left. l.done ++ left) is ∙ (append-nil l.done ∙ sym all) in record {
-          rows = sym (ap rows_at whole) ∙ l.rows;
-          linked = subst (λ places. AreLinked own 0 places last) (sym all) l.linked;
-          full = subst (λ places. length places ≡ length (rows_at places)) (sym all) l.full;
-          ascending = λ rises. subst (IsAscending 0) whole (l.ascending rises);
-        }
-    by (place ∷ left) is = absurd (omega (arith, over, l.to_go, ap length is))
-
 -- ---- keys of no place
 
 -- a key that is swept out has no place
