@@ -132,9 +132,9 @@ module _ {P : Type 0} where
       → found ≡ answer_to event (cause_after state.flight event turns) → found ≡ admitted_as.Send (port_of event) (message_of event)
   sent-as state turns event stands well free found is = is ∙ ap (answer_to event) (sym (cause_of-same event state turns stands well) ∙ free)
 
-  pub never-waits : (state : DriverState) (turns : List (DriverTurn P)) (event : happening.Event P) → driver.StandsFor state turns → IsWellFormed (admitted turns ++ event ∷ []) → cause_of event state ≡ None → (why : Why) (back : happening.Event P)
-      → admitted_as.Wait why back ≡ answer_to event (cause_after state.flight event turns) → ⊥
-  never-waits state turns event stands well free why back is = let e = sent-as state turns event stands well free (admitted_as.Wait why back) is in cc
+  pub never-waits : (state : DriverState) (turns : List (DriverTurn P)) (event : happening.Event P) → driver.StandsFor state turns → IsWellFormed (admitted turns ++ event ∷ []) → cause_of event state ≡ None → (found : Admitted P)
+      → found ≡ answer_to event (cause_after state.flight event turns) → (why : Why) (back : happening.Event P) → found ≡ admitted_as.Wait why back → ⊥
+  never-waits state turns event stands well free found is why back waits = let e = sent-as state turns event stands well free found is in cc
 
   pub notes-put : (ports ports' : Ports P) (number : ℕ) (event : happening.Event P) (port : Side) (message : Msg P) → port ≡ port_of event → message ≡ message_of event
       → ports'.left.journal ≡ ports.left.journal ++ only_at port Left (put number message) → ports'.right.journal ≡ ports.right.journal ++ only_at port Right (put number message) → Notes number (admission event) ports ports'

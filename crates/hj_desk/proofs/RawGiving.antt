@@ -89,9 +89,9 @@ module _ {P D : Type 0} (takes : D → Item P → Drained → D → Type 0) wher
     answered-more Kept offers item each = all-kept answer_in offers (record { item = item; answer = Kept } ∷ []) each refl
     answered-more Refused offers item each = last-refused answer_in offers (record { item = item; answer = Refused } ∷ []) each (0, refl)
 
-    pub raw-gives : (old now : RawOutlet P D) → GivesDue (GivesRaw takes) collector Kept old now → (left : WaitingItems P) (filled : D) (item : Item P) → now.items.items ≡ item ∷ left.items → left.mark ≡ now.items.mark → (answer : Drained) → takes now.drain item answer filled
+    one-given : (old now : RawOutlet P D) → GivesDue (GivesRaw takes) collector Kept old now → (left : WaitingItems P) (filled : D) (item : Item P) → now.items.items ≡ item ∷ left.items → left.mark ≡ now.items.mark → (answer : Drained) → takes now.drain item answer filled
         → GivesDue (GivesRaw takes) collector answer old (record { items = left; drain = filled })
-    raw-gives old now before left filled item first marked answer took begun cores taken follows given =
+    one-given old now before left filled item first marked answer took begun cores taken follows given =
         let so_far = before begun cores taken follows given in
         let one : Offer P = record { item = item; answer = answer } in
         let pushed : items_in (so_far.offers ++ one ∷ []) ≡ items_in so_far.offers ++ item ∷ [] = map-append (λ (o : Offer P). o.item) so_far.offers (one ∷ []) in
@@ -105,6 +105,12 @@ module _ {P D : Type 0} (takes : D → Item P → Drained → D → Type 0) wher
           waits = λ lasts. all;
           mark = λ lasts. marked ∙ so_far.mark refl;
         }
+
+    -- `rest` is what waits behind the call that gave it
+    pub raw-gives : (old now : RawOutlet P D) → GivesDue (GivesRaw takes) collector Kept old now → (left : WaitingItems P) (filled : D) (item : Item P) → now.items.items ≡ item ∷ left.items → left.mark ≡ now.items.mark → (answer : Drained) → takes now.drain item answer filled
+        → (rest : WaitingItems P) → rest ≡ left → GivesDue (GivesRaw takes) collector answer old (record { items = rest; drain = filled })
+    raw-gives old now before left filled item first marked answer took rest same =
+        subst (λ (w : WaitingItems P). GivesDue (GivesRaw takes) collector answer old (record { items = w; drain = filled })) (sym same) (one-given old now before left filled item first marked answer took)
 
 -- what holds whatever was refused
 pub if-refused : {T E : Type 0} (result : Result T E) (A : Type 0) → A → OnErr result A

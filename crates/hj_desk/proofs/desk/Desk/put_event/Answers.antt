@@ -21,8 +21,8 @@ unreachable-requires-in_default-admit g c =
     let history = c.requires.stands.1.0 in
     let stood = c.requires.stands.1.1 in
     let well = next-well c.args.self.now.next event feed (turns_of history.log) history.events known stood.fed in
-    never-waits c.args.self.now.driver (turns_of history.log) event stood.drives.stands well free c.in_default-admit.field-0 c.in_default-admit.field-1
-    (sym c.in_default-admit.is ∙ c.admit.ensures.answer (turns_of history.log) stood.drives.stands well)
+    never-waits c.args.self.now.driver (turns_of history.log) event stood.drives.stands well free c.admit.result (c.admit.ensures.answer (turns_of history.log) stood.drives.stands well)
+    c.in_default-admit.field-0 c.in_default-admit.field-1 c.in_default-admit.is
 
 pub returns : goal.returns
 returns g c =

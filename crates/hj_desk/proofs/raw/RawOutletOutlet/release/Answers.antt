@@ -13,21 +13,22 @@ returns-then-eq-clause-due g c =
     let now = c.loop-item.self in
     let collector = c.args._collector.now in
     let refused : c.give.result ≡ Refused = search rules in
-    subst (λ (w : WaitingItems g.row.P.Denot). GivesDue (GivesRaw g.D.RawDrain.takes) collector Refused c.args.self.now (record { items = w; drain = c.give.new.self.drain })) (sym c.give.ensures.items)
-    (raw-gives g.D.RawDrain.takes collector c.args.self.now now c.loop-item.invariant c.next.new.self c.give.new.self.drain (item_of c.in-Some.item) c.in-Some.ensures.first c.next.ensures.mark Refused
-    (subst (λ (answer : Drained). g.D.RawDrain.takes now.drain (item_of c.in-Some.item) answer c.give.new.self.drain) refused c.give.ensures.takes))
+    raw-gives g.D.RawDrain.takes collector c.args.self.now now c.loop-item.invariant c.next.new.self c.give.new.self.drain (item_of c.in-Some.item) c.in-Some.ensures.first c.next.ensures.mark Refused
+    (subst (λ (answer : Drained). g.D.RawDrain.takes now.drain (item_of c.in-Some.item) answer c.give.new.self.drain) refused c.give.ensures.takes) c.give.new.self.items c.give.ensures.items
 
 pub loop-item-smaller : goal.loop-item-smaller
-loop-item-smaller g c = let fewer = ap length c.in-Some.ensures.first in omega (arith, fewer, ap (λ (w : WaitingItems g.row.P.Denot). length w.items) c.give.ensures.items)
+loop-item-smaller g c =
+    let fewer = ap length c.in-Some.ensures.first in
+    let same : length c.give.new.self.items.items ≡ length c.next.new.self.items = λ i. length (c.give.ensures.items i).items in
+    omega (arith, fewer)
 
 pub loop-item-preserved : goal.loop-item-preserved
 loop-item-preserved g c =
     let now = c.loop-item.self in
     let collector = c.args._collector.now in
     let other : c.give.result ≢ Refused = search rules in
-    subst (λ (w : WaitingItems g.row.P.Denot). GivesDue (GivesRaw g.D.RawDrain.takes) collector Kept c.args.self.now (record { items = w; drain = c.give.new.self.drain })) (sym c.give.ensures.items)
-    (raw-gives g.D.RawDrain.takes collector c.args.self.now now c.loop-item.invariant c.next.new.self c.give.new.self.drain (item_of c.in-Some.item) c.in-Some.ensures.first c.next.ensures.mark Kept
-    (subst (λ (answer : Drained). g.D.RawDrain.takes now.drain (item_of c.in-Some.item) answer c.give.new.self.drain) (was-kept c.give.result other) c.give.ensures.takes))
+    raw-gives g.D.RawDrain.takes collector c.args.self.now now c.loop-item.invariant c.next.new.self c.give.new.self.drain (item_of c.in-Some.item) c.in-Some.ensures.first c.next.ensures.mark Kept
+    (subst (λ (answer : Drained). g.D.RawDrain.takes now.drain (item_of c.in-Some.item) answer c.give.new.self.drain) (was-kept c.give.result other) c.give.ensures.takes) c.give.new.self.items c.give.ensures.items
 
 pub returns-clause-due : goal.returns-clause-due
 returns-clause-due g c =
