@@ -1,9 +1,9 @@
 -- Lists that agree place by place.
-use Rattle.std.proofs.Common.{◌≡◌, ℕ, ◌+◌, ◌<◌, ◌≤◌, List, [], ◌∷◌, ◌++◌, length, take, drop, get_or, Some, sym, ap, ◌∙◌, arith, length-drop}
+use Rattle.std.proofs.Common.{◌≡◌, ℕ, ◌+◌, ◌<◌, ◌≤◌, List, [], ◌∷◌, ◌++◌, length, take, drop, get_or, sym, ap, ◌∙◌, arith, length-drop}
 use Rattle.std.specs.Prelude.{unwrap_or}
 use Rattle.std.specs.List.{slice_get}
-use Rattle.std.proofs.lemmas.List.{get_or-drop, get_or-take, take_more}
-use Rattle.std.proofs.lemmas.Option.{slice_get-get_or, unwrap_or-slice_get}
+use Rattle.std.proofs.lemmas.List.{get_or-drop, take_more}
+use Rattle.std.proofs.lemmas.Option.{unwrap_or-slice_get}
 
 module _ {X : Type 0} (d : X) where
   -- the member at a place, some places on
@@ -18,9 +18,3 @@ module _ {X : Type 0} (d : X) where
       let member : get_or (drop from xs) at d ≡ get_or ys at d =
       at_place xs from at ∙ (sym (unwrap_or-slice_get xs (from + at) d) ∙ (ap (λ o. unwrap_or o d) same ∙ unwrap_or-slice_get ys at d)) in
       take_more (drop from xs) at d within ∙ (ap (λ front. front ++ get_or (drop from xs) at d ∷ []) so_far ∙ (ap (λ one. take at ys ++ one ∷ []) member ∙ sym (take_more ys at d lt)))
-
-  -- What agrees agrees at each place.
-  pub agree : (xs ys : List X) (from at : ℕ) → from + length ys ≤ length xs → at < length ys → take (length ys) (drop from xs) ≡ ys → slice_get xs (from + at) ≡ slice_get ys at
-  agree xs ys from at fits lt same =
-      slice_get-get_or xs (from + at) d (omega (arith, fits))
-      ∙ (ap Some (sym (at_place xs from at) ∙ (sym (get_or-take (length ys) (drop from xs) at d lt) ∙ ap (λ zs. get_or zs at d) same)) ∙ sym (slice_get-get_or ys at d lt))
