@@ -8,5 +8,4 @@ pub mod Ran
 pub mod RanRaw
 pub mod Room
 pub mod RunsCrew
-pub mod Stores
 pub mod Teams

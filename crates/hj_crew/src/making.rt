@@ -3,11 +3,11 @@ ghost use Rattle.std.specs.Prelude.{◌≡◌, ◌+◌, ◌<◌, ◌≤◌, ◌�
 ghost use Rattle.hj_base.specs.declared.numbers.Side.TheVariants.{Left, Right};
 ghost use Rattle.hj_msg.specs.Core.{empty_state};
 ghost use Rattle.hj_msg.specs.Feed.{FeedState, IsFresh};
+ghost use Rattle.hj_msg.specs.ReadyStores.{AreReadyOn};
 ghost use Rattle.hj_core.specs.Contents.{state_of};
 ghost use Rattle.hj_desk.specs.Desk.{StandsFor, nothing_happened};
 ghost use Rattle.hj_crew.specs.Cores.{AreCrew, AreEndsFor, AreForDesk, AreUnused, GivesEnds, MakesTeams};
 ghost use Rattle.hj_crew.specs.Room.{IsRoomOf};
-ghost use Rattle.hj_crew.specs.Stores.{AreReadyOn};
 
 use crate::deal::{deal, empty_teams, team_of};
 use crate::ends::ChainEnds;

@@ -2,12 +2,12 @@
 ghost use Rattle.std.specs.Prelude.{◌≡◌, IfOk, OnErr};
 ghost use Rattle.hj_base.specs.declared.numbers.Side.TheVariants.{Left, Right};
 ghost use Rattle.hj_msg.specs.Feed.{IsFresh};
+ghost use Rattle.hj_msg.specs.ReadyStores.{AreReadyOn};
 ghost use Rattle.hj_crew.specs.Begun.{IsManned};
 ghost use Rattle.hj_crew.specs.Ran.{RunsOnThreads};
 ghost use Rattle.hj_crew.specs.RanRaw.{RunsRaw};
 ghost use Rattle.hj_crew.specs.Room.{IsRoomFor};
 ghost use Rattle.hj_crew.specs.RunsCrew.{RunsCrew};
-ghost use Rattle.hj_crew.specs.Stores.{AreReadyOn};
 
 use crate::begun::{BegunRun, Returned};
 use crate::closing::close_crew;

@@ -129,7 +129,7 @@ impl<P: Share + Drop> Desk<P> {
                 if self.driver.waits(event).is_some() {
                     return DeskStep::Idle;
                 }
-                let port = port_of(event);
+                let port = event.port();
                 if !self.ports.has_room(port) {
                     return DeskStep::Idle;
                 }
@@ -253,23 +253,5 @@ impl<P: Share + Drop> Desk<P> {
         self.ports.put_closes(self.turns);
         self.turns += 1;
         DeskStep::Did
-    }
-}
-
-/// Returns the port at which an event is put.
-#[inline(always)]
-fn port_of<P>(event: &Event<P>) -> Side
-    ensures { result ≡ port_of event.now }
-{
-    match event {
-        Event::Arrive { side, .. } | Event::Quiet { side, .. } => *side,
-        Event::Expire {
-            side: Side::Left,
-            ..
-        } => Side::Right,
-        Event::Expire {
-            side: Side::Right,
-            ..
-        } => Side::Left,
     }
 }

@@ -17,6 +17,7 @@ pub mod Order
 pub mod Overtaking
 pub mod Punctuation
 pub mod Quiet
+pub mod ReadyStores
 pub mod Run
 pub mod RunsJoin
 pub mod Store

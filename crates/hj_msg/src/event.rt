@@ -28,6 +28,29 @@ pub enum Event<P> {
     },
 }
 
+impl<P> Event<P> {
+    ghost use Rattle.std.specs.Prelude.{◌≡◌};
+    ghost use Rattle.hj_msg.specs.Driver.{port_of};
+
+    /// Returns the port of the chain on which its message is put.
+    #[inline(always)]
+    pub fn port(&self) -> Side
+        ensures { result ≡ port_of self.now }
+    {
+        match self {
+            Event::Arrive { side, .. } | Event::Quiet { side, .. } => *side,
+            Event::Expire {
+                side: Side::Left,
+                ..
+            } => Side::Right,
+            Event::Expire {
+                side: Side::Right,
+                ..
+            } => Side::Left,
+        }
+    }
+}
+
 /// Two rows that are joined, each with the number of its arrival.
 #[derive(Debug, Drop)]
 pub struct Pair<P> {

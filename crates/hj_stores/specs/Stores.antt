@@ -1,7 +1,8 @@
 -- The stores that a chain begins with.
-use Rattle.std.specs.Prelude.{◌≡◌, ℕ, List, [], All, length}
+use Rattle.std.specs.Prelude.{◌≡◌, ℕ, List, [], All}
 use Rattle.hj_base.specs.declared.numbers.Side.{Side}
 use Rattle.hj_base.specs.declared.numbers.Side.TheVariants.{Left, Right}
+use Rattle.hj_msg.specs.ReadyStores.{AreReadyOn}
 use Rattle.hj_msg.specs.Store.{Resting}
 use Rattle.hj_query.specs.QueryParts.{QueryParts}
 use Rattle.hj_value.specs.declared.field.Field.{Field}
@@ -15,13 +16,6 @@ use Rattle.hj_index.specs.OrderedStore.{JoinsNear}
 use Rattle.hj_stores.specs.declared.stores.ChainStores.{ChainStores}
 use Rattle.hj_stores.specs.declared.stores.PlannedStores.{PlannedStores}
 use Rattle.hj_stores.specs.declared.stores.PlannedStores.TheVariants as planned
-
--- The stores of a side are ready for a chain of this many cores that joins so: each core has one, they have no rows, and probes may be
--- made by the join.
-pub record AreReadyOn {P J S : Type 0} (entries : S → List (Resting P)) (suits : S → Side → J → Type 0) (side : Side) (join : J) (cores : ℕ) (stores : List S) : Type 0 where
-  pub count : length stores ≡ cores
-  pub empty : All (λ store. entries store ≡ []) stores
-  pub suit : All (λ store. suits store side join) stores
 
 -- The stores of both sides, of one kind, are ready for a chain of this many cores that joins so.
 pub record AreReady {P J S : Type 0} (entries : S → List (Resting P)) (suits : S → Side → J → Type 0) (join : J) (cores : ℕ) (stores : ChainStores S) : Type 0 where
