@@ -3,6 +3,7 @@
 #![tactic(auto)]
 
 mod bytes;
+mod full;
 mod gate;
 mod lcg;
 mod mem_outside;
@@ -16,6 +17,7 @@ mod stream;
 mod text;
 
 pub use bytes::Bytes;
+pub use full::Full;
 pub use gate::{Gate, OpenGate};
 pub use lcg::Lcg;
 pub use mem_outside::MemOutside;

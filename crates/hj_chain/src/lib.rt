@@ -15,6 +15,6 @@ pub use chain::Chain;
 pub use laws::{
     chains_give_the_join, chains_hold_back_few, emission_begins_the_join, steps_give_a_run,
 };
-pub use plain_link::{Full, PlainLink};
+pub use plain_link::PlainLink;
 pub use progress::{done_is_complete, some_actor_is_enabled, steps_are_few};
 pub use serial::Chooser;

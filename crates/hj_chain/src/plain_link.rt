@@ -2,14 +2,10 @@ ghost use Rattle.std.specs.Prelude.{◌≡◌, ◌<◌, ◌↔◌, ◌++◌, [],
 ghost use Rattle.std.specs.Option.{option_copied};
 ghost use Rattle.hj_chain.specs.Queues.{no_messages};
 
-use hj_base::Memory;
+use hj_base::{Full, Memory};
 use std::alloc::Global;
 use std::collections::VecDeque;
 use std::marker::Model;
-
-/// A message that found no room, handed back.
-#[derive(Debug, Drop)]
-pub struct Full<M>(pub M);
 
 /// A link between two neighbours: a queue of messages in each direction, each with the same capacity. Of its calls `new`
 /// alone takes memory.

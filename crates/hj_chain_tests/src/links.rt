@@ -3,7 +3,8 @@
 ghost use Rattle.std.specs.Prelude.{◌≡◌};
 
 use crate::rows::sent;
-use hj_link::{Full, LeftEnd, Receiver, RightEnd, Sender, close, close_way, duplex, one_way};
+use hj_base::Full;
+use hj_link::{LeftEnd, Receiver, RightEnd, Sender, close, close_way, duplex, one_way};
 use std::test::Fail;
 use std::thread::{join, yield_now};
 

@@ -2,7 +2,8 @@
 
 use crate::lines::{halves, shows};
 use crate::rows::sent;
-use hj_chain::{Full, PlainLink};
+use hj_base::Full;
+use hj_chain::PlainLink;
 use std::alloc::Global;
 use std::process::Abort;
 

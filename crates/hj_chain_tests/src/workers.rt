@@ -2,9 +2,9 @@ ghost use Rattle.std.specs.Prelude.{◌<◌, ◌≤◌};
 
 use crate::lines::{halves, same, told};
 use crate::rows::{Cross, Row, message, sent};
-use hj_base::{CoreNo, Gate, OpenGate};
+use hj_base::{CoreNo, Full, Gate, OpenGate};
 use hj_core::Core;
-use hj_link::{Full, LeftEnd, Receiver, RightEnd, duplex, one_way};
+use hj_link::{LeftEnd, Receiver, RightEnd, duplex, one_way};
 use hj_msg::{Join, Msg, Report, Store};
 use hj_rows::ListStore;
 use hj_worker::Worker;

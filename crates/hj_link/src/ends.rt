@@ -13,7 +13,7 @@ use crate::outgoing::OutgoingWay;
 use crate::ring::Ring;
 use crate::steps::SeatedEnd;
 use crate::table::Capacities;
-use hj_base::Memory;
+use hj_base::{Full, Memory};
 use std::alloc::Global;
 use std::marker::Model;
 
@@ -36,10 +36,6 @@ pub type Sender<M> = LinkEnd<M, OnLeft, OutgoingWay, Unused>;
 
 /// The end of a link in one direction that takes.
 pub type Receiver<M> = LinkEnd<M, OnRight, Unused, IncomingWay>;
-
-/// A message that found no room, handed back.
-#[derive(Debug, Drop)]
-pub struct Full<M>(pub M);
 
 impl<M: Drop, D: Endpoint, O: PuttingHalf<M>, I: TakingHalf<M>> Model for LinkEnd<M, D, O, I> {
     ghost Value = { EndSeen M };

@@ -15,4 +15,4 @@ mod table;
 mod turn_no;
 
 pub use closing::{Closed, ClosedWay, close, close_way};
-pub use ends::{Full, LeftEnd, Receiver, RightEnd, Sender, duplex, one_way};
+pub use ends::{LeftEnd, Receiver, RightEnd, Sender, duplex, one_way};

@@ -4,9 +4,9 @@ ghost use Rattle.hj_worker.specs.declared.hand.Hand.TheVariants.{Nothing, Rest};
 
 use crate::answers::Place;
 use crate::hand::Hand;
-use hj_base::Side;
+use hj_base::{Full, Side};
 use hj_core::{Sends, Way};
-use hj_link::{Full, LeftEnd, RightEnd, Sender};
+use hj_link::{LeftEnd, RightEnd, Sender};
 use hj_msg::{Msg, Report};
 
 /// Where a worker takes its messages and puts its own.
