@@ -1,6 +1,6 @@
 ghost use Rattle.std.specs.Prelude.{◌≡◌, ◌<◌, ◌^◌, ◌++◌, OnOk};
 ghost use Rattle.hj_msg.specs.Core.{sends};
-ghost use Rattle.hj_msg.specs.Driver.{message_of, port_of};
+ghost use Rattle.hj_msg.specs.Driver.{message_of};
 ghost use Rattle.hj_trace.specs.Messages.{message_text, messages_text};
 ghost use Rattle.hj_trace.specs.Puts.{event_leftward, event_rightward};
 
@@ -16,7 +16,7 @@ pub const NOTHING: &str = "-";
 pub fn push_event_leftward<P>(text: &mut Vec<u8>, event: &Event<P>) -> Result<(), Memory>
     ensures { OnOk result (text.new.items ≡ text.old.items ++ messages_text (event_leftward event.now)) }
 {
-    match port_of(event) {
+    match event.port() {
         Side::Left => push_words(text, NOTHING),
         Side::Right => push_message_of(text, event),
     }
@@ -26,26 +26,9 @@ pub fn push_event_leftward<P>(text: &mut Vec<u8>, event: &Event<P>) -> Result<()
 pub fn push_event_rightward<P>(text: &mut Vec<u8>, event: &Event<P>) -> Result<(), Memory>
     ensures { OnOk result (text.new.items ≡ text.old.items ++ messages_text (event_rightward event.now)) }
 {
-    match port_of(event) {
+    match event.port() {
         Side::Left => push_message_of(text, event),
         Side::Right => push_words(text, NOTHING),
-    }
-}
-
-/// Returns the port on which an event's message is put.
-fn port_of<P>(event: &Event<P>) -> Side
-    ensures { result ≡ port_of event.now }
-{
-    match event {
-        Event::Arrive { side, .. } | Event::Quiet { side, .. } => *side,
-        Event::Expire {
-            side: Side::Left,
-            ..
-        } => Side::Right,
-        Event::Expire {
-            side: Side::Right,
-            ..
-        } => Side::Left,
     }
 }
 

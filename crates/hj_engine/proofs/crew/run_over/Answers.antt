@@ -1,11 +1,7 @@
 use Rattle.hj_engine.proofs.crew.run_over.Goals as goal
 
 pub run_between-requires-clause-left : goal.run_between-requires-clause-left
-run_between-requires-clause-left g c κs within =
-    let ready = c.requires.stores.left in
-    record { count = ready.count; empty = ready.empty; suit = ready.suit }
+run_between-requires-clause-left g c κs within = c.requires.stores.left
 
 pub run_between-requires-clause-right : goal.run_between-requires-clause-right
-run_between-requires-clause-right g c κs within =
-    let ready = c.requires.stores.right in
-    record { count = ready.count; empty = ready.empty; suit = ready.suit }
+run_between-requires-clause-right g c κs within = c.requires.stores.right
