@@ -1,6 +1,6 @@
 -- The pair that a chain gives, and what it stands for then.
-use Rattle.std.proofs.Common.{◌≡◌, ℕ, ◌+◌, Bool, true, false, cond, List, [], ◌∷◌, ◌++◌, length, take, slice_get, Contains, Some, None, Option, refl, ap, sym, ◌∙◌, subst, arith}
-use Rattle.std.specs.Option.{IfSome, IfNone}
+use Rattle.std.proofs.Common.{◌≡◌, ℕ, zero, suc, ◌+◌, Bool, true, false, cond, List, [], ◌∷◌, ◌++◌, length, take, drop, slice_get, Contains, Some, None, Option, refl, ap, sym, ◌∙◌, subst, arith}
+use Rattle.std.specs.Option.{IfSome, IfNone, option_to_list}
 use Rattle.std.specs.List.Sorted.{IsPermutation}
 use Rattle.std.proofs.lemmas.List.Elements.{All-contains}
 use Rattle.hj_msg.specs.declared.event.Event.{Event}
@@ -19,7 +19,7 @@ use Rattle.hj_collect.specs.Giving.{AreTakenOut, IsTakenOut, Releases}
 use Rattle.hj_collect.specs.Collector.{least_mark}
 use Rattle.hj_collect.proofs.Emissions.{within}
 use Rattle.hj_collect.proofs.Due.{AreApart, apart-kept, none-due}
-use Rattle.hj_collect.proofs.Giving.{AreNext, are-next, first-next, released-out}
+use Rattle.hj_collect.proofs.Giving.{AreNext, are-next}
 use Rattle.hj_collect.proofs.Following.{least_follows}
 use Rattle.hj_chain.specs.declared.actor.Actor.{Actor}
 use Rattle.hj_chain.specs.Chain.{Contents}
@@ -31,6 +31,18 @@ use Rattle.hj_chain.proofs.Goings.{Sound}
 none-either : {X : Type 0} (b : Bool) (o : Option X) → o ≡ None → None ≡ cond b None o
 none-either true o is = refl
 none-either false o is = sym is
+
+-- a pair that is released is taken out alone
+pub released-out : {P : Type 0} (mark : Option Mark) (kept left : List (Pair P)) (result : Option (Pair P)) → Releases mark kept result left → AreTakenOut mark kept (option_to_list result) left
+released-out mark kept left None releases = releases.unchanged
+released-out mark kept left (Some pair) releases = (left, releases.out, refl)
+
+-- the first one of what stands from a place on
+first-next : {X : Type 0} (xs : List X) (i : ℕ) (x : X) → x ∷ [] ≡ take 1 (drop i xs) → slice_get xs i ≡ Some x
+first-next [] zero x is = absurd (cc)
+first-next [] (suc i) x is = absurd (cc)
+first-next (y ∷ xs) zero x is = let same : x ≡ y = cc in ap Some (sym same)
+first-next (y ∷ xs) (suc i) x is = first-next xs i x is
 
 module _ {P J : Type 0} (predicate : J → P → P → Bool) (chain : Contents P J) where
   -- the pairs that a chain gives next, where none of those that it keeps is within the punctuation

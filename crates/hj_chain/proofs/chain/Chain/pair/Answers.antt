@@ -1,7 +1,6 @@
 use Rattle.std.specs.Option.{option_to_list}
 use Rattle.hj_collect.specs.Collector.{least_mark}
-use Rattle.hj_collect.proofs.Giving.{released-out}
-use Rattle.hj_chain.proofs.Giving.{goes-after, pair-kept, pair-next, pair-unchanged, stands-after}
+use Rattle.hj_chain.proofs.Giving.{goes-after, pair-kept, pair-next, pair-unchanged, released-out, stands-after}
 use Rattle.hj_chain.proofs.chain.Chain.pair.Goals as goal
 
 pub returns-clause-pair : goal.returns-clause-pair
