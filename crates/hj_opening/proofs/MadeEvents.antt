@@ -20,7 +20,8 @@ use Rattle.hj_value.specs.declared.column.Column.{Column}
 use Rattle.hj_value.specs.declared.field.Field.{Field}
 use Rattle.hj_value.specs.Row.{time_of}
 use Rattle.hj_window.specs.LiveRows.{LiveRow, LiveRows, arrive, is_gone, is_gone_at, window_of}
-use Rattle.hj_opening.specs.Generating.{join_made, left_stream, right_stream, whole}
+use Rattle.hj_relay.specs.Relay.{whole}
+use Rattle.hj_opening.specs.Generating.{join_made, left_stream, right_stream}
 use Rattle.hj_opening.specs.Words.{Recipe, most_events}
 use Rattle.hj_opening.proofs.MadeLines.{AreMade, fields_of, rows_of-lines}
 

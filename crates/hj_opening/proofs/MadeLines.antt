@@ -30,7 +30,7 @@ use Rattle.hj_value.specs.declared.field.Field.{Field}
 use Rattle.hj_value.specs.declared.field.Field.TheVariants as field
 use Rattle.hj_value.specs.Number.{int_of}
 use Rattle.hj_words.proofs.NumberWord.{digits, list_all-digits}
-use Rattle.hj_opening.specs.Generating.{whole}
+use Rattle.hj_relay.specs.Relay.{whole}
 
 -- The times of rows don't fall, from this one on, and all numbers are small.
 abbrev pub AreMade : ℕ → List DrawnRow → Type 0

@@ -1,5 +1,5 @@
 -- What `gen` writes: the line that sums up the join of two streams that a seed determines.
-use Rattle.std.specs.Prelude.{◌≡◌, ℕ, List, true}
+use Rattle.std.specs.Prelude.{◌≡◌, ℕ, List}
 use Rattle.std.specs.Io.KnownBytes.{Appends}
 use Rattle.hj_base.specs.Journals.{IsPrefix}
 use Rattle.hj_stream.specs.JoinText.{JoinResult, join_result}
@@ -9,12 +9,9 @@ use Rattle.hj_gen.specs.Summary.{summary_of}
 use Rattle.hj_query.specs.Keyed.{IsEquiQuery}
 use Rattle.hj_query.specs.QueryParts.{QueryParts}
 use Rattle.hj_record.specs.Pieces.{Stream}
+use Rattle.hj_relay.specs.Relay.{whole}
 use Rattle.hj_opening.specs.Calls.{Call}
 use Rattle.hj_opening.specs.Words.{Recipe}
-
--- a stream of all these bytes
-abbrev pub whole : List ℕ → Stream
-whole bytes = record { bytes = bytes; whole = true }
 
 abbrev pub left_stream : Recipe → Stream
 left_stream recipe = whole (stream_of recipe.rows recipe.keys recipe.seed)

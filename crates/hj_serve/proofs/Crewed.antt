@@ -14,14 +14,14 @@ use Rattle.hj_engine.specs.Showing.{ShowsJoin}
 use Rattle.hj_engine.specs.ShowingRaw.{ShowsRaw}
 use Rattle.hj_notes.specs.declared.note.Note.{Note}
 use Rattle.hj_opening.specs.Calls.{Call, call}
-use Rattle.hj_serve.specs.Crew.{CameToJoin, ThreadedChain, ShowsKind, ShowsOrder, ShowsStreams}
+use Rattle.hj_serve.specs.Crew.{CameToJoin, ShowsKind, ShowsOrder, ShowsStreams}
 use Rattle.hj_notes.specs.NoteText.{status_of, status_of_end}
 use Rattle.hj_serve.specs.OnCrew.{RunsOnCrew}
 use Rattle.hj_opening.specs.Joining.{JoinsKind}
 use Rattle.hj_opening.specs.Ready.{EndsEarly, IsReady}
 use Rattle.hj_opening.specs.Run.{RunsOrder, end_of}
 use Rattle.hj_opening.specs.Serve.{AcceptsQuery}
-use Rattle.hj_opening.specs.Words.{Names, Order, QuerySource, TextKind, join_streams, pair_lines, raw_items}
+use Rattle.hj_opening.specs.Words.{ChainShape, Names, Order, QuerySource, TextKind, join_streams, pair_lines, raw_items}
 use Rattle.hj_opening.proofs.Joined.{query_stays}
 use Rattle.hj_opening.proofs.Phases.{Roles, open-opened}
 use Rattle.hj_opening.proofs.Endings.{End}
@@ -31,7 +31,7 @@ Shown = Option (RanSeen (List Field))
 
 -- ---- what a run shows, by the text of its join
 
-module _ (crew : ThreadedChain) {ended : Outcome} {query : QueryParts} {limit : ℕ} {before now : Roles} {old new : Option (List ℕ)} where
+module _ (crew : ChainShape) {ended : Outcome} {query : QueryParts} {limit : ℕ} {before now : Roles} {old new : Option (List ℕ)} where
   pub shows_lines : (joins : Joins ended query limit before now old new) (ran : Shown) → IfSome ran (ShowsJoin joins crew.cores crew.flight)
       → IfSome ran (ShowsKind pair_lines crew ended query limit before now old new)
   shows_lines joins None shows = tt
@@ -44,7 +44,7 @@ module _ (crew : ThreadedChain) {ended : Outcome} {query : QueryParts} {limit : 
 
 -- ---- an order that ended before its join
 
-pub runs_early : (crew : ThreadedChain) (note : Note) (order : Order) (under : List ℕ → Option (List ℕ)) (before now : Roles) (told : Option (List ℕ)) (faults : ℕ) → EndsEarly note order under before now
+pub runs_early : (crew : ChainShape) (note : Note) (order : Order) (under : List ℕ → Option (List ℕ)) (before now : Roles) (told : Option (List ℕ)) (faults : ℕ) → EndsEarly note order under before now
     → RunsOnCrew crew (record { end = Err note; ran = None }) order (call under before now told told faults faults)
 runs_early crew note order under before now told faults early = record {
   runs = early.runs told faults;
@@ -68,7 +68,7 @@ not_refused limit outcome.SinkFault = ((λ e. omega (arith, e)), (λ e. omega (a
 not_refused limit outcome.TooMany = ((λ e. omega (arith, e)), (λ e. omega (arith, e)))
 not_refused limit outcome.Memory = ((λ e. omega (arith, e)), (λ e. omega (arith, e)))
 
-module _ (crew : ThreadedChain) (kind : TextKind) (source : QuerySource) (names : Names) (limit : ℕ) (under : List ℕ → Option (List ℕ)) (before mid now : Roles) (old new : Option (List ℕ)) (query : QueryParts) (ready : IsReady query source names under before mid)
+module _ (crew : ChainShape) (kind : TextKind) (source : QuerySource) (names : Names) (limit : ℕ) (under : List ℕ → Option (List ℕ)) (before mid now : Roles) (old new : Option (List ℕ)) (query : QueryParts) (ready : IsReady query source names under before mid)
     (ended : Outcome) (joins : JoinsKind kind ended query limit mid now old new) (faults faults' : ℕ) where
   abbrev this_call : Call
   this_call = call under before now old new faults faults'

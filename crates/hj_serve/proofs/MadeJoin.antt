@@ -22,11 +22,12 @@ use Rattle.hj_gen.specs.Summary.{summary_of}
 use Rattle.hj_query.specs.Keyed.{IsEquiQuery}
 use Rattle.hj_query.specs.QueryParts.{QueryParts}
 use Rattle.hj_record.specs.Pieces.{Stream}
-use Rattle.hj_serve.specs.Crew.{ThreadedChain, ShowsMade, made_roles}
+use Rattle.hj_relay.specs.Relay.{whole}
+use Rattle.hj_serve.specs.Crew.{ShowsMade, made_roles}
 use Rattle.hj_serve.specs.Made.{JoinsHeld, unread_stream, unread_streams}
-use Rattle.hj_opening.specs.Generating.{IsSummary, join_made, left_stream, whole}
+use Rattle.hj_opening.specs.Generating.{IsSummary, join_made, left_stream}
 use Rattle.hj_held.specs.Held.{HeldState, KeptState, TwoHeld, held_role, open_role}
-use Rattle.hj_opening.specs.Words.{Recipe, most_events}
+use Rattle.hj_opening.specs.Words.{ChainShape, Recipe, most_events}
 use Rattle.hj_opening.proofs.MadeEvents.{ends_clean}
 
 -- what is left of a stream follows what was read of it
@@ -68,7 +69,7 @@ IsDoneOrMemory other = ⊥
 
 -- ---- the join of streams that stand in memory, as it is seen
 
-pub held_joins : (query : QueryParts) (limit : ℕ) (left right : List ℕ) (crew : ThreadedChain) (before after : TwoHeld) (kept kept' : KeptState) → before ≡ unread_streams left right → kept ≡ record { text = []; refusals = 0 }
+pub held_joins : (query : QueryParts) (limit : ℕ) (left right : List ℕ) (crew : ChainShape) (before after : TwoHeld) (kept kept' : KeptState) → before ≡ unread_streams left right → kept ≡ record { text = []; refusals = 0 }
     → (ended : Outcome) (ran : Option (RanSeen (List Field)))
     → (joins : Joins ended query limit (held_role before) (held_role after) (Some kept.text) (Some kept'.text)) × IfSome ran (ShowsJoin joins crew.cores crew.flight)
     → IfNone ran (ended ≡ outcome.Memory) → CountsSinkFault ended 0 0 → JoinsHeld query limit left right crew ended kept'.text ran
@@ -127,7 +128,7 @@ module _ (recipe : Recipe) (query : QueryParts) (few : recipe.rows ≤ 100000) (
         }
 
     -- the run that made the join
-    module _ (crew : ThreadedChain) (events : ℕ) (ran : RanSeen (List Field)) where
+    module _ (crew : ChainShape) (events : ℕ) (ran : RanSeen (List Field)) where
       abbrev Shown : (Role → RoleState) → Type 0
       Shown from = (joins : Joins (outcome.Done events) query most_events from (held_role after) (Some []) (Some text)) × ShowsJoin joins crew.cores crew.flight ran
 
@@ -143,7 +144,7 @@ module _ (recipe : Recipe) (query : QueryParts) (few : recipe.rows ≤ 100000) (
 
   -- ---- the join that was made
 
-  module _ (crew : ThreadedChain) (ended : Outcome) (text : List ℕ) (ran : Option (RanSeen (List Field))) (held : JoinsHeld query most_events left right crew ended text ran) where
+  module _ (crew : ChainShape) (ended : Outcome) (text : List ℕ) (ran : Option (RanSeen (List Field))) (held : JoinsHeld query most_events left right crew ended text ran) where
     pub is_done : IsDoneOrMemory ended
     is_done = only held.after text ended held.joins held.faults
 

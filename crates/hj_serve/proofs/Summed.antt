@@ -13,12 +13,12 @@ use Rattle.hj_value.specs.declared.field.Field.{Field}
 use Rattle.hj_crew.specs.Ran.{RanSeen}
 use Rattle.hj_notes.specs.declared.note.Note.TheVariants as why
 use Rattle.hj_opening.specs.Calls.{Call, call}
-use Rattle.hj_serve.specs.Crew.{CameToJoin, ThreadedChain, ShowsMade}
+use Rattle.hj_serve.specs.Crew.{CameToJoin, ShowsMade}
 use Rattle.hj_opening.specs.Generating.{IsSummary}
 use Rattle.hj_notes.specs.NoteText.{status_of_end}
 use Rattle.hj_serve.specs.OnCrew.{RunsOnCrew}
 use Rattle.hj_opening.specs.Run.{RunsOrder}
-use Rattle.hj_opening.specs.Words.{Recipe, most_events, sum_up}
+use Rattle.hj_opening.specs.Words.{ChainShape, Recipe, most_events, sum_up}
 use Rattle.hj_opening.proofs.Phases.{Roles}
 use Rattle.hj_opening.proofs.Prefixes.{begins_all}
 use Rattle.hj_opening.proofs.Endings.{CountsSink, End, GenCause, gen_runs}
@@ -41,19 +41,19 @@ module _ (recipe : Recipe) (line : List ℕ) (summary : IsSummary line recipe mo
   runs_sent sent.Failed sends counts = runs (Err why.Sink) tt counts.1 sends.grown sends.written sends.front
   runs_sent sent.Memory sends counts = runs (Err why.Memory) tt counts sends.grown sends.written sends.front
 
-  came : (crew : ThreadedChain) (sending : Sent) → CameToJoin (Some crew) (status_of_end (sent_end sending)) roles
+  came : (crew : ChainShape) (sending : Sent) → CameToJoin (Some crew) (status_of_end (sent_end sending)) roles
   came crew sent.Whole = record { threads = refl; words = λ e. omega (arith, e); query = λ e. omega (arith, e); streams = λ e. absurd (omega (arith, e)) }
   came crew sent.Failed = record { threads = refl; words = λ e. omega (arith, e); query = λ e. omega (arith, e); streams = λ e. absurd (omega (arith, e)) }
   came crew sent.Memory = record { threads = refl; words = λ e. omega (arith, e); query = λ e. omega (arith, e); streams = λ e. absurd (omega (arith, e)) }
 
-  pub summed_runs : (crew : ThreadedChain) (ran : RanSeen (List Field)) → ShowsMade crew recipe most_events ran → (sending : Sent) (end : End) → end ≡ sent_end sending → SendsPiece sending line old new → CountsFaults sending faults faults'
+  pub summed_runs : (crew : ChainShape) (ran : RanSeen (List Field)) → ShowsMade crew recipe most_events ran → (sending : Sent) (end : End) → end ≡ sent_end sending → SendsPiece sending line old new → CountsFaults sending faults faults'
       → RunsOnCrew crew (record { end = end; ran = Some ran }) (sum_up recipe) this
   summed_runs crew ran shows sending end is sends counts =
       subst (λ (e : End). RunsOnCrew crew (record { end = e; ran = Some ran }) (sum_up recipe) this) (sym is)
       (record { runs = runs_sent sending sends counts; ran = λ other. ((λ some. came crew sending), (λ back. refl)); shows = shows })
 
 -- the line couldn't be made
-pub unmade_runs : (recipe : Recipe) (under : List ℕ → Option (List ℕ)) (roles : Roles) → ((of : Role) → (roles of).phase ≡ unbegun) → (told : Option (List ℕ)) (faults : ℕ) (crew : ThreadedChain)
+pub unmade_runs : (recipe : Recipe) (under : List ℕ → Option (List ℕ)) (roles : Roles) → ((of : Role) → (roles of).phase ≡ unbegun) → (told : Option (List ℕ)) (faults : ℕ) (crew : ChainShape)
     → RunsOnCrew crew (record { end = Err why.Memory; ran = None }) (sum_up recipe) (call under roles roles told told faults faults)
 unmade_runs recipe under roles none told faults crew = record {
   runs = gen_runs recipe (call under roles roles told told faults faults) (Err why.Memory) tt refl [] (Appends-nil told) (inl refl) (λ of. refl) none;

@@ -24,25 +24,20 @@ use Rattle.hj_notes.specs.NoteText.{status_of_end}
 use Rattle.hj_opening.specs.Opening.{AreOpened}
 use Rattle.hj_opening.specs.Run.{end_of}
 use Rattle.hj_opening.specs.Serve.{AcceptsQuery, AreOpen}
-use Rattle.hj_opening.specs.Words.{Names, Order, Recipe, QuerySource, TextKind, asked_by, most_events}
+use Rattle.hj_opening.specs.Words.{ChainShape, Names, Order, Recipe, QuerySource, TextKind, asked_by, most_events}
 use Rattle.hj_opening.specs.Words.{check_query, check_trace, join_streams, join_twice, pair_lines, raw_items, step_lines, sum_up}
 
--- A chain that threads turn: how many cores it has, and how many events are under way in it at most.
-pub record ThreadedChain : Type 0 where
-  pub cores : ℕ
-  pub flight : ℕ
-
--- the one of a join without options
-abbrev pub usual_crew : ThreadedChain
+-- the chain of a join without options
+abbrev pub usual_crew : ChainShape
 usual_crew = record { cores = 4; flight = 32 }
 
 -- the one of these numbers, where there are threads
-abbrev pub crew_with : Setup → Option ThreadedChain
+abbrev pub crew_with : Setup → Option ChainShape
 crew_with setup = if setup.threads == 0 then None else Some (record { cores = setup.cores; flight = setup.flight })
 
 -- The chain that threads turn for an order, of which the run is handed back. A join with no threads has none, and neither has a
 -- trace or a check, nor have two joins in a row, of which no run is handed back.
-abbrev pub crew_of : spelled.Order → Option ThreadedChain
+abbrev pub crew_of : spelled.Order → Option ChainShape
 crew_of (spells.Equi w left right) = Some usual_crew
 crew_of (spells.Join setup limit schedule query left right) = crew_with setup
 crew_of (spells.Raw setup limit query left right) = Some (record { cores = setup.cores; flight = setup.flight })
@@ -67,19 +62,19 @@ threads_of (spells.Twice setup limit schedule query left right second third) = 0
 abbrev pub spelled_in : List (List ℕ) → Option spelled.Order
 spelled_in list = words.order_of list
 
-abbrev pub crew_in : List (List ℕ) → Option ThreadedChain
+abbrev pub crew_in : List (List ℕ) → Option ChainShape
 crew_in list = option_and_then crew_of (spelled_in list)
 
 -- Threads turn the order's chain, and a call that ended with this status came to the join: neither the words nor the query were
 -- refused, and where a stream failed, both of them are open.
-pub record CameToJoin (crew : Option ThreadedChain) (status : ℕ) (now : Role → RoleState) : Type 0 where
+pub record CameToJoin (crew : Option ChainShape) (status : ℕ) (now : Role → RoleState) : Type 0 where
   pub threads : IsSome crew
   pub words : status ≢ 1
   pub query : status ≢ 2
   pub streams : status ≡ 4 → AreOpen now
 
 -- A run made this join, which writes a text of a kind.
-abbrev pub ShowsKind : TextKind → ThreadedChain → Outcome → QueryParts → ℕ → (Role → RoleState) → (Role → RoleState) → Option (List ℕ)
+abbrev pub ShowsKind : TextKind → ChainShape → Outcome → QueryParts → ℕ → (Role → RoleState) → (Role → RoleState) → Option (List ℕ)
     → Option (List ℕ)
     → RanSeen (List Field) → Type 0
 ShowsKind pair_lines crew ended query limit before now old new ran =
@@ -90,7 +85,7 @@ ShowsKind (step_lines chain rule) crew ended query limit before now old new ran 
 
 -- A run made the join of a call: under the accepted query, of the two streams from where they were opened to where they stand now,
 -- into the output of the call; and the status is that of its outcome.
-pub record ShowsStreams (kind : TextKind) (crew : ThreadedChain) (source : QuerySource) (names : Names) (limit status : ℕ) (call : Call)
+pub record ShowsStreams (kind : TextKind) (crew : ChainShape) (source : QuerySource) (names : Names) (limit status : ℕ) (call : Call)
     (ran : RanSeen (List Field)) : Type 0 where
   pub query : QueryParts
   pub accepted : AcceptsQuery source query call
@@ -108,7 +103,7 @@ made_roles recipe = held_role (record {
 })
 
 -- A run made the join of the two streams of a recipe, to their ends.
-pub record ShowsMade (crew : ThreadedChain) (recipe : Recipe) (limit : ℕ) (ran : RanSeen (List Field)) : Type 0 where
+pub record ShowsMade (crew : ChainShape) (recipe : Recipe) (limit : ℕ) (ran : RanSeen (List Field)) : Type 0 where
   pub query : QueryParts
   pub keyed : IsEquiQuery recipe.window query
   pub events : ℕ
@@ -118,7 +113,7 @@ pub record ShowsMade (crew : ThreadedChain) (recipe : Recipe) (limit : ℕ) (ran
   pub shows : ShowsJoin joins crew.cores crew.flight ran
 
 -- A run of this crew made the join of an order.
-abbrev pub ShowsOrder : ThreadedChain → Order → ℕ → Call → RanSeen (List Field) → Type 0
+abbrev pub ShowsOrder : ChainShape → Order → ℕ → Call → RanSeen (List Field) → Type 0
 ShowsOrder crew (join_streams kind source names limit) status call ran = ShowsStreams kind crew source names limit status call ran
 ShowsOrder crew (check_trace chain name names limit) status call ran = ⊥
 ShowsOrder crew (check_query name) status call ran = ⊥
@@ -128,4 +123,4 @@ ShowsOrder crew (join_twice names limit) status call ran = ⊥
 -- A run of the order's crew made the join of the order.
 abbrev pub ShowsRun : Option spelled.Order → ℕ → Call → RanSeen (List Field) → Type 0
 ShowsRun None status call ran = ⊥
-ShowsRun (Some order) status call ran = (crew : ThreadedChain) × (crew_of order ≡ Some crew) × ShowsOrder crew (asked_by order) status call ran
+ShowsRun (Some order) status call ran = (crew : ChainShape) × (crew_of order ≡ Some crew) × ShowsOrder crew (asked_by order) status call ran

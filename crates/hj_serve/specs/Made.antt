@@ -9,7 +9,7 @@ use Rattle.hj_stream.specs.declared.outcome.Outcome.{Outcome}
 use Rattle.hj_stream.specs.declared.outcome.Outcome.TheVariants as outcome
 use Rattle.hj_stream.specs.Joining.{CountsSinkFault, Joins}
 use Rattle.hj_engine.specs.Showing.{ShowsJoin}
-use Rattle.hj_serve.specs.Crew.{ThreadedChain}
+use Rattle.hj_opening.specs.Words.{ChainShape}
 
 -- streams of which nothing was read
 abbrev pub unread_stream : List ℕ → HeldState
@@ -19,7 +19,7 @@ abbrev pub unread_streams : List ℕ → List ℕ → TwoHeld
 unread_streams left right = record { left = unread_stream left; right = unread_stream right }
 
 -- The streams of these bytes were joined, and this text was written; a run of this crew made the join, unless memory ran out first.
-pub record JoinsHeld (query : QueryParts) (limit : ℕ) (left right : List ℕ) (crew : ThreadedChain) (ended : Outcome) (text : List ℕ)
+pub record JoinsHeld (query : QueryParts) (limit : ℕ) (left right : List ℕ) (crew : ChainShape) (ended : Outcome) (text : List ℕ)
     (ran : Option (RanSeen (List Field))) : Type 0 where
   pub after : TwoHeld
   pub joins : Joins ended query limit (held_role (unread_streams left right)) (held_role after) (Some []) (Some text)

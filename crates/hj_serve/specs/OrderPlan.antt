@@ -4,7 +4,7 @@ use Rattle.std.specs.declared.option.Option.{Option}
 use Rattle.hj_crew.specs.declared.plan.CrewSize.{CrewSize}
 use Rattle.hj_opening.specs.Orders.{chain_seen, check_seen, join_seen}
 use Rattle.hj_opening.specs.RunTwice.{twice_names}
-use Rattle.hj_opening.specs.Words.{Order, TextKind, check_query, join_twice, pair_lines, raw_items, step_lines, sum_up}
+use Rattle.hj_opening.specs.Words.{ChainShape, Order, TextKind, check_query, join_twice, pair_lines, raw_items, step_lines, sum_up}
 use Rattle.hj_serve.specs.declared.plan.AloneOrder.{AloneOrder}
 use Rattle.hj_serve.specs.declared.plan.AloneOrder.TheVariants as alone
 use Rattle.hj_serve.specs.declared.plan.ThreadsOrder.{ThreadsOrder}
@@ -15,7 +15,6 @@ use Rattle.hj_serve.specs.declared.plan.OrderPlan.{OrderPlan}
 use Rattle.hj_serve.specs.declared.plan.OrderPlan.TheVariants as turning
 use Rattle.hj_serve.specs.declared.plan.Writing.{Writing}
 use Rattle.hj_serve.specs.declared.plan.Writing.TheVariants as writing
-use Rattle.hj_serve.specs.Crew.{ThreadedChain}
 use Rattle.hj_serve.specs.Orders.{recipe_seen}
 use Rattle.hj_serve.specs.Serial.{SerialChain}
 
@@ -39,11 +38,11 @@ asked_plan (turning.Trace join plan) = join_seen (step_lines (chain_seen plan.si
 asked_plan (turning.Verify check) = check_seen check
 asked_plan (turning.Twice joins made) = join_twice (twice_names joins) joins.limit
 
-abbrev pub crew_seen : CrewSize → ThreadedChain
+abbrev pub crew_seen : CrewSize → ChainShape
 crew_seen size = record { cores = size.chain.cores; flight = size.chain.flight }
 
 -- the chain that threads turn, of which the run is handed back
-abbrev pub crew_plan : OrderPlan → Option ThreadedChain
+abbrev pub crew_plan : OrderPlan → Option ChainShape
 crew_plan (turning.Alone order) = None
 crew_plan (turning.Threads order size) = Some (crew_seen size)
 crew_plan (turning.Trace join plan) = None
@@ -69,7 +68,7 @@ serial_plan (turning.Verify check) = None
 serial_plan (turning.Twice joins made) = None
 
 -- the chain that threads turn for each of two joins in a row
-abbrev pub crew_twice : TwicePlan → Option ThreadedChain
+abbrev pub crew_twice : TwicePlan → Option ChainShape
 crew_twice (plan.Alone size chooser) = None
 crew_twice (plan.Threads size) = Some (crew_seen size)
 
