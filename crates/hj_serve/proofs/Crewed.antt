@@ -26,7 +26,7 @@ use Rattle.hj_opening.proofs.Joined.{query_stays}
 use Rattle.hj_opening.proofs.Phases.{Roles, open-opened}
 use Rattle.hj_opening.proofs.Endings.{End}
 
-abbrev Shown : Type 0
+abbrev pub Shown : Type 0
 Shown = Option (RanSeen (List Field))
 
 -- ---- what a run shows, by the text of its join

@@ -1,3 +1,4 @@
+pub mod AsAsked
 pub mod Crewed
 pub mod Judged
 pub mod MadeJoin
