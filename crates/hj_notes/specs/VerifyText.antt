@@ -2,23 +2,23 @@
 use Rattle.std.specs.Prelude.{ℕ, List, ◌++◌, codes}
 use Rattle.std.specs.Fmt.{decimal}
 use Rattle.std.specs.declared.result.Result.{Result}
-use Rattle.hj_notes.specs.declared.verify_note.Refusal.{Refusal}
-use Rattle.hj_notes.specs.declared.verify_note.Refusal.TheVariants as refusal
 use Rattle.hj_notes.specs.declared.verify_note.VerifyNote.{VerifyNote}
 use Rattle.hj_notes.specs.declared.verify_note.VerifyNote.TheVariants as verify
 use Rattle.hj_notes.specs.NoteText.{note_text, status_by, status_of, text_by}
+use Rattle.hj_trace.specs.declared.fault.TraceFault.{TraceFault}
+use Rattle.hj_trace.specs.declared.fault.TraceFault.TheVariants as fault
 
 -- A line of the trace, by its number from 1, breaks a rule.
 abbrev pub line_note : ℕ → List ℕ → List ℕ
 line_note line rule = codes "trace line " ++ decimal line ++ codes ": " ++ rule ++ codes "\n"
 
-abbrev pub refusal_note : Refusal → List ℕ
-refusal_note (refusal.Form line) = line_note line (codes "Form")
-refusal_note (refusal.NotEnabled line) = line_note line (codes "NotEnabled")
-refusal_note (refusal.Text line) = line_note line (codes "Text")
-refusal_note (refusal.Early line) = line_note line (codes "Early")
-refusal_note (refusal.Late line) = line_note line (codes "Late")
-refusal_note (refusal.Output at) = codes "output byte " ++ decimal at ++ codes "\n"
+abbrev pub refusal_note : TraceFault → List ℕ
+refusal_note (fault.Form line) = line_note line (codes "Form")
+refusal_note (fault.NotEnabled line) = line_note line (codes "NotEnabled")
+refusal_note (fault.Text line) = line_note line (codes "Text")
+refusal_note (fault.Early line) = line_note line (codes "Early")
+refusal_note (fault.Late line) = line_note line (codes "Late")
+refusal_note (fault.Output at) = codes "output byte " ++ decimal at ++ codes "\n"
 
 abbrev pub verify_text : VerifyNote → List ℕ
 verify_text (verify.Common why) = note_text why

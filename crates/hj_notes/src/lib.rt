@@ -12,4 +12,4 @@ mod verify_note;
 pub use note::Note;
 pub use reason::{Reason, report};
 pub use twice_note::TwiceNote;
-pub use verify_note::{Refusal, VerifyNote};
+pub use verify_note::VerifyNote;

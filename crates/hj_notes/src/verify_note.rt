@@ -6,23 +6,7 @@ use crate::note::Note;
 use crate::parts::{NotePart, put_parts};
 use crate::reason::Reason;
 use hj_base::Sink;
-
-/// Why a trace or an output is refused. Lines of a trace are counted from 1, and bytes of an output from 0.
-#[derive(Clone, Copy, Debug, PartialEq, Eq)]
-pub enum Refusal {
-    /// The line doesn't begin with an actor's text and a comma.
-    Form(u64),
-    /// The actor of the line isn't enabled there.
-    NotEnabled(u64),
-    /// The line isn't that of the actor's step.
-    Text(u64),
-    /// The trace ends before this line, and the run isn't done.
-    Early(u64),
-    /// This line follows though the run is done.
-    Late(u64),
-    /// The first byte in which the output and the join's text differ, or where one of them has ended.
-    Output(u64),
-}
+use hj_trace::TraceFault;
 
 /// Why `verify` didn't end well.
 #[derive(Clone, Copy, Debug)]
@@ -30,7 +14,7 @@ pub enum VerifyNote {
     /// A cause that other commands have too.
     Common(Note),
     /// The trace or the output is refused.
-    Refused(Refusal),
+    Refused(TraceFault),
 }
 
 impl From<Note> for VerifyNote {
@@ -61,22 +45,22 @@ impl Reason for VerifyNote {
     fn write<N: Sink>(&self, notes: &mut N) {
         match *self {
             VerifyNote::Common(note) => note.write(notes),
-            VerifyNote::Refused(refusal) => put_refusal(notes, refusal),
+            VerifyNote::Refused(fault) => put_refusal(notes, fault),
         }
     }
 }
 
 /// Writes the note of a trace or an output that is refused.
-fn put_refusal<N: Sink>(notes: &mut N, refusal: Refusal)
-    ensures { NoteWritten (refusal_note refusal) (N.told notes.old) (N.told notes.new) (N.refusals notes.old) (N.refusals notes.new) }
+fn put_refusal<N: Sink>(notes: &mut N, fault: TraceFault)
+    ensures { NoteWritten (refusal_note fault) (N.told notes.old) (N.told notes.new) (N.refusals notes.old) (N.refusals notes.new) }
 {
-    match refusal {
-        Refusal::Form(line) => put_line(notes, line, "Form"),
-        Refusal::NotEnabled(line) => put_line(notes, line, "NotEnabled"),
-        Refusal::Text(line) => put_line(notes, line, "Text"),
-        Refusal::Early(line) => put_line(notes, line, "Early"),
-        Refusal::Late(line) => put_line(notes, line, "Late"),
-        Refusal::Output(at) => put_parts(
+    match fault {
+        TraceFault::Form(line) => put_line(notes, line, "Form"),
+        TraceFault::NotEnabled(line) => put_line(notes, line, "NotEnabled"),
+        TraceFault::Text(line) => put_line(notes, line, "Text"),
+        TraceFault::Early(line) => put_line(notes, line, "Early"),
+        TraceFault::Late(line) => put_line(notes, line, "Late"),
+        TraceFault::Output(at) => put_parts(
             notes,
             &[
                 NotePart::Words("output byte "),

@@ -10,14 +10,11 @@ use Rattle.hj_event.specs.Arrivals.{Ending, bad, clean, too_many}
 use Rattle.hj_event.specs.Events.{NumberedEvents, events_of}
 use Rattle.hj_notes.specs.Notes.{events_note, query_note, record_note, source_note}
 use Rattle.hj_notes.specs.VerifyText.{refusal_note}
-use Rattle.hj_notes.specs.declared.verify_note.Refusal.{Refusal}
-use Rattle.hj_notes.specs.declared.verify_note.Refusal.TheVariants as refusal
 use Rattle.hj_query.specs.declared.fault.QueryFault.{QueryFault}
 use Rattle.hj_query.specs.QueryParts.{QueryParts}
 use Rattle.hj_record.specs.Pieces.{Stream}
 use Rattle.hj_stream.specs.JoinText.{text_of}
 use Rattle.hj_trace.specs.declared.fault.TraceFault.{TraceFault}
-use Rattle.hj_trace.specs.declared.fault.TraceFault.TheVariants as fault
 use Rattle.hj_trace.specs.Checking.{IsRight, Stands}
 use Rattle.hj_opening.specs.Calls.{Call}
 use Rattle.hj_opening.specs.Queries.{IsAccepted}
@@ -74,15 +71,6 @@ pub record FindsNone (EndsSo : Ending → Type 0) (chain : ChainShape) (name : L
   pub ending : EndsSo (events_in checked limit).ending
   pub are_right : AreRight chain checked.query (events_in checked limit) checked.trace.bytes checked.output.bytes
 
--- how a note names a fault
-abbrev pub refusal_of : TraceFault → Refusal
-refusal_of (fault.Form line) = refusal.Form line
-refusal_of (fault.NotEnabled line) = refusal.NotEnabled line
-refusal_of (fault.Text line) = refusal.Text line
-refusal_of (fault.Early line) = refusal.Early line
-refusal_of (fault.Late line) = refusal.Late line
-refusal_of (fault.Output at) = refusal.Output at
-
 pub data EndsVerify (chain : ChainShape) (name : List ℕ) (names : CheckedNames) (limit : ℕ) (call : Call)
     (status : ℕ) (note : List ℕ) : Type 0 where
   accepted : status ≡ 0 → note ≡ [] → FindsNone (λ ending. ending ≡ clean) chain name names limit call
@@ -95,7 +83,7 @@ pub data EndsVerify (chain : ChainShape) (name : List ℕ) (names : CheckedNames
       → EndsVerify chain name names limit call status note
   events : status ≡ 7 → note ≡ events_note limit → FindsNone (λ ending. ending ≡ too_many) chain name names limit call
       → EndsVerify chain name names limit call status note
-  refused : (found : TraceFault) → status ≡ 8 → note ≡ refusal_note (refusal_of found) → FindsFault found chain name names limit call
+  refused : (found : TraceFault) → status ≡ 8 → note ≡ refusal_note found → FindsFault found chain name names limit call
       → EndsVerify chain name names limit call status note
 
 -- Each role is begun under its own name: the query first, the left stream only once the query is accepted, and every other one

@@ -9,7 +9,6 @@ mod keyed;
 mod query;
 mod ready;
 mod ready_to_check;
-mod refusal;
 mod source;
 mod twice;
 
@@ -19,6 +18,5 @@ pub use ending::end_of;
 pub use keyed::EquiWindow;
 pub use ready::make_ready;
 pub use ready_to_check::make_ready_to_check;
-pub use refusal::refusal_of;
 pub use source::{JoinOrder, QuerySource};
 pub use twice::{TwiceOrder, TwoQueries, end_of_twice, make_twice_ready};

@@ -10,7 +10,7 @@ ghost use Rattle.hj_serve.specs.Verdicts.{end_of_verdict};
 
 use hj_base::{Outside, Sink};
 use hj_notes::{Note, VerifyNote};
-use hj_opening::{CheckOrder, JoinOrder, end_of, make_ready, make_ready_to_check, refusal_of};
+use hj_opening::{CheckOrder, JoinOrder, end_of, make_ready, make_ready_to_check};
 use hj_replay::{TracePlan, write_trace};
 use hj_verify::{Verdict, verify};
 use std::alloc::Global;
@@ -56,7 +56,7 @@ fn end_of_verdict(limit: u64, verdict: Verdict) -> Result<(), VerifyNote>
 {
     match verdict {
         Verdict::Accepted { .. } => Ok(()),
-        Verdict::Refused(fault) => Err(VerifyNote::Refused(refusal_of(fault))),
+        Verdict::Refused(fault) => Err(VerifyNote::Refused(fault)),
         Verdict::Ended(outcome) => Ok(end_of(limit, outcome)?),
     }
 }
