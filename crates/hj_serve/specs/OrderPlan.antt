@@ -15,8 +15,13 @@ use Rattle.hj_serve.specs.declared.plan.OrderPlan.{OrderPlan}
 use Rattle.hj_serve.specs.declared.plan.OrderPlan.TheVariants as turning
 use Rattle.hj_serve.specs.declared.plan.Writing.{Writing}
 use Rattle.hj_serve.specs.declared.plan.Writing.TheVariants as writing
+use Rattle.hj_serve.specs.Crew.{crew_with}
 use Rattle.hj_serve.specs.Orders.{recipe_seen}
-use Rattle.hj_serve.specs.Serial.{SerialChain}
+use Rattle.hj_serve.specs.Serial.{SerialChain, serial_with}
+use Rattle.hj_twice.specs.declared.mode.Mode.{Mode}
+use Rattle.hj_twice.specs.declared.mode.Mode.TheVariants as mode
+use Rattle.hj_words.specs.declared.order.Order as spelled
+use Rattle.hj_words.specs.declared.order.Order.TheVariants as spells
 
 abbrev pub asked_alone : AloneOrder → Order
 asked_alone (alone.Check name) = check_query name.now
@@ -81,3 +86,40 @@ threads_twice (plan.Threads size) = size.threads
 abbrev pub serial_twice : TwicePlan → Option SerialChain
 serial_twice (plan.Alone size chooser) = Some (record { cores = size.cores; flight = size.flight; chooser = chooser })
 serial_twice (plan.Threads size) = None
+
+-- how each of two joins in a row is made
+pub record TwiceShape : Type 0 where
+  pub crew : Option ChainShape
+  pub threads : ℕ
+  pub serial : Option SerialChain
+
+abbrev pub twice_seen : TwicePlan → TwiceShape
+twice_seen made = record { crew = crew_twice made; threads = threads_twice made; serial = serial_twice made }
+
+abbrev pub twice_plan : OrderPlan → Option TwiceShape
+twice_plan (turning.Alone order) = None
+twice_plan (turning.Threads order size) = None
+twice_plan (turning.Trace join plan) = None
+twice_plan (turning.Verify check) = None
+twice_plan (turning.Twice joins made) = Some (twice_seen made)
+
+-- the one of an order
+abbrev pub twice_of : spelled.Order → Option TwiceShape
+twice_of (spells.Equi w left right) = None
+twice_of (spells.Join setup limit schedule query left right) = None
+twice_of (spells.Raw setup limit query left right) = None
+twice_of (spells.Trace cores flight limit schedule query left right) = None
+twice_of (spells.Verify cores flight limit query left right trace output) = None
+twice_of (spells.Check query) = None
+twice_of (spells.Gen n keys seed w) = None
+twice_of (spells.Twice setup limit schedule query left right second third) =
+    Some (record { crew = crew_with setup; threads = setup.threads; serial = serial_with setup schedule })
+
+-- and of the mode in which they are made
+abbrev pub mode_seen : {T G : Type 0} → Mode T G → TwiceShape
+mode_seen (mode.Serial plan) = record {
+  crew = None;
+  threads = 0;
+  serial = Some (record { cores = plan.size.cores; flight = plan.size.flight; chooser = plan.chooser });
+}
+mode_seen (mode.Threads plan) = record { crew = Some (crew_seen plan.size); threads = plan.size.threads; serial = None }

@@ -4,7 +4,7 @@ ghost use Rattle.hj_words.specs.Ranges.{AreNumbers, IsFrom, IsInRange};
 ghost use Rattle.hj_serve.specs.Crew.{crew_of, crew_with, threads_of, usual_crew};
 ghost use Rattle.hj_serve.specs.Serial.{serial_of, serial_with};
 ghost use Rattle.hj_serve.specs.OrderPlan.{asked_plan, crew_seen, crew_plan, serial_plan, threads_plan};
-ghost use Rattle.hj_serve.specs.OrderPlan.{crew_twice, serial_twice, threads_twice};
+ghost use Rattle.hj_serve.specs.OrderPlan.{crew_twice, serial_twice, threads_twice, twice_of, twice_plan};
 ghost use Rattle.hj_opening.specs.Orders.{chain_seen, join_seen, source_seen};
 ghost use Rattle.hj_opening.specs.RunTwice.{twice_names};
 ghost use Rattle.hj_opening.specs.Words.{TextKind, chooser_of, join_streams, join_twice, keyed, most_events, named, pair_lines, raw_items, sum_up};
@@ -91,6 +91,7 @@ impl<'a> OrderPlan<'a> {
         ensures crew { crew_plan result ≡ crew_of order.now }
         ensures threads { threads_plan result ≡ threads_of order.now }
         ensures serial { serial_plan result ≡ serial_of order.now }
+        ensures twice { twice_plan result ≡ twice_of order.now }
     {
         match order {
             Order::Equi { w, left, right } => equi_plan(*w, left, right),
@@ -165,6 +166,7 @@ fn equi_plan<'a>(w: u32, left: &'a Name, right: &'a Name) -> OrderPlan<'a>
     ensures crew { crew_plan result ≡ Some usual_crew }
     ensures threads { threads_plan result ≡ 4 }
     ensures serial { serial_plan result ≡ None }
+    ensures twice { twice_plan result ≡ None }
 {
     let source = QuerySource::Keyed(EquiWindow { rows: w });
     let join = join_of(source, left, right, MOST_EVENTS);
@@ -180,6 +182,7 @@ fn raw_plan<'a>(join: JoinOrder<'a>, setup: &Setup) -> OrderPlan<'a>
     ensures crew { crew_plan result ≡ Some (record { cores = setup.now.cores; flight = setup.now.flight }) }
     ensures threads { threads_plan result ≡ setup.now.threads }
     ensures serial { serial_plan result ≡ None }
+    ensures twice { twice_plan result ≡ None }
 {
     OrderPlan::Threads(ThreadsOrder::Join(join, Writing::AsMet), crew_size(setup))
 }
@@ -191,6 +194,7 @@ fn gen_plan<'a>(n: u32, keys: u32, seed: u64, w: u32) -> OrderPlan<'a>
     ensures crew { crew_plan result ≡ Some usual_crew }
     ensures threads { threads_plan result ≡ 4 }
     ensures serial { serial_plan result ≡ None }
+    ensures twice { twice_plan result ≡ None }
 {
     let recipe = Recipe {
         rows: n,
@@ -226,6 +230,7 @@ fn join_plan<'a>(join: JoinOrder<'a>, setup: &Setup, schedule: Option<u64>) -> O
     ensures crew { crew_plan result ≡ crew_with setup.now }
     ensures threads { threads_plan result ≡ setup.now.threads }
     ensures serial { serial_plan result ≡ serial_with setup.now schedule }
+    ensures twice { twice_plan result ≡ None }
 {
     if setup.threads > 0 {
         return OrderPlan::Threads(ThreadsOrder::Join(join, Writing::InOrder), crew_size(setup));

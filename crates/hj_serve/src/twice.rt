@@ -1,6 +1,8 @@
+ghost use Rattle.std.specs.Prelude.{◌≡◌};
 ghost use Rattle.hj_base.specs.Outside.{NoneBegun};
 ghost use Rattle.hj_opening.specs.Calls.{call};
 ghost use Rattle.hj_opening.specs.RunTwice.{RunsTwice, twice_names};
+ghost use Rattle.hj_serve.specs.OrderPlan.{mode_seen, twice_seen};
 
 use crate::plan::TwicePlan;
 use crate::serving::Parties;
@@ -41,7 +43,9 @@ pub fn join_in_row<T: Threads + Wait + Clock + Sync, O: Outside, K: Sink, G: Gat
 }
 
 /// Gives the mode of two joins in a row by a plan.
-pub fn mode_of<'r, T: Threads, G>(plan: TwicePlan, parties: &Parties<'r, T, G>) -> Mode<'r, T, G> {
+pub fn mode_of<'r, T: Threads, G>(plan: TwicePlan, parties: &Parties<'r, T, G>) -> Mode<'r, T, G>
+    ensures { mode_seen result ≡ twice_seen plan }
+{
     match plan {
         TwicePlan::Alone { size, chooser } => Mode::Serial(SerialPlan {
             size,

@@ -1,7 +1,8 @@
-use Rattle.std.proofs.Common.{◌∙◌, sym, ap}
+use Rattle.std.proofs.Common.{◌∙◌, Some, sym, ap}
 use Rattle.hj_opening.specs.Orders.{chain_seen}
 use Rattle.hj_opening.specs.Words.{ChainShape, asked_by, chooser_of, pair_lines, raw_items, step_lines}
-use Rattle.hj_serve.proofs.Planned.{same_trace}
+use Rattle.hj_serve.specs.OrderPlan.{TwiceShape, twice_of}
+use Rattle.hj_serve.proofs.Planned.{same_shape, same_trace}
 use Rattle.hj_serve.proofs.plan.OrderPlan.of.Goals as goal
 
 pub returns-in-Join-clause-asked : goal.returns-in-Join-clause-asked
@@ -19,3 +20,8 @@ returns-in-Trace-clause-asked c =
 
 pub returns-in-Twice-clause-asked : goal.returns-in-Twice-clause-asked
 returns-in-Twice-clause-asked c = c.two_joins.ensures ∙ sym (ap asked_by c.in-Twice.is)
+
+pub returns-in-Twice-clause-twice : goal.returns-in-Twice-clause-twice
+returns-in-Twice-clause-twice c =
+    ap (λ (shape : TwiceShape). Some shape) (same_shape _ _ _ _ _ _ c.twice_plan.ensures.crew c.twice_plan.ensures.threads c.twice_plan.ensures.serial)
+    ∙ sym (ap twice_of c.in-Twice.is)
