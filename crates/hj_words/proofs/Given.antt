@@ -147,7 +147,8 @@ pub refuses : (actual app : App) (words : List Text) (e : Error) → actual ≡ 
 refuses actual app words e is kinds other = subst (λ a. Refuses a words) is (λ free. some_kinds (fault_of actual words) e (kinds free) other)
 
 -- an error that becomes Words is not that memory ran out
-pub words_refused : {X : Type 0} (result : Result X Usage) (e : Error) (Claim : Type 0) → IsErrAnd result (λ fault. fault ≡ usage.Words → clap.kind_of e ≡ OutOfMemory → ⊥)
+pub words_refused : {X : Type 0} (result : Result X Usage) (e : Error) (Claim : Type 0)
+    → IsErrAnd result (λ fault. (clap.kind_of e ≡ OutOfMemory → fault ≡ usage.Memory) × ((clap.kind_of e ≡ OutOfMemory → ⊥) → fault ≡ usage.Words))
     → ((clap.kind_of e ≡ OutOfMemory → ⊥) → Claim) → IfErr result (λ fault. fault ≡ usage.Words → Claim)
 words_refused (Ok x) e Claim h claim = tt
-words_refused (Err fault) e Claim h claim = λ is. claim (h is)
+words_refused (Err fault) e Claim h claim = λ is. claim (λ out. let memory : fault ≡ usage.Memory = h.0 out in cc)

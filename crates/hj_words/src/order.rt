@@ -154,7 +154,8 @@ impl From<clap::Error> for Usage {
     ghost use Rattle.clap.specs.declared.error.kind.ErrorKind.TheVariants as kind;
     ghost use Rattle.hj_words.specs.declared.order.Usage.TheVariants as usage;
 
-    ghost from_gives = { λ error u. u ≡ usage.Words → kind_of error ≢ kind.OutOfMemory };
+    ghost from_gives = { λ error u. (kind_of error ≡ kind.OutOfMemory → u ≡ usage.Memory)
+        × (kind_of error ≢ kind.OutOfMemory → u ≡ usage.Words) };
 
     fn from(error: clap::Error) -> Self {
         match error.kind() {
