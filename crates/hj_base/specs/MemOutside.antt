@@ -7,7 +7,7 @@ use Rattle.hj_base.specs.declared.outside.Opened.TheVariants as start
 use Rattle.hj_base.specs.declared.outside.Got.{Got}
 use Rattle.hj_base.specs.declared.outside.Got.TheVariants as read
 use Rattle.hj_base.specs.Counts.{one_more}
-use Rattle.hj_base.specs.Outside.{RoleState, unbegun, opened, refused, at_end}
+use Rattle.hj_base.specs.Outside.{RoleState, opened, refused, at_end, new_role}
 
 -- A role's stream.
 pub record StreamState : Type 0 where
@@ -68,7 +68,7 @@ with_stream outside Output state = record outside { output = state }
 
 -- a stream of a new object
 abbrev pub new_stream : StreamState
-new_stream = record { role = record { phase = unbegun; faults = 0; left = None }; start_fails = false; reads = 0; failing = [] }
+new_stream = record { role = new_role; start_fails = false; reads = 0; failing = [] }
 
 -- A start is ready only where the name stands and it isn't one that fails; it fails only where that isn't so.
 abbrev pub AnswersStart : Opened → Bool → Option (List ℕ) → Type 0

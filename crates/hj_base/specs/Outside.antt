@@ -1,5 +1,5 @@
 -- What stands of the streams that are read, one for each role, and what a start and a read do to it.
-use Rattle.std.specs.Prelude.{◌≡◌, ◌≢◌, ℕ, ◌≤◌, Bool, true, false, List, length, take}
+use Rattle.std.specs.Prelude.{◌≡◌, ◌≢◌, ℕ, ◌≤◌, Bool, true, false, List, None, length, take}
 use Rattle.std.specs.Io.KnownBytes.{Consumes, IsAtEnd}
 use Rattle.std.specs.declared.option.Option.{Option}
 use Rattle.hj_base.specs.declared.numbers.Side.{Side}
@@ -29,6 +29,10 @@ pub record RoleState : Type 0 where
   pub faults : ℕ
   -- the bytes that it has left, where they are told
   pub left : Option (List ℕ)
+
+-- a role that is not begun, and of which no bytes are told
+abbrev pub new_role : RoleState
+new_role = record { phase = unbegun; faults = 0; left = None }
 
 abbrev pub IsOpen : Phase → Type 0
 IsOpen unbegun = ⊥

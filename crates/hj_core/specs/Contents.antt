@@ -1,8 +1,6 @@
 -- What contracts see of a core: its place among the cores, its join, its two stores, the rows in flight, and which closes it
 -- handled. The rows at rest are those of the stores.
 use Rattle.std.specs.Prelude.{◌≡◌, ℕ, Bool, List}
-use Rattle.hj_base.specs.declared.numbers.Side.{Side}
-use Rattle.hj_base.specs.declared.numbers.Side.TheVariants.{Left, Right}
 use Rattle.hj_msg.specs.Store.{Resting}
 use Rattle.hj_msg.specs.Core.{State}
 use Rattle.hj_core.specs.Buffer.{Buffer}
@@ -28,11 +26,6 @@ state_of rows core =
       closed_left = core.closed_left;
       closed_right = core.closed_right;
     }
-
--- each store may be probed by the join, for its side
-pub record Suits {J S : Type 0} (suits : S → Side → J → Type 0) (join : J) (left right : S) : Type 0 where
-  pub on_left : suits left Left join
-  pub on_right : suits right Right join
 
 -- each store holds no rows but those whose home is here
 pub record HoldsItsOwn {P : Type 0} (place cores : ℕ) (left_rows right_rows : List (Resting P)) : Type 0 where

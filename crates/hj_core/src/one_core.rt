@@ -34,7 +34,8 @@ pub struct Core<P, J: Join<P>, S: Store<P, J>> {
 }
 
 impl<P, J: Join<P>, S: Store<P, J>> Model for Core<P, J, S> {
-    ghost use Rattle.hj_core.specs.Contents.{Contents, HoldsItsOwn, Suits};
+    ghost use Rattle.hj_msg.specs.ReadyStores.{Suits};
+    ghost use Rattle.hj_core.specs.Contents.{Contents, HoldsItsOwn};
 
     ghost Value = { Contents P J S };
 
@@ -47,7 +48,8 @@ impl<P, J: Join<P>, S: Store<P, J>> Model for Core<P, J, S> {
 }
 
 impl<P: Share + Drop, J: Join<P> + Drop, S: Store<P, J> + Drop> Core<P, J, S> {
-    ghost use Rattle.hj_core.specs.Contents.{Contents, KeepsPlace, Suits, state_of};
+    ghost use Rattle.hj_msg.specs.ReadyStores.{Suits};
+    ghost use Rattle.hj_core.specs.Contents.{Contents, KeepsPlace, state_of};
     ghost use Rattle.hj_core.specs.Sent.{sent};
 
     /// Makes the core of this place among `cores`, which are at most 64, over two empty stores.

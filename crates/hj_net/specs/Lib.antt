@@ -4,6 +4,5 @@ pub mod Channel
 pub mod Collected
 pub mod RealOutside
 pub mod RealSink
-pub mod Roles
 pub mod RoleStream
 pub mod RoleStreams

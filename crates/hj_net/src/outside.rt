@@ -30,7 +30,7 @@ pub struct RealOutside<'a, R: Files + Net + Drop, W: Write + Drop> {
 }
 
 impl<'a, R: Files + Net + Drop, W: Write + Drop> RealOutside<'a, R, W> {
-    ghost use Rattle.hj_net.specs.Roles.{new_role};
+    ghost use Rattle.hj_base.specs.Outside.{new_role};
     ghost use Rattle.hj_net.specs.RealOutside.{role_at};
     ghost use Rattle.hj_base.specs.declared.outside.Role.{Role};
 

@@ -24,7 +24,7 @@ pub struct RoleStream<S: Read + Drop> {
 }
 
 impl<S: Read + Drop> RoleStream<S> {
-    ghost use Rattle.hj_net.specs.Roles.{new_role};
+    ghost use Rattle.hj_base.specs.Outside.{new_role};
     ghost use Rattle.hj_net.specs.RoleStream.{role_of, Begins, ReadsOn};
 
     /// Makes a role that isn't begun.

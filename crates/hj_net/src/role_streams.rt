@@ -19,7 +19,7 @@ pub struct RoleStreams<S: Read + Drop> {
 
 impl<S: Read + Drop> RoleStreams<S> {
     ghost use Rattle.hj_base.specs.declared.outside.Role.{Role};
-    ghost use Rattle.hj_net.specs.Roles.{new_role};
+    ghost use Rattle.hj_base.specs.Outside.{new_role};
     ghost use Rattle.hj_net.specs.RoleStream.{role_of, Begins, ReadsOn};
     ghost use Rattle.hj_net.specs.RoleStreams.{stream_at};
 

@@ -1,7 +1,5 @@
 -- The stores of a sequential join: one of each stream's rows.
 use Rattle.std.specs.Prelude.{◌≡◌, true, List, map}
-use Rattle.hj_base.specs.declared.numbers.Side.{Side}
-use Rattle.hj_base.specs.declared.numbers.Side.TheVariants.{Left, Right}
 use Rattle.hj_msg.specs.Kang.{Held, Windows}
 use Rattle.hj_msg.specs.Store.{Resting}
 
@@ -13,8 +11,3 @@ at_rest window = map (λ held. record { no = held.no; row = held.row; settled = 
 pub record HoldWindows {P S : Type 0} (rows : S → List (Resting P)) (windows : Windows P) (left right : S) : Type 0 where
   pub on_left : rows left ≡ at_rest windows.left
   pub on_right : rows right ≡ at_rest windows.right
-
--- Each store may be probed by the join, for its side.
-pub record Suit {J S : Type 0} (suits : S → Side → J → Type 0) (join : J) (left right : S) : Type 0 where
-  pub on_left : suits left Left join
-  pub on_right : suits right Right join

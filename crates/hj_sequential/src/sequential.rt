@@ -13,7 +13,8 @@ ghost use Rattle.hj_msg.specs.Met.{pairs_of};
 ghost use Rattle.hj_msg.specs.RunsJoin.{RunsJoin};
 ghost use Rattle.hj_msg.specs.Store.{with_entry};
 ghost use Rattle.hj_sequential.specs.Giving.{GivesListed};
-ghost use Rattle.hj_sequential.specs.Stores.{HoldWindows, Suit};
+ghost use Rattle.hj_msg.specs.ReadyStores.{Suits};
+ghost use Rattle.hj_sequential.specs.Stores.{HoldWindows};
 
 use crate::giving::give;
 use hj_base::{CoreNo, EventNo, Gate, Memory, Share, Side};
@@ -43,7 +44,7 @@ impl<J, S> SequentialJoin<J, S> {
         requires fresh { IsFresh (F.state feed.old) }
         requires left { S.entries self.old.left ≡ [] }
         requires right { S.entries self.old.right ≡ [] }
-        requires suits { Suit S.suits self.old.join self.old.left self.old.right }
+        requires suits { Suits S.suits self.old.join self.old.left self.old.right }
         ensures { RunsJoin F.gives F.state D.takes (J.predicate self.old.join) result feed.old feed.new drain.old drain.new }
     {
         let mut handled: u64 = 0;
@@ -64,12 +65,12 @@ impl<J, S> SequentialJoin<J, S> {
     where
         J: Join<P>,
         S: Store<P, J>,
-        requires { Suit S.suits self.old.join self.old.left self.old.right }
+        requires { Suits S.suits self.old.join self.old.left self.old.right }
         ensures gives { (before : List (Events P)) → IsWellFormed (before ++ event ∷ []) → HoldWindows S.entries (windows_after before) self.old.left self.old.right
             → GivesListed D.takes (listed (J.predicate self.old.join) (windows_after before) event) result drain.old drain.new }
         ensures holds { (before : List (Events P)) → IsWellFormed (before ++ event ∷ []) → HoldWindows S.entries (windows_after before) self.old.left self.old.right
             → result ≡ Done → HoldWindows S.entries (after (windows_after before) event) self.new.left self.new.right }
-        ensures suits { Suit S.suits self.new.join self.new.left self.new.right }
+        ensures suits { Suits S.suits self.new.join self.new.left self.new.right }
         ensures join { self.new.join ≡ self.old.join }
     {
         match event {
@@ -103,10 +104,10 @@ impl<J, S> SequentialJoin<J, S> {
     where
         J: Join<P>,
         S: Store<P, J>,
-        requires { Suit S.suits self.old.join self.old.left self.old.right }
+        requires { Suits S.suits self.old.join self.old.left self.old.right }
         ensures holds { (windows : Windows P) (at : EventNos) → HoldWindows S.entries windows self.old.left self.old.right
             → HoldWindows S.entries (after windows (Expire at side of)) self.new.left self.new.right }
-        ensures suits { Suit S.suits self.new.join self.new.left self.new.right }
+        ensures suits { Suits S.suits self.new.join self.new.left self.new.right }
         ensures join { self.new.join ≡ self.old.join }
     {
         match side {

@@ -1,19 +1,15 @@
 -- The streams of a second join: its left one is the relay, its right one the third stream of another outside.
-use Rattle.std.specs.Prelude.{ℕ, zero, suc, true, false, List, [], ◌∷◌, None, Some}
+use Rattle.std.specs.Prelude.{ℕ, zero, suc, true, false, List, [], ◌∷◌, Some}
 use Rattle.std.specs.declared.option.Option.{Option}
 use Rattle.hj_base.specs.declared.outside.Role.{Role}
 use Rattle.hj_base.specs.declared.outside.Role.TheVariants as role
-use Rattle.hj_base.specs.Outside.{Phase, unbegun, opened, refused, RoleState}
+use Rattle.hj_base.specs.Outside.{Phase, unbegun, opened, refused, RoleState, new_role}
 use Rattle.hj_held.specs.Held.{HeldState, open_role}
-
--- a role that is never begun
-abbrev pub never_begun : RoleState
-never_begun = record { phase = unbegun; faults = 0; left = None }
 
 abbrev pub relayed_role : HeldState → (Role → RoleState) → Role → RoleState
 relayed_role relay others role.Left = open_role relay
 relayed_role relay others role.Right = others role.Third
-relayed_role relay others other = never_begun
+relayed_role relay others other = new_role
 
 -- the roles but the third stream's, by numbers
 abbrev pub role_numbered : ℕ → Role

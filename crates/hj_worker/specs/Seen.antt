@@ -48,7 +48,3 @@ module _ {P : Type 0} where
 -- the end at which a call looks first for a message, after so many calls
 abbrev pub first_end : ℕ → Side
 first_end calls = if calls % 2 == 0 then Left else Right
-
-abbrev pub other_end : Side → Side
-other_end Left = Right
-other_end Right = Left

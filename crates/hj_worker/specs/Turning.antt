@@ -5,6 +5,7 @@ use Rattle.hj_base.specs.declared.numbers.Side.TheVariants.{Left, Right}
 use Rattle.hj_msg.specs.declared.message.Msg.{Msg}
 use Rattle.hj_msg.specs.declared.message.Report.TheVariants.{NoMemory as MemoryRanOut}
 use Rattle.hj_msg.specs.Core.{after}
+use Rattle.hj_msg.specs.Quiet.{other_side}
 use Rattle.hj_link.specs.Seen.{KeepsLink}
 use Rattle.hj_worker.specs.declared.answers.Place.{Place}
 use Rattle.hj_worker.specs.declared.answers.Place.TheVariants.{Link, Reports}
@@ -15,7 +16,7 @@ use Rattle.hj_worker.specs.Outgoing.{Outgoing, Journals, reported, outgoing, wit
 use Rattle.hj_worker.specs.declared.hand.Hand.{Hand}
 use Rattle.hj_worker.specs.declared.hand.Hand.TheVariants.{Nothing, Rest, Refused}
 use Rattle.hj_worker.specs.Hands.{unput, refused, things_of}
-use Rattle.hj_worker.specs.Seen.{WorkerSeen, journals_of, place_of, full_looks, empty_looks, other_end}
+use Rattle.hj_worker.specs.Seen.{WorkerSeen, journals_of, place_of, full_looks, empty_looks}
 
 module _ {P : Type 0} where
   -- each end stays on its link
@@ -52,7 +53,7 @@ module _ {P : Type 0} where
   pub record Takes (number : ℕ) (first : Side) (message : Msg P) (old new : WorkerEnds P) : Type 0 where
     pub end : Side
     pub journals : journals_of new ≡ with_take number end message (journals_of old)
-    pub order : end ≡ other_end first → FindsNone first old new
+    pub order : end ≡ other_side first → FindsNone first old new
 
 module _ {P J : Type 0} where
   -- a worker is still that of its core, on its links
