@@ -44,8 +44,10 @@ pub mod Projection
 pub mod Putting
 pub mod Reaching
 pub mod ReportQueues
+pub mod Released
 pub mod Reporting
 pub mod Room
+pub mod Rounds
 pub mod Running
 pub mod Sending
 pub mod SerialRuns

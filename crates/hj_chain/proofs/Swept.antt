@@ -1,5 +1,5 @@
 -- What a sweep leaves of a run in turn.
-use Rattle.std.proofs.Common.{◌≡◌, ℕ, suc, ◌+◌, ◌*◌, ◌<◌, ◌≤◌, Bool, true, false, cond, not, ◌&&◌, List, [], ◌∷◌, ◌++◌, ◌⊎◌, inl, inr, length, filter, Some, None, Option, append-nil, refl, ap, sym, ◌∙◌, subst, arith, true≢false}
+use Rattle.std.proofs.Common.{◌≡◌, ℕ, suc, ◌+◌, ◌*◌, ◌<◌, ◌≤◌, Bool, true, false, cond, not, ◌&&◌, List, [], ◌∷◌, ◌++◌, inl, inr, length, filter, Some, None, Option, append-nil, refl, ap, sym, ◌∙◌, subst, arith, true≢false}
 use Rattle.std.specs.List.{slice_get}
 use Rattle.std.specs.Option.{IfSome, is_none}
 use Rattle.std.proofs.lemmas.List.Elements.{filter-append}
@@ -22,14 +22,14 @@ use Rattle.hj_chain.specs.Chain.{ChainState, Contents, admit_cause}
 use Rattle.hj_chain.specs.Reached.{StandsFor}
 use Rattle.hj_chain.specs.Serial.{MayBeTried, RunsAll, RunsSerially, actors, chosen, from_place, in_turn, is_enabled, others, would_wait}
 use Rattle.hj_chain.specs.Steps.{Gathers, GoesWith, IsGoing, Steps, asks, was_asked}
-use Rattle.hj_chain.specs.Sweep.{Collects, Drains, EndsCollecting, Puts, RunsOut, StandsThere, Sweeps, Tried}
+use Rattle.hj_chain.specs.Sweep.{Collects, Drains, EndsCollecting, RunsOut, StandsThere, Sweeps, Tried}
 use Rattle.hj_chain.specs.Sweep as sweep
-use Rattle.hj_chain.proofs.Advancing.{goes-unasked, same-join, same-kept, steps-unasked}
+use Rattle.hj_chain.proofs.Advancing.{goes-unasked, steps-unasked}
 use Rattle.hj_chain.proofs.ActorOrder.{length-actors}
 use Rattle.hj_chain.proofs.FewSteps.{to_come}
-use Rattle.hj_chain.proofs.SerialRuns.{Running, Settled, release-settles, running-ends-done, running-refused, running-release}
-use Rattle.hj_chain.proofs.Sweeping.{Sweeping, did-over, may-be-tried, port-first, sweeping-at, sweeping-past, swept-fewer, swept-over, swept-running, swept-settled, swept-within, wrapped}
-use Rattle.hj_chain.proofs.Trying.{before-or-at, inner-asks, inner-collects, low-or-high, slice-low}
+use Rattle.hj_chain.proofs.SerialRuns.{Running, Settled, release-settles, running-refused, running-release}
+use Rattle.hj_chain.proofs.Sweeping.{Sweeping, did-over, may-be-tried, sweeping-at, sweeping-past, swept-fewer, swept-over, swept-running, swept-settled, swept-within}
+use Rattle.hj_chain.proofs.Trying.{before-or-at, inner-asks, inner-collects, slice-low}
 
 -- ---- none is left
 
@@ -65,7 +65,7 @@ module _ {P : Type 0} (chain : ChainState P) where
     others-none : filter test (others n) ≡ []
     others-none = filter-none test (others n) (λ k actor is. passed (suc k) actor (omega arith) is)
 
-    none-chosen : test Admit ≡ false → (ready : Bool) → would_wait ready chain ≡ false → chosen (from_place 0) ready chain ≡ None
+    pub none-chosen : test Admit ≡ false → (ready : Bool) → would_wait ready chain ≡ false → chosen (from_place 0) ready chain ≡ None
     none-chosen off ready waits =
         ap (λ (w : Bool). slice_get (filter test (in_turn n w 0)) 0) waits ∙ ap (λ (l : List Actor). slice_get (filter test l) 0) (append-nil (actors n))
         ∙ ap (λ (b : Bool). slice_get (cond b (Admit ∷ filter test (others n)) (filter test (others n))) 0) off ∙ ap (λ (l : List Actor). slice_get l 0) others-none
@@ -120,7 +120,7 @@ module _ {P J F D : Type 0} (gives : F → Given P → F → Type 0) (is_ready :
   Finishes ended to new filled = RunsAll gives is_ready takes state predicate chooser.InTurn old from unfilled ended new to filled
 
   module _ (to : F) (at : ℕ) (now : Contents P J) (filled : D) (swept : Swept to at now filled) (actor : Actor) (there : StandsThere now at actor) (tried : MayBeTried at (is_ready to) now.state at) where
-    swept-past : is_enabled now.state actor ≡ false → Swept to (at + 1) now filled
+    pub swept-past : is_enabled now.state actor ≡ false → Swept to (at + 1) now filled
     swept-past off = record {
       sweeping = sweeping-past gives is_ready takes state predicate old from unfilled at now to filled swept.sweeping at tried actor there.stands off now refl to refl;
       settled = swept.settled;
@@ -279,7 +279,7 @@ module _ {P J F D : Type 0} (gives : F → Given P → F → Type 0) (is_ready :
           join = out.tried.join ∙ moves.swept.sweeping.running.join;
         }
 
-    moves-collects : (undrained : D) → Swept to first begun undrained → 1 ≤ first → {at : ℕ} {moved : Bool} {now : Contents P J} {filled : D} → Collects takes predicate first before begun undrained at moved now filled → Moves to first at before moved begun now filled
+    pub moves-collects : (undrained : D) → Swept to first begun undrained → 1 ≤ first → {at : ℕ} {moved : Bool} {now : Contents P J} {filled : D} → Collects takes predicate first before begun undrained at moved now filled → Moves to first at before moved begun now filled
     moves-collects undrained swept some sweep.starts = moves-none undrained swept
     moves-collects undrained swept some (sweep.passes at moved now filled actor more there off) = moves-past at moved now filled actor some (moves-collects undrained swept some more) there off
     moves-collects undrained swept some (sweep.collects at moved now filled core mid new last more there tried drains) =
@@ -313,20 +313,6 @@ module _ {P J F D : Type 0} (gives : F → Given P → F → Type 0) (is_ready :
     pub swept : Swept to 0 now filled
     pub passed : moved ≡ false → AllPassed now.state
 
-  may-try : (to : F) (moved : Bool) (now : Contents P J) (filled : D) → Round to moved now filled → (would_wait (is_ready to) now.state ≡ false) ⊎ (moved ≡ false) → MayBeTried 0 (is_ready to) now.state 0
-  may-try to moved now filled round (inl free) = put-tried now.state (is_ready to) free
-  may-try to moved now filled round (inr still) = by (would_wait (is_ready to) now.state) refl
-    where
-      by : (b : Bool) → would_wait (is_ready to) now.state ≡ b → MayBeTried 0 (is_ready to) now.state 0
-      by false is = put-tried now.state (is_ready to) is
-      by true is = put-tried-last now.state (round.passed still) round.swept.going (is_ready to) is
-
-  the-put-there : (now : Contents P J) → StandsThere now 0 Admit
-  the-put-there now = record { stands = refl; behind = refl }
-
-  admit-collects : (core : CoreNo) → Admit ≡ Collect core → ⊥
-  admit-collects core is = cc
-
   -- Behind the put: the sweep is at the next place, and no more steps are to come than before; fewer, if it made its step.
   pub record Put (to : F) (moved put : Bool) (now : Contents P J) (onto : F) (new : Contents P J) (filled : D) : Type 0 where
     pub swept : Swept onto 1 new filled
@@ -335,121 +321,6 @@ module _ {P J F D : Type 0} (gives : F → Given P → F → Type 0) (is_ready :
     -- where the put made no step, one was made in the round before
     pub was : put ≡ false → moved ≡ true
 
-  module _ (to : F) (moved : Bool) (now : Contents P J) (filled : D) (round : Round to moved now filled) where
-    pub put-on : (put : Bool) (new : Contents P J) (onto : F) → Puts gives is_ready state predicate moved now to true put new onto → Put to moved put now onto new filled
-    put-on put new onto did = by did refl
-      where
-        by : {goes_on put : Bool} {new : Contents P J} {onto : F} → Puts gives is_ready state predicate moved now to goes_on put new onto → goes_on ≡ true → Put to moved put now onto new filled
-        by (sweep.waits was waits) on = record {
-          swept = record {
-            sweeping = record {
-              stood = round.swept.sweeping.stood;
-              running = round.swept.sweeping.running;
-              same = round.swept.sweeping.same ∙ port-first now.state (is_ready to) waits;
-              within = omega (arith, length-actors (length now.state.cores));
-            };
-            settled = round.swept.settled;
-            going = round.swept.going;
-          };
-          most = omega arith;
-          fewer = λ did. absurd (true≢false (sym did));
-          was = λ none. was;
-        }
-        by (sweep.idles may off) on = record {
-          swept = swept-past to 0 now filled round.swept Admit (the-put-there now) (may-try to moved now filled round may) off;
-          most = omega arith;
-          fewer = λ did. absurd (true≢false (sym did));
-          was = λ none. on;
-        }
-        by (sweep.puts may new onto step others goes answers) on =
-            let tried = may-try to moved now filled round may in
-            let kept = same-kept now new others in
-            let joined = same-join now new others in
-            let fewer = fewer-step to 0 now filled round.swept Admit (the-put-there now) tried Did new onto step kept joined refl answers in
-            record {
-              swept = swept-step to 0 now filled round.swept Admit (the-put-there now) tried Did new onto step kept joined refl goes admit-collects;
-              most = omega (arith, fewer);
-              fewer = λ did. fewer;
-              was = λ none. absurd (true≢false none);
-            }
-
-    pub put-ends : 1 ≤ now.state.driver.flight → (put : Bool) (new : Contents P J) (onto : F) → Puts gives is_ready state predicate moved now to false put new onto → Finishes fin.Done onto new filled
-    put-ends some put new onto did = by did refl
-      where
-        by : {goes_on put : Bool} {new : Contents P J} {onto : F} → Puts gives is_ready state predicate moved now to goes_on put new onto → goes_on ≡ false → Finishes fin.Done onto new filled
-        by (sweep.waits was waits) idle = absurd (true≢false idle)
-        by (sweep.puts may new onto step others goes answers) idle = absurd (true≢false idle)
-        by (sweep.idles may off) idle =
-            let swept = round.swept in
-            let free : would_wait (is_ready to) now.state ≡ false = not-waiting (would_wait (is_ready to) now.state) refl off in
-            let none : chosen (from_place swept.sweeping.stood) (is_ready to) now.state ≡ None = swept.sweeping.same ∙ none-chosen now.state (round.passed idle) off (is_ready to) free in
-            record {
-              runs = running-ends-done gives is_ready takes state predicate chooser.InTurn old from unfilled (from_place swept.sweeping.stood) now to filled swept.sweeping.running swept.going swept.settled some (is_ready to) (sym none);
-              goes = swept.sweeping.running.goes;
-              join = swept.sweeping.running.join;
-            }
-          where
-            not-waiting : (b : Bool) → would_wait (is_ready to) now.state ≡ b → is_enabled now.state Admit ≡ false → would_wait (is_ready to) now.state ≡ false
-            not-waiting false is off = is
-            not-waiting true is off = absurd (true≢false (sym (waits-enabled now.state (is_ready to) round.swept.going is) ∙ off))
-
-  -- the rest of a round, behind the put
-  module _ (to : F) (put : Bool) (begun : Contents P J) (filled : D) (swept : Swept to 1 begun filled) (n : ℕ) (is_n : n ≡ length begun.state.cores) (middle moved : Bool) (mid new : Contents P J) (more : D) (sweeps : Sweeps predicate 1 put begun (2 * n + 3) middle mid)
-      (collects : Collects takes predicate (2 * n + 3) middle mid filled (3 * n + 3) moved new more) where
-    inner : Moves to 1 (2 * n + 3) put middle begun mid filled
-    inner = moves-sweeps to 1 put begun filled swept (omega arith) sweeps
-
-    last : Moves to (2 * n + 3) (3 * n + 3) middle moved mid new more
-    last = moves-collects to (2 * n + 3) middle mid filled inner.swept (omega arith) collects
-
-    all : length (actors (length new.state.cores)) ≡ 3 * n + 3
-    all = ap (λ (m : ℕ). length (actors m)) (last.swept.sweeping.running.cores ∙ sym swept.sweeping.running.cores ∙ sym is_n) ∙ length-actors n
-
-    pub round-most : weight to new ≤ weight to begun
-    round-most = omega (arith, inner.most, last.most)
-
-    pub round-fewer : moved ≡ true → put ≡ false → weight to new < weight to begun
-    round-fewer did not = by middle refl
-      where
-        by : (b : Bool) → middle ≡ b → weight to new < weight to begun
-        by true is = omega (arith, inner.fewer is not, last.most)
-        by false is = omega (arith, last.fewer did is, inner.most)
-
-    pub round-was : moved ≡ false → put ≡ false
-    round-was still = inner.was (last.was still)
-
-    pub round-again : Round to moved new more
-    round-again = record {
-      swept = record {
-        sweeping = record {
-          stood = last.swept.sweeping.stood;
-          running = last.swept.sweeping.running;
-          same = last.swept.sweeping.same ∙ ap (λ (p : ℕ). chosen (from_place p) (is_ready to) new.state) (sym all) ∙ wrapped new.state (is_ready to);
-          within = omega arith;
-        };
-        settled = last.swept.settled;
-        going = last.swept.going;
-      };
-      passed = λ still k actor low is.
-          let quiet : middle ≡ false = last.was still in
-          let same : new ≡ begun = last.same still ∙ inner.same quiet in
-          let is_begun : slice_get (actors (length begun.state.cores)) k ≡ Some actor = subst (λ (c : Contents P J). slice_get (actors (length c.state.cores)) k ≡ Some actor) same is in
-          let is_mid : slice_get (actors (length mid.state.cores)) k ≡ Some actor = subst (λ (c : Contents P J). slice_get (actors (length c.state.cores)) k ≡ Some actor) (last.same still) is in
-          let within : k < 3 * n + 3 = omega (arith, slice-low (actors (length new.state.cores)) k actor is, all) in
-          subst (λ (c : Contents P J). is_enabled c.state actor ≡ false) (sym same)
-          (elim (low-or-high k (2 * n + 3)) [
-            | inl less ↦ inner.off quiet k actor low less is_begun
-            | inr high ↦ subst (λ (c : Contents P J). is_enabled c.state actor ≡ false) (inner.same quiet) (last.off still k actor high within is_mid)
-          ]);
-    }
-
 -- what is to come falls with each round
 abbrev pub one-if : Bool → ℕ
 one-if b = cond b 1 0
-
-pub round-falls : (after between before : ℕ) (did put moved : Bool) → after ≤ between → between ≤ before → (put ≡ true → between < before) → (did ≡ true → put ≡ false → after < between) → (did ≡ false → put ≡ false) → (put ≡ false → moved ≡ true)
-    → 2 * after + one-if did < 2 * before + one-if moved
-round-falls after between before true true moved most more by_put by_rest none was = omega (arith, most, by_put refl)
-round-falls after between before true false moved most more by_put by_rest none was = omega (arith, more, by_rest refl refl)
-round-falls after between before false put true most more by_put by_rest none was = omega (arith, most, more)
-round-falls after between before false put false most more by_put by_rest none was = absurd (true≢false (sym (was (none refl))))

@@ -1,5 +1,5 @@
 -- One actor after another is tried.
-use Rattle.std.proofs.Common.{◌≡◌, ℕ, zero, suc, ◌+◌, ◌<◌, ◌≤◌, Bool, true, false, List, [], ◌∷◌, ◌⊎◌, inl, inr, length, Some, Option, refl, ap, sym, ◌∙◌, subst, arith, true≢false}
+use Rattle.std.proofs.Common.{◌≡◌, ℕ, zero, suc, ◌+◌, ◌*◌, ◌<◌, ◌≤◌, Bool, true, false, List, [], ◌∷◌, ◌⊎◌, inl, inr, length, Some, Option, refl, ap, sym, ◌∙◌, subst, arith, true≢false}
 use Rattle.std.specs.List.{slice_get}
 use Rattle.hj_base.specs.declared.numbers.CoreNo.{CoreNo}
 use Rattle.hj_base.specs.declared.numbers.Side.{Side}
@@ -16,10 +16,11 @@ use Rattle.hj_chain.specs.declared.actor.NotNow.{NotNow}
 use Rattle.hj_chain.specs.declared.actor.Stepped.{Stepped}
 use Rattle.hj_chain.specs.declared.actor.Stepped.TheVariants.{Did, NotEnabled, Memory}
 use Rattle.hj_chain.specs.Chain.{Contents, FeedAnswer}
-use Rattle.hj_chain.specs.Serial.{is_enabled, others}
+use Rattle.hj_chain.specs.Serial.{core_no, is_enabled, others}
 use Rattle.hj_chain.specs.Steps.{GoesWith, IsGoing, Steps, StepsTo, asks, at_port, needs_memory}
 use Rattle.hj_chain.specs.Sweep.{is_inner, Collects, Drains, StandsThere, Sweeps, Tried}
 use Rattle.hj_chain.specs.Sweep as sweep
+use Rattle.hj_chain.proofs.ActorOrder.{at-collection, at-left, at-right}
 use Rattle.hj_chain.proofs.Advancing.{goes-unasked, same-join, same-kept, steps-unasked}
 use Rattle.hj_chain.proofs.SerialRuns.{cores-stay}
 use Rattle.hj_chain.proofs.Sweeping.{did-over, past}
@@ -134,6 +135,16 @@ left-there chain = record { stands = refl; behind = refl }
 
 pub right-there : {P J : Type 0} (chain : Contents P J) → StandsThere chain 2 PortRight
 right-there chain = record { stands = refl; behind = refl }
+
+-- the ends of a core stand behind the ports, and its collection behind the ends of all
+pub left-end-there : {P J : Type 0} (chain : Contents P J) (k : ℕ) → k < length chain.state.cores → StandsThere chain (2 * k + 3) (Core (core_no k) Left)
+left-end-there chain k low = record { stands = at-left (length chain.state.cores) k (2 * k + 3) low refl; behind = omega arith }
+
+pub right-end-there : {P J : Type 0} (chain : Contents P J) (k : ℕ) → k < length chain.state.cores → StandsThere chain (2 * k + 3 + 1) (Core (core_no k) Right)
+right-end-there chain k low = record { stands = at-right (length chain.state.cores) k (2 * k + 3 + 1) low (omega arith); behind = omega arith }
+
+pub collection-there : {P J : Type 0} (chain : Contents P J) (n k : ℕ) → length chain.state.cores ≡ n → k < n → StandsThere chain (2 * n + k + 3) (Collect (core_no k))
+collection-there chain n k many low = record { stands = at-collection (length chain.state.cores) k (2 * n + k + 3) (omega (arith, many, low)) (omega (arith, many)); behind = omega (arith, many) }
 
 -- a sweep goes on
 module _ {P J : Type 0} (predicate : J → P → P → Bool) (first at : ℕ) (before moved : Bool) (begun now new : Contents P J) (actor : Actor) (more : Sweeps predicate first before begun at moved now) (there : StandsThere now at actor) where

@@ -45,6 +45,12 @@ pub data Sweeps {P J : Type 0} (predicate : J → P → P → Bool) (first : ℕ
   steps : (at : ℕ) (moved : Bool) (now : Contents P J) (actor : Actor) (new : Contents P J) → Sweeps predicate first before begun at moved now → StandsThere now at actor → is_inner actor ≡ true → Tried predicate actor now Did new
       → Sweeps predicate first before begun (at + 1) true new
 
+-- One more actor was tried, at its place: a sweep that came to it goes on behind it.
+abbrev pub SweepsPast : {P J : Type 0} → (J → P → P → Bool) → Actor → Bool → Contents P J → Bool → Contents P J → Type 0
+SweepsPast {P} {J} predicate actor before old moved new =
+    (first at : ℕ) (was : Bool) (begun : Contents P J) → StandsThere old at actor → Sweeps predicate first was begun at before old
+    → Sweeps predicate first was begun (at + 1) moved new
+
 -- Such a sweep, and behind it an actor for whose step there is no memory.
 pub record RunsOut {P J : Type 0} (predicate : J → P → P → Bool) (first : ℕ) (before : Bool) (begun new : Contents P J) : Type 0 where
   pub at : ℕ

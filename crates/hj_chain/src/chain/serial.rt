@@ -6,8 +6,9 @@ ghost use Rattle.hj_chain.specs.declared.actor.Actor.{Actor as Actors};
 ghost use Rattle.hj_chain.specs.Chain.{admit_cause};
 ghost use Rattle.hj_chain.specs.Progress.{IsDone};
 ghost use Rattle.hj_chain.specs.Reached.{StandsFor};
-ghost use Rattle.hj_chain.specs.Serial.{Releases, RunsAll, RunsSerially, actors, drawn_from, enabled, in_turn, is_enabled, would_wait};
+ghost use Rattle.hj_chain.specs.Serial.{RunsAll, RunsSerially, actors, drawn_from, enabled, in_turn, is_enabled, would_wait};
 ghost use Rattle.hj_chain.specs.Steps.{GoesWith};
+ghost use Rattle.hj_chain.specs.Sweep.{Drains};
 
 use super::sweep::Sweep;
 use crate::{Actor, Chain, Chooser, Stepped};
@@ -146,9 +147,7 @@ impl<P: Share + Drop, J: Join<P> + Drop, S: Store<P, J> + Drop> Chain<P, J, S> {
     #[inline(always)]
     pub(super) fn release<D: Drain<P>>(&mut self, drain: &mut D) -> Drained
         requires { (feed : FeedState) × GoesWith J.predicate self.old feed }
-        ensures releases { (schedule : List Actors) (events : List (Event P)) (given : ℕ) (stood : StandsFor J.predicate self.old schedule events given) → Releases D.takes stood drain.old result self.new drain.new }
-        ensures others { self.new ≡ record self.old { kept = self.new.kept } }
-        ensures goes { (feed : FeedState) → GoesWith J.predicate self.old feed → GoesWith J.predicate self.new feed }
+        ensures { Drains D.takes J.predicate self.old drain.old result self.new drain.new }
     {
         if self.over {
             return Drained::Kept;

@@ -3,7 +3,7 @@ ghost use Rattle.hj_chain.specs.Chain.{Contents};
 ghost use Rattle.hj_chain.specs.declared.actor.Actor.TheVariants.{Core as AtCore, Collect as AtReports};
 ghost use Rattle.hj_chain.specs.Serial.{would_wait};
 ghost use Rattle.hj_chain.specs.Steps.{at_port, GoesWith, IsGoing};
-ghost use Rattle.hj_chain.specs.Sweep.{Collects, EndsCollecting, Puts, RunsOut, StandsThere, Sweeps};
+ghost use Rattle.hj_chain.specs.Sweep.{Collects, EndsCollecting, Puts, RunsOut, StandsThere, Sweeps, SweepsPast};
 
 use super::Chain;
 use crate::Stepped;
@@ -83,8 +83,7 @@ impl<P: Share + Drop, J: Join<P> + Drop, S: Store<P, J> + Drop> Chain<P, J, S> {
         requires { IsGoing J.predicate self.old }
         ensures going { IsGoing J.predicate self.new }
         ensures cores { length self.new.state.cores ≡ length self.old.state.cores }
-        ensures sweeps { (first at : ℕ) (before : Bool) (begun : Contents P J) → StandsThere self.old at (at_port port) → Sweeps J.predicate first before begun at sweep.old.moved self.old
-            → Sweeps J.predicate first before begun (at + 1) sweep.new.moved self.new }
+        ensures sweeps { SweepsPast J.predicate (at_port port) sweep.old.moved self.old sweep.new.moved self.new }
     {
         match self.receive(port) {
             Stepped::Did => sweep.step(),
@@ -121,8 +120,7 @@ impl<P: Share + Drop, J: Join<P> + Drop, S: Store<P, J> + Drop> Chain<P, J, S> {
         requires within { core.0 < length self.old.state.cores }
         ensures going { result ≡ true → IsGoing J.predicate self.new }
         ensures cores { result ≡ true → length self.new.state.cores ≡ length self.old.state.cores }
-        ensures sweeps { result ≡ true → (first at : ℕ) (before : Bool) (begun : Contents P J) → StandsThere self.old at (AtCore core end) → Sweeps J.predicate first before begun at sweep.old.moved self.old
-            → Sweeps J.predicate first before begun (at + 1) sweep.new.moved self.new }
+        ensures sweeps { result ≡ true → SweepsPast J.predicate (AtCore core end) sweep.old.moved self.old sweep.new.moved self.new }
         ensures runs_out { result ≡ false → (first at : ℕ) (before : Bool) (begun : Contents P J) → StandsThere self.old at (AtCore core end) → Sweeps J.predicate first before begun at sweep.old.moved self.old
             → RunsOut J.predicate first before begun self.new }
     {

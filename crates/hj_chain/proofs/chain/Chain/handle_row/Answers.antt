@@ -1,14 +1,12 @@
-use Rattle.std.proofs.Common.{◌≡◌, ◌<◌, ◌≤◌, ◌++◌, ℕ, not, nat_eq, length, map, set, Option, Some, refl, sym, ap, arith, ◌∙◌}
+use Rattle.std.proofs.Common.{◌≡◌, ◌<◌, ◌≤◌, ◌++◌, ℕ, not, nat_eq, length, map, set, Option, Some, refl, ap, arith, ◌∙◌}
 use Rattle.std.specs.Option.{option_to_list}
 use Rattle.std.proofs.lemmas.List.{length-map, length-set}
-use Rattle.hj_msg.specs.declared.message.Msg.{Msg}
 use Rattle.hj_msg.specs.declared.message.Report.{Report}
 use Rattle.hj_msg.specs.Core as step
 use Rattle.hj_core.specs.Contents.{state_of}
 use Rattle.hj_core.specs.Rows.{row_message}
 use Rattle.hj_chain.specs.Links.{changed_at, send_out}
 use Rattle.hj_chain.specs.Reports.{ReportQueues}
-use Rattle.hj_chain.specs.Taken.{HasTaken}
 use Rattle.hj_chain.proofs.Placing.{done, prepared-placed, prepared-states}
 use Rattle.hj_chain.proofs.Taking.{opened, recored, taken-did, taken-in_cores, taken-in_links, taken-in_reports, taken-no_memory, taken-others, taken-room, taken-room_left, taken-room_right, taken-same}
 use Rattle.hj_chain.proofs.chain.Chain.handle_row.Goals as goal

@@ -8,29 +8,30 @@ use Rattle.hj_chain.specs.Serial.{RunsSerially, by_draw}
 use Rattle.hj_chain.proofs.Sweeping.{named-by-draw}
 use Rattle.hj_chain.proofs.ChosenActors.{chosen-enabled}
 use Rattle.hj_collect.proofs.Giving.{was-kept}
-use Rattle.hj_chain.proofs.Draining.{join-stays, state-stays}
+use Rattle.hj_chain.proofs.Draining.{state-stays}
 use Rattle.hj_chain.proofs.Goings.{enabled_going}
 use Rattle.hj_chain.proofs.FewSteps.{to_come}
-use Rattle.hj_chain.proofs.SerialRuns.{release-settles, running-begins, running-ends-done, running-ends-over, running-over, running-refused, running-release, running-step, step-fewer, step-settled, was-going}
+use Rattle.hj_chain.proofs.Released.{drained-on, drained-refused, drained-settles}
+use Rattle.hj_chain.proofs.SerialRuns.{running-begins, running-ends-done, running-ends-over, running-over, running-step, step-fewer, step-settled, was-going}
 use Rattle.hj_chain.proofs.chain.Chain.run_drawn.Goals as goal
 use Rattle.hj_chain.proofs.chain.Chain.run_drawn.Goals.{then-self, else-self}
 
 pub returns-then-eq : goal.returns-then-eq
 returns-then-eq g c =
     let refused : c.release.result ≡ Refused = search rules in
-    record {
-      runs = running-refused g.F.Feed.gives g.F.Feed.ready g.D.Drain.takes g.F.Feed.state g.J.Join.predicate (chooser.Seeded c.args.seed) c.args.self.now c.args.feed.now c.args.drain.now (by_draw c.new-lcg.result) c.args.self.now c.args.feed.now c.args.drain.now (running-begins g.F.Feed.gives g.F.Feed.ready g.D.Drain.takes g.F.Feed.state g.J.Join.predicate (chooser.Seeded c.args.seed) c.args.self.now c.args.feed.now c.args.drain.now c.requires (by_draw c.new-lcg.result) (ap by_draw c.new-lcg.ensures)) c.release.new.self c.release.new.drain c.release.ensures.others c.release.result c.release.ensures.releases refused;
-      join = join-stays c.args.self.now c.release.new.self c.release.ensures.others;
-      goes = c.release.ensures.goes (g.F.Feed.state c.args.feed.now) c.requires;
-    }
+    let begins = running-begins g.F.Feed.gives g.F.Feed.ready g.D.Drain.takes g.F.Feed.state g.J.Join.predicate (chooser.Seeded c.args.seed)
+    c.args.self.now c.args.feed.now c.args.drain.now c.requires (by_draw c.new-lcg.result) (ap by_draw c.new-lcg.ensures) in
+    drained-refused begins c.release.ensures refused
 
 pub loop-actor-init : goal.loop-actor-init
 loop-actor-init g c =
     let other : c.release.result ≢ Refused = search rules in
     let kept : c.release.result ≡ Kept = was-kept c.release.result other in
+    let begins = running-begins g.F.Feed.gives g.F.Feed.ready g.D.Drain.takes g.F.Feed.state g.J.Join.predicate (chooser.Seeded c.args.seed)
+    c.args.self.now c.args.feed.now c.args.drain.now c.requires (by_draw c.new-lcg.result) (ap by_draw c.new-lcg.ensures) in
     record {
-      running = running-release g.F.Feed.gives g.F.Feed.ready g.D.Drain.takes g.F.Feed.state g.J.Join.predicate (chooser.Seeded c.args.seed) c.args.self.now c.args.feed.now c.args.drain.now (by_draw c.new-lcg.result) c.args.self.now c.args.feed.now c.args.drain.now (running-begins g.F.Feed.gives g.F.Feed.ready g.D.Drain.takes g.F.Feed.state g.J.Join.predicate (chooser.Seeded c.args.seed) c.args.self.now c.args.feed.now c.args.drain.now c.requires (by_draw c.new-lcg.result) (ap by_draw c.new-lcg.ensures)) c.release.new.self c.release.new.drain c.release.ensures.others c.release.result c.release.ensures.releases kept (c.release.ensures.goes (g.F.Feed.state c.args.feed.now) c.requires);
-      settled = λ going. release-settles g.F.Feed.gives g.F.Feed.ready g.D.Drain.takes g.F.Feed.state g.J.Join.predicate (chooser.Seeded c.args.seed) c.args.self.now c.args.feed.now c.args.drain.now (by_draw c.new-lcg.result) c.args.self.now c.args.feed.now c.args.drain.now (running-begins g.F.Feed.gives g.F.Feed.ready g.D.Drain.takes g.F.Feed.state g.J.Join.predicate (chooser.Seeded c.args.seed) c.args.self.now c.args.feed.now c.args.drain.now c.requires (by_draw c.new-lcg.result) (ap by_draw c.new-lcg.ensures)) c.release.new.self c.release.new.drain c.release.ensures.others c.release.result c.release.ensures.releases kept going;
+      running = drained-on begins c.release.ensures kept;
+      settled = λ going. drained-settles begins c.release.ensures kept going;
     }
 
 pub returns-then-eq-2 : goal.returns-then-eq-2
@@ -46,16 +47,9 @@ pub returns-then-eq-3 : goal.returns-then-eq-3
 returns-then-eq-3 g c =
     let other : c.step_past.result ≢ Memory = search rules in
     let refused : c.release-in-Collect.result ≡ Refused = search rules in
-    record {
-      runs = running-refused g.F.Feed.gives g.F.Feed.ready g.D.Drain.takes g.F.Feed.state g.J.Join.predicate (chooser.Seeded c.args.seed) c.args.self.now c.args.feed.now c.args.drain.now (by_draw c.draw.new.self) c.step_past.new.self c.step_past.new.feed c.loop-actor.drain
-          (running-step
-          g.F.Feed.gives g.F.Feed.ready g.D.Drain.takes g.F.Feed.state g.J.Join.predicate (chooser.Seeded c.args.seed) c.args.self.now c.args.feed.now c.args.drain.now (by_draw c.loop-actor.lcg) c.loop-actor.self c.loop-actor.feed c.loop-actor.drain c.loop-actor.invariant.running c.in-Some.actor (named-by-draw c.loop-actor.self.state (g.F.Feed.ready c.loop-actor.feed) c.loop-actor.lcg c.draw.new.self c.draw.result (Some c.in-Some.actor) c.draw.ensures.number c.draw.ensures.held (c.in-Some.ensures (g.F.Feed.ready c.loop-actor.feed) c.would_wait.ensures)) c.step_past.result c.step_past.new.self c.step_past.new.feed c.step_past.ensures.step c.step_past.ensures.gathers c.step_past.ensures.join
-          other c.loop-actor.invariant.settled c.step_past.ensures.goes (by_draw c.draw.new.self) (ap by_draw c.draw.ensures.held) tt)
-          c.release-in-Collect.new.self c.release-in-Collect.new.drain c.release-in-Collect.ensures.others c.release-in-Collect.result c.release-in-Collect.ensures.releases
-          refused;
-      join = join-stays c.step_past.new.self c.release-in-Collect.new.self c.release-in-Collect.ensures.others ∙ c.step_past.ensures.join ∙ c.loop-actor.invariant.running.join;
-      goes = c.release-in-Collect.ensures.goes (g.F.Feed.state c.step_past.new.feed) c.step_past.ensures.goes;
-    }
+    let stepped = running-step g.F.Feed.gives g.F.Feed.ready g.D.Drain.takes g.F.Feed.state g.J.Join.predicate (chooser.Seeded c.args.seed) c.args.self.now c.args.feed.now c.args.drain.now (by_draw c.loop-actor.lcg) c.loop-actor.self c.loop-actor.feed c.loop-actor.drain c.loop-actor.invariant.running c.in-Some.actor (named-by-draw c.loop-actor.self.state (g.F.Feed.ready c.loop-actor.feed) c.loop-actor.lcg c.draw.new.self c.draw.result (Some c.in-Some.actor) c.draw.ensures.number c.draw.ensures.held (c.in-Some.ensures (g.F.Feed.ready c.loop-actor.feed) c.would_wait.ensures)) c.step_past.result c.step_past.new.self c.step_past.new.feed c.step_past.ensures.step c.step_past.ensures.gathers c.step_past.ensures.join
+    other c.loop-actor.invariant.settled c.step_past.ensures.goes (by_draw c.draw.new.self) (ap by_draw c.draw.ensures.held) tt in
+    drained-refused stepped c.release-in-Collect.ensures refused
 
 pub loop-actor-smaller-else-eq-3 : goal.loop-actor-smaller-else-eq-3
 loop-actor-smaller-else-eq-3 g c =
@@ -70,17 +64,11 @@ loop-actor-preserved-else-eq-3 g c =
     let other : c.step_past.result ≢ Memory = search rules in
     let unrefused : c.release-in-Collect.result ≢ Refused = search rules in
     let kept : c.release-in-Collect.result ≡ Kept = was-kept c.release-in-Collect.result unrefused in
+    let stepped = running-step g.F.Feed.gives g.F.Feed.ready g.D.Drain.takes g.F.Feed.state g.J.Join.predicate (chooser.Seeded c.args.seed) c.args.self.now c.args.feed.now c.args.drain.now (by_draw c.loop-actor.lcg) c.loop-actor.self c.loop-actor.feed c.loop-actor.drain c.loop-actor.invariant.running c.in-Some.actor (named-by-draw c.loop-actor.self.state (g.F.Feed.ready c.loop-actor.feed) c.loop-actor.lcg c.draw.new.self c.draw.result (Some c.in-Some.actor) c.draw.ensures.number c.draw.ensures.held (c.in-Some.ensures (g.F.Feed.ready c.loop-actor.feed) c.would_wait.ensures)) c.step_past.result c.step_past.new.self c.step_past.new.feed c.step_past.ensures.step c.step_past.ensures.gathers c.step_past.ensures.join
+    other c.loop-actor.invariant.settled c.step_past.ensures.goes (by_draw c.draw.new.self) (ap by_draw c.draw.ensures.held) tt in
     record {
-      running = running-release g.F.Feed.gives g.F.Feed.ready g.D.Drain.takes g.F.Feed.state g.J.Join.predicate (chooser.Seeded c.args.seed) c.args.self.now c.args.feed.now c.args.drain.now (by_draw c.draw.new.self) c.step_past.new.self c.step_past.new.feed c.loop-actor.drain
-          (running-step
-          g.F.Feed.gives g.F.Feed.ready g.D.Drain.takes g.F.Feed.state g.J.Join.predicate (chooser.Seeded c.args.seed) c.args.self.now c.args.feed.now c.args.drain.now (by_draw c.loop-actor.lcg) c.loop-actor.self c.loop-actor.feed c.loop-actor.drain c.loop-actor.invariant.running c.in-Some.actor (named-by-draw c.loop-actor.self.state (g.F.Feed.ready c.loop-actor.feed) c.loop-actor.lcg c.draw.new.self c.draw.result (Some c.in-Some.actor) c.draw.ensures.number c.draw.ensures.held (c.in-Some.ensures (g.F.Feed.ready c.loop-actor.feed) c.would_wait.ensures)) c.step_past.result c.step_past.new.self c.step_past.new.feed c.step_past.ensures.step c.step_past.ensures.gathers c.step_past.ensures.join
-          other c.loop-actor.invariant.settled c.step_past.ensures.goes (by_draw c.draw.new.self) (ap by_draw c.draw.ensures.held) tt)
-          c.release-in-Collect.new.self c.release-in-Collect.new.drain c.release-in-Collect.ensures.others c.release-in-Collect.result c.release-in-Collect.ensures.releases kept (c.release-in-Collect.ensures.goes (g.F.Feed.state c.step_past.new.feed) c.step_past.ensures.goes);
-      settled = λ going. release-settles g.F.Feed.gives g.F.Feed.ready g.D.Drain.takes g.F.Feed.state g.J.Join.predicate (chooser.Seeded c.args.seed) c.args.self.now c.args.feed.now c.args.drain.now (by_draw c.draw.new.self) c.step_past.new.self c.step_past.new.feed c.loop-actor.drain
-          (running-step
-          g.F.Feed.gives g.F.Feed.ready g.D.Drain.takes g.F.Feed.state g.J.Join.predicate (chooser.Seeded c.args.seed) c.args.self.now c.args.feed.now c.args.drain.now (by_draw c.loop-actor.lcg) c.loop-actor.self c.loop-actor.feed c.loop-actor.drain c.loop-actor.invariant.running c.in-Some.actor (named-by-draw c.loop-actor.self.state (g.F.Feed.ready c.loop-actor.feed) c.loop-actor.lcg c.draw.new.self c.draw.result (Some c.in-Some.actor) c.draw.ensures.number c.draw.ensures.held (c.in-Some.ensures (g.F.Feed.ready c.loop-actor.feed) c.would_wait.ensures)) c.step_past.result c.step_past.new.self c.step_past.new.feed c.step_past.ensures.step c.step_past.ensures.gathers c.step_past.ensures.join
-          other c.loop-actor.invariant.settled c.step_past.ensures.goes (by_draw c.draw.new.self) (ap by_draw c.draw.ensures.held) tt)
-          c.release-in-Collect.new.self c.release-in-Collect.new.drain c.release-in-Collect.ensures.others c.release-in-Collect.result c.release-in-Collect.ensures.releases kept going;
+      running = drained-on stepped c.release-in-Collect.ensures kept;
+      settled = λ going. drained-settles stepped c.release-in-Collect.ensures kept going;
     }
 
 pub loop-actor-smaller : goal.loop-actor-smaller

@@ -1,12 +1,9 @@
-use Rattle.std.proofs.Common.{◌≡◌, ℕ, ◌+◌, ◌*◌, ◌<◌, true, length, refl, sym, ap, ◌∙◌, subst, arith}
+use Rattle.std.proofs.Common.{◌≡◌, ℕ, ◌+◌, ◌*◌, ◌<◌, true, length, sym, ap, ◌∙◌, subst, arith}
 use Rattle.std.proofs.lemmas.List.{length-map}
-use Rattle.hj_base.specs.declared.numbers.Side.TheVariants.{Left, Right}
 use Rattle.hj_core.specs.Contents.{state_of}
-use Rattle.hj_chain.specs.declared.actor.Actor.TheVariants.{Core}
 use Rattle.hj_chain.specs.Chain.{Contents}
-use Rattle.hj_chain.specs.Serial.{core_no}
-use Rattle.hj_chain.specs.Sweep.{StandsThere, Sweeps}
-use Rattle.hj_chain.proofs.ActorOrder.{at-left, at-right}
+use Rattle.hj_chain.specs.Sweep.{Sweeps}
+use Rattle.hj_chain.proofs.Trying.{left-end-there, right-end-there}
 use Rattle.hj_chain.proofs.chain.Chain.try_ends.Goals as goal
 
 pub try_end-requires-clause-within : goal.try_end-requires-clause-within
@@ -24,7 +21,7 @@ returns-then-not-try_end-clause-runs_out g c =
     let n : c.len-place-end.result ≡ length c.args.self.now.state.cores = (c.len-place-end.ensures ∙ c.self.inside.cores.ok.0 ∙ sym (length-map c.self.inside.cores.items (state_of g.S.Store.entries)) ∙ ap (λ (k : Contents g.row.P.Denot g.row.J.Denot). length k.state.cores) c.self.view_is) in
     let p = c.loop-place.place in
     let low : p < length c.loop-place.self.state.cores = omega (arith, n, c.loop-place.invariant.cores) in
-    let left : StandsThere c.loop-place.self (2 * p + 3) (Core (core_no p) Left) = record { stands = at-left (length c.loop-place.self.state.cores) p (2 * p + 3) low refl; behind = omega arith } in
+    let left = left-end-there c.loop-place.self p low in
     λ none first before begun begins. c.try_end.ensures.runs_out c.if-not-try_end.true first (2 * p + 3) before begun left (c.loop-place.invariant.sweeps first before begun begins)
 
 pub returns-then-not-try_end-2-clause-runs_out : goal.returns-then-not-try_end-2-clause-runs_out
@@ -32,10 +29,10 @@ returns-then-not-try_end-2-clause-runs_out g c =
     let n : c.len-place-end.result ≡ length c.args.self.now.state.cores = (c.len-place-end.ensures ∙ c.self.inside.cores.ok.0 ∙ sym (length-map c.self.inside.cores.items (state_of g.S.Store.entries)) ∙ ap (λ (k : Contents g.row.P.Denot g.row.J.Denot). length k.state.cores) c.self.view_is) in
     let p = c.loop-place.place in
     let low : p < length c.loop-place.self.state.cores = omega (arith, n, c.loop-place.invariant.cores) in
-    let left : StandsThere c.loop-place.self (2 * p + 3) (Core (core_no p) Left) = record { stands = at-left (length c.loop-place.self.state.cores) p (2 * p + 3) low refl; behind = omega arith } in
+    let left = left-end-there c.loop-place.self p low in
     let yes : c.try_end.result ≡ true = c.if-not-try_end.false in
     let same : length c.try_end.new.self.state.cores ≡ length c.loop-place.self.state.cores = c.try_end.ensures.cores yes in
-    let right : StandsThere c.try_end.new.self (2 * p + 3 + 1) (Core (core_no p) Right) = record { stands = at-right (length c.try_end.new.self.state.cores) p (2 * p + 3 + 1) (omega (arith, low, same)) (omega arith); behind = omega arith } in
+    let right = right-end-there c.try_end.new.self p (omega (arith, low, same)) in
     λ none first before begun begins.
     c.try_end-in-loop-place.ensures.runs_out c.if-not-try_end-2.true first (2 * p + 3 + 1) before begun right (c.try_end.ensures.sweeps yes first (2 * p + 3) before begun left (c.loop-place.invariant.sweeps first before begun begins))
 
@@ -44,10 +41,10 @@ loop-place-preserved g c =
     let n : c.len-place-end.result ≡ length c.args.self.now.state.cores = (c.len-place-end.ensures ∙ c.self.inside.cores.ok.0 ∙ sym (length-map c.self.inside.cores.items (state_of g.S.Store.entries)) ∙ ap (λ (k : Contents g.row.P.Denot g.row.J.Denot). length k.state.cores) c.self.view_is) in
     let p = c.loop-place.place in
     let low : p < length c.loop-place.self.state.cores = omega (arith, n, c.loop-place.invariant.cores) in
-    let left : StandsThere c.loop-place.self (2 * p + 3) (Core (core_no p) Left) = record { stands = at-left (length c.loop-place.self.state.cores) p (2 * p + 3) low refl; behind = omega arith } in
+    let left = left-end-there c.loop-place.self p low in
     let yes : c.try_end.result ≡ true = c.if-not-try_end.false in
     let same : length c.try_end.new.self.state.cores ≡ length c.loop-place.self.state.cores = c.try_end.ensures.cores yes in
-    let right : StandsThere c.try_end.new.self (2 * p + 3 + 1) (Core (core_no p) Right) = record { stands = at-right (length c.try_end.new.self.state.cores) p (2 * p + 3 + 1) (omega (arith, low, same)) (omega arith); behind = omega arith } in
+    let right = right-end-there c.try_end.new.self p (omega (arith, low, same)) in
     let further : c.try_end-in-loop-place.result ≡ true = c.if-not-try_end-2.false in
     let behind : 2 * p + 3 + 1 + 1 ≡ 2 * (p + 1) + 3 = omega arith in
     record {

@@ -3,9 +3,8 @@ use Rattle.hj_msg.specs.declared.drain.Drained.{Drained}
 use Rattle.hj_chain.specs.declared.actor.Actor.TheVariants.{Collect}
 use Rattle.hj_chain.specs.declared.actor.Stepped.TheVariants.{Did, Memory}
 use Rattle.hj_chain.specs.Chain.{Contents}
-use Rattle.hj_chain.specs.Serial.{Releases}
 use Rattle.hj_chain.specs.Steps.{IsGoing}
-use Rattle.hj_chain.specs.Sweep.{runs_out, refuses}
+use Rattle.hj_chain.specs.Sweep.{Drains, runs_out, refuses}
 use Rattle.hj_chain.proofs.Trying.{any-goes, collect-on, collect-past, cores-did, going-did, going-drained, off-why, tried-is}
 use Rattle.hj_chain.proofs.chain.Chain.try_report.Goals as goal
 
@@ -41,7 +40,7 @@ returns-in-Refused-clause-ends g c =
     λ first at before begun unfilled there more.
     refuses at c.args.sweep.now.moved c.args.self.now c.args.drain.now c.args.core c.collect_there.new.self c.release.new.self c.release.new.drain more there
     (tried-is g.J.Join.predicate c.args.self.now c.collect_there.new.self (Collect c.args.core) c.collect_there.result Did c.in-Did.is (record { step = c.collect_there.ensures.step; join = c.collect_there.ensures.join; gathers = c.collect_there.ensures.gathers }))
-    (record { releases = λ schedule events given stood. subst (λ (a : Drained). Releases g.D.Drain.takes stood c.args.drain.now a c.release.new.self c.release.new.drain) c.in-Refused.is (c.release.ensures.releases schedule events given stood); others = c.release.ensures.others; goes = c.release.ensures.goes })
+    (subst (λ (a : Drained). Drains g.D.Drain.takes g.J.Join.predicate c.collect_there.new.self c.args.drain.now a c.release.new.self c.release.new.drain) c.in-Refused.is c.release.ensures)
 
 pub returns-in-Kept-clause-going : goal.returns-in-Kept-clause-going
 returns-in-Kept-clause-going g c =
@@ -59,4 +58,4 @@ returns-in-Kept-clause-collects g c =
     λ first at before begun unfilled there more.
     collect-on g.D.Drain.takes g.J.Join.predicate first at before c.args.sweep.now.moved begun unfilled c.args.self.now c.args.drain.now c.args.core more there c.collect_there.new.self c.release.new.self c.release.new.drain c.step.new.self.moved c.step.ensures
     (tried-is g.J.Join.predicate c.args.self.now c.collect_there.new.self (Collect c.args.core) c.collect_there.result Did c.in-Did.is (record { step = c.collect_there.ensures.step; join = c.collect_there.ensures.join; gathers = c.collect_there.ensures.gathers }))
-    (record { releases = λ schedule events given stood. subst (λ (a : Drained). Releases g.D.Drain.takes stood c.args.drain.now a c.release.new.self c.release.new.drain) c.in-Kept.is (c.release.ensures.releases schedule events given stood); others = c.release.ensures.others; goes = c.release.ensures.goes })
+    (subst (λ (a : Drained). Drains g.D.Drain.takes g.J.Join.predicate c.collect_there.new.self c.args.drain.now a c.release.new.self c.release.new.drain) c.in-Kept.is c.release.ensures)

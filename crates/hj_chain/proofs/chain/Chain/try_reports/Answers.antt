@@ -1,11 +1,9 @@
-use Rattle.std.proofs.Common.{◌≡◌, ℕ, ◌+◌, ◌*◌, ◌<◌, length, sym, ap, ◌∙◌, subst, arith}
+use Rattle.std.proofs.Common.{◌≡◌, ℕ, ◌+◌, ◌*◌, length, sym, ap, ◌∙◌, subst, arith}
 use Rattle.std.proofs.lemmas.List.{length-map}
 use Rattle.hj_core.specs.Contents.{state_of}
-use Rattle.hj_chain.specs.declared.actor.Actor.TheVariants.{Collect}
 use Rattle.hj_chain.specs.Chain.{Contents}
-use Rattle.hj_chain.specs.Serial.{core_no}
-use Rattle.hj_chain.specs.Sweep.{Collects, StandsThere}
-use Rattle.hj_chain.proofs.ActorOrder.{at-collection}
+use Rattle.hj_chain.specs.Sweep.{Collects}
+use Rattle.hj_chain.proofs.Trying.{collection-there}
 use Rattle.hj_chain.proofs.chain.Chain.try_reports.Goals as goal
 
 pub try_report-requires-clause-within : goal.try_report-requires-clause-within
@@ -17,24 +15,16 @@ pub returns-in-Some-clause-ends : goal.returns-in-Some-clause-ends
 returns-in-Some-clause-ends g c =
     let n : c.len-place-end.result ≡ length c.args.self.now.state.cores = (c.len-place-end.ensures ∙ c.self.inside.cores.ok.0 ∙ sym (length-map c.self.inside.cores.items (state_of g.S.Store.entries)) ∙ ap (λ (k : Contents g.row.P.Denot g.row.J.Denot). length k.state.cores) c.self.view_is) in
     let p = c.loop-place.place in
-    let low : p < length c.loop-place.self.state.cores = omega (arith, n, c.loop-place.invariant.cores) in
     let all = length c.args.self.now.state.cores in
-    let there : StandsThere c.loop-place.self (2 * all + p + 3) (Collect (core_no p)) = record {
-      stands = at-collection (length c.loop-place.self.state.cores) p (2 * all + p + 3) low (omega (arith, c.loop-place.invariant.cores));
-      behind = omega (arith, c.loop-place.invariant.cores);
-    } in
+    let there = collection-there c.loop-place.self all p c.loop-place.invariant.cores (omega (arith, n)) in
     λ first before begun unfilled begins. c.in-Some.ensures.ends first (2 * all + p + 3) before begun unfilled there (c.loop-place.invariant.collects first before begun unfilled begins)
 
 pub loop-place-preserved : goal.loop-place-preserved
 loop-place-preserved g c =
     let n : c.len-place-end.result ≡ length c.args.self.now.state.cores = (c.len-place-end.ensures ∙ c.self.inside.cores.ok.0 ∙ sym (length-map c.self.inside.cores.items (state_of g.S.Store.entries)) ∙ ap (λ (k : Contents g.row.P.Denot g.row.J.Denot). length k.state.cores) c.self.view_is) in
     let p = c.loop-place.place in
-    let low : p < length c.loop-place.self.state.cores = omega (arith, n, c.loop-place.invariant.cores) in
     let all = length c.args.self.now.state.cores in
-    let there : StandsThere c.loop-place.self (2 * all + p + 3) (Collect (core_no p)) = record {
-      stands = at-collection (length c.loop-place.self.state.cores) p (2 * all + p + 3) low (omega (arith, c.loop-place.invariant.cores));
-      behind = omega (arith, c.loop-place.invariant.cores);
-    } in
+    let there = collection-there c.loop-place.self all p c.loop-place.invariant.cores (omega (arith, n)) in
     let behind : 2 * all + p + 3 + 1 ≡ 2 * all + (p + 1) + 3 = omega arith in
     record {
       going = c.in_default.ensures.going;
