@@ -3,6 +3,7 @@ pub mod Cores
 pub mod Deal
 pub mod Ends
 pub mod Halt
+pub mod Input
 pub mod Links
 pub mod Ran
 pub mod RanRaw

@@ -4,6 +4,7 @@ ghost use Rattle.hj_base.specs.declared.numbers.Side.TheVariants.{Left, Right};
 ghost use Rattle.hj_msg.specs.Feed.{IsFresh};
 ghost use Rattle.hj_msg.specs.ReadyStores.{AreReadyOn};
 ghost use Rattle.hj_crew.specs.Begun.{IsManned};
+ghost use Rattle.hj_crew.specs.Input.{MayBegin};
 ghost use Rattle.hj_crew.specs.Ran.{RunsOnThreads};
 ghost use Rattle.hj_crew.specs.RanRaw.{RunsRaw};
 ghost use Rattle.hj_crew.specs.Room.{IsRoomFor};
@@ -68,9 +69,7 @@ impl<T: Threads + Wait + Clock + Sync, G: Gate + Sync> CrewPlan<'_, T, G> {
         input: JoinInput<'_, J, S, F>,
         drain: D,
     ) -> (Result<Ran<P>, Memory>, F, D)
-        requires left { AreReadyOn S.entries S.suits Left input.join.now self.now.size.chain.cores input.stores.left.items }
-        requires right { AreReadyOn S.entries S.suits Right input.join.now self.now.size.chain.cores input.stores.right.items }
-        requires fresh { IsFresh (F.state input.feed) }
+        requires { MayBegin S.entries S.suits input.join.now self.now.size.chain.cores input.stores (F.state input.feed) }
         ensures runs { IfOk result.0 (RunsOnThreads F.gives F.state D.takes (J.predicate input.entry.join.now)
             self.now.size.chain.cores self.now.size.chain.flight input.entry.feed result.1 drain result.2) }
         ensures memory { OnErr result.0 ((result.1 ≡ input.entry.feed) × (result.2 ≡ drain)) }
@@ -108,9 +107,7 @@ impl<T: Threads + Wait + Clock + Sync, G: Gate + Sync> CrewPlan<'_, T, G> {
         input: JoinInput<'_, J, S, F>,
         drain: D,
     ) -> (Result<Ran<P>, Memory>, F, D)
-        requires left { AreReadyOn S.entries S.suits Left input.join.now self.now.size.chain.cores input.stores.left.items }
-        requires right { AreReadyOn S.entries S.suits Right input.join.now self.now.size.chain.cores input.stores.right.items }
-        requires fresh { IsFresh (F.state input.feed) }
+        requires { MayBegin S.entries S.suits input.join.now self.now.size.chain.cores input.stores (F.state input.feed) }
         ensures runs { IfOk result.0 (RunsRaw F.gives F.state D.takes (J.predicate input.entry.join.now)
             self.now.size.chain.cores self.now.size.chain.flight input.entry.feed result.1 drain result.2) }
         ensures memory { OnErr result.0 ((result.1 ≡ input.entry.feed) × (result.2 ≡ drain)) }
@@ -146,9 +143,7 @@ impl<T: Threads + Wait + Clock + Sync, G: Gate + Sync> CrewPlan<'_, T, G> {
         input: JoinInput<'_, J, S, F>,
         outlet: O,
     ) -> (Result<Ran<P>, Memory>, F, O)
-        requires left { AreReadyOn S.entries S.suits Left input.join.now self.now.size.chain.cores input.stores.left.items }
-        requires right { AreReadyOn S.entries S.suits Right input.join.now self.now.size.chain.cores input.stores.right.items }
-        requires fresh { IsFresh (F.state input.feed) }
+        requires { MayBegin S.entries S.suits input.join.now self.now.size.chain.cores input.stores (F.state input.feed) }
         ensures runs { IfOk result.0 (RunsCrew F.gives F.state O.gave O.rests (J.predicate input.entry.join.now)
             self.now.size.chain.cores self.now.size.chain.flight input.entry.feed result.1 outlet result.2) }
         ensures memory { OnErr result.0 ((result.1 ≡ input.entry.feed) × (result.2 ≡ outlet)) }

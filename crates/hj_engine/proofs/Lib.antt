@@ -1,4 +1,5 @@
 pub mod Beginning
+pub mod Begins
 pub mod ByRaw
 pub mod ByRun
 pub mod Planned

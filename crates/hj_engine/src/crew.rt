@@ -119,6 +119,7 @@ impl<T: Threads + Wait + Clock + Sync, G: Gate + Sync> QueryRun<'_, '_, '_, T, G
 }
 
 /// Runs a new chain on threads over these stores, which may be probed by the join.
+#[tactic(auto, using(crate::proofs::Begins::may_begin))]
 fn run_over<
     J: Join<SharedRow> + Send + Drop,
     S: Store<SharedRow, J> + Send + Drop,
