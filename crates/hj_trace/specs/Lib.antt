@@ -2,7 +2,6 @@ pub mod Actors
 pub mod Checking
 pub mod Choosing
 pub mod StepAction
-pub mod Faults
 pub mod Line
 pub mod Messages
 pub mod Play

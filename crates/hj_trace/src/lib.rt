@@ -13,7 +13,7 @@ mod stream;
 mod text;
 
 pub use actors::{push_actor, read_actor};
-pub use fault::{TraceFault, push_fault};
+pub use fault::TraceFault;
 pub use line::{StepAction, push_front, push_maker, push_reported};
 pub use looking::next_action;
 pub use messages::{push_message, push_report};
