@@ -1,4 +1,4 @@
-ghost use Rattle.std.specs.Prelude.{◌≡◌, ◌<◌, ◌++◌, [], ◌∷◌, List, length, IfOk, IfSome, OnOk, OnErr};
+ghost use Rattle.std.specs.Prelude.{◌≡◌, ◌≢◌, ◌<◌, ◌++◌, [], ◌∷◌, List, length, IfNone, IfOk, IfSome, OnOk, OnErr};
 ghost use Rattle.hj_msg.specs.declared.message.Report.{Report};
 ghost use Rattle.hj_msg.specs.Met.{pairs_of};
 ghost use Rattle.hj_msg.specs.Punctuation.{lesser};
@@ -105,7 +105,8 @@ impl Collector {
     /// several.
     #[inline(always)]
     pub fn only_pair<P: Share + Drop>(&self, report: &Report<P>) -> Result<Option<Pair<P>>, Memory>
-        ensures { IfOk result (λ found. IfSome found (λ pair. pairs_of report.now ≡ pair ∷ [])) }
+        ensures one { IfOk result (λ found. IfSome found (λ pair. pairs_of report.now ≡ pair ∷ [])) }
+        ensures none { IfOk result (λ found. IfNone found (length (pairs_of report.now) ≢ 1)) }
     {
         only_pair(report)
     }

@@ -1,4 +1,4 @@
-ghost use Rattle.std.specs.Prelude.{◌≡◌, ◌++◌, [], ◌∷◌, IfOk, IfSome, OnOk};
+ghost use Rattle.std.specs.Prelude.{◌≡◌, ◌≢◌, ◌++◌, [], ◌∷◌, length, IfNone, IfOk, IfSome, OnOk};
 ghost use Rattle.hj_msg.specs.Met.{pairs_of};
 
 use hj_base::{Memory, Share};
@@ -46,7 +46,8 @@ pub(crate) fn push_pairs<P: Share + Drop>(
 
 /// Makes the pair of a report that has one, with rows of its own. None where there is none, or where there are several.
 pub(crate) fn only_pair<P: Share + Drop>(report: &Report<P>) -> Result<Option<Pair<P>>, Memory>
-    ensures { IfOk result (λ found. IfSome found (λ pair. pairs_of report.now ≡ pair ∷ [])) }
+    ensures one { IfOk result (λ found. IfSome found (λ pair. pairs_of report.now ≡ pair ∷ [])) }
+    ensures none { IfOk result (λ found. IfNone found (length (pairs_of report.now) ≢ 1)) }
 {
     let Report::Handled {
         no,
