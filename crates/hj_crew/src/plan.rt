@@ -1,5 +1,5 @@
 //! How a chain is run on threads.
-ghost use Rattle.std.specs.Prelude.{◌≡◌, ◌≤◌};
+ghost use Rattle.std.specs.Prelude.{◌≡◌, ◌≤◌, true};
 
 use hj_base::ChainSize;
 use std::thread::{Threads, available_parallelism};
@@ -45,7 +45,9 @@ impl<'r, T, G> CrewPlan<'r, T, G> {
     /// Returns the plan for cores that have little to do: the calling thread turns all of them where it mostly waits for the feed, where
     /// it gets on faster so, or where other programs want the processors.
     pub fn for_light_cores(&self) -> Self
-        ensures { result.size.chain ≡ self.now.size.chain }
+        ensures size { result.size ≡ self.now.size }
+        ensures kept { result.kept ≡ self.now.kept }
+        ensures takes_back { result.takes_back ≡ true }
     {
         CrewPlan {
             rt: self.rt,
