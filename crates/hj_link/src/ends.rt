@@ -1,5 +1,5 @@
 //! The ends of links, and how links are made.
-ghost use Rattle.std.specs.Prelude.{◌≡◌, ◌+◌, ◌<◌, ◌≤◌, ◌∷◌, ◌++◌, [], map, option_to_list, Some, IfOk, IfErr, OnOk, OnErr, IfSome, IfNone, MatchBool};
+ghost use Rattle.std.specs.Prelude.{◌≡◌, ◌+◌, ◌<◌, ◌≤◌, ◌∷◌, ◌++◌, [], map, option_to_list, Some, IfOk, IfErr, OnOk, OnErr, IsSome, IfSome, IfNone, MatchBool, MatchOption};
 ghost use Rattle.hj_base.specs.Journals.{put, taken};
 ghost use Rattle.hj_link.specs.Rule.{journal_of};
 ghost use Rattle.hj_link.specs.Steps.{own};
@@ -94,7 +94,10 @@ impl<M: Drop, D: Endpoint, I: TakingHalf<M>> LinkEnd<M, D, OutgoingWay, I> {
     pub fn put_some(&mut self, turn: u64, message: Option<M>) -> Option<M>
         ensures link { KeepsLink self.old self.new }
         ensures put { IfNone result ((self.new.journal ≡ self.old.journal ++ map (put turn) (option_to_list message)) × (self.new.full_looks ≡ self.old.full_looks)) }
+        ensures room { MatchOption result (IsSome message → 0 < self.old.room → self.new.room + 1 ≡ self.old.room)
+            (λ back. (self.old.room ≡ 0) × (self.new.room ≡ 0)) }
         ensures back { IfSome result (λ back. (message ≡ Some back) × (self.new.journal ≡ self.old.journal) × (self.new.full_looks ≡ self.old.full_looks + 1)) }
+        ensures takes { (self.new.ready ≡ self.old.ready) × (self.new.empty_looks ≡ self.old.empty_looks) }
     {
         match self.put(turn, message?) {
             Ok(()) => None,
