@@ -5,7 +5,7 @@ ghost use Rattle.std.specs.Prelude.{◌≡◌, ◌/◌, nat_eq};
 use crate::lines::{halves, number, numbers_of, same, shows, words};
 use crate::rows::{Row, sent};
 use hj_base::{EventNo, Memory, Share, Side};
-use hj_msg::{Join, Store};
+use hj_msg::{Join, Partners, Store};
 use hj_rows::ListStore;
 use std::alloc::Global;
 use std::process::Abort;
@@ -52,7 +52,10 @@ fn found<S: Store<Row, Tenth>>(
 ) -> String
     requires { (join : _) → S.suits store.now side join }
 {
-    let partners = store.probe(side, &Row(row), &Tenth).expect(rt, "memory");
+    let mut partners = Partners::new(alloc);
+    store
+        .probe(side, &Row(row), &Tenth, &mut partners)
+        .expect(rt, "memory");
     numbers_of(rt, alloc, &partners)
 }
 

@@ -64,8 +64,14 @@ impl Store<Row, Cross> for RefusingStore {
         <ListStore<Row> as Store<Row, Cross>>::remove(&mut self.rows, no)
     }
 
-    fn probe(&self, side: Side, against: &Row, join: &Cross) -> Result<Partners<Row>, Memory> {
-        self.rows.probe(side, against, join)
+    fn probe(
+        &self,
+        side: Side,
+        against: &Row,
+        join: &Cross,
+        found: &mut Partners<Row>,
+    ) -> Result<(), Memory> {
+        self.rows.probe(side, against, join, found)
     }
 }
 

@@ -7,7 +7,7 @@ use hj_base::{EventNo, Side};
 use hj_columns::ColumnStore;
 use hj_eval::{QueryJoin, ReadyQuery, StorePlan, filters, plan};
 use hj_index::{HashStore, ListStore, OrderedStore};
-use hj_msg::Store;
+use hj_msg::{Partners, Store};
 use hj_query::{Query, parse};
 use hj_value::{Field, Row, SharedRow, Text};
 use std::alloc::Global;
@@ -81,7 +81,10 @@ fn found<'q, S: Store<SharedRow, QueryJoin<'q>>>(
 ) -> String
     requires { S.suits store.now sides.Left join.now }
 {
-    let partners = store.probe(Side::Left, against, join).expect(rt, "memory");
+    let mut partners = Partners::new(alloc);
+    store
+        .probe(Side::Left, against, join, &mut partners)
+        .expect(rt, "memory");
     numbers_of(rt, alloc, &partners)
 }
 

@@ -90,8 +90,14 @@ impl<P: Share + Drop, F: KeyFilter<P>, J: Join<P>> Store<P, J> for ColumnStore<P
         removed
     }
 
-    fn probe(&self, side: Side, against: &P, join: &J) -> Result<Partners<P>, Memory> {
+    fn probe(
+        &self,
+        side: Side,
+        against: &P,
+        join: &J,
+        found: &mut Partners<P>,
+    ) -> Result<(), Memory> {
         let columns = self.columns.as_slice();
-        probe_columns(self.alloc, &self.rows, columns, side, against, join)
+        probe_columns(self.alloc, &self.rows, columns, side, against, join, found)
     }
 }

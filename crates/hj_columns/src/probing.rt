@@ -1,4 +1,4 @@
-ghost use Rattle.std.specs.Prelude.{◌≡◌, ◌≢◌, ℕ, ◌+◌, ◌≤◌, ◌<◌, ◌^◌, ◌*◌, ◌++◌, true, None, Some, All, IfOk, IfSome, length, map, option_map, take, drop};
+ghost use Rattle.std.specs.Prelude.{◌≡◌, ◌≢◌, ℕ, ◌+◌, ◌≤◌, ◌<◌, ◌^◌, ◌*◌, ◌++◌, true, None, Some, [], All, IfOk, IfSome, OnOk, length, map, option_map, take, drop};
 ghost use Rattle.std.specs.Int.{bit_at};
 ghost use Rattle.hj_msg.specs.Store.{joins, settled_matches};
 ghost use Rattle.hj_rows.specs.Keys.{KeepsKeys};
@@ -13,7 +13,7 @@ use hj_msg::{Join, Partners};
 use hj_rows::{KeyFilter, KeyRange, NumberedRows, joining_row, probe_sorted};
 use std::alloc::Global;
 
-/// Finds the settled rows of `side` that join with `against`, a row of the other side, by their keys.
+/// Puts the settled rows of `side` that join with `against`, a row of the other side, into an empty list of partners, by their keys.
 pub(crate) fn probe_columns<P: Share + Drop, F: KeyFilter<P>, J: Join<P>>(
     alloc: Global,
     rows: &NumberedRows<P>,
@@ -21,19 +21,23 @@ pub(crate) fn probe_columns<P: Share + Drop, F: KeyFilter<P>, J: Join<P>>(
     side: Side,
     against: &P,
     join: &J,
-) -> Result<Partners<P>, Memory>
+    found: &mut Partners<P>,
+) -> Result<(), Memory>
     requires columns { All (IsKeyColumn (λ filter. F.key filter side) (places_in rows.now)) columns.now }
     requires keeps { All (λ filter. KeepsKeys (J.predicate join.now) (F.key filter) (F.range filter)) (filters_of columns.now) }
-    ensures { IfOk result (λ partners. partners ≡ settled_matches (J.predicate join.now) side against.now (rows_in rows.now)) }
+    requires empty { found.old ≡ [] }
+    ensures { OnOk result (found.new ≡ settled_matches (J.predicate join.now) side against.now (rows_in rows.now)) }
 {
-    let found = ranges_for(alloc, columns, side, against)?;
-    let Some(ranges) = found else {
-        return Ok(Partners::new(alloc));
+    let Some(ranges) = ranges_for(alloc, columns, side, against)? else {
+        return Ok(());
     };
     let ranges = ranges.as_slice();
     match probe_blocks(alloc, rows, columns, ranges, side, against, join)? {
-        Some(partners) => Ok(partners),
-        None => probe_sorted(alloc, rows, side, against, join),
+        Some(partners) => {
+            *found = partners;
+            Ok(())
+        }
+        None => probe_sorted(alloc, rows, side, against, join, found),
     }
 }
 

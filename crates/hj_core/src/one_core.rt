@@ -24,6 +24,7 @@ use std::marker::Model;
 /// One core of the chain, with a store of the rows of each stream.
 #[derive(Drop)]
 pub struct Core<P, J: Join<P>, S: Store<P, J>> {
+    alloc: Global,
     join: J,
     left: S,
     right: S,
@@ -72,6 +73,7 @@ impl<P: Share + Drop, J: Join<P> + Drop, S: Store<P, J> + Drop> Core<P, J, S> {
         ensures cores { result.cores ≡ cores }
     {
         Core {
+            alloc,
             join,
             left: left_store,
             right: right_store,
@@ -231,7 +233,8 @@ impl<P: Share + Drop, J: Join<P> + Drop, S: Store<P, J> + Drop> Core<P, J, S> {
         ensures unchanged { OnErr result (state_of S.entries self.new ≡ state_of S.entries self.old) }
         ensures kept { KeepsPlace self.old self.new }
     {
-        let partners = self.partners_of::<IS_LEFT>(row)?;
+        let mut partners = Partners::new(self.alloc);
+        self.find_partners::<IS_LEFT>(row, &mut partners)?;
         let reported = row.share()?;
         let last = self.place.is_last_of::<IS_LEFT>();
         let flying = share_in_flight(&mut self.flight, IS_LEFT || last, row)?;
@@ -245,17 +248,23 @@ impl<P: Share + Drop, J: Join<P> + Drop, S: Store<P, J> + Drop> Core<P, J, S> {
         })
     }
 
-    /// Finds the partners of a left row, or of a right one: rows at rest of the other stream, and, of a left row, rows in flight.
+    /// Puts the partners of a left row, or of a right one, into an empty list: rows at rest of the other stream, and, of a left row, rows
+    /// in flight. After an error some of them may be there.
     #[inline(always)]
-    fn partners_of<const IS_LEFT: bool>(&self, row: &P) -> Result<Partners<P>, Memory>
-        ensures { IfOk result (λ partners. partners ≡ partners_of IS_LEFT (J.predicate self.now.join) (state_of S.entries self.now) row.now) }
+    fn find_partners<const IS_LEFT: bool>(
+        &self,
+        row: &P,
+        found: &mut Partners<P>,
+    ) -> Result<(), Memory>
+        requires { found.old ≡ [] }
+        ensures { OnOk result (found.new ≡ partners_of IS_LEFT (J.predicate self.now.join) (state_of S.entries self.now) row.now) }
     {
         let (others, side) = probed::<IS_LEFT, S>(&self.left, &self.right);
-        let mut partners = others.probe(side, row, &self.join)?;
+        others.probe(side, row, &self.join, found)?;
         if IS_LEFT {
-            self.flight.add_partners(row, &self.join, &mut partners)?;
+            self.flight.add_partners(row, &self.join, found)?;
         }
-        Ok(partners)
+        Ok(())
     }
 
     /// Keeps a row equal to this one in the store of its stream, if this is its home. After an error what the core holds is as before.

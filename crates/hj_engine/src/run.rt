@@ -107,7 +107,7 @@ fn run_over<
     ensures refused { OnErr result ((feed.new ≡ feed.old) × (drain.new ≡ drain.old)) }
 {
     if plan.size.cores == 1 && matches!(plan.chooser, Chooser::InTurn) {
-        return Ok(run_sequential(query, stores, feed, drain, plan.gate));
+        return Ok(run_sequential(alloc, query, stores, feed, drain, plan.gate));
     }
     let mut chain = begun(alloc, query, plan.size, stores, feed)?;
     let fin = chain.run_serial(plan.chooser, feed, drain, plan.gate);
@@ -127,6 +127,7 @@ fn run_sequential<
     D: Drain<SharedRow>,
     G: Gate,
 >(
+    alloc: Global,
     query: &'r ReadyQuery<'q>,
     mut stores: ChainStores<S>,
     feed: &mut F,
@@ -145,7 +146,7 @@ fn run_sequential<
         left,
         right,
     };
-    join.run(feed, drain, gate)
+    join.run(alloc, feed, drain, gate)
 }
 
 /// Makes a chain of this size over these stores, and asks the feed for the first event.

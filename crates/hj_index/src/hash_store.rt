@@ -93,10 +93,11 @@ impl<J: Join<SharedRow>> Store<SharedRow, J> for HashStore {
         side: Side,
         against: &SharedRow,
         join: &J,
-    ) -> Result<Partners<SharedRow>, Memory> {
+        found: &mut Partners<SharedRow>,
+    ) -> Result<(), Memory> {
         match key_at(against.row(), self.other) {
-            Some(key) => self.rows.probe(self.alloc, key, side, against, join),
-            None => Ok(Partners::new(self.alloc)),
+            Some(key) => self.rows.probe(self.alloc, key, side, against, join, found),
+            None => Ok(()),
         }
     }
 }

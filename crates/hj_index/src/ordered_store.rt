@@ -1,4 +1,4 @@
-ghost use Rattle.std.specs.Prelude.{◌≡◌, ◌<◌, [], Some, IfOk};
+ghost use Rattle.std.specs.Prelude.{◌≡◌, ◌<◌, [], Some, OnOk};
 ghost use Rattle.hj_base.specs.declared.numbers.Side.{Side};
 ghost use Rattle.hj_eval.specs.Holds.{holds};
 ghost use Rattle.hj_eval.specs.Plan.{plan_of};
@@ -106,16 +106,16 @@ impl<J: Join<SharedRow>> Store<SharedRow, J> for OrderedStore {
         side: Side,
         against: &SharedRow,
         join: &J,
-    ) -> Result<Partners<SharedRow>, Memory> {
-        let mut found = Partners::new(self.alloc);
+        found: &mut Partners<SharedRow>,
+    ) -> Result<(), Memory> {
         let Some(number) = number_at(against.row(), self.other) else {
-            return Ok(found);
+            return Ok(());
         };
         let mut last = 0;
         for key in self.index.keys.range(band(number, self.within)) {
             if let Some(row) = self.index.joining(&self.rows, *key, side, against, join) {
                 if key.1 < last {
-                    return self.probe_sorted(number, side, against, join);
+                    return self.probe_sorted(number, side, against, join, found);
                 }
                 found.push(Partner {
                     no: EventNo(key.1),
@@ -124,12 +124,13 @@ impl<J: Join<SharedRow>> Store<SharedRow, J> for OrderedStore {
                 last = key.1;
             }
         }
-        Ok(found)
+        Ok(())
     }
 }
 
 impl OrderedStore {
-    /// Probes the rows that are near a number where those that join don't stand in order of their numbers of arrival.
+    /// Probes the rows that are near a number where those that join don't stand in order of their numbers of arrival. What was found
+    /// before is replaced; after an error it stays.
     #[cold]
     fn probe_sorted<J: Join<SharedRow>>(
         &self,
@@ -137,10 +138,11 @@ impl OrderedStore {
         side: Side,
         against: &SharedRow,
         join: &J,
-    ) -> Result<Partners<SharedRow>, Memory>
+        found: &mut Partners<SharedRow>,
+    ) -> Result<(), Memory>
         requires suits { JoinsNear self.now.own self.now.other self.now.within (J.predicate join.now) side }
         requires number { number_at self.now.other against.now ≡ Some number }
-        ensures { IfOk result (λ partners. partners ≡ settled_matches (J.predicate join.now) side against.now self.now.rows) }
+        ensures { OnOk result (found.new ≡ settled_matches (J.predicate join.now) side against.now self.now.rows) }
     {
         let mut rows = BTreeMap::new(self.alloc);
         for key in self.index.keys.range(band(number, self.within)) {
@@ -148,6 +150,7 @@ impl OrderedStore {
                 rows.insert(key.1, row.share()?)?;
             }
         }
-        partners_of(self.alloc, rows)
+        *found = partners_of(self.alloc, rows)?;
+        Ok(())
     }
 }

@@ -1,4 +1,4 @@
-ghost use Rattle.std.specs.Prelude.{◌≡◌, ◌↔◌, ℕ, List, IfOk, OnOk};
+ghost use Rattle.std.specs.Prelude.{◌≡◌, ◌↔◌, ℕ, List, [], OnOk};
 ghost use Rattle.hj_base.specs.declared.numbers.Side.{Side};
 ghost use Rattle.hj_msg.specs.Store.{Resting, AreDistinct, holds, settled_matches, with_entry, with_settled, without_entry};
 
@@ -45,9 +45,16 @@ pub trait Store<P, J: Join<P>> {
         ensures distinct { AreDistinct (entries self.new) }
         ensures suits { (side : Side) (join : J) → suits self.new side join ↔ suits self.old side join };
 
-    /// Finds the settled rows that join with a row of the other stream, by ascending number. `side` is that of the rows
-    /// at rest.
-    fn probe(&self, side: Side, against: &P, join: &J) -> Result<Partners<P>, Memory>
-        requires { suits self.now side join.now }
-        ensures { IfOk result (λ partners. partners ≡ settled_matches (J.predicate join.now) side against.now (entries self.now)) };
+    /// Puts the settled rows that join with a row of the other stream into an empty list of partners, by ascending number. `side` is
+    /// that of the rows at rest. After an error some of them may be there.
+    fn probe(
+        &self,
+        side: Side,
+        against: &P,
+        join: &J,
+        found: &mut Partners<P>,
+    ) -> Result<(), Memory>
+        requires suits { suits self.now side join.now }
+        requires empty { found.old ≡ [] }
+        ensures { OnOk result (found.new ≡ settled_matches (J.predicate join.now) side against.now (entries self.now)) };
 }

@@ -1,4 +1,4 @@
-ghost use Rattle.std.specs.Prelude.{◌≡◌, ◌<◌, [], map, IfOk};
+ghost use Rattle.std.specs.Prelude.{◌≡◌, ◌<◌, [], map, IfOk, OnOk};
 ghost use Rattle.std.specs.Option.{option_copied};
 ghost use Rattle.hj_msg.specs.Store.{joins, settled_matches};
 ghost use Rattle.hj_rows.specs.ListStore.{resting_rows};
@@ -54,13 +54,18 @@ impl<P: Share + Drop, J: Join<P>> Store<P, J> for ListStore<P> {
         self.rows.remove(no.0).is_some()
     }
 
-    fn probe(&self, side: Side, against: &P, join: &J) -> Result<Partners<P>, Memory> {
-        let mut found = Partners::new(self.alloc);
+    fn probe(
+        &self,
+        side: Side,
+        against: &P,
+        join: &J,
+        found: &mut Partners<P>,
+    ) -> Result<(), Memory> {
         let mut last = 0;
         for (no, place) in &self.rows.places {
             if let Some(row) = joining_row(place, side, against, join) {
                 if *no < last {
-                    return probe_sorted(self.alloc, &self.rows, side, against, join);
+                    return probe_sorted(self.alloc, &self.rows, side, against, join, found);
                 }
                 found.push(Partner {
                     no: EventNo(*no),
@@ -69,12 +74,12 @@ impl<P: Share + Drop, J: Join<P>> Store<P, J> for ListStore<P> {
                 last = *no;
             }
         }
-        Ok(found)
+        Ok(())
     }
 }
 
 /// Finds what a probe asks for where the rows that join don't stand in order of their numbers: all places are walked. `side` is
-/// that of the rows at rest.
+/// that of the rows at rest. What was found before is replaced; after an error it stays.
 #[cold]
 pub fn probe_sorted<P: Share + Drop, J: Join<P>>(
     alloc: Global,
@@ -82,16 +87,18 @@ pub fn probe_sorted<P: Share + Drop, J: Join<P>>(
     side: Side,
     against: &P,
     join: &J,
-) -> Result<Partners<P>, Memory>
-    ensures { IfOk result (λ partners. partners ≡ settled_matches (J.predicate join.now) side against.now (rows_in rows.now)) }
+    found: &mut Partners<P>,
+) -> Result<(), Memory>
+    ensures { OnOk result (found.new ≡ settled_matches (J.predicate join.now) side against.now (rows_in rows.now)) }
 {
-    let mut found = BTreeMap::new(alloc);
+    let mut sorted = BTreeMap::new(alloc);
     for (no, place) in rows.places.iter() {
         if let Some(row) = joining_row(place, side, against, join) {
-            found.insert(*no, row.share()?)?;
+            sorted.insert(*no, row.share()?)?;
         }
     }
-    partners_of(alloc, found)
+    *found = partners_of(alloc, sorted)?;
+    Ok(())
 }
 
 /// Gives rows, each under the number of its arrival, as partners in order of these numbers.

@@ -11,7 +11,7 @@ ghost use Rattle.hj_msg.specs.Feed.{IsFresh};
 ghost use Rattle.hj_msg.specs.Kang.{Windows, after, listed, windows_after};
 ghost use Rattle.hj_msg.specs.Met.{pairs_of};
 ghost use Rattle.hj_msg.specs.RunsJoin.{RunsJoin};
-ghost use Rattle.hj_msg.specs.Store.{with_entry};
+ghost use Rattle.hj_msg.specs.Store.{settled_matches, with_entry};
 ghost use Rattle.hj_sequential.specs.Giving.{GivesListed};
 ghost use Rattle.hj_msg.specs.ReadyStores.{Suits};
 ghost use Rattle.hj_sequential.specs.Stores.{HoldWindows};
@@ -19,6 +19,7 @@ ghost use Rattle.hj_sequential.specs.Stores.{HoldWindows};
 use crate::giving::give;
 use hj_base::{CoreNo, EventNo, Gate, Memory, Share, Side};
 use hj_msg::{Drain, Event, Feed, Fin, Given, Join, Partners, Store};
+use std::alloc::Global;
 
 /// The sequential sliding-window join over a store of each stream's rows, those that arrived and haven't expired.
 #[derive(Drop)]
@@ -34,6 +35,7 @@ impl<J, S> SequentialJoin<J, S> {
     /// passed, as by core 0, with the number of events that were handled before; this number stays at 2^64 - 1 once it is there.
     pub fn run<P: Share + Drop, F: Feed<P>, D: Drain<P>, G: Gate>(
         &mut self,
+        alloc: Global,
         feed: &mut F,
         drain: &mut D,
         gate: &G,
@@ -50,7 +52,7 @@ impl<J, S> SequentialJoin<J, S> {
         let mut handled: u64 = 0;
         while let Given::Event(event) = feed.next() {
             gate.pass(CoreNo(0), handled);
-            match self.handle(event, drain) {
+            match self.handle(alloc, event, drain) {
                 Fin::Done => {}
                 ended => return ended,
             }
@@ -61,7 +63,12 @@ impl<J, S> SequentialJoin<J, S> {
 
     /// Gives the pairs that an event lists, and moves the windows on. Anything but Done says why not all was done.
     #[inline(always)]
-    fn handle<P: Share + Drop, D: Drain<P>>(&mut self, event: Event<P>, drain: &mut D) -> Fin
+    fn handle<P: Share + Drop, D: Drain<P>>(
+        &mut self,
+        alloc: Global,
+        event: Event<P>,
+        drain: &mut D,
+    ) -> Fin
     where
         J: Join<P>,
         S: Store<P, J>,
@@ -79,7 +86,7 @@ impl<J, S> SequentialJoin<J, S> {
                 side: Side::Left,
                 row,
             } => {
-                let found = self.right.probe(Side::Right, &row, &self.join);
+                let found = partners_in(alloc, &self.right, Side::Right, &row, &self.join);
                 arrives::<P, J, S, D>(no, Side::Left, row, found, &mut self.left, drain)
             }
             Event::Arrive {
@@ -87,7 +94,7 @@ impl<J, S> SequentialJoin<J, S> {
                 side: Side::Right,
                 row,
             } => {
-                let found = self.left.probe(Side::Left, &row, &self.join);
+                let found = partners_in(alloc, &self.left, Side::Left, &row, &self.join);
                 arrives::<P, J, S, D>(no, Side::Right, row, found, &mut self.right, drain)
             }
             Event::Expire { side, of, .. } => {
@@ -115,6 +122,23 @@ impl<J, S> SequentialJoin<J, S> {
             Side::Right => self.right.remove(of),
         };
     }
+}
+
+/// Finds the partners of a row in the store of the other stream, of which `side` is the side.
+#[inline(always)]
+fn partners_in<P: Drop, J: Join<P>, S: Store<P, J>>(
+    alloc: Global,
+    store: &S,
+    side: Side,
+    row: &P,
+    join: &J,
+) -> Result<Partners<P>, Memory>
+    requires { S.suits store.now side join.now }
+    ensures { IfOk result (λ partners. partners ≡ settled_matches (J.predicate join.now) side row.now (S.entries store.now)) }
+{
+    let mut found = Partners::new(alloc);
+    store.probe(side, row, join, &mut found)?;
+    Ok(found)
 }
 
 /// Gives the pairs of a row of `side` that arrives with the partners that were found, and keeps the row in the store of its stream.

@@ -6,7 +6,7 @@ use super::{Core, keep_in_flight, share_in_flight};
 use crate::at_home::{rest_at_home, share_at_home};
 use crate::{Prepared, Sends};
 use hj_base::{EventNo, Memory, Share, Side};
-use hj_msg::{Join, Msg, Report, Store};
+use hj_msg::{Join, Msg, Partners, Report, Store};
 
 impl<P: Share + Drop, J: Join<P> + Drop, S: Store<P, J> + Drop> Core<P, J, S> {
     ghost use Rattle.hj_core.specs.Contents.{KeepsPlace, state_of};
@@ -50,7 +50,8 @@ impl<P: Share + Drop, J: Join<P> + Drop, S: Store<P, J> + Drop> Core<P, J, S> {
         ensures prepared { IfOk result (IsPrepared (J.predicate self.new.join) self.new.place self.new.cores (state_of S.entries self.new)
             (S.has_place self.new.left) (S.has_place self.new.right) self.new.flight.room (LeftRow no row.now)) }
     {
-        let mut found = self.right.probe(Side::Right, row, &self.join)?;
+        let mut found = Partners::new(self.alloc);
+        self.right.probe(Side::Right, row, &self.join, &mut found)?;
         self.flight.add_partners(row, &self.join, &mut found)?;
         Ok(Prepared::Arrival {
             partners: found,
@@ -67,7 +68,8 @@ impl<P: Share + Drop, J: Join<P> + Drop, S: Store<P, J> + Drop> Core<P, J, S> {
         ensures prepared { IfOk result (IsPrepared (J.predicate self.new.join) self.new.place self.new.cores (state_of S.entries self.new)
             (S.has_place self.new.left) (S.has_place self.new.right) self.new.flight.room (RightRow no row.now)) }
     {
-        let partners = self.left.probe(Side::Left, row, &self.join)?;
+        let mut partners = Partners::new(self.alloc);
+        self.left.probe(Side::Left, row, &self.join, &mut partners)?;
         let first = self.place.is_first();
         Ok(Prepared::Arrival {
             partners,

@@ -1,4 +1,4 @@
-ghost use Rattle.std.specs.Prelude.{◌≡◌, [], Some, List, nat_eq, true, IfOk, OnOk};
+ghost use Rattle.std.specs.Prelude.{◌≡◌, [], Some, List, nat_eq, true, OnOk};
 ghost use Rattle.std.specs.HashMap.{get};
 ghost use Rattle.hj_value.specs.declared.field.Field.{Field};
 ghost use Rattle.hj_msg.specs.Store.{joins, settled_matches};
@@ -14,7 +14,8 @@ use std::alloc::Global;
 use std::collections::BTreeMap;
 
 impl KeyChains {
-    /// Finds the settled rows that join with a row of the other stream, by ascending number. Only rows of a key join with it.
+    /// Puts the settled rows that join with a row of the other stream into an empty list of partners, by ascending number. Only rows
+    /// of a key join with it. After an error some of them may be there.
     #[inline(always)]
     pub(crate) fn probe<J: Join<SharedRow>>(
         &self,
@@ -23,17 +24,17 @@ impl KeyChains {
         side: Side,
         against: &SharedRow,
         join: &J,
-    ) -> Result<Partners<SharedRow>, Memory>
+        found: &mut Partners<SharedRow>,
+    ) -> Result<(), Memory>
         requires chained { AreChained self.now }
         requires key { (row : List Field) → joins (J.predicate join.now) side row against.now ≡ true → key_at self.now.own row ≡ Some key }
-        ensures { IfOk result (λ partners. partners ≡ settled_matches (J.predicate join.now) side against.now (rows_in self.now)) }
+        requires empty { found.old ≡ [] }
+        ensures { OnOk result (found.new ≡ settled_matches (J.predicate join.now) side against.now (rows_in self.now)) }
     {
         if !self.is_ascending {
-            return self.probe_sorted(alloc, side, against, join);
+            return self.probe_sorted(alloc, side, against, join, found);
         }
-        let mut partners = Partners::new(alloc);
-        self.gather(key, side, against, join, &mut partners)?;
-        Ok(partners)
+        self.gather(key, side, against, join, found)
     }
 
     /// Puts the settled rows of a key that join with a row of the other stream into an empty list of partners. After an error some of
@@ -60,7 +61,7 @@ impl KeyChains {
         self.walk(key, last, side, against, join, found)
     }
 
-    /// Finds the same, whatever the order in which the rows stand.
+    /// Finds the same, whatever the order in which the rows stand. What was found before is replaced; after an error it stays.
     #[cold]
     fn probe_sorted<J: Join<SharedRow>>(
         &self,
@@ -68,9 +69,10 @@ impl KeyChains {
         side: Side,
         against: &SharedRow,
         join: &J,
-    ) -> Result<Partners<SharedRow>, Memory>
+        found: &mut Partners<SharedRow>,
+    ) -> Result<(), Memory>
         requires chained { AreChained self.now }
-        ensures { IfOk result (λ partners. partners ≡ settled_matches (J.predicate join.now) side against.now (rows_in self.now)) }
+        ensures { OnOk result (found.new ≡ settled_matches (J.predicate join.now) side against.now (rows_in self.now)) }
     {
         let mut rows = BTreeMap::new(alloc);
         for at in 0..self.places.len() {
@@ -79,7 +81,8 @@ impl KeyChains {
                 rows.insert(place.no, row.share()?)?;
             }
         }
-        partners_of(alloc, rows)
+        *found = partners_of(alloc, rows)?;
+        Ok(())
     }
 
     /// Puts the settled rows of a key that join with a row of the other stream into an empty list of partners, from the last place on

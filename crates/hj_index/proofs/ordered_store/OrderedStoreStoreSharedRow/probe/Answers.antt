@@ -14,8 +14,8 @@ use Rattle.hj_index.proofs.ordered_store.OrderedStoreStoreSharedRow.probe.Goals 
 pub returns-in_default : goal.returns-in_default
 returns-in_default g c =
     let none = sym (c.number_at.ensures ∙ ap (number_at c.self.inside.other) c.row.ensures) ∙ c.in_default.is in
-    c.new-found.ensures
-    ∙ no_number_joins c.args.self.now.own c.args.self.now.other c.args.self.now.within (g.J.Join.predicate c.args.join.now) c.args.side c.requires c.args.against.now c.args.self.now.rows
+    c.requires.empty
+    ∙ no_number_joins c.args.self.now.own c.args.self.now.other c.args.self.now.within (g.J.Join.predicate c.args.join.now) c.args.side c.requires.suits c.args.against.now c.args.self.now.rows
     (subst (λ (store : OrderedRows). number_at store.other c.args.against.now ≡ None) c.self.view_is none)
 
 pub loop-key-init : goal.loop-key-init
@@ -25,10 +25,10 @@ loop-key-init g c =
     let fits : FitsSigned w64 number = search rules in
     let its : number_at s.other c.args.against.now ≡ Some number = sym (c.number_at.ensures ∙ ap (number_at s.other) c.row.ensures) ∙ c.in-Some.is in (
       finds_first s.own (rows_in s.rows) s.index c.self.invariant c.band.result.0 c.band.result.1 s.other s.within (g.J.Join.predicate c.args.join.now) c.args.side
-          (subst (λ (store : OrderedRows). JoinsNear store.own store.other store.within (g.J.Join.predicate c.args.join.now) c.args.side) (sym c.self.view_is) c.requires) c.args.against.now number its
-          (subst (λ (near : ℤ). (key : OrderedKey) → AreWithin s.within key.0 near → range_contains key_cmp c.band.result.0 c.band.result.1 key ≡ true) (to_z-of_z w64 number fits) c.band.ensures.all) c.new-found.result c.into_iter-key-iterator.result _
-          c.range-key-items.ensures.ordered c.new-found.ensures c.into_iter-key-iterator.ensures.into_iter_gives (c.range-key-items.ensures.between tt),
-      none-above c.new-found.result 0 c.new-found.ensures,
+          (subst (λ (store : OrderedRows). JoinsNear store.own store.other store.within (g.J.Join.predicate c.args.join.now) c.args.side) (sym c.self.view_is) c.requires.suits) c.args.against.now number its
+          (subst (λ (near : ℤ). (key : OrderedKey) → AreWithin s.within key.0 near → range_contains key_cmp c.band.result.0 c.band.result.1 key ≡ true) (to_z-of_z w64 number fits) c.band.ensures.all) c.args.found.now c.into_iter-key-iterator.result _
+          c.range-key-items.ensures.ordered c.requires.empty c.into_iter-key-iterator.ensures.into_iter_gives (c.range-key-items.ensures.between tt),
+      none-above c.args.found.now 0 c.requires.empty,
     )
 
 pub loop-key-preserved-in-Some-joining : goal.loop-key-preserved-in-Some-joining

@@ -5,9 +5,9 @@ use Rattle.hj_rows.proofs.list_store.ListStoreStore.probe.Goals as goal
 
 pub loop-no-init : goal.loop-no-init
 loop-no-init g c = (
-  finds-nothing (λ row. joins (g.J.Join.predicate c.args.join.now) c.args.side row c.args.against.now) c.new-found.result c.into_iter-no-iterator.result c.args.self.now.rows.places.entries
-      c.new-found.ensures c.into_iter-no-iterator.ensures.into_iter_gives.0,
-  none-above c.new-found.result 0 c.new-found.ensures,
+  finds-nothing (λ row. joins (g.J.Join.predicate c.args.join.now) c.args.side row c.args.against.now) c.args.found.now c.into_iter-no-iterator.result c.args.self.now.rows.places.entries
+      c.requires.empty c.into_iter-no-iterator.ensures.into_iter_gives.0,
+  none-above c.args.found.now 0 c.requires.empty,
 )
 
 pub loop-no-preserved-in-Some-joining_row : goal.loop-no-preserved-in-Some-joining_row

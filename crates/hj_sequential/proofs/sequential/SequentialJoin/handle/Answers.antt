@@ -16,7 +16,7 @@ returns-in-Arrive-default-Left-default-clause-gives g c =
     let is : c.args.event ≡ Arrive arm.no Left arm.row = cc in
     subst (λ (event : Event g.row.P.Denot). (before : List (Event g.row.P.Denot)) → IsWellFormed (before ++ event ∷ []) → HoldWindows g.S.Store.entries (windows_after before) c.args.self.now.left c.args.self.now.right
     → GivesListed g.D.Drain.takes (listed (g.J.Join.predicate c.args.self.now.join) (windows_after before) event) c.arrives.result c.args.drain.now c.arrives.new.drain) (sym is)
-    (λ before well holds. left_gives g.S.Store.entries (g.J.Join.predicate c.args.self.now.join) before c.args.self.now.left c.args.self.now.right holds arm.no arm.row well g.D.Drain.takes c.arrives.result c.args.drain.now c.arrives.new.drain (c.arrives.ensures.gives _ c.probe-found.ensures))
+    (λ before well holds. left_gives g.S.Store.entries (g.J.Join.predicate c.args.self.now.join) before c.args.self.now.left c.args.self.now.right holds arm.no arm.row well g.D.Drain.takes c.arrives.result c.args.drain.now c.arrives.new.drain (c.arrives.ensures.gives _ c.partners_in-found.ensures))
 
 pub returns-in-Arrive-default-Left-default-clause-holds : goal.returns-in-Arrive-default-Left-default-clause-holds
 returns-in-Arrive-default-Left-default-clause-holds g c =
@@ -32,7 +32,7 @@ returns-in-Arrive-default-Right-default-clause-gives g c =
     let is : c.args.event ≡ Arrive arm.no Right arm.row = cc in
     subst (λ (event : Event g.row.P.Denot). (before : List (Event g.row.P.Denot)) → IsWellFormed (before ++ event ∷ []) → HoldWindows g.S.Store.entries (windows_after before) c.args.self.now.left c.args.self.now.right
     → GivesListed g.D.Drain.takes (listed (g.J.Join.predicate c.args.self.now.join) (windows_after before) event) c.arrives-in-Arrive-default-Right-default.result c.args.drain.now c.arrives-in-Arrive-default-Right-default.new.drain) (sym is)
-    (λ before well holds. right_gives g.S.Store.entries (g.J.Join.predicate c.args.self.now.join) before c.args.self.now.left c.args.self.now.right holds arm.no arm.row well g.D.Drain.takes c.arrives-in-Arrive-default-Right-default.result c.args.drain.now c.arrives-in-Arrive-default-Right-default.new.drain (c.arrives-in-Arrive-default-Right-default.ensures.gives _ c.probe-found-in-Arrive-default-Right-default.ensures))
+    (λ before well holds. right_gives g.S.Store.entries (g.J.Join.predicate c.args.self.now.join) before c.args.self.now.left c.args.self.now.right holds arm.no arm.row well g.D.Drain.takes c.arrives-in-Arrive-default-Right-default.result c.args.drain.now c.arrives-in-Arrive-default-Right-default.new.drain (c.arrives-in-Arrive-default-Right-default.ensures.gives _ c.partners_in-found-in-Arrive-default-Right-default.ensures))
 
 pub returns-in-Arrive-default-Right-default-clause-holds : goal.returns-in-Arrive-default-Right-default-clause-holds
 returns-in-Arrive-default-Right-default-clause-holds g c =
