@@ -1,7 +1,7 @@
 -- The queues of reports, each as the list of what stands in it.
 use Rattle.std.proofs.Common.{◌≡◌, ℕ, suc, zero, ◌+◌, ◌<◌, ◌≤◌, ◌==◌, false, All, List, [], ◌∷◌, length, map, set, get_or, replicate, refl, ap, sym, ◌∙◌, subst, arith, ne_eqb}
 use Rattle.std.proofs.lemmas.List.{length-map}
-use Rattle.std.proofs.lemmas.List.Elements.{All-map}
+use Rattle.std.proofs.lemmas.List.Elements.{All-map, All-set, All-weaker}
 use Rattle.circular_buffer.specs.Buffer.{Buffer, buffer}
 use Rattle.hj_msg.specs.declared.message.Report.{Report}
 use Rattle.hj_chain.specs.Links.{changed_at}
@@ -36,3 +36,24 @@ none_full {P} capacity room buffers now i view low all some =
     let there : i < length (map (λ (b : Buffer (Report P)). b.items) buffers) = subst (λ (r : ReportQueues P). i < length r.queues) (sym view) low in
     let below : length (queue_at (map (λ (b : Buffer (Report P)). b.items) buffers) i) + room ≤ capacity = each i [] there in
     subst (λ (r : ReportQueues P). (length (queue_at r.queues i) == r.capacity) ≡ false) view (ne_eqb (length (queue_at (map (λ (b : Buffer (Report P)). b.items) buffers) i)) capacity (λ same. omega (arith, below, some, same)))
+
+-- a queue that takes another one's place has its capacity
+pub capacity-changed : {P : Type 0} (capacity : ℕ) (buffers : List (Buffer (Report P))) (now : ReportQueues P) (i : ℕ) (b c : Buffer (Report P))
+    → record { capacity = capacity; queues = map (λ b. b.items) buffers } ≡ now → i < length now.queues → b ≡ get_or buffers i b → c.capacity ≡ b.capacity
+    → All (λ q. q.capacity ≡ capacity) buffers → All (λ q. q.capacity ≡ capacity) (set buffers i c)
+capacity-changed {P} capacity buffers now i b c view in_range at same all =
+    let lengths : length buffers ≡ length now.queues = sym (length-map buffers (λ (b : Buffer (Report P)). b.items)) ∙ ap (λ (r : ReportQueues P). length r.queues) view in
+    let in_buffers : i < length buffers = omega arith in
+    let own : b.capacity ≡ capacity = subst (λ (q : Buffer (Report P)). q.capacity ≡ capacity) (sym at) (all i b in_buffers) in
+    All-set (λ (q : Buffer (Report P)). q.capacity ≡ capacity) buffers i c (same ∙ own) all
+
+-- and where it leaves so much room, each queue has it
+pub room-changed : {P : Type 0} (capacity room left : ℕ) (buffers : List (Buffer (Report P))) (now : ReportQueues P) (i : ℕ) (b c : Buffer (Report P))
+    → record { capacity = capacity; queues = map (λ b. b.items) buffers } ≡ now → i < length now.queues → b ≡ get_or buffers i b → length c.items + left ≤ length b.items + room → left ≤ room
+    → All (λ q. length q.items + room ≤ capacity) buffers → All (λ q. length q.items + left ≤ capacity) (set buffers i c)
+room-changed {P} capacity room left buffers now i b c view in_range at less fewer all =
+    let lengths : length buffers ≡ length now.queues = sym (length-map buffers (λ (b : Buffer (Report P)). b.items)) ∙ ap (λ (r : ReportQueues P). length r.queues) view in
+    let in_buffers : i < length buffers = omega arith in
+    let own : length b.items + room ≤ capacity = subst (λ (q : Buffer (Report P)). length q.items + room ≤ capacity) (sym at) (all i b in_buffers) in
+    All-set (λ (q : Buffer (Report P)). length q.items + left ≤ capacity) buffers i c (omega (arith, less, own))
+    (All-weaker (λ (q : Buffer (Report P)). length q.items + room ≤ capacity) (λ (q : Buffer (Report P)). length q.items + left ≤ capacity) (λ q e. omega (arith, e, fewer)) buffers all)

@@ -9,6 +9,7 @@ mod plain_link;
 mod progress;
 mod reports;
 mod serial;
+mod short_queue;
 
 pub use actor::{Actor, NotNow, Stepped};
 pub use chain::Chain;

@@ -2,22 +2,24 @@ ghost use Rattle.std.specs.Prelude.{◌≡◌, ◌<◌, ◌↔◌, ◌++◌, [],
 ghost use Rattle.std.specs.Option.{option_copied};
 ghost use Rattle.hj_chain.specs.Queues.{no_messages};
 
+use crate::short_queue::ShortQueue;
 use hj_base::{Full, Memory};
 use std::alloc::Global;
 use std::collections::VecDeque;
 use std::marker::Model;
 
 /// A link between two neighbours: a queue of messages in each direction, each with the same capacity. Of its calls `new`
-/// alone takes memory.
+/// alone takes memory. In a run in turn a message that goes left waits for a round at each core, mostly alone, while those that go
+/// right wait in a line.
 #[derive(Drop)]
 pub struct PlainLink<M> {
     rightwards: VecDeque<M>,
-    leftwards: VecDeque<M>,
+    leftwards: ShortQueue<M>,
     capacity: usize,
 }
 
 impl<M> Model for PlainLink<M> {
-    ghost use Rattle.std.specs.Prelude.{◌≤◌, length};
+    ghost use Rattle.std.specs.Prelude.{◌≡◌, ◌≤◌, length};
     ghost use Rattle.std.specs.VecDeque.{deque_capacity};
     ghost use Rattle.hj_chain.specs.Queues.{Queues};
 
@@ -27,22 +29,20 @@ impl<M> Model for PlainLink<M> {
 
     ghost invariant = { λ l. record {
       right_room : l.capacity ≤ deque_capacity l.rightwards;
-      left_room : l.capacity ≤ deque_capacity l.leftwards;
+      left_room : l.leftwards.capacity ≡ l.capacity;
       rightwards : length l.rightwards.items ≤ l.capacity;
       leftwards : length l.leftwards.items ≤ l.capacity;
     } };
 }
 
-impl<M> PlainLink<M> {
+impl<M: Drop> PlainLink<M> {
     /// Makes a link on which nothing is under way, with room for `capacity` messages in each direction.
     pub fn new(alloc: Global, capacity: usize) -> Result<Self, Memory>
-    where
-        M: Drop,
         ensures { IfOk result (λ link. link ≡ no_messages capacity) }
     {
         Ok(PlainLink {
             rightwards: VecDeque::with_capacity(alloc, capacity)?,
-            leftwards: VecDeque::with_capacity(alloc, capacity)?,
+            leftwards: ShortQueue::with_capacity(alloc, capacity)?,
             capacity,
         })
     }
@@ -120,7 +120,7 @@ impl<M> PlainLink<M> {
         requires { length self.old.leftwards < self.old.capacity }
         ensures { self.new ≡ record self.old { leftwards = self.old.leftwards ++ m ∷ [] } }
     {
-        self.leftwards.push_back_reserved(m);
+        self.leftwards.push_back(m);
     }
 
     /// Takes the first message under way to the left; None exactly if there is none.
@@ -139,7 +139,7 @@ impl<M> PlainLink<M> {
         requires { length self.old.leftwards < self.old.capacity }
         ensures { self.new ≡ record self.old { leftwards = m ∷ self.old.leftwards } }
     {
-        self.leftwards.push_front_reserved(m);
+        self.leftwards.push_front(m);
     }
 
     /// Returns the first message under way to the left, which stays; None exactly if there is none.

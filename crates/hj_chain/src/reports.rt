@@ -5,7 +5,7 @@ ghost use Rattle.hj_chain.specs.Links.{changed_at};
 ghost use Rattle.hj_chain.specs.Looks.{last};
 ghost use Rattle.hj_chain.specs.Reports.{no_reports, queue_at};
 
-use circular_buffer::HeapCircularBuffer;
+use crate::short_queue::ShortQueue;
 use hj_base::Memory;
 use hj_msg::Report;
 use std::alloc::Global;
@@ -14,7 +14,7 @@ use std::marker::Model;
 /// The queues in which the reports of the cores wait.
 #[derive(Drop)]
 pub struct Reports<P> {
-    queues: Vec<HeapCircularBuffer<Report<P>>>,
+    queues: Vec<ShortQueue<Report<P>>>,
     capacity: usize,
     /// Each queue has room for so many reports at least: while there is some, no queue need be looked at.
     room: usize,
@@ -41,7 +41,7 @@ impl<P: Drop> Reports<P> {
     {
         let mut queues = Vec::with_capacity(alloc, cores)?;
         for _at in 0..cores {
-            queues.push(HeapCircularBuffer::with_capacity(alloc, capacity)?)?;
+            queues.push(ShortQueue::with_capacity(alloc, capacity)?)?;
         }
         Ok(Reports {
             queues,
@@ -89,10 +89,7 @@ impl<P: Drop> Reports<P> {
     pub fn is_full(&self, core: usize) -> bool
         ensures { result ≡ (length (queue_at self.now.queues core) == self.now.capacity) }
     {
-        match self.queues.get(core) {
-            Some(queue) => queue.is_full(),
-            None => self.capacity == 0,
-        }
+        self.waiting(core) == self.capacity
     }
 
     /// Returns whether a core that is there has as many reports as a queue holds.
@@ -114,12 +111,11 @@ impl<P: Drop> Reports<P> {
         let Some(report) = report else {
             return;
         };
-        if let Err(_) = self.queues[core].try_push_back(report) {
-            unreachable!()
-        }
-        self.room = match self.room {
-            0 => least_room(&self.queues, self.capacity),
-            room => room - 1,
+        self.queues[core].push_back(report);
+        self.room = if self.room == 0 {
+            least_room(&self.queues, self.capacity)
+        } else {
+            self.room - 1
         };
     }
 
@@ -136,7 +132,7 @@ impl<P: Drop> Reports<P> {
 
 /// Returns the room of the queue that has the least of all.
 #[cold]
-fn least_room<P>(queues: &[HeapCircularBuffer<Report<P>>], capacity: usize) -> usize
+fn least_room<P: Drop>(queues: &[ShortQueue<Report<P>>], capacity: usize) -> usize
     requires { All (λ q. q.capacity ≡ capacity) queues.now }
     ensures { All (λ q. length q.items + result ≤ capacity) queues.now }
 {

@@ -1,4 +1,4 @@
-use Rattle.std.proofs.Common.{◌≡◌, ℕ, ◌+◌, List, [], length, replicate, ap, ◌∙◌, arith}
+use Rattle.std.proofs.Common.{◌≡◌, ℕ, ◌+◌, List, [], length, replicate, ap, ◌∙◌, arith, rules}
 use Rattle.hj_msg.specs.declared.message.Msg.{Msg}
 use Rattle.hj_msg.specs.declared.message.Report.{Report}
 use Rattle.hj_driver.specs.Driver.{DriverState}
@@ -30,3 +30,6 @@ returns-clause-goes g c =
     c.requires.empty
     (ap (λ (r : ReportQueues g.row.P.Denot). r.queues) around.reports ∙ ap (λ (count : ℕ). replicate {A = List (Report g.row.P.Denot)} count []) all)
     (around.collector ∙ ap nothing_taken all) c.new-kept.ensures)
+
+pub returns-clause-begins : goal.returns-clause-begins
+returns-clause-begins g c = (c.next.result, search rules, c.next.ensures.gives)
