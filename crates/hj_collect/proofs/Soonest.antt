@@ -3,7 +3,7 @@ use Rattle.std.proofs.Common.{◌≡◌, ◌≤◌, ℕ, false, List, ◌∷◌,
 use Rattle.std.specs.List.Sorted.{IsPermutation}
 use Rattle.std.proofs.lemmas.Bool.Decides.{nat_tests}
 use Rattle.std.proofs.lemmas.List.Sorted.{IsPermutation-middle, IsPermutation-append_left, All-permutation}
-use Rattle.std.proofs.lemmas.List.Elements.{All-tail, All-weaker, All-map}
+use Rattle.std.proofs.lemmas.List.Elements.{All-cons, All-tail, All-weaker, All-map}
 use Rattle.hj_msg.specs.Valid.{later}
 use Rattle.hj_msg.specs.Emission.{is_within}
 use Rattle.hj_msg.specs.Punctuation.{Mark, up_to, all}
@@ -15,6 +15,12 @@ past (up_to number) n m le beyond = grind (arith, nat_tests, le, beyond)
 past all n m le beyond = beyond
 
 module _ {P : Type 0} where
+  -- where one comes, a number that isn't above its own either
+  pub one_more : (n m : ℕ) (one : KeptPair P) (old new : List (KeptPair P)) → IsPermutation (one ∷ old) new → m ≤ n → m ≤ later one.pair → NoneSooner n old → NoneSooner m new
+  one_more n m one old new is below own none =
+      All-permutation (λ (k : KeptPair P). m ≤ later k.pair) (one ∷ old) new is
+      (All-cons (λ (k : KeptPair P). m ≤ later k.pair) one old own (All-weaker (λ (k : KeptPair P). n ≤ later k.pair) (λ (k : KeptPair P). m ≤ later k.pair) (λ k e. omega (arith, below, e)) old none))
+
   -- where one is taken out
   pub fewer_late : (n : ℕ) (one : KeptPair P) (late left ordered : List (KeptPair P)) → IsPermutation late (one ∷ left) → NoneSooner n (late ++ ordered) → NoneSooner n (left ++ ordered)
   fewer_late n one late left ordered is none =

@@ -187,8 +187,10 @@ impl<P: Share + Drop> Ordered<P> {
     {
         self.late.reserve(1)?;
         self.in_order.reserve(1)?;
-        put(&mut self.late, &mut self.in_order, KeptPair { pair });
-        self.soonest = soonest_of(&self.late, &self.in_order);
+        let kept = KeptPair { pair };
+        let soonest = self.soonest.min(kept.later());
+        put(&mut self.late, &mut self.in_order, kept);
+        self.soonest = soonest;
         Ok(())
     }
 }
