@@ -15,7 +15,7 @@ use crate::stop::{ReadStep, SideStop};
 use crate::{RecordFault, RowFault};
 use hj_base::{Got, Memory, Outside, Side};
 use hj_record::{CARRIAGE_RETURN, Cut, Cutter, Fed, Fields, LINE_FEED, PieceFault, QUOTE};
-use hj_value::{ColumnType, Row, Schema, SharedRow};
+use hj_value::{ColumnType, Row, RowBlocks, Schema, SharedRow};
 use std::alloc::Global;
 use std::marker::Model;
 
@@ -52,6 +52,8 @@ pub(crate) struct Reader {
     cutter: Cutter,
     /// The fields of the record that was read last.
     fields: Fields,
+    /// The blocks of the rows that were read.
+    blocks: RowBlocks,
     /// The number that the next record has.
     record_no: u64,
     /// The greatest time of the rows before.
@@ -89,6 +91,7 @@ impl Reader {
             ended: false,
             cutter: Cutter::new(alloc, MOST_IN_STREAM),
             fields: Fields::new(alloc),
+            blocks: RowBlocks::new(alloc),
             record_no: 1,
             greatest: None,
         }
@@ -207,7 +210,7 @@ impl Reader {
         }
         let next = self.record_no.checked_add(1).ok_or(Memory)?;
         let greatest = later(self.greatest, time);
-        let shared = SharedRow::new(self.alloc, row)?;
+        let shared = self.blocks.share(row)?;
         self.line_bytes = used;
         self.cutter.skip_piece(used);
         self.taken += used;
@@ -325,7 +328,7 @@ impl Reader {
             Err(fault) => return Err(stop(self.record_no, fault)),
         };
         let time = row.time();
-        let shared = SharedRow::new(self.alloc, row)?;
+        let shared = self.blocks.share(row)?;
         self.record_no = self.record_no.checked_add(1).ok_or(SideStop::Memory)?;
         self.greatest = Some(later(self.greatest, time));
         Ok(ReadStep::Row(shared))

@@ -1,4 +1,4 @@
-ghost use Rattle.std.specs.Prelude.{◌≡◌, IfOk};
+ghost use Rattle.std.specs.Prelude.{◌≡◌, IfOk, IfSome};
 
 use crate::Row;
 use hj_base::{Memory, Share};
@@ -9,7 +9,7 @@ use std::sync::Arc;
 /// A row that several holders share, seen as that row. It goes away with its last holder.
 #[derive(Drop)]
 pub struct SharedRow {
-    row: Arc<Row>,
+    pub(crate) row: Arc<Row>,
 }
 
 impl Model for SharedRow {
@@ -31,6 +31,14 @@ impl SharedRow {
         Ok(SharedRow {
             row: Arc::new(alloc, row)?,
         })
+    }
+
+    /// Lends the row to be changed, if it has no other holder.
+    #[inline(always)]
+    pub(crate) fn if_alone(&mut self) -> Option<&mut Row>
+        ensures { IfSome result (λ row. row.now ≡ self.old) }
+    {
+        Arc::get_mut(&mut self.row)
     }
 
     /// Returns the row that is shared.
