@@ -115,17 +115,19 @@ impl KeyChains {
         self.push(no, row, settled);
     }
 
-    /// Settles the row of a number; returns false exactly where there is none.
+    /// Settles the row of a number; returns false exactly where there is none. `next` counts the places up to the one where the row is
+    /// thought to stand, and behind the call up to the next one.
     #[inline(always)]
-    pub(crate) fn settle(&mut self, no: u64) -> bool
+    pub(crate) fn settle(&mut self, no: u64, next: &mut u64) -> bool
         requires { AreChained self.old }
         ensures held { result ≡ holds no (rows_in self.old) }
         ensures rows { rows_in self.new ≡ with_settled no (rows_in self.old) }
         ensures own { self.new.own ≡ self.old.own }
         ensures chained { AreChained self.new }
     {
-        match self.find_last(no) {
+        match self.find_settling(no, *next) {
             Some(at) => {
+                *next = self.base.wrapping_add(at as u64).wrapping_add(1);
                 self.settle_at(at, no);
                 true
             }

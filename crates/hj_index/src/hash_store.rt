@@ -25,6 +25,9 @@ pub struct HashStore {
     other: u16,
     /// The rows at rest, chained by the values of their column.
     rows: KeyChains,
+    /// How many places, of those that there were, stand before the row that is thought to be settled next: rows are settled in the order
+    /// in which they came.
+    next: u64,
 }
 
 impl Model for HashStore {
@@ -60,6 +63,7 @@ impl HashStore {
             alloc,
             other,
             rows: KeyChains::new(alloc, own),
+            next: 0,
         }
     }
 }
@@ -80,7 +84,7 @@ impl<J: Join<SharedRow>> Store<SharedRow, J> for HashStore {
     }
 
     fn settle(&mut self, no: EventNo) -> bool {
-        self.rows.settle(no.0)
+        self.rows.settle(no.0, &mut self.next)
     }
 
     fn remove(&mut self, no: EventNo) -> bool {

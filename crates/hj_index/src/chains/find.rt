@@ -57,9 +57,23 @@ impl KeyChains {
         self.find(no)
     }
 
-    /// Finds the place that holds the row of a number, which is mostly the last.
+    /// Finds the place that holds the row of a number, which is mostly the one behind so many places.
     #[inline(always)]
-    pub(super) fn find_last(&self, no: u64) -> Option<usize>
+    pub(super) fn find_settling(&self, no: u64, next: u64) -> Option<usize>
+        requires { AreChained self.now }
+        ensures { FindsRow no self.now.places.items result }
+    {
+        let at = next.wrapping_sub(self.base) as usize;
+        match self.places.get(at) {
+            Some(place) if place.no == no && place.rest.is_some() => Some(at),
+            _ => self.find_last(no),
+        }
+    }
+
+    /// Finds the place that holds the row of a number, which is often the last.
+    // Called, so that what is mostly done stays short.
+    #[inline(never)]
+    fn find_last(&self, no: u64) -> Option<usize>
         requires { AreChained self.now }
         ensures { FindsRow no self.now.places.items result }
     {
@@ -70,8 +84,7 @@ impl KeyChains {
     }
 
     /// Finds the place that holds the row of a number, which is often the last but one.
-    // Called, so that what is mostly done stays short.
-    #[inline(never)]
+    #[inline(always)]
     fn find_before_last(&self, no: u64) -> Option<usize>
         requires { AreChained self.now }
         ensures { FindsRow no self.now.places.items result }
