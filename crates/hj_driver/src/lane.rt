@@ -59,6 +59,8 @@ pub struct Lane {
     arrivals: VecDeque<OutstandingArrival>,
     expiries: VecDeque<EventNo>,
     room: usize,
+    /// Where the arrival is thought to stand whose row is taken next: rows are taken in the order in which they were put.
+    next_row: usize,
 }
 
 impl Model for Lane {
@@ -87,6 +89,7 @@ impl Lane {
             arrivals: VecDeque::with_capacity(alloc, room)?,
             expiries: VecDeque::with_capacity(alloc, room)?,
             room,
+            next_row: 0,
         })
     }
 
@@ -137,19 +140,50 @@ impl Lane {
         ensures { self.new ≡ record self.old { arrivals = filter_map (after_departure no.0 departure) self.old.arrivals } }
     {
         match self.arrivals.front() {
-            Some(first) if no.0 == first.no.0 => self.take_at(0, no, departure),
+            Some(first) if no.0 == first.no.0 => self.take_first(no, departure),
             Some(first) if no.0 < first.no.0 => {}
             _ => self.take_behind(no, departure),
         }
     }
 
+    /// Takes note of the same, where the arrival is the first.
+    #[inline(always)]
+    fn take_first(&mut self, no: EventNo, departure: Departure)
+        requires { IsAt self.old.arrivals no.0 0 }
+        ensures { self.new ≡ record self.old { arrivals = filter_map (after_departure no.0 departure) self.old.arrivals } }
+    {
+        let count = self.arrivals.len();
+        self.take_at(0, no, departure);
+        self.next_row = if self.arrivals.len() < count {
+            self.next_row.saturating_sub(1)
+        } else {
+            self.next_row.max(1)
+        };
+    }
+
     /// Takes note of the same, where the arrival isn't the first.
-    // Called, so that what is mostly done stays short.
-    #[inline(never)]
+    #[inline(always)]
     fn take_behind(&mut self, no: EventNo, departure: Departure)
         ensures { self.new ≡ record self.old { arrivals = filter_map (after_departure no.0 departure) self.old.arrivals } }
     {
+        let at = self.next_row;
+        match self.arrivals.get(at) {
+            Some(arrival) if no.0 == arrival.no.0 => {
+                self.next_row = at + 1;
+                self.take_at(at, no, departure);
+            }
+            _ => self.take_anywhere(no, departure),
+        }
+    }
+
+    /// Takes note of the same, wherever the arrival stands.
+    // Called, so that what is mostly done stays short.
+    #[inline(never)]
+    fn take_anywhere(&mut self, no: EventNo, departure: Departure)
+        ensures { self.new ≡ record self.old { arrivals = filter_map (after_departure no.0 departure) self.old.arrivals } }
+    {
         if let Ok(at) = self.search_all(no) {
+            self.next_row = at + 1;
             self.take_at(at, no, departure);
         }
     }

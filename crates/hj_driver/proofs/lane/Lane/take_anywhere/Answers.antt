@@ -2,7 +2,7 @@ use Rattle.std.proofs.Common.{refl}
 use Rattle.std.specs.List.{filter_map}
 use Rattle.hj_driver.specs.Lane.{after_departure}
 use Rattle.hj_driver.proofs.Arrivals.{none_changes, lane_with}
-use Rattle.hj_driver.proofs.lane.Lane.take_behind.Goals as goal
+use Rattle.hj_driver.proofs.lane.Lane.take_anywhere.Goals as goal
 
 pub returns-in_default : goal.returns-in_default
 returns-in_default c =
