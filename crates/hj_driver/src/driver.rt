@@ -124,8 +124,7 @@ impl Driver {
     }
 
     /// Takes note of a message that was taken at a port.
-    // Called, so that the sweep over the actors stays small.
-    #[inline(never)]
+    #[inline(always)]
     pub fn took<P>(&mut self, port: Side, msg: &Msg<P>)
         ensures turn { (log : List (DriverTurn P)) → StandsFor self.old log → StandsFor self.new (log ++ receipt port msg.now ∷ []) }
         ensures others { ¬ (IsTrue (awaits port msg.now self.old)) → self.new ≡ self.old }
