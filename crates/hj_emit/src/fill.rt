@@ -11,6 +11,7 @@ use hj_value::{Field, Row};
 
 /// Fills `line` with the line of two joined rows, as the function `line` makes it, in place of what it held. Takes
 /// memory only to grow; after an error it holds a part of the line.
+#[inline(always)]
 pub fn fill_line(line: &mut Vec<u8>, left: &Row, right: &Row) -> Result<(), Memory>
     ensures { OnOk result (line.new.items ≡ line_of left.now right.now) }
 {
