@@ -93,6 +93,7 @@ impl<P: Share + Drop, J: Join<P> + Drop, S: Store<P, J> + Drop> Chain<P, J, S> {
 
     /// Tries the ends of each core, from the first core to the last one: its left end, and then its right end. Returns whether there
     /// was memory for their steps; where it ran out in one, no other is tried behind it.
+    #[inline(always)]
     pub(super) fn try_ends<G: Gate>(&mut self, gate: &G, sweep: &mut Sweep) -> bool
         requires { IsGoing J.predicate self.old }
         ensures going { result ≡ true → IsGoing J.predicate self.new }
