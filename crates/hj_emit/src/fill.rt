@@ -1,22 +1,39 @@
-ghost use Rattle.std.specs.Prelude.{◌≡◌, ◌++◌, [], ◌∷◌, ℕ, List, length, map, take, OnOk};
+ghost use Rattle.std.specs.Prelude.{◌≡◌, ◌≤◌, ◌++◌, [], ◌∷◌, ℕ, List, length, vec_len, map, take, drop, IfOk, OnOk};
 ghost use Rattle.csv.specs.Writing.{default_writer, row_text};
 ghost use Rattle.hj_emit.specs.Cells.{cell, cells};
 ghost use Rattle.hj_value.specs.declared.field.Field.{Field};
 ghost use Rattle.hj_emit.specs.Line.{field_bytes, line_of};
 
-use crate::numbers::{push_number, push_numbers};
+use crate::numbers::{fill_numbers, push_number, push_numbers};
 use crate::text::push_text;
 use hj_base::Memory;
 use hj_value::{Field, Row};
 
-/// Fills `line` with the line of two joined rows, as the function `line` makes it, in place of what it held. Takes
-/// memory only to grow; after an error it holds a part of the line.
+/// Makes `text` end with the line of two joined rows, as the function `line` makes it, and returns where the line starts.
+/// Nothing of what `text` held is kept. Takes memory only to grow; after an error `text` holds any bytes.
 #[inline(always)]
-pub fn fill_line(line: &mut Vec<u8>, left: &Row, right: &Row) -> Result<(), Memory>
-    ensures { OnOk result (line.new.items ≡ line_of left.now right.now) }
+pub fn fill_line(text: &mut Vec<u8>, left: &Row, right: &Row) -> Result<usize, Memory>
+    ensures within { IfOk result (λ start. start ≤ vec_len text.new) }
+    ensures line { IfOk result (λ start. drop start text.new.items ≡ line_of left.now right.now) }
 {
-    line.clear();
-    push_line(line, left, right)
+    let start = fill_fields(text, left, right)?;
+    end_line(text, start)?;
+    Ok(start)
+}
+
+/// Makes `text` end with the fields of two rows, with a comma after each, and returns where they start.
+#[inline(always)]
+fn fill_fields(text: &mut Vec<u8>, left: &Row, right: &Row) -> Result<usize, Memory>
+    ensures within { IfOk result (λ start. start ≤ vec_len text.new) }
+    ensures fields { IfOk result (λ start. drop start text.new.items ≡ cells (left.now ++ right.now)) }
+{
+    if let (Some(left), Some(right)) = (left.numbers(), right.numbers()) {
+        return fill_numbers(text, left, right);
+    }
+    text.clear();
+    push_row(text, left)?;
+    push_row(text, right)?;
+    Ok(0)
 }
 
 /// Appends the line of two joined rows, as the function `line` makes it. Takes memory only to grow; after an error a part of

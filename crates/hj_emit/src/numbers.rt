@@ -1,4 +1,4 @@
-ghost use Rattle.std.specs.Prelude.{◌≡◌, ◌+◌, ◌*◌, ◌++◌, ◌≤◌, length, map, drop, OnOk};
+ghost use Rattle.std.specs.Prelude.{◌≡◌, ◌+◌, ◌*◌, ◌++◌, ◌≤◌, length, vec_len, map, drop, IfOk, OnOk};
 ghost use Rattle.std.specs.Fmt.{signed_decimal};
 ghost use Rattle.hj_emit.specs.Cells.{cell, cells};
 ghost use Rattle.hj_value.specs.declared.field.Field.TheVariants as field;
@@ -14,6 +14,23 @@ const TWO_CELLS: usize = 42;
 
 /// The most bytes that two rows of four numbers take, with a comma after each number.
 const MOST_BYTES: usize = 168;
+
+/// Makes `text` end with the numbers of two rows, with a comma after each, and returns where they start. They are written
+/// from the last digit on into room that stays as it is from line to line.
+#[inline(always)]
+pub(crate) fn fill_numbers(text: &mut Vec<u8>, left: &[i64], right: &[i64]) -> Result<usize, Memory>
+    requires few { (length left.now ≤ 4) × (length right.now ≤ 4) }
+    ensures within { IfOk result (λ start. start ≤ vec_len text.new) }
+    ensures fields { IfOk result (λ start. drop start text.new.items
+        ≡ cells (map field.Int left.now) ++ cells (map field.Int right.now)) }
+{
+    if text.len() < MOST_BYTES {
+        text.resize(MOST_BYTES, 0)?;
+    }
+    let end = text.len();
+    let middle = write_numbers(right, text, end);
+    Ok(write_numbers(left, text, middle))
+}
 
 /// Appends the numbers of two rows, with a comma after each.
 #[inline(always)]

@@ -31,7 +31,7 @@ const LINES: &str = "\
 0 \r | -1 a⏎b | 0,\"\r\",-1,\"a⏎b\"⏎
 10 ε | 0  a\u{fc};' | 10,,0, a\u{fc};'⏎";
 
-/// Asserts what the line of these rows is, and that `filled` ends up holding it too.
+/// Asserts what the line of these rows is, and that `filled` ends with it too.
 fn writes(
     rt: &impl Abort,
     alloc: Global,
@@ -42,8 +42,8 @@ fn writes(
 ) {
     let written = line(alloc, left, right).expect(rt, "memory");
     same(rt, "a line", written.bytes(), want);
-    fill_line(filled, left, right).expect(rt, "memory");
-    same(rt, "a filled line", filled, want);
+    let start = fill_line(filled, left, right).expect(rt, "memory");
+    same(rt, "a filled line", &filled[start..], want);
 }
 
 /// Makes the rows of a case, and asserts what their line is.
@@ -67,8 +67,8 @@ fn writes_no_bytes(rt: &impl Abort, alloc: Global, none: &Row, empty: &Row) {
     let mut filled = Vec::new(alloc);
     writes(rt, alloc, &mut filled, none, none, b"\"\"\n");
     writes(rt, alloc, &mut filled, empty, none, b"\"\"\n");
-    fill_line(&mut filled, empty, empty).expect(rt, "memory");
-    same(rt, "a comma", &filled, b",\n");
+    let start = fill_line(&mut filled, empty, empty).expect(rt, "memory");
+    same(rt, "a comma", &filled[start..], b",\n");
 }
 
 #[test]

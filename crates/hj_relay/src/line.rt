@@ -19,11 +19,12 @@ impl PairLine for RelayLine {
 
     ghost line = { λ _ pair. relay_line pair };
 
-    fn fill(&self, buffer: &mut Vec<u8>, pair: &Pair<SharedRow>) -> Result<(), Memory> {
+    fn fill(&self, buffer: &mut Vec<u8>, pair: &Pair<SharedRow>) -> Result<usize, Memory> {
         buffer.clear();
         push_number(buffer, later_time(pair))?;
         buffer.push(b',')?;
-        push_line(buffer, pair.left.row(), pair.right.row())
+        push_line(buffer, pair.left.row(), pair.right.row())?;
+        Ok(0)
     }
 }
 

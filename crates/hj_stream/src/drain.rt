@@ -16,7 +16,7 @@ pub struct LineDrain<'a, K: Sink, L: PairLine> {
     pub out: &'a mut K,
     /// What the line of a pair is.
     pub lines: &'a L,
-    /// A buffer for the line of a pair.
+    /// A buffer for the line of a pair, which stands at its end.
     buffer: &'a mut Vec<u8>,
     /// How the sending of the last line went.
     last: Sent,
@@ -28,7 +28,7 @@ impl<'a, K: Sink, L: PairLine> LineDrain<'a, K, L> {
     ghost use Rattle.hj_stream.specs.Ends.{last_in};
 
     /// Makes a drain that took no pair yet: it writes to `out`, for each pair the line that `lines` says, and makes each line in
-    /// `buffer`, in place of what that held.
+    /// `buffer`, which keeps nothing of what it held.
     pub fn new(out: &'a mut K, lines: &'a L, buffer: &'a mut Vec<u8>) -> Self
         ensures same_reference { result.out.ghost_name ≡ out.entry.ghost_name }
         ensures out { result.out.now ≡ out.old }
@@ -61,7 +61,7 @@ impl<'a, K: Sink, L: PairLine> LineDrain<'a, K, L> {
         ensures refused { self.new.refused ≡ self.old.refused }
     {
         match self.lines.fill(self.buffer, pair) {
-            Ok(()) => put_all(self.out, self.buffer),
+            Ok(start) => put_all(self.out, &self.buffer[start..]),
             Err(Memory) => Sent::Memory,
         }
     }

@@ -1,4 +1,4 @@
-ghost use Rattle.std.specs.Prelude.{◌≡◌, List, ℕ, OnOk};
+ghost use Rattle.std.specs.Prelude.{◌≡◌, ◌≤◌, List, ℕ, drop, vec_len, IfOk};
 ghost use Rattle.hj_value.specs.declared.field.Field.{Field};
 ghost use Rattle.hj_msg.specs.declared.event.Pair.{Pair};
 
@@ -12,10 +12,11 @@ pub trait PairLine {
     /// The bytes of a pair's line.
     ghost line: { Self → Pair (List Field) → List ℕ };
 
-    /// Fills `buffer` with the line of a pair, in place of what it held. Takes memory only to grow the buffer; after an
-    /// error that holds a part of the line.
-    fn fill(&self, buffer: &mut Vec<u8>, pair: &Pair<SharedRow>) -> Result<(), Memory>
-        ensures { OnOk result (buffer.new.items ≡ line self.now pair.now) };
+    /// Makes `buffer` end with the line of a pair, and returns where the line starts. Nothing of what `buffer` held is
+    /// kept. Takes memory only to grow the buffer; after an error that holds any bytes.
+    fn fill(&self, buffer: &mut Vec<u8>, pair: &Pair<SharedRow>) -> Result<usize, Memory>
+        ensures within { IfOk result (λ start. start ≤ vec_len buffer.new) }
+        ensures line { IfOk result (λ start. drop start buffer.new.items ≡ line self.now pair.now) };
 }
 
 /// Writes both rows of a pair as one record: the line of a pair in the output of a join.
@@ -28,7 +29,7 @@ impl PairLine for JoinedLine {
     ghost line = { λ _ pair. pair_line pair };
 
     #[inline(always)]
-    fn fill(&self, buffer: &mut Vec<u8>, pair: &Pair<SharedRow>) -> Result<(), Memory> {
+    fn fill(&self, buffer: &mut Vec<u8>, pair: &Pair<SharedRow>) -> Result<usize, Memory> {
         fill_line(buffer, pair.left.row(), pair.right.row())
     }
 }

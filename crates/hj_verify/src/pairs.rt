@@ -49,7 +49,7 @@ pub(crate) fn check_due<'r, S: Store<SharedRow, QueryJoin<'r>> + Drop, O: Outsid
     Ok(())
 }
 
-/// Compares the line of a pair with the output. The line is made in `line`, in place of what that held.
+/// Compares the line of a pair with the output. The line is made in `line`, which keeps nothing of what it held.
 fn check_pair<O: Outside>(
     pair: &Pair<SharedRow>,
     output: &mut OutputCheck,
@@ -66,7 +66,7 @@ fn check_pair<O: Outside>(
     ensures names { NamesStay (O.under outside.old) (O.under outside.new) }
 {
     match JoinedLine.fill(line, pair) {
-        Ok(()) => output.compare(line, outside),
+        Ok(start) => output.compare(&line[start..], outside),
         Err(Memory) => Err(Verdict::Ended(Outcome::Memory)),
     }
 }
