@@ -71,9 +71,13 @@ impl<W: Write + Drop> Write for Collected<W> {
         ensures refused { IsTrue (has_refused self.old) → IsErr result × (self.new ≡ self.old) }
     {
         self.check_open()?;
-        let written = self.buffered.write(piece);
-        self.is_refused = written.is_err();
-        written
+        match self.buffered.write(piece) {
+            Ok(count) => Ok(count),
+            Err(error) => {
+                self.is_refused = true;
+                Err(error)
+            }
+        }
     }
 
     /// Hands on all that waits. If nothing does, the other writer isn't asked to write.
