@@ -6,6 +6,7 @@ ghost use Rattle.hj_event.specs.Roles.{IsInStep};
 ghost use Rattle.hj_event.specs.Merger.{IsNewMerger};
 ghost use Rattle.hj_query.specs.QueryParts.{QueryParts};
 ghost use Rattle.hj_stream.specs.Ahead.{IsGoingOn};
+ghost use Rattle.hj_stream.specs.Feeding.{outcome_by};
 ghost use Rattle.hj_stream.specs.InStep.{IsInStep-prop};
 
 use crate::Outcome;
@@ -103,28 +104,41 @@ impl<O: Outside> Feed<SharedRow> for EventFeed<'_, O> {
         if self.ended.is_some() {
             return Given::Stop;
         }
-        let events = self.events;
-        let answer = self.merger.next(self.outside);
-        let ended = match answer {
+        match self.merger.next(self.outside) {
             Next::Event(event) => {
                 self.ready = self.merger.is_ready();
                 self.events += 1;
                 self.given = self.given.with_item(&event);
-                return Given::Event(event);
+                Given::Event(event)
             }
-            Next::Done => Outcome::Done { events },
-            Next::Bad { side, at, fault } => Outcome::Bad { side, at, fault },
-            Next::Failed(side) => Outcome::SourceFault(side.role()),
-            Next::TooMany => Outcome::TooMany,
-            Next::Memory => Outcome::Memory,
-        };
-        self.ready = true;
-        self.ended = Some(ended);
-        Given::Stop
+            last => {
+                self.ready = true;
+                self.ended = Some(outcome_by(last, self.events));
+                Given::Stop
+            }
+        }
     }
 
     #[inline(always)]
     fn is_ready(&self) -> bool {
         self.ready
+    }
+}
+
+/// Returns the outcome of a join of this many events, where the merger says this after them and every line is written.
+// Called, so that a feed that goes on needs no room for how it might end.
+#[cold]
+#[inline(never)]
+fn outcome_by(last: Next, events: u64) -> Outcome
+    requires { is_some (outcome_by events last) ≡ true }
+    ensures { outcome_by events last ≡ Some result }
+{
+    match last {
+        Next::Event(_) => unreachable!(),
+        Next::Done => Outcome::Done { events },
+        Next::Bad { side, at, fault } => Outcome::Bad { side, at, fault },
+        Next::Failed(side) => Outcome::SourceFault(side.role()),
+        Next::TooMany => Outcome::TooMany,
+        Next::Memory => Outcome::Memory,
     }
 }
