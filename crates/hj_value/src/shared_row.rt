@@ -1,4 +1,4 @@
-ghost use Rattle.std.specs.Prelude.{◌≡◌, IfOk, IfSome};
+ghost use Rattle.std.specs.Prelude.{◌≡◌, IfOk};
 
 use crate::Row;
 use hj_base::{Memory, Share};
@@ -31,14 +31,6 @@ impl SharedRow {
         Ok(SharedRow {
             row: Arc::new(alloc, row)?,
         })
-    }
-
-    /// Lends the row to be changed, if it has no other holder.
-    #[inline(always)]
-    pub(crate) fn if_alone(&mut self) -> Option<&mut Row>
-        ensures { IfSome result (λ row. row.now ≡ self.old) }
-    {
-        Arc::get_mut(&mut self.row)
     }
 
     /// Returns the row that is shared.
