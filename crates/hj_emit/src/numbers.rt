@@ -24,11 +24,10 @@ pub(crate) fn fill_numbers(text: &mut Vec<u8>, left: &[i64], right: &[i64]) -> R
     ensures fields { IfOk result (λ start. drop start text.new.items
         ≡ cells (map field.Int left.now) ++ cells (map field.Int right.now)) }
 {
-    if text.len() < MOST_BYTES {
+    if text.len() != MOST_BYTES {
         text.resize(MOST_BYTES, 0)?;
     }
-    let end = text.len();
-    let middle = write_numbers(right, text, end);
+    let middle = write_numbers(right, text, MOST_BYTES);
     Ok(write_numbers(left, text, middle))
 }
 
