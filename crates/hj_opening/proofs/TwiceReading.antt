@@ -183,13 +183,27 @@ module _ (names : TwiceNames) (limit : ℕ) (under : Under) (before : Roles) (un
           (λ told faults. record { first = first; second = second; of_first = accepts_first; of_second = accepts_second; unfit = unfit; alone = alone; nothing = Appends-nil told })
           (λ faults. refl) begins_second none_second
 
-      both_read : Fits first second → AreBothRead (record { first = first; second = second }) names under before now
-      both_read fits = record {
-        accepted = record { of_first = accepts_first; of_second = accepts_second; fits = fits };
-        first_begun = first_begun;
-        second_begun = second_begun;
-        others = stay;
-      }
+      module _ (same_faults : (now role.SecondQuery).faults ≡ (mid role.SecondQuery).faults) where
+        other_unfailed : (of : Role) → of ≢ role.Query → of ≢ role.SecondQuery → (now of).faults ≡ (before of).faults
+        other_unfailed of no_query no_second = ap (λ (s : RoleState). s.faults) (stay of no_query no_second)
+
+        unfailed : (of : Role) → (now of).faults ≡ (before of).faults
+        unfailed role.Query = ap (λ (s : RoleState). s.faults) query_stays ∙ gets.cause.1
+        unfailed role.SecondQuery = same_faults ∙ ap (λ (s : RoleState). s.faults) second_mid
+        unfailed role.Left = other_unfailed role.Left (λ e. cc) (λ e. cc)
+        unfailed role.Right = other_unfailed role.Right (λ e. cc) (λ e. cc)
+        unfailed role.Third = other_unfailed role.Third (λ e. cc) (λ e. cc)
+        unfailed role.Trace = other_unfailed role.Trace (λ e. cc) (λ e. cc)
+        unfailed role.Output = other_unfailed role.Output (λ e. cc) (λ e. cc)
+
+        both_read : Fits first second → AreBothRead (record { first = first; second = second }) names under before now
+        both_read fits = record {
+          accepted = record { of_first = accepts_first; of_second = accepts_second; fits = fits };
+          unfailed = unfailed;
+          first_begun = first_begun;
+          second_begun = second_begun;
+          others = stay;
+        }
 
   module _ (mid : Roles) (first : QueryParts) (gets : GetsQuery (Ok first) role.Query (named names.query) under before mid) (after : Under) (same : after names.second ≡ under names.second) (now : Roles) where
     second_unread : (found : TwiceNote) → GetsSecond (Err found) names.second after mid now → EndsTwiceEarly found names limit under before now
@@ -224,4 +238,4 @@ module _ (first : QueryParts) (name : List ℕ) (names : TwiceNames) (limit : �
     unfit_behind = queries_unfit names limit under before behind.none mid first behind.gets (told names.second) told_so now has.others has.begun second has.cause.0
 
     pub read_both_behind : Fits first second → AreBothRead (record { first = first; second = second }) names under before now
-    read_both_behind = both_read names limit under before behind.none mid first behind.gets (told names.second) told_so now has.others has.begun second has.cause.0
+    read_both_behind = both_read names limit under before behind.none mid first behind.gets (told names.second) told_so now has.others has.begun second has.cause.0 has.cause.1

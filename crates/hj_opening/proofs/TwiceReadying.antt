@@ -153,8 +153,11 @@ module _ (names : TwiceNames) (limit : ℕ) (under : List ℕ → Option (List �
           right_phase : (now role.Right).phase ≡ opened names.streams.right false
           right_phase = ap (λ (s : RoleState). s.phase) right_now ∙ right_ready.phase
 
+          untouched : (of : Role) → ¬ (IsTwiceRole of) → now of ≡ before of
+          untouched of none = opening_third of (not_role of role.Third tt none) ∙ none_with_right of none
+
           none_now : (of : Role) → ¬ (IsTwiceRole of) → (now of).phase ≡ unbegun
-          none_now of none = ap (λ (s : RoleState). s.phase) (opening_third of (not_role of role.Third tt none) ∙ none_with_right of none) ∙ unbegun_before of
+          none_now of none = ap (λ (s : RoleState). s.phase) (untouched of none) ∙ unbegun_before of
 
           pub third_failed : (found : Note) (told : Option (List ℕ)) → Opens (Err found) role.Third names.third told (with_right role.Third) (now role.Third) → EndsTwiceEarly (note.Common found) names limit under before now
           third_failed found told opens =
@@ -164,6 +167,25 @@ module _ (names : TwiceNames) (limit : ℕ) (under : List ℕ → Option (List �
               (begun-opened names.streams.right false (now role.Right).phase right_phase) failed.begun (λ begun. open-opened names.streams.left false (now role.Left).phase left_phase) (λ begun. open-opened names.streams.right false (now role.Right).phase right_phase))
               none_now
 
+          -- nothing failed
+          left_faults : (now role.Left).faults ≡ (before role.Left).faults
+          left_faults = ap (λ (s : RoleState). s.faults) left_now ∙ left_ready.faults ∙ ap (λ (s : RoleState). s.faults) left_asked
+
+          right_faults : (now role.Right).faults ≡ (before role.Right).faults
+          right_faults = ap (λ (s : RoleState). s.faults) right_now ∙ right_ready.faults ∙ ap (λ (s : RoleState). s.faults) right_with_left
+
+          third_faults : (now role.Third).faults ≡ (with_right role.Third).faults → (now role.Third).faults ≡ (before role.Third).faults
+          third_faults stays = stays ∙ ap (λ (s : RoleState). s.faults) third_with_right
+
+          unfailed : (now role.Third).faults ≡ (with_right role.Third).faults → (of : Role) → (now of).faults ≡ (before of).faults
+          unfailed stays role.Query = ap (λ (s : RoleState). s.faults) (opening_third role.Query (λ e. cc) ∙ first_with_right) ∙ both.unfailed role.Query
+          unfailed stays role.SecondQuery = ap (λ (s : RoleState). s.faults) (opening_third role.SecondQuery (λ e. cc) ∙ second_with_right) ∙ both.unfailed role.SecondQuery
+          unfailed stays role.Left = left_faults
+          unfailed stays role.Right = right_faults
+          unfailed stays role.Third = third_faults stays
+          unfailed stays role.Trace = ap (λ (s : RoleState). s.faults) (untouched role.Trace (λ none. none))
+          unfailed stays role.Output = ap (λ (s : RoleState). s.faults) (untouched role.Output (λ none. none))
+
           -- all are open
           pub all_opened : (third_told : Option (List ℕ)) → left_told ≡ under names.streams.left → right_told ≡ under names.streams.right → third_told ≡ under names.third → IsOpened names.third third_told (with_right role.Third) (now role.Third)
               → IsTwiceReady queries names under before now
@@ -171,22 +193,23 @@ module _ (names : TwiceNames) (limit : ℕ) (under : List ℕ → Option (List �
               let accepted : AcceptsBoth queries.first queries.second names under before now = accepted_now now (opening_third role.Query (λ e. cc) ∙ first_with_right) (opening_third role.SecondQuery (λ e. cc) ∙ second_with_right) in
               record {
                 accepted = accepted;
+                unfailed = unfailed third_ready.faults;
                 first_begun = first_now now (opening_third role.Query (λ e. cc) ∙ first_with_right) (opening_third role.SecondQuery (λ e. cc) ∙ second_with_right);
                 second_begun = second_now now (opening_third role.Query (λ e. cc) ∙ first_with_right) (opening_third role.SecondQuery (λ e. cc) ∙ second_with_right);
                 left = record {
                   phase = left_phase;
                   left = ap (λ (s : RoleState). s.left) left_now ∙ left_ready.left ∙ same_left;
-                  faults = ap (λ (s : RoleState). s.faults) left_now ∙ left_ready.faults ∙ ap (λ (s : RoleState). s.faults) left_asked;
+                  faults = left_faults;
                 };
                 right = record {
                   phase = right_phase;
                   left = ap (λ (s : RoleState). s.left) right_now ∙ right_ready.left ∙ same_right;
-                  faults = ap (λ (s : RoleState). s.faults) right_now ∙ right_ready.faults ∙ ap (λ (s : RoleState). s.faults) right_with_left;
+                  faults = right_faults;
                 };
                 third = record {
                   phase = third_ready.phase;
                   left = third_ready.left ∙ same_third;
-                  faults = third_ready.faults ∙ ap (λ (s : RoleState). s.faults) third_with_right;
+                  faults = third_faults third_ready.faults;
                 };
                 others = none_now;
               }

@@ -48,10 +48,11 @@ pub record GoesBehind (first : QueryParts) (name : List ℕ) (names : TwiceNames
   pub gets : GetsQuery (Ok first) role.Query (named names.query) under before now
   pub told_as : told name ≡ under name
 
--- Both queries were accepted and fit; no other role was begun.
+-- Both queries were accepted and fit; nothing failed, and no other role was begun.
 pub record AreBothRead (queries : TwoQueries) (names : TwiceNames) (under : List ℕ → Option (List ℕ))
     (before now : Role → RoleState) : Type 0 where
   pub accepted : AcceptsBoth queries.first queries.second names under before now
+  pub unfailed : (of : Role) → (now of).faults ≡ (before of).faults
   pub first_begun : IsBegunUnder names.query (now role.Query).phase
   pub second_begun : IsBegunUnder names.second (now role.SecondQuery).phase
   pub others : (of : Role) → of ≢ role.Query → of ≢ role.SecondQuery → now of ≡ before of
@@ -68,10 +69,11 @@ abbrev pub GetsBoth : Result TwoQueries TwiceNote → TwiceNames → ℕ → (Li
 GetsBoth (Ok queries) names limit under before now = AreBothRead queries names under before now
 GetsBoth (Err why) names limit under before now = EndsTwiceEarly why names limit under before now
 
--- Both queries were accepted and fit, and all three streams are open; nothing was read of them.
+-- Both queries were accepted and fit, and all three streams are open; nothing was read of them, and nothing failed.
 pub record IsTwiceReady (queries : TwoQueries) (names : TwiceNames) (under : List ℕ → Option (List ℕ))
     (before now : Role → RoleState) : Type 0 where
   pub accepted : AcceptsBoth queries.first queries.second names under before now
+  pub unfailed : (of : Role) → (now of).faults ≡ (before of).faults
   pub first_begun : IsBegunUnder names.query (now role.Query).phase
   pub second_begun : IsBegunUnder names.second (now role.SecondQuery).phase
   pub left : IsOpened names.streams.left (under names.streams.left) (before role.Left) (now role.Left)

@@ -49,7 +49,8 @@ pub fn make_twice_ready<O: Outside>(
     outside: &mut O,
 ) -> Result<TwoQueries, TwiceNote>
     requires { NoneBegun (O.state outside.old) }
-    ensures { MakesTwiceReady result (twice_names joins.entry) joins.entry.limit (O.under outside.old) (O.state outside.old) (O.state outside.new) }
+    ensures ready { MakesTwiceReady result (twice_names joins.entry) joins.entry.limit (O.under outside.old) (O.state outside.old) (O.state outside.new) }
+    ensures names { NamesStay (O.under outside.old) (O.under outside.new) }
 {
     let queries = read_both(alloc, joins, outside)?;
     open(outside, Role::Left, joins.left)?;
